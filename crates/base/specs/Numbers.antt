@@ -1,0 +1,68 @@
+-- The numbers of document 01, each once. A later request that changes one changes it here.
+-- The meaning (texts, patterns, situations, the search) is stated over any such numbers and names none of them.
+use Prim.Native.Nat.{ℕ}
+
+-- "Code 39, by value": 0 to 42
+abbrev pub characters : ℕ
+characters = 43
+
+-- "field byte 0 to 7"
+abbrev pub fields : ℕ
+fields = 8
+
+-- "A token is 0 to 42 (a character) or 64 to 71 (field 0 to 7)": the token of field 0
+abbrev pub field-token : ℕ
+field-token = 64
+
+-- the codes of a pattern, operator first: "64: the empty text", 65 a range, 66 A then B, 67 A or B, 68 A any number of times
+abbrev pub empty-code : ℕ
+empty-code = 64
+
+abbrev pub range-code : ℕ
+range-code = 65
+
+abbrev pub then-code : ℕ
+then-code = 66
+
+abbrev pub or-code : ℕ
+or-code = 67
+
+abbrev pub many-code : ℕ
+many-code = 68
+
+-- "length byte n 1 to 96"
+abbrev pub pattern-bytes : ℕ
+pattern-bytes = 96
+
+-- "A pattern has at most 31 leaves"
+abbrev pub most-leaves : ℕ
+most-leaves = 31
+
+-- "length byte 0 to 24"
+abbrev pub sheet-side : ℕ
+sheet-side = 24
+
+-- "a side above 48 tokens gives 19"
+abbrev pub longest-side : ℕ
+longest-side = 48
+
+-- "Room is one situation for each whole 144 bytes of working buffer, and at most 65,535"
+abbrev pub situation-bytes : ℕ
+situation-bytes = 144
+
+abbrev pub most-room : ℕ
+most-room = 65535
+
+-- "a text above 65,535 characters"
+abbrev pub longest-text : ℕ
+longest-text = 65535
+
+-- "`clash` reads the first 1,024 bytes of standard input, lends 65,520 bytes of work (455 situations) and 4,096 of answer"
+abbrev pub program-input : ℕ
+program-input = 1024
+
+abbrev pub program-work : ℕ
+program-work = 65520
+
+abbrev pub program-answer : ℕ
+program-answer = 4096

@@ -1,0 +1,3 @@
+pub mod Equation
+pub mod Situation
+pub mod Way
