@@ -1,3 +1,4 @@
+pub mod Decides
 pub mod Equation
 pub mod Situation
 pub mod Way

@@ -66,9 +66,11 @@ abbrev pub follows : Pattern → ℕ → ℕ → Bool
 follows p zero q = may-be-first p 1 q
 follows p (suc i) q = may-follow p 1 (suc i) q
 
-abbrev pub ends-at : Pattern → ℕ → Bool
-ends-at p zero = takes-empty p
-ends-at p (suc i) = may-be-last p 1 (suc i)
+-- Of an open field every place may be the last one.
+abbrev pub ends-at : Held → ℕ → Bool
+ends-at any-text i = true
+ends-at (pattern p) zero = takes-empty p
+ends-at (pattern p) (suc i) = may-be-last p 1 (suc i)
 
 -- "A field's place set says which leaves may have been the last one read"
 abbrev pub PlaceSet : Type 0
@@ -88,10 +90,9 @@ set-after any-text s c = s
 set-after (pattern p) s c =
     keep (λ (q : ℕ). leaf-takes p 1 q c && any (λ (i : ℕ). follows p i q) s) (leaf-places p)
 
--- "The set may end if some place in it may be the last one of a text". Of an open field it may always end.
+-- "The set may end if some place in it may be the last one of a text". An open field's one set is not empty: it may always end.
 unfoldable pub may-end : Held → PlaceSet → Bool
-may-end any-text s = true
-may-end (pattern p) s = any (λ (i : ℕ). ends-at p i) s
+may-end h s = any (λ (i : ℕ). ends-at h i) s
 
 abbrev pub is-empty : PlaceSet → Bool
 is-empty [] = true
