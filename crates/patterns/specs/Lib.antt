@@ -1,3 +1,0 @@
-pub mod Pattern
-pub mod Places
-pub mod Written
