@@ -6,6 +6,7 @@ pub mod Equation
 pub mod Pattern
 pub mod Places
 pub mod Search
+pub mod Leads
 pub mod Situation
 pub mod Decides
 pub mod Way
