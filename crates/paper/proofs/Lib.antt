@@ -4,5 +4,6 @@ pub mod Known
 -- the search over any situations
 pub mod Grown
 pub mod Ended
+pub mod Ends
 pub mod Room
 pub mod Searched
