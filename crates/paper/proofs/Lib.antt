@@ -6,3 +6,10 @@ pub mod Grown
 pub mod Ended
 pub mod Room
 pub mod Searched
+pub mod Within
+-- plain questions
+pub mod Same
+pub mod Tails
+pub mod Standings
+pub mod Reached
+pub mod Plain
