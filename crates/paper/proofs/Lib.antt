@@ -6,7 +6,6 @@ pub mod Grown
 pub mod Ended
 pub mod Room
 pub mod Searched
-pub mod Within
 -- plain questions
 pub mod Same
 pub mod Tails

@@ -8,7 +8,7 @@ use mathlib.Core.Bool.{true}
 use mathlib.Core.List.{List, _++_, List·Memᴰ}
 use lib.ListN.{length}
 use Rattle.paper.specs.Search.{child, long, End, no-room, too-long, how, count}
-use Rattle.paper.proofs.Within.{within-count, within-has-room, within-not-long}
+use Rattle.paper.proofs.Searched.{within-count, within-has-room, within-not-long}
 use Rattle.paper.specs.Equation.{Side, stands-in}
 use Rattle.paper.specs.Situation.{Acceptor, Situation, Move, same-situation, finished, children, question}
 use Rattle.paper.specs.Way.{search-from}
