@@ -7,3 +7,9 @@ pub mod Ended
 pub mod Ends
 pub mod Room
 pub mod Searched
+-- plain questions
+pub mod Same
+pub mod Tails
+pub mod Standings
+pub mod Reached
+pub mod Plain

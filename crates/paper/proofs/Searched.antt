@@ -1,7 +1,7 @@
 -- The laws of the search over any situations (document 01, "The search"), from the first situation s₀, in a room of any size.
 -- The test `same` is asked to be equality; of `finished` and `children` nothing is asked.
--- First the laws of every search, then what each end says, then a larger room, then the bound by a list of situations that
--- holds its own children. Follows from how the entries grow (`Grown`), from what each end says of them (`Ended`, `Ends`), and
+-- First the laws of every search, then what each end says, then a larger room, then what bounds a
+-- search. Follows from how the entries grow (`Grown`), from what each end says of them (`Ended`, `Ends`), and
 -- from how two rooms compare (`Room`).
 use Prim.Native.Nat.{ℕ, _≤_, _<_}
 use native.Mathlib.Omega.{arith}
@@ -164,49 +164,57 @@ module _
     pub larger-room : (room′ : ℕ) → room ≤ room′ → (the-end ≡ no-room → ⊥) → search same finished children room′ s₀ ≡ the-search
     larger-room room′ h n = search-alike same finished children room room′ h s₀ the-end the-entries n settled ∙ sym settled
 
-    -- A list of situations that has the first one, and with each of its own every child, bounds the search.
-    module _
-        (bound : List S)
-        (first-in : List·Memᴰ s₀ bound)
-        (child-in : (s : S) → List·Memᴰ s bound → (m : M) (t : S) → List·Memᴰ (child m t) (children s) → List·Memᴰ t bound)
-      where
-        pub entry-in-bound : (e : Entry S M) → List·Memᴰ e the-entries → List·Memᴰ (e .at) bound
-        entry-in-bound = every-entry (λ (s : S). List·Memᴰ s bound) first-in (λ s m t i k. child-in s i m t k)
+    -- A property that the first situation has and that goes over to children bounds the search, with a list of all that have it.
+    module _ (Within : S → Type 0) (first-within : Within s₀) (child-within : (s : S) → Within s → (m : M) (t : S) → List·Memᴰ (child m t) (children s) → Within t) where
+      entry-within : (e : Entry S M) → List·Memᴰ e the-entries → Within (e .at)
+      entry-within = every-entry Within first-within (λ s m t i k. child-within s i m t k)
 
-        situation-in-bound : (s : S) → List·Memᴰ s (situations the-entries) → List·Memᴰ s bound
-        situation-in-bound s d =
-            let r = mem-map (λ (e : Entry S M). e .at) the-entries d in
-            Memᴰ·cast (r .2) (entry-in-bound (r .0) (r .1))
+      -- Where none of them has a child that is too long, the search finds none.
+      pub within-not-long : ((s : S) → Within s → List·Memᴰ long (children s) → ⊥) → the-end ≡ too-long → ⊥
+      within-not-long h k = let r = too-long-child k in h (r .0 .at) (entry-within (r .0) (r .1)) (r .2)
 
-        -- The count is at most its length.
-        pub count-at-most-bound : the-count ≤ length bound
-        count-at-most-bound =
-            rw (length-map the-entries (λ (e : Entry S M). e .at)) at (pigeonhole bound entries-different situation-in-bound)
+      module _ (bound : List S) (listed : (s : S) → Within s → List·Memᴰ s bound) where
+        entered-listed : (s : S) → List·Memᴰ s (situations the-entries) → List·Memᴰ s bound
+        entered-listed s d =
+            let r = mem-map (λ (e : Entry S M). e .at) the-entries d in Memᴰ·cast (r .2) (listed (r .0 .at) (entry-within (r .0) (r .1)))
+
+        -- The count is at most the list's length.
+        pub within-count : the-count ≤ length bound
+        within-count = rw (length-map the-entries (λ (e : Entry S M). e .at)) at (pigeonhole bound entries-different entered-listed)
 
         -- With that much room the search never finds no room.
-        pub bound-no-room : length bound ≤ room → the-end ≡ no-room → ⊥
-        bound-no-room h k =
+        pub within-has-room : length bound ≤ room → the-end ≡ no-room → ⊥
+        within-has-room h k =
             let r = no-room-full k in
             ⊎-elim
-            (λ z. omega (arith, z, h, mem-length first-in))
+            (λ z. omega (arith, z, h, mem-length (listed s₀ first-within)))
             (λ (c : Left-out children the-entries).
-            let in-bound : List·Memᴰ (c .2) bound = child-in (c .0 .at) (entry-in-bound (c .0) (c .3)) (c .1) (c .2) (c .4) in
             let fewer : length (situations the-entries) < length bound =
-            pigeonhole-lt bound entries-different situation-in-bound in-bound (c .5) in
+            pigeonhole-lt bound entries-different entered-listed
+            (listed (c .2) (child-within (c .0 .at) (entry-within (c .0) (c .3)) (c .1) (c .2) (c .4))) (c .5) in
             omega (arith, r .0, h, fewer, length-map the-entries (λ (e : Entry S M). e .at)))
             (r .1)
 
-        -- Where no situation of the list has a child that is too long, the search finds none.
-        pub bound-not-long : ((s : S) → List·Memᴰ s bound → List·Memᴰ long (children s) → ⊥) → the-end ≡ too-long → ⊥
-        bound-not-long h k = let r = too-long-child k in h (r .0 .at) (entry-in-bound (r .0) (r .1)) (r .2)
+    -- So does a list of situations that has the first one and every child of each of its own.
+    module _ (bound : List S) (first-in : List·Memᴰ s₀ bound) (child-in : (s : S) → List·Memᴰ s bound → (m : M) (t : S) → List·Memᴰ (child m t) (children s) → List·Memᴰ t bound) where
+      abbrev Listed : S → Type 0
+      Listed s = List·Memᴰ s bound
 
-        -- And where moreover none of them is finished, the search uses all up.
-        pub bound-used-up : length bound ≤ room → ((s : S) → List·Memᴰ s bound → List·Memᴰ long (children s) → ⊥)
-            → ((s : S) → List·Memᴰ s bound → finished s ≡ false) → the-end ≡ used-up
-        bound-used-up h n u = of the-end refl
-          where
-            of : (x : End S M) → the-end ≡ x → x ≡ used-up
-            of (found e) k = absurd (true-false (found-finished e k) (u (e .at) (entry-in-bound e (found-entered e k))))
-            of used-up k = refl
-            of no-room k = absurd (bound-no-room h k)
-            of too-long k = absurd (bound-not-long n k)
+      pub count-at-most-bound : the-count ≤ length bound
+      count-at-most-bound = within-count Listed first-in child-in bound (λ s d. d)
+
+      pub bound-no-room : length bound ≤ room → the-end ≡ no-room → ⊥
+      bound-no-room = within-has-room Listed first-in child-in bound (λ s d. d)
+
+      pub bound-not-long : ((s : S) → List·Memᴰ s bound → List·Memᴰ long (children s) → ⊥) → the-end ≡ too-long → ⊥
+      bound-not-long = within-not-long Listed first-in child-in
+
+      -- And where moreover none of them is finished, the search uses all up.
+      pub bound-used-up : length bound ≤ room → ((s : S) → List·Memᴰ s bound → List·Memᴰ long (children s) → ⊥) → ((s : S) → List·Memᴰ s bound → finished s ≡ false) → the-end ≡ used-up
+      bound-used-up h n u = of the-end refl
+        where
+          of : (x : End S M) → the-end ≡ x → x ≡ used-up
+          of (found e) k = absurd (true-false (found-finished e k) (u (e .at) (entry-within Listed first-in child-in e (found-entered e k))))
+          of used-up k = refl
+          of no-room k = absurd (bound-no-room h k)
+          of too-long k = absurd (bound-not-long n k)

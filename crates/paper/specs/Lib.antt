@@ -10,6 +10,7 @@ pub mod Leads
 pub mod Situation
 pub mod Decides
 pub mod Way
+pub mod Plain
 pub mod Question
 -- the bytes
 pub mod Written
