@@ -1,0 +1,3 @@
+pub mod After
+pub mod Decides
+pub mod Within
