@@ -1,12 +1,12 @@
 -- The texts that may come after a place of a part of a pattern, and from its start, against the part's language: what may come from the
 -- start is what fits (`start-fits`, `fits-start`). A part's leaves stand from `o` on. By induction on the pattern and on the relations.
 use Prim.Native.Nat.{ℕ, _+_}
-use mathlib.Core.Path.{_≡_, refl, ap}
+use mathlib.Core.Path.{_≡_, refl}
 use mathlib.Core.Logic.{⊎-elim}
-use mathlib.Core.Bool.{true, _||_, _&&_, or-true, false≢true}
+use mathlib.Core.Bool.{true, or-true, false≢true}
 use mathlib.Core.List.{List, [], _∷_, _++_}
 use lib.Dec.{eqb}
-use Rattle.base.proofs.Tests.{and-left, and-right, or-is-true, eqb-true, eqb-same}
+use Rattle.base.proofs.Tests.{and-left, and-right, or-is-true, eqb-same}
 use Rattle.base.proofs.Lists.{cons-eq}
 use Rattle.patterns.specs.Pattern.{Leaf, takes, Pattern, leaf, empty, then, either, many, Fits, one, nothing, both, first, second, none, more}
 use Rattle.patterns.specs.Places.{leaves, takes-empty, may-be-first, may-be-last, may-follow, leaf-takes}

@@ -2,17 +2,17 @@
 --   only-held : may-end h (set-along h first-set w) ≡ true → Holds h w
 --   all-held  : Holds h w → may-end h (set-along h first-set w) ≡ true
 -- Follows from `After` (what may come after a place against the language) and from what a set holds after a character (`mem-after`, `after-mem`).
-use Prim.Native.Nat.{ℕ, zero, suc, _≤_, _<_}
+use Prim.Native.Nat.{ℕ, zero, suc, _≤_}
 use native.Mathlib.Omega.{arith}
 use mathlib.Core.Path.{_≡_, refl}
-use mathlib.Core.Bool.{Bool, true, false, _&&_}
+use mathlib.Core.Bool.{true, _&&_}
 use mathlib.Core.List.{List, [], _∷_, List·Memᴰ, List·Memᴰ·head, List·Memᴰ·eq-of-singleton}
 use Rattle.base.specs.Lists.{any}
 use Rattle.base.proofs.Tests.{and-left, and-right, both-true}
-use Rattle.base.proofs.Lists.{any-true, mem-any, mem-keep, keep-mem, mem-from, from-mem}
+use Rattle.base.proofs.Lists.{any-true, mem-any, mem-keep, keep-mem, from-mem}
 use Rattle.patterns.specs.Pattern.{Pattern, Held, any-text, pattern, Holds}
 use Rattle.patterns.specs.Places.{leaves, leaf-takes, follows, ends-at, PlaceSet, leaf-places, first-set, set-after, may-end, set-along}
-use Rattle.patterns.proofs.Within.{Within, takes-within}
+use Rattle.patterns.proofs.Within.{takes-within}
 use Rattle.patterns.proofs.After.{After, ends, goes, FromStart, at-once, begins, start-fits, fits-start}
 
 -- What a set holds after a character: the leaf q takes it and may follow the place i of the set.

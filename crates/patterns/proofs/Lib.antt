@@ -1,3 +1,5 @@
 pub mod After
 pub mod Decides
+pub mod Rising
+pub mod Sets
 pub mod Within

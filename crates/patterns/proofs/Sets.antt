@@ -1,0 +1,39 @@
+-- Place sets as an acceptor of texts: an empty set may not end and stays empty, and the test of sets is equality.
+-- Follows from the definitions and from what a set holds after a character (`Decides`).
+use Prim.Native.Nat.{ℕ}
+use mathlib.Core.Path.{_≡_, refl}
+use mathlib.Core.Bool.{true, false}
+use mathlib.Core.List.{[], _∷_, List·Memᴰ, List·Memᴰ·head, List·Memᴰ·not-nil}
+use lib.Dec.{eqb}
+use Rattle.base.proofs.Tests.{true-false, eqb-true, eqb-same}
+use Rattle.base.proofs.Lists.{same-by-equal, same-by-same}
+use Rattle.patterns.specs.Pattern.{Held, any-text, pattern}
+use Rattle.patterns.specs.Places.{PlaceSet, set-after, may-end, is-empty, same-set}
+use Rattle.patterns.proofs.Decides.{mem-after}
+
+pub empty-nil : (s : PlaceSet) → is-empty s ≡ true → s ≡ []
+empty-nil [] e = refl
+empty-nil (i ∷ s) e = absurd (true-false e refl)
+
+-- a set without a place is empty
+no-place-empty : (s : PlaceSet) → ((q : ℕ) → List·Memᴰ q s → ⊥) → is-empty s ≡ true
+no-place-empty [] h = refl
+no-place-empty (i ∷ s) h = absurd (h i (List·Memᴰ·head refl))
+
+pub empty-ends : (h : Held) (s : PlaceSet) → is-empty s ≡ true → may-end h s ≡ false
+unfolding may-end
+empty-ends h [] e = refl
+empty-ends h (i ∷ s) e = absurd (true-false e refl)
+
+pub empty-after : (h : Held) (s : PlaceSet) (c : ℕ) → is-empty s ≡ true → is-empty (set-after h s c) ≡ true
+unfolding set-after
+empty-after any-text s c e = e
+empty-after (pattern p) [] c e =
+    no-place-empty (set-after (pattern p) [] c) (λ q d. List·Memᴰ·not-nil (mem-after p [] c q d .in-set))
+empty-after (pattern p) (i ∷ s) c e = absurd (true-false e refl)
+
+pub same-equal : (s t : PlaceSet) → same-set s t ≡ true → s ≡ t
+same-equal = same-by-equal eqb eqb-true
+
+pub equal-same : (s : PlaceSet) → same-set s s ≡ true
+equal-same = same-by-same eqb eqb-same
