@@ -24,11 +24,11 @@ pub data FromStart (p : Pattern) (o : ℕ) : List ℕ → Type 0 where
 
 -- What fits may be read.
 module _ (a b : Pattern) (o : ℕ) where
-  second-then : {i : ℕ} {w : List ℕ} → After b (o + leaves a) i w → After (then a b) o i w
+  pub second-then : {i : ℕ} {w : List ℕ} → After b (o + leaves a) i w → After (then a b) o i w
   second-then (ends i l) = ends i (rw l)
   second-then (goes i q c f t r) = goes i q c (rw (f, or-true)) (rw (t, or-true)) (second-then r)
 
-  after-then : {i : ℕ} {u v : List ℕ} → After a o i u → FromStart b (o + leaves a) v → After (then a b) o i (u ++ v)
+  pub after-then : {i : ℕ} {u v : List ℕ} → After a o i u → FromStart b (o + leaves a) v → After (then a b) o i (u ++ v)
   after-then (ends i l) (at-once e) = ends i (rw (l, e, or-true))
   after-then (ends i l) (begins q c f t r) = goes i q c (rw (l, f, or-true)) (rw (t, or-true)) (second-then r)
   after-then (goes i q c f t r) s = goes i q c (rw f) (rw t) (after-then r s)
@@ -38,11 +38,11 @@ module _ (a b : Pattern) (o : ℕ) where
   start-then (at-once e) (begins q c f t r) = begins q c (rw (e, f, or-true)) (rw (t, or-true)) (second-then r)
   start-then (begins q c f t r) s = begins q c (rw f) (rw t) (after-then r s)
 
-  first-after : {i : ℕ} {w : List ℕ} → After a o i w → After (either a b) o i w
+  pub first-after : {i : ℕ} {w : List ℕ} → After a o i w → After (either a b) o i w
   first-after (ends i l) = ends i (rw l)
   first-after (goes i q c f t r) = goes i q c (rw f) (rw t) (first-after r)
 
-  second-after : {i : ℕ} {w : List ℕ} → After b (o + leaves a) i w → After (either a b) o i w
+  pub second-after : {i : ℕ} {w : List ℕ} → After b (o + leaves a) i w → After (either a b) o i w
   second-after (ends i l) = ends i (rw (l, or-true))
   second-after (goes i q c f t r) = goes i q c (rw (f, or-true)) (rw (t, or-true)) (second-after r)
 
@@ -55,7 +55,7 @@ module _ (a b : Pattern) (o : ℕ) where
   second-start (begins q c f t r) = begins q c (rw (f, or-true)) (rw (t, or-true)) (second-after r)
 
 module _ (a : Pattern) (o : ℕ) where
-  after-many : {i : ℕ} {u v : List ℕ} → After a o i u → FromStart (many a) o v → After (many a) o i (u ++ v)
+  pub after-many : {i : ℕ} {u v : List ℕ} → After a o i u → FromStart (many a) o v → After (many a) o i (u ++ v)
   after-many (ends i l) (at-once e) = ends i l
   after-many (ends i l) (begins q c f t r) = goes i q c (rw (l, f, or-true)) t r
   after-many (goes i q c f t r) s = goes i q c (rw f) t (after-many r s)

@@ -44,7 +44,7 @@ module _ (p : Pattern) (s : PlaceSet) (c q : ℕ) where
       (both-true (st .take) (mem-any (λ (i : ℕ). follows p i q) s (st .in-set) (st .follow)))
 
 -- the text w may come after the place i, the start or a leaf
-abbrev Leads : Pattern → ℕ → List ℕ → Type 0
+abbrev pub Leads : Pattern → ℕ → List ℕ → Type 0
 Leads p zero w = FromStart p 1 w
 Leads p (suc i) w = After p 1 (suc i) w
 
@@ -86,7 +86,7 @@ set-leads p (c ∷ w) s h =
       leads-step p (st .from-place) (r .0) c w (st .follow) (st .take) (leads-leaf p (r .0) w (m .low) (r .2)),
     )
 
-leads-set : (p : Pattern) (w : List ℕ) (s : PlaceSet) (i : ℕ)
+pub leads-set : (p : Pattern) (w : List ℕ) (s : PlaceSet) (i : ℕ)
     → List·Memᴰ i s → Leads p i w → may-end (pattern p) (set-along (pattern p) s w) ≡ true
 unfolding may-end
 leads-set p [] s i d r = mem-any (λ (j : ℕ). ends-at (pattern p) j) s d (end-leads p i r)

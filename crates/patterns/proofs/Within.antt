@@ -5,8 +5,8 @@ use native.Mathlib.Omega.{arith}
 use mathlib.Core.Path.{_≡_}
 use mathlib.Core.Logic.{⊎-elim}
 use mathlib.Core.Bool.{Bool, true, _&&_, _||_, false≢true}
-use lib.Dec.{eqb}
-use Rattle.base.proofs.Tests.{and-left, and-right, or-is-true, eqb-true}
+use lib.Dec.{leb, eqb}
+use Rattle.base.proofs.Tests.{by-bool, and-left, and-right, or-is-true, leb-true, leb-false, eqb-true}
 use Rattle.patterns.specs.Pattern.{takes, Pattern, leaf, empty, then, either, many}
 use Rattle.patterns.specs.Places.{leaves, takes-empty, may-be-first, may-be-last, may-follow, leaf-takes}
 
@@ -92,6 +92,13 @@ module _ (o n m q : ℕ) where
 
   pub apart : Within o n q → Within (o + n) m q → ⊥
   apart h k = omega arith
+
+  -- a place of both is a place of one
+  pub one-part : {C : Type 0} → (Within o n q → C) → (Within (o + n) m q → C) → Within o (n + m) q → C
+  one-part f g h =
+      by-bool (leb (o + n) q)
+      (λ e. let k = leb-true (o + n) q e in g (omega arith))
+      (λ e. let k = leb-false (o + n) q e in f (omega arith))
 
 pub first-within : (p : Pattern) (o q : ℕ) → may-be-first p o q ≡ true → Within o (leaves p) q
 first-within (leaf l) o q h = let e = eqb-true o q h in omega arith

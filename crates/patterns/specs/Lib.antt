@@ -1,3 +1,4 @@
 pub mod Pattern
 pub mod Places
+pub mod Taken
 pub mod Written
