@@ -1,1 +1,3 @@
-pub mod Invariant
+pub mod Grown
+pub mod Outcome
+pub mod Laws

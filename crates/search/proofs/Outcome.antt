@@ -1,5 +1,5 @@
--- What a search has entered when it ends, as two relations without a test: how the entries grow, and what each end says of them.
--- One invariant of the states gives both. Follows from the definition of the search and from the laws of the test `same`.
+-- What each end of a search says of the entries, as a relation without a test; and that every search ends, with that.
+-- Follows, by one invariant of the states, from the definition of the search and from the laws of the test `same`.
 use Prim.Native.Nat.{ℕ, zero, suc, _+_, _≤_, _<_}
 use native.Mathlib.Nat.{zero-add, suc-add, add-suc}
 use native.Mathlib.Omega.{arith}
@@ -13,21 +13,9 @@ use Rattle.base.proofs.Tests.{cond-by, leb-true, leb-false, true-false}
 use Rattle.base.proofs.Lists.{any-true, any-false, map-mem, mem-map, mem-cons-by}
 use Rattle.search.specs.Search.{Child, long, child, Entry, End, found, used-up, no-room, too-long, State, going, ended, entered, enter, offer, offer-all, take-next, turns, search, how, entries}
 use Rattle.search.specs.Leads.{situations}
+use Rattle.search.proofs.Grown.{first-entry, child-entry, Grown, first, grow, grown-count}
 
 module _ {S M : Type 0} (finished : S → Bool) (children : S → List (Child S M)) (room : ℕ) (s₀ : S) where
-  -- the first entry
-  abbrev pub start : Entry S M
-  start = record { at = s₀; way = [] }
-
-  -- the entry of a child, by its move
-  abbrev pub next : Entry S M → M → S → Entry S M
-  next p m s = record { at = s; way = m ∷ p .way }
-
-  -- how the entries grow: the start, then a new child of some entry, while there is room
-  pub data Grown : List (Entry S M) → Type 0 where
-    first : 0 < room → Grown (start ∷ [])
-    grow : {l : List (Entry S M)} {p : Entry S M} {m : M} {s : S} → Grown l → List·Memᴰ p l → List·Memᴰ (child m s) (children (p .at)) → (List·Memᴰ s (situations l) → ⊥) → length l < room → Grown (l ++ (next p m s ∷ []))
-
   -- none of the entries is finished
   abbrev pub Unfinished : List (Entry S M) → Type 0
   Unfinished l = (e : Entry S M) → List·Memᴰ e l → finished (e .at) ≡ false
@@ -43,20 +31,15 @@ module _ {S M : Type 0} (finished : S → Bool) (children : S → List (Child S 
 
   -- what each end says of the entries
   pub data Outcome : End S M → List (Entry S M) → Type 0 where
-    found-last : {l : List (Entry S M)} {e : Entry S M} → Grown (l ++ (e ∷ [])) → Unfinished l → finished (e .at) ≡ true → Outcome (found e) (l ++ (e ∷ []))
-    all-taken : {l : List (Entry S M)} → Grown l → Unfinished l → Closed l → Outcome used-up l
+    found-last : {l : List (Entry S M)} {e : Entry S M} → Grown children room s₀ (l ++ (e ∷ [])) → Unfinished l → finished (e .at) ≡ true → Outcome (found e) (l ++ (e ∷ []))
+    all-taken : {l : List (Entry S M)} → Grown children room s₀ l → Unfinished l → Closed l → Outcome used-up l
     no-start : room ≡ 0 → Outcome no-room []
-    full : {l : List (Entry S M)} {p : Entry S M} {m : M} {s : S} → Grown l → Unfinished l → length l ≡ room → List·Memᴰ p l → List·Memᴰ (child m s) (children (p .at)) → (List·Memᴰ s (situations l) → ⊥) → Outcome no-room l
-    over : {l : List (Entry S M)} {p : Entry S M} → Grown l → Unfinished l → List·Memᴰ p l → List·Memᴰ long (children (p .at)) → Outcome too-long l
-
-  -- the count never passes the room
-  pub grown-count : {l : List (Entry S M)} → Grown l → length l ≤ room
-  grown-count (first h) = h
-  grown-count (grow {l = l} {p = p} {m = m} {s = s} g d c n h) = omega (arith, length-append l (next p m s ∷ []), h)
+    full : {l : List (Entry S M)} {p : Entry S M} {m : M} {s : S} → Grown children room s₀ l → Unfinished l → length l ≡ room → List·Memᴰ p l → List·Memᴰ (child m s) (children (p .at)) → (List·Memᴰ s (situations l) → ⊥) → Outcome no-room l
+    over : {l : List (Entry S M)} {p : Entry S M} → Grown children room s₀ l → Unfinished l → List·Memᴰ p l → List·Memᴰ long (children (p .at)) → Outcome too-long l
 
   -- a search that goes on, with `ks` still to be offered: n are taken, and every child of those taken is met or in `ks`
   record Going (n : ℕ) (ks : List (Child S M)) (t w : List (Entry S M)) : Type 0 where
-    grown : Grown (t ++ w)
+    grown : Grown children room s₀ (t ++ w)
     unfinished : Unfinished (t ++ w)
     met : (p : Entry S M) → List·Memᴰ p t → (k : Child S M) → List·Memᴰ k (children (p .at)) → Met (t ++ w) k ⊎ List·Memᴰ k ks
     taken : length t ≡ n
@@ -101,31 +84,32 @@ module _ {S M : Type 0} (finished : S → Bool) (children : S → List (Child S 
         true-false (subst (λ (u : S). same (r .0 .at) u ≡ true) (sym (r .2)) (equal-same (r .0 .at))) f
 
     -- a new child, with room or without
-    enter-keeps : (n : ℕ) (p : Entry S M) (ks : List (Child S M)) (t w : List (Entry S M)) (m : M) (s : S) → List·Memᴰ p t → List·Memᴰ (child m s) (children (p .at)) → (List·Memᴰ s (situations (t ++ w)) → ⊥) → Going n (child m s ∷ ks) t w → During n p ks (enter same finished children room t w (next p m s))
+    enter-keeps : (n : ℕ) (p : Entry S M) (ks : List (Child S M)) (t w : List (Entry S M)) (m : M) (s : S) → List·Memᴰ p t → List·Memᴰ (child m s) (children (p .at)) → (List·Memᴰ s (situations (t ++ w)) → ⊥) → Going n (child m s ∷ ks) t w → During n p ks (enter same finished children room t w (child-entry p m s))
     unfolding enter
     enter-keeps n p ks t w m s d c new g =
         cond-by (During n p ks) (leb room (length (t ++ w)))
-        (λ h. full (g .grown) (g .unfinished) (omega (arith, grown-count (g .grown), leb-true room (length (t ++ w)) h)) (Memᴰ·append-left w d) c new)
+        (λ h. full (g .grown) (g .unfinished) (omega (arith, grown-count children room s₀ (g .grown), leb-true room (length (t ++ w)) h)) (Memᴰ·append-left w d) c new)
         (λ h.
-        let e : Entry S M = next p m s in
-        let grown : Grown ((t ++ w) ++ (e ∷ [])) = grow (g .grown) (Memᴰ·append-left w d) c new (leb-false room (length (t ++ w)) h) in
+        let e : Entry S M = child-entry p m s in
+        let grown : Grown children room s₀ ((t ++ w) ++ (e ∷ [])) = grow (g .grown) (Memᴰ·append-left w d) c new (leb-false room (length (t ++ w)) h) in
         cond-by (During n p ks) (finished s)
         (λ f. rw (← append-assoc t w (e ∷ [])) (found-last grown (g .unfinished) f))
-        (λ f.
-        (d,
-        record {
-          grown = rw (append-assoc t w (e ∷ [])) at grown;
-          unfinished = rw (append-assoc t w (e ∷ [])) at (unfinished-snoc (t ++ w) e (g .unfinished) f);
-          met =
-            λ q i k j.
-            rw (← append-assoc t w (e ∷ []))
-            (offered
-            (met-more (t ++ w) (e ∷ []))
-            (map-mem (λ (x : Entry S M). x .at) (Memᴰ·append-right (t ++ w) (List·Memᴰ·head refl)))
-            k
-            (g .met q i k j));
-          taken = g .taken;
-        })))
+        (λ f. (
+          d,
+          record {
+            grown = rw (append-assoc t w (e ∷ [])) at grown;
+            unfinished = rw (append-assoc t w (e ∷ [])) at (unfinished-snoc (t ++ w) e (g .unfinished) f);
+            met =
+                λ q i k j.
+                rw (← append-assoc t w (e ∷ []))
+                (offered
+                (met-more (t ++ w) (e ∷ []))
+                (map-mem (λ (x : Entry S M). x .at) (Memᴰ·append-right (t ++ w) (List·Memᴰ·head refl)))
+                k
+                (g .met q i k j));
+            taken = g .taken;
+          },
+        )))
 
     -- one child of p
     offer-keeps : (n : ℕ) (p : Entry S M) (ks : List (Child S M)) (st : State S M) (k : Child S M) → List·Memᴰ k (children (p .at)) → During n p (k ∷ ks) st → During n p ks (offer same finished children room (p .way) st k)
@@ -134,14 +118,15 @@ module _ {S M : Type 0} (finished : S → Bool) (children : S → List (Child S 
     offer-keeps n p ks (going t w) long c (d, g) = over (g .grown) (g .unfinished) (Memᴰ·append-left w d) c
     offer-keeps n p ks (going t w) (child m s) c (d, g) =
         cond-by (During n p ks) (entered same finished children s (t ++ w))
-        (λ h.
-        (d,
-        record {
-          grown = g .grown;
-          unfinished = g .unfinished;
-          met = λ q i k j. offered (λ x a. a) (entered-true s (t ++ w) h) k (g .met q i k j);
-          taken = g .taken;
-        }))
+        (λ h. (
+          d,
+          record {
+            grown = g .grown;
+            unfinished = g .unfinished;
+            met = λ q i k j. offered (λ x a. a) (entered-true s (t ++ w) h) k (g .met q i k j);
+            taken = g .taken;
+          },
+        ))
         (λ h. enter-keeps n p ks t w m s d c (entered-false s (t ++ w) h) g)
 
     -- all of them
@@ -162,50 +147,51 @@ module _ {S M : Type 0} (finished : S → Bool) (children : S → List (Child S 
         (λ e d k c. ⊎-elim (λ (i : Met (t ++ []) k). rw (append-nil t) at i) (λ i. absurd (List·Memᴰ·not-nil i)) (g .met e d k c))
     take-next-keeps n (going t (e ∷ w)) g =
         let same-all : (t ++ (e ∷ [])) ++ w ≡ t ++ (e ∷ w) = append-assoc t (e ∷ []) w in
-        offer-all-keeps (suc n) e (children (e .at)) (going (t ++ (e ∷ [])) w) (λ k d. d)
-        (Memᴰ·append-right t (List·Memᴰ·head refl),
-        record {
-          grown = rw same-all (g .grown);
-          unfinished = rw same-all (g .unfinished);
-          met =
-            λ q i k j.
-            rw same-all
-            (⊎-elim
-            (λ (x : List·Memᴰ q t). ⊎-elim inl (λ y. absurd (List·Memᴰ·not-nil y)) (g .met q x k j))
-            (λ (x : List·Memᴰ q (e ∷ [])). inr (subst (λ (z : Entry S M). List·Memᴰ k (children (z .at))) (List·Memᴰ·eq-of-singleton x) j))
-            (List·Memᴰ·append-cases t i));
-          taken = omega (arith, length-append t (e ∷ []), g .taken);
-        })
+        offer-all-keeps (suc n) e (children (e .at)) (going (t ++ (e ∷ [])) w) (λ k d. d) (
+          Memᴰ·append-right t (List·Memᴰ·head refl),
+          record {
+            grown = rw same-all (g .grown);
+            unfinished = rw same-all (g .unfinished);
+            met =
+                λ q i k j.
+                rw same-all
+                (⊎-elim
+                (λ (x : List·Memᴰ q t). ⊎-elim inl (λ y. absurd (List·Memᴰ·not-nil y)) (g .met q x k j))
+                (λ (x : List·Memᴰ q (e ∷ [])). inr (subst (λ (z : Entry S M). List·Memᴰ k (children (z .at))) (List·Memᴰ·eq-of-singleton x) j))
+                (List·Memᴰ·append-cases t i));
+            taken = omega (arith, length-append t (e ∷ []), g .taken);
+          },
+        )
 
     turns-keep : (n k : ℕ) (st : State S M) → Good n st → Good (k + n) (turns same finished children room k st)
     turns-keep n zero st g = rw (zero-add n) g
     turns-keep n (suc k) st g =
         rw (suc-add k n, ← add-suc k n) (turns-keep (suc n) k (take-next same finished children room st) (take-next-keeps n st g))
 
-    enter-first : Good 0 (enter same finished children room [] [] start)
+    enter-first : Good 0 (enter same finished children room [] [] (first-entry s₀))
     unfolding enter
     enter-first =
         cond-by (Good 0) (leb room 0)
         (λ h. no-start (omega (arith, leb-true room 0 h)))
         (λ h.
-        let grown : Grown (start ∷ []) = first (leb-false room 0 h) in
+        let grown : Grown children room s₀ (first-entry s₀ ∷ []) = first (leb-false room 0 h) in
         cond-by (Good 0) (finished s₀)
         (λ f. found-last {l = []} grown (λ e d. absurd (List·Memᴰ·not-nil d)) f)
         (λ f.
         record {
           grown = grown;
-          unfinished = unfinished-snoc [] start (λ e d. absurd (List·Memᴰ·not-nil d)) f;
+          unfinished = unfinished-snoc [] (first-entry s₀) (λ e d. absurd (List·Memᴰ·not-nil d)) f;
           met = λ q i k j. absurd (List·Memᴰ·not-nil i);
           taken = refl;
         }))
 
     search-keeps : Good (suc room + 0) (search same finished children room s₀)
     unfolding search
-    search-keeps = turns-keep 0 (suc room) (enter same finished children room [] [] start) enter-first
+    search-keeps = turns-keep 0 (suc room) (enter same finished children room [] [] (first-entry s₀)) enter-first
 
     -- room + 1 turns are enough: an entry taken is an entry
     ends : (n : ℕ) (st : State S M) → room < n → Good n st → (st ≡ ended (how same finished children st) (entries same finished children st)) × Outcome (how same finished children st) (entries same finished children st)
-    ends n (going t w) h g = absurd (omega (arith, h, grown-count (g .grown), length-append t w, g .taken))
+    ends n (going t w) h g = absurd (omega (arith, h, grown-count children room s₀ (g .grown), length-append t w, g .taken))
     ends n (ended x l) h o = (refl, o)
 
     -- the search ends, and its end says this of the entries
