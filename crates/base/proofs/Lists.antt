@@ -1,7 +1,7 @@
 -- Laws of lists by tests: what it says of the members that a test over a list passes or fails, the members of the lists that
 -- `only`, `keep`, `each`, `map`, `from`, `upto` make, equality of lists by `same-by`, lists without repetition, and the pigeonhole.
 -- Membership is `List·Memᴰ` of mathlib, length the native one of `lib.ListN`. Follows from the definitions by induction on lists.
-use Prim.Native.Nat.{ℕ, zero, suc, _+_, _≤_, _<_, zero-le}
+use Prim.Native.Nat.{ℕ, zero, suc, _+_, _≤_, _<_, zero-le, suc-le-suc}
 use native.Mathlib.Omega.{arith}
 use mathlib.Core.Path.{_≡_, refl, sym, ap, _∙_, subst}
 use mathlib.Core.Logic.{_⊎_, inl, inr, ⊎-elim, ⊎-map}
@@ -20,6 +20,10 @@ module _ {ℓ} {A : Type ℓ} where
   pub mem-cons-by {κ} : (P : A → Type κ) {y : A} {l : List A} → P y → ((x : A) → List·Memᴰ x l → P x) → (x : A) → List·Memᴰ x (y ∷ l) → P x
   mem-cons-by P h t x (List·Memᴰ·head e) = subst P (sym e) h
   mem-cons-by P h t x (List·Memᴰ·tail d) = t x d
+
+  pub mem-length : {x : A} {l : List A} → List·Memᴰ x l → 0 < length l
+  mem-length (List·Memᴰ·head e) = suc-le-suc zero-le
+  mem-length (List·Memᴰ·tail d) = suc-le-suc zero-le
 
   -- any: a member passes
   pub any-true : (p : A → Bool) (l : List A) → any p l ≡ true → (x : A) × List·Memᴰ x l × (p x ≡ true)
