@@ -44,58 +44,58 @@ module _ (p : Pattern) (s : PlaceSet) (c q : ℕ) where
       (both-true (st .take) (mem-any (λ (i : ℕ). follows p i q) s (st .in-set) (st .follow)))
 
 -- the text w may come after the place i, the start or a leaf
-abbrev pub Leads : Pattern → ℕ → List ℕ → Type 0
-Leads p zero w = FromStart p 1 w
-Leads p (suc i) w = After p 1 (suc i) w
+abbrev pub FromPlace : Pattern → ℕ → List ℕ → Type 0
+FromPlace p zero w = FromStart p 1 w
+FromPlace p (suc i) w = After p 1 (suc i) w
 
-leads-leaf : (p : Pattern) (q : ℕ) (w : List ℕ) → 1 ≤ q → Leads p q w → After p 1 q w
-leads-leaf p zero w h r = absurd (omega arith)
-leads-leaf p (suc q) w h r = r
+from-leaf : (p : Pattern) (q : ℕ) (w : List ℕ) → 1 ≤ q → FromPlace p q w → After p 1 q w
+from-leaf p zero w h r = absurd (omega arith)
+from-leaf p (suc q) w h r = r
 
-leaf-leads : (p : Pattern) (q : ℕ) (w : List ℕ) → 1 ≤ q → After p 1 q w → Leads p q w
-leaf-leads p zero w h r = absurd (omega arith)
-leaf-leads p (suc q) w h r = r
+leaf-from : (p : Pattern) (q : ℕ) (w : List ℕ) → 1 ≤ q → After p 1 q w → FromPlace p q w
+leaf-from p zero w h r = absurd (omega arith)
+leaf-from p (suc q) w h r = r
 
-leads-end : (p : Pattern) (i : ℕ) → ends-at (pattern p) i ≡ true → Leads p i []
-leads-end p zero e = at-once e
-leads-end p (suc i) e = ends (suc i) e
+end-from : (p : Pattern) (i : ℕ) → ends-at (pattern p) i ≡ true → FromPlace p i []
+end-from p zero e = at-once e
+end-from p (suc i) e = ends (suc i) e
 
-end-leads : (p : Pattern) (i : ℕ) → Leads p i [] → ends-at (pattern p) i ≡ true
-end-leads p zero (at-once e) = e
-end-leads p (suc i) (ends _ e) = e
+from-end : (p : Pattern) (i : ℕ) → FromPlace p i [] → ends-at (pattern p) i ≡ true
+from-end p zero (at-once e) = e
+from-end p (suc i) (ends _ e) = e
 
-leads-step : (p : Pattern) (i q c : ℕ) (w : List ℕ) → follows p i q ≡ true → leaf-takes p 1 q c ≡ true → After p 1 q w → Leads p i (c ∷ w)
-leads-step p zero q c w f t r = begins q c f t r
-leads-step p (suc i) q c w f t r = goes (suc i) q c f t r
+step-from : (p : Pattern) (i q c : ℕ) (w : List ℕ) → follows p i q ≡ true → leaf-takes p 1 q c ≡ true → After p 1 q w → FromPlace p i (c ∷ w)
+step-from p zero q c w f t r = begins q c f t r
+step-from p (suc i) q c w f t r = goes (suc i) q c f t r
 
-step-leads : (p : Pattern) (i c : ℕ) (w : List ℕ) → Leads p i (c ∷ w) → (q : ℕ) × (follows p i q ≡ true) × (leaf-takes p 1 q c ≡ true) × After p 1 q w
-step-leads p zero c w (begins q _ f t r) = (q, f, t, r)
-step-leads p (suc i) c w (goes _ q _ f t r) = (q, f, t, r)
+from-step : (p : Pattern) (i c : ℕ) (w : List ℕ) → FromPlace p i (c ∷ w) → (q : ℕ) × (follows p i q ≡ true) × (leaf-takes p 1 q c ≡ true) × After p 1 q w
+from-step p zero c w (begins q _ f t r) = (q, f, t, r)
+from-step p (suc i) c w (goes _ q _ f t r) = (q, f, t, r)
 
 -- a set may end after a text exactly if the text may come after one of its places
-set-leads : (p : Pattern) (w : List ℕ) (s : PlaceSet)
-    → may-end (pattern p) (set-along (pattern p) s w) ≡ true → (i : ℕ) × List·Memᴰ i s × Leads p i w
+set-from : (p : Pattern) (w : List ℕ) (s : PlaceSet)
+    → may-end (pattern p) (set-along (pattern p) s w) ≡ true → (i : ℕ) × List·Memᴰ i s × FromPlace p i w
 unfolding may-end
-set-leads p [] s h = let r = any-true (λ (i : ℕ). ends-at (pattern p) i) s h in (r .0, r .1, leads-end p (r .0) (r .2))
-set-leads p (c ∷ w) s h =
-    let r = set-leads p w (set-after (pattern p) s c) h in
+set-from p [] s h = let r = any-true (λ (i : ℕ). ends-at (pattern p) i) s h in (r .0, r .1, end-from p (r .0) (r .2))
+set-from p (c ∷ w) s h =
+    let r = set-from p w (set-after (pattern p) s c) h in
     let st = mem-after p s c (r .0) (r .1) in
     let m = takes-within p 1 (r .0) c (st .take) in (
       st .from-place,
       st .in-set,
-      leads-step p (st .from-place) (r .0) c w (st .follow) (st .take) (leads-leaf p (r .0) w (m .low) (r .2)),
+      step-from p (st .from-place) (r .0) c w (st .follow) (st .take) (from-leaf p (r .0) w (m .low) (r .2)),
     )
 
-pub leads-set : (p : Pattern) (w : List ℕ) (s : PlaceSet) (i : ℕ)
-    → List·Memᴰ i s → Leads p i w → may-end (pattern p) (set-along (pattern p) s w) ≡ true
+pub from-set : (p : Pattern) (w : List ℕ) (s : PlaceSet) (i : ℕ)
+    → List·Memᴰ i s → FromPlace p i w → may-end (pattern p) (set-along (pattern p) s w) ≡ true
 unfolding may-end
-leads-set p [] s i d r = mem-any (λ (j : ℕ). ends-at (pattern p) j) s d (end-leads p i r)
-leads-set p (c ∷ w) s i d r =
-    let n = step-leads p i c w r in
+from-set p [] s i d r = mem-any (λ (j : ℕ). ends-at (pattern p) j) s d (from-end p i r)
+from-set p (c ∷ w) s i d r =
+    let n = from-step p i c w r in
     let q = n .0 in
-    leads-set p w (set-after (pattern p) s c) q
+    from-set p w (set-after (pattern p) s c) q
     (after-mem p s c q (record { from-place = i; in-set = d; follow = n .1; take = n .2 }))
-    (leaf-leads p q w (takes-within p 1 q c (n .2) .low) (n .3))
+    (leaf-from p q w (takes-within p 1 q c (n .2) .low) (n .3))
 
 -- an open field's set never changes
 pub open-along : (s : PlaceSet) (w : List ℕ) → set-along any-text s w ≡ s
@@ -106,10 +106,10 @@ open-along s (c ∷ w) = open-along s w
 pub only-held : (h : Held) (w : List ℕ) → may-end h (set-along h first-set w) ≡ true → Holds h w
 only-held any-text w e = tt
 only-held (pattern p) w e =
-    let r = set-leads p w first-set e in
+    let r = set-from p w first-set e in
     start-fits p 1 w (rw (List·Memᴰ·eq-of-singleton (r .1)) at (r .2))
 
 pub all-held : (h : Held) (w : List ℕ) → Holds h w → may-end h (set-along h first-set w) ≡ true
 unfolding may-end
 all-held any-text w t = rw (open-along first-set w)
-all-held (pattern p) w f = leads-set p w first-set 0 (List·Memᴰ·head refl) (fits-start f 1)
+all-held (pattern p) w f = from-set p w first-set 0 (List·Memᴰ·head refl) (fits-start f 1)

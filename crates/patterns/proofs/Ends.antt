@@ -12,12 +12,13 @@ use lib.Dec.{eqb}
 use Rattle.base.proofs.Tests.{true-false, and-right, eq-eqb}
 use Rattle.base.proofs.Lists.{mem-cons-by}
 use Rattle.patterns.specs.Pattern.{takes, Pattern, leaf, empty, then, either, many, Held, any-text, pattern, Fits, one, nothing, both, first, none}
-use Rattle.patterns.specs.Places.{leaves, leaf-takes, PlaceSet, first-set, set-after, may-end, is-empty, set-along}
+use Rattle.patterns.specs.Places.{leaves, leaf-takes, PlaceSet, first-set, may-end, is-empty, set-along}
 use Rattle.patterns.specs.Taken.{leaves-take, held-takes}
 use Rattle.patterns.proofs.Within.{Within, one-part, takes-parts}
 use Rattle.patterns.proofs.After.{After, ends, goes, FromStart, at-once, begins, second-then, after-then, first-after, second-after, after-many, fits-start}
-use Rattle.patterns.proofs.Decides.{Leads, leads-set, all-held}
+use Rattle.patterns.proofs.Decides.{FromPlace, from-set, all-held}
 use Rattle.patterns.proofs.Rising.{places-reached}
+use Rattle.patterns.proofs.Sets.{along-append}
 
 -- Only characters are read.
 takes-character : (n : ℕ) (p : Pattern) (o q c : ℕ) → leaves-take n p → leaf-takes p o q c ≡ true → c < n
@@ -76,7 +77,7 @@ after-leaf n (many a) o i k h =
 
 -- some text may come after each place, over the characters
 after-place : (n : ℕ) (p : Pattern) (i : ℕ) → leaves-take n p → i ≤ leaves p
-    → (v : List ℕ) × ((c : ℕ) → List·Memᴰ c v → c < n) × Leads p i v
+    → (v : List ℕ) × ((c : ℕ) → List·Memᴰ c v → c < n) × FromPlace p i v
 after-place n p zero k h =
     let u = some-text n p k in
     (u .0, fits-over n p k (u .1), fits-start (u .1) 1)
@@ -84,23 +85,19 @@ after-place n p (suc i) k h =
     let u = after-leaf n p 1 (suc i) k (omega arith) in
     (u .0, after-over n p 1 k (u .1), u .1)
 
-along-append : (h : Held) (s : PlaceSet) (w v : List ℕ) → set-along h s (w ++ v) ≡ set-along h (set-along h s w) v
-along-append h s [] v = refl
-along-append h s (c ∷ w) v = along-append h (set-after h s c) w v
-
 -- from a set with a place of the pattern
-from-set : (n : ℕ) (p : Pattern) (s : PlaceSet) → leaves-take n p → ((q : ℕ) → List·Memᴰ q s → q ≤ leaves p) → is-empty s ≡ false
+set-ends : (n : ℕ) (p : Pattern) (s : PlaceSet) → leaves-take n p → ((q : ℕ) → List·Memᴰ q s → q ≤ leaves p) → is-empty s ≡ false
     → (v : List ℕ) × ((c : ℕ) → List·Memᴰ c v → c < n) × (may-end (pattern p) (set-along (pattern p) s v) ≡ true)
-from-set n p [] k h e = absurd (true-false refl e)
-from-set n p (i ∷ s) k h e =
+set-ends n p [] k h e = absurd (true-false refl e)
+set-ends n p (i ∷ s) k h e =
     let d : List·Memᴰ i (i ∷ s) = List·Memᴰ·head refl in
     let u = after-place n p i k (h i d) in
-    (u .0, u .1, leads-set p (u .0) (i ∷ s) i d (u .2))
+    (u .0, u .1, from-set p (u .0) (i ∷ s) i d (u .2))
 
 pub not-stuck : (n : ℕ) (h : Held) (w : List ℕ) → held-takes n h → is-empty (set-along h first-set w) ≡ false
     → (v : List ℕ) × ((c : ℕ) → List·Memᴰ c v → c < n) × (may-end h (set-along h first-set (w ++ v)) ≡ true)
 not-stuck n any-text w k e =
     ([], λ c d. absurd (List·Memᴰ·not-nil d), all-held any-text (w ++ []) tt)
 not-stuck n (pattern p) w k e =
-    let u = from-set n p (set-along (pattern p) first-set w) k (places-reached p w) e in
+    let u = set-ends n p (set-along (pattern p) first-set w) k (places-reached p w) e in
     (u .0, u .1, rw (along-append (pattern p) first-set w (u .0)) (u .2))

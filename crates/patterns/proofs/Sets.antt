@@ -3,12 +3,12 @@
 use Prim.Native.Nat.{ℕ}
 use mathlib.Core.Path.{_≡_, refl}
 use mathlib.Core.Bool.{true, false}
-use mathlib.Core.List.{[], _∷_, List·Memᴰ, List·Memᴰ·head, List·Memᴰ·not-nil}
+use mathlib.Core.List.{List, [], _∷_, _++_, List·Memᴰ, List·Memᴰ·head, List·Memᴰ·not-nil}
 use lib.Dec.{eqb}
 use Rattle.base.proofs.Tests.{true-false, eqb-true, eqb-same}
 use Rattle.base.proofs.Lists.{same-by-equal, same-by-same}
 use Rattle.patterns.specs.Pattern.{Held, any-text, pattern}
-use Rattle.patterns.specs.Places.{PlaceSet, set-after, may-end, is-empty, same-set}
+use Rattle.patterns.specs.Places.{PlaceSet, set-after, may-end, is-empty, same-set, set-along}
 use Rattle.patterns.proofs.Decides.{mem-after}
 
 pub empty-nil : (s : PlaceSet) → is-empty s ≡ true → s ≡ []
@@ -32,8 +32,17 @@ empty-after (pattern p) [] c e =
     no-place-empty (set-after (pattern p) [] c) (λ q d. List·Memᴰ·not-nil (mem-after p [] c q d .in-set))
 empty-after (pattern p) (i ∷ s) c e = absurd (true-false e refl)
 
+pub empty-along : (h : Held) (s : PlaceSet) (w : List ℕ) → is-empty s ≡ true → is-empty (set-along h s w) ≡ true
+empty-along h s [] e = e
+empty-along h s (c ∷ w) e = empty-along h (set-after h s c) w (empty-after h s c e)
+
 pub same-equal : (s t : PlaceSet) → same-set s t ≡ true → s ≡ t
 same-equal = same-by-equal eqb eqb-true
 
 pub equal-same : (s : PlaceSet) → same-set s s ≡ true
 equal-same = same-by-same eqb eqb-same
+
+-- one text, then another
+pub along-append : (h : Held) (s : PlaceSet) (w v : List ℕ) → set-along h s (w ++ v) ≡ set-along h (set-along h s w) v
+along-append h s [] v = refl
+along-append h s (c ∷ w) v = along-append h (set-after h s c) w v

@@ -1,4 +1,5 @@
 pub mod Pattern
 pub mod Places
+pub mod Reachable
 pub mod Taken
 pub mod Written
