@@ -10,7 +10,7 @@ use Rattle.base.proofs.Tests.{and-left, and-right, or-is-true, eqb-same}
 use Rattle.base.proofs.Lists.{cons-eq}
 use Rattle.patterns.specs.Pattern.{Leaf, takes, Pattern, leaf, empty, then, either, many, Fits, one, nothing, both, first, second, none, more}
 use Rattle.patterns.specs.Places.{leaves, takes-empty, may-be-first, may-be-last, may-follow, leaf-takes}
-use Rattle.patterns.proofs.Within.{Within, apart, first-then, last-then, follow-then, first-either, last-either, follow-either, follow-many, takes-parts, first-within, last-within, follow-within, takes-within}
+use Rattle.patterns.proofs.Parts.{Within, apart, first-then, last-then, follow-then, first-either, last-either, follow-either, follow-many, takes-parts, first-within, last-within, follow-within, takes-within}
 
 -- the text w may come after the leaf i of the part
 pub data After (p : Pattern) (o : ℕ) : ℕ → List ℕ → Type 0 where

@@ -12,7 +12,7 @@ use Rattle.base.proofs.Tests.{and-left, and-right, both-true}
 use Rattle.base.proofs.Lists.{any-true, mem-any, mem-keep, keep-mem, from-mem}
 use Rattle.patterns.specs.Pattern.{Pattern, Held, any-text, pattern, Holds}
 use Rattle.patterns.specs.Places.{leaves, leaf-takes, follows, ends-at, PlaceSet, leaf-places, first-set, set-after, may-end, set-along}
-use Rattle.patterns.proofs.Within.{takes-within}
+use Rattle.patterns.proofs.Parts.{takes-within}
 use Rattle.patterns.proofs.After.{After, ends, goes, FromStart, at-once, begins, start-fits, fits-start}
 
 -- What a set holds after a character: the leaf q takes it and may follow the place i of the set.

@@ -14,7 +14,7 @@ use Rattle.base.proofs.Lists.{mem-cons-by}
 use Rattle.patterns.specs.Pattern.{takes, Pattern, leaf, empty, then, either, many, Held, any-text, pattern, Fits, one, nothing, both, first, none}
 use Rattle.patterns.specs.Places.{leaves, leaf-takes, PlaceSet, first-set, may-end, is-empty, set-along}
 use Rattle.patterns.specs.Taken.{leaves-take, held-takes}
-use Rattle.patterns.proofs.Within.{Within, one-part, takes-parts}
+use Rattle.patterns.proofs.Parts.{Within, one-part, takes-parts}
 use Rattle.patterns.proofs.After.{After, ends, goes, FromStart, at-once, begins, second-then, after-then, first-after, second-after, after-many, fits-start}
 use Rattle.patterns.proofs.Decides.{FromPlace, from-set, all-held}
 use Rattle.patterns.proofs.Rising.{places-reached}

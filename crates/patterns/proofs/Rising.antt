@@ -10,7 +10,7 @@ use Rattle.base.specs.Lists.{from, only, keep}
 use Rattle.base.proofs.Lists.{mem-keep, mem-from}
 use Rattle.patterns.specs.Pattern.{Pattern, Held, any-text, pattern}
 use Rattle.patterns.specs.Places.{leaves, PlaceSet, first-set, set-after, set-along}
-use Rattle.patterns.proofs.Within.{takes-within}
+use Rattle.patterns.proofs.Parts.{takes-within}
 use Rattle.patterns.proofs.Decides.{mem-after}
 
 -- strictly rising: each place is below all behind it
