@@ -1,5 +1,1 @@
-pub mod Pattern
-pub mod Places
-pub mod Reachable
-pub mod Taken
-pub mod Written
+pub mod Masks

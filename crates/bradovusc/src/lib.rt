@@ -1,0 +1,2 @@
+// The library.
+mod situation;

@@ -1,3 +1,0 @@
-pub mod Grown
-pub mod Outcome
-pub mod Laws
