@@ -22,7 +22,7 @@ use Rattle.paper.proofs.Rising.{places-reached}
 use Rattle.paper.proofs.PlaceSets.{along-append}
 
 -- Only characters are read.
-takes-character : (n : ℕ) (p : Pattern) (o q c : ℕ) → leaves-take n p → leaf-takes p o q c ≡ true → c < n
+pub takes-character : (n : ℕ) (p : Pattern) (o q c : ℕ) → leaves-take n p → leaf-takes p o q c ≡ true → c < n
 takes-character n (leaf l) o q c k h = k .character c (and-right (eqb o q) (takes l c) h)
 takes-character n empty o q c k h = absurd (true-false h refl)
 takes-character n (then a b) o q c k h =
