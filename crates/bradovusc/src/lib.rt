@@ -1,2 +1,3 @@
 // The library.
+mod search;
 mod situation;
