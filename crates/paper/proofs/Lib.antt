@@ -7,6 +7,16 @@ pub mod Ended
 pub mod Ends
 pub mod Room
 pub mod Searched
+-- places
+pub mod Parts
+pub mod After
+pub mod PlacesDecide
+pub mod PlaceSets
+pub mod Rising
+pub mod Reachable
+pub mod NotStuck
+pub mod Judged
+pub mod Accepts
 -- plain questions
 pub mod Same
 pub mod Tails

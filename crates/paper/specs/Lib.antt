@@ -4,7 +4,9 @@ pub mod Numbers
 -- the meaning
 pub mod Equation
 pub mod Pattern
+pub mod Taken
 pub mod Places
+pub mod Reachable
 pub mod Search
 pub mod Leads
 pub mod Situation
