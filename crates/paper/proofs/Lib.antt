@@ -17,8 +17,21 @@ pub mod Reachable
 pub mod NotStuck
 pub mod Judged
 pub mod Accepts
--- plain questions
+-- situations and their solutions
 pub mod Same
+pub mod Trimming
+pub mod Standing
+pub mod Labels
+pub mod Weight
+pub mod Solution
+pub mod Steps
+pub mod Moves
+pub mod Question
+pub mod Progress
+pub mod Spelled
+pub mod Sound
+pub mod Complete
+-- plain questions
 pub mod Tails
 pub mod Standings
 pub mod Reached
