@@ -1,3 +1,5 @@
+pub mod Masks
 pub mod Pattern
 pub mod Places
+pub mod Reading
 pub mod Written

@@ -1,0 +1,2 @@
+pub mod MaskOf
+pub mod Tables

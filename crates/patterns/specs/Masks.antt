@@ -1,0 +1,89 @@
+-- Place sets as masks (document 01, "How to write each place"): "31 leaves and the start make 32 places: a place set is a 32-bit
+-- mask; following places are gathered by or and shifts". What the public functions on a pattern's bytes give, for any bytes.
+--
+-- Masks are sums of powers of two, so that these definitions compute. The laws that lead from masks back to place sets are in
+-- proofs/Masks.antt.
+use Prim.Native.Nat.{ℕ, suc, _+_, _/_, _%_, _^_}
+use mathlib.Core.Bool.{Bool, true, _&&_}
+use mathlib.Core.List.{List, [], _∷_, map}
+use lib.Dec.{eqb}
+use lib.ListN.{getD, replicate}
+use Rattle.base.specs.Lists.{upto, any, keep}
+use Rattle.base.specs.Numbers.{characters, most-leaves}
+use Rattle.patterns.specs.Pattern.{Pattern, Held, any-text, pattern}
+use Rattle.patterns.specs.Places.{leaf-takes, follows, ends-at, PlaceSet}
+use Rattle.patterns.specs.Written.{Judged, not-one-pattern, too-many-leaves, judged}
+use Rattle.patterns.specs.declared.Verdict.{Verdict}
+use Rattle.patterns.specs.declared.Verdict.the-variants.{NotOnePattern, TooManyLeaves, Good}
+
+-- "31 leaves and the start make 32 places"
+abbrev pub places : ℕ
+places = suc most-leaves
+
+-- the mask of a place set: one bit for each place
+abbrev pub mask : PlaceSet → ℕ
+mask [] = 0
+mask (i ∷ s) = 2 ^ i + mask s
+
+-- the mask of the places that pass a test
+unfoldable pub mask-of : (ℕ → Bool) → ℕ
+mask-of t = mask (keep t (upto places))
+
+-- does the place i stand in the set with the mask m?
+unfoldable pub in-mask : ℕ → ℕ → Bool
+in-mask m i = eqb (m / 2 ^ i % 2) 1
+
+-- f 0, f 1, .. : n numbers
+unfoldable pub table : (ℕ → ℕ) → ℕ → List ℕ
+table f n = map f (upto n)
+
+-- May the place q come next after the place i? The set of an open field never changes: after i comes i.
+abbrev pub comes-next : Held → ℕ → ℕ → Bool
+comes-next any-text i q = eqb i q
+comes-next (pattern p) i q = follows p i q
+
+-- Does the place q take the character c? Of an open field every place does.
+abbrev pub takes-at : Held → ℕ → ℕ → Bool
+takes-at any-text q c = true
+takes-at (pattern p) q c = leaf-takes p 1 q c
+
+-- "For every field and every place, the set of places that may follow is worked out once from the pattern."
+unfoldable pub follow-masks : Held → List ℕ
+follow-masks h = table (λ (i : ℕ). mask-of (λ (q : ℕ). comes-next h i q)) places
+
+-- for every character, the set of places that take it
+unfoldable pub taking-mask : Held → ℕ → ℕ
+taking-mask h c = mask-of (λ (q : ℕ). takes-at h q c)
+
+unfoldable pub taking-masks : Held → List ℕ
+taking-masks h = table (λ (c : ℕ). taking-mask h c) characters
+
+-- the places that may be the last one of a text
+unfoldable pub last-mask : Held → ℕ
+last-mask h = mask-of (λ (i : ℕ). ends-at h i)
+
+-- The places that may follow some place of the set with the mask m, by any list of masks. (The set after c is what of these takes c.)
+unfoldable pub followers-of : List ℕ → ℕ → ℕ
+followers-of masks m = mask-of (λ (q : ℕ). any (λ (i : ℕ). in-mask m i && in-mask (getD masks i 0) q) (upto places))
+
+-- What `judge` answers for bytes that are judged so.
+abbrev pub verdict : Judged → Verdict
+verdict not-one-pattern = NotOnePattern
+verdict too-many-leaves = TooManyLeaves
+verdict (judged p) = Good
+
+-- What the masks of bytes that are judged so are: those of the good pattern, else zeros.
+abbrev pub follow-sets-of : Judged → List ℕ
+follow-sets-of not-one-pattern = replicate places 0
+follow-sets-of too-many-leaves = replicate places 0
+follow-sets-of (judged p) = follow-masks (pattern p)
+
+abbrev pub taking-sets-of : Judged → List ℕ
+taking-sets-of not-one-pattern = replicate characters 0
+taking-sets-of too-many-leaves = replicate characters 0
+taking-sets-of (judged p) = taking-masks (pattern p)
+
+abbrev pub last-set-of : Judged → ℕ
+last-set-of not-one-pattern = 0
+last-set-of too-many-leaves = 0
+last-set-of (judged p) = last-mask (pattern p)
