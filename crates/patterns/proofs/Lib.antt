@@ -1,2 +1,3 @@
 pub mod MaskOf
 pub mod Tables
+pub mod Written

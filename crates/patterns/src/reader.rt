@@ -7,11 +7,24 @@ use crate::place_sets::when;
 ghost use mathlib.Core.Path.{_≡_};
 ghost use mathlib.Core.List.{List};
 ghost use Prim.Native.Nat.{ℕ, _+_, _^_, _<_, _≤_};
-ghost use lib.ListN.{length};
+ghost use lib.ListN.{length, getD};
+ghost use Rattle.base.specs.Numbers.{then-code};
 ghost use Rattle.patterns.specs.Pattern.{Pattern, range, leaf, empty, then, either, many};
 ghost use Rattle.patterns.specs.Places.{leaves};
 ghost use Rattle.patterns.specs.Written.{read-part, read-range};
 ghost use Rattle.patterns.specs.Reading.{Reads, Read-as, nothing};
+
+// "Code 39, by value": 0 to 42.
+const CHARACTERS: u8 = 43;
+
+// "64: the empty text", 65 a range, 66 A then B, 67 A or B, 68 A any number of times.
+const EMPTY_CODE: u8 = 64;
+
+const RANGE_CODE: u8 = 65;
+
+const THEN_CODE: u8 = 66;
+
+const MANY_CODE: u8 = 68;
 
 // What the pattern at the front of some bytes comes to, where its first leaf is at a given place.
 pub struct Reading {
@@ -124,4 +137,75 @@ impl Reading {
         r.follow = follow;
         r
     }
+}
+
+// "65 lo hi: one character with lo ≤ value ≤ hi ≤ 42": what stands behind the 65.
+fn read_range(s: &[u8], o: usize) -> Reading
+    requires { ⌜ o + 1 < 2 ^ 64 ⌝ }
+    ensures { λ r. ⌜ Read-as (read-range (now (s .entry))) o r ⌝ }
+{
+    if s.len() < 2 {
+        return Reading::none();
+    }
+    let lo = s[0];
+    let hi = s[1];
+    if hi < lo {
+        return Reading::none();
+    }
+    if CHARACTERS <= hi {
+        return Reading::none();
+    }
+    Reading::leaf(s.len() - 2, o, lo, hi)
+}
+
+// A pattern that has no part: a leaf or the empty text.
+fn read_single(s: &[u8], o: usize) -> Reading
+    requires { ⌜ (o + length (now s) < 2 ^ 64) × (0 < length (now s)) × (getD (now s) 0 0 < then-code) ⌝ }
+    ensures { λ r. ⌜ ((n : ℕ) → length (now (s .entry)) ≤ n → Read-as (read-part n (now (s .entry))) o r) ⌝ }
+{
+    let b = s[0];
+    if b < CHARACTERS {
+        return Reading::leaf(s.len() - 1, o, b, b);
+    }
+    if b == EMPTY_CODE {
+        return Reading::empty(s.len() - 1, o);
+    }
+    if b == RANGE_CODE {
+        return read_range(&s[1..], o);
+    }
+    Reading::none()
+}
+
+// The pattern at the front of the bytes, its first leaf at the place o. "A or B, each again a pattern": reading, nullability
+// and follow sets go down the pattern together, and the bytes left fall at each call.
+pub fn read(s: &[u8], o: usize) -> Reading
+    requires { ⌜ o + length (now s) < 2 ^ 64 ⌝ }
+    ensures { λ r. ⌜ ((n : ℕ) → length (now (s .entry)) ≤ n → Read-as (read-part n (now (s .entry))) o r) ⌝ }
+{
+    if s.len() == 0 {
+        return Reading::none();
+    }
+    let b = s[0];
+    if b < THEN_CODE {
+        return read_single(s, o);
+    }
+    if MANY_CODE < b {
+        return Reading::none();
+    }
+    let first = read(&s[1..], o);
+    if !first.ok {
+        return first;
+    }
+    if b == MANY_CODE {
+        return first.many();
+    }
+    let behind = s.len() - first.left;
+    let second = read(&s[behind..], first.next);
+    if !second.ok {
+        return second;
+    }
+    if b == THEN_CODE {
+        return first.then(second);
+    }
+    first.or(second)
 }
