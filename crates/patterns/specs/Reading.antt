@@ -1,14 +1,14 @@
 -- What the private functions that read a pattern's bytes promise: the step between the code and the definitions of `Masks`.
 -- `Reads p rest o r`: r tells of the pattern p, whose first leaf is the place o and behind which the bytes `rest` are left.
-use Prim.Native.Nat.{ℕ, _+_}
+use Prim.Native.Nat.{ℕ, _+_, _<_, _≤_}
 use mathlib.Core.Path.{_≡_}
 use mathlib.Core.Bool.{true, false}
-use mathlib.Core.List.{List}
+use mathlib.Core.List.{List, []}
 use lib.ListN.{length, replicate}
 use Rattle.base.specs.Numbers.{characters}
 use Rattle.patterns.specs.Pattern.{Pattern}
 use Rattle.patterns.specs.Places.{leaves, takes-empty, may-be-first, may-be-last, may-follow, leaf-takes}
-use Rattle.patterns.specs.Written.{Part, no-pattern, part}
+use Rattle.patterns.specs.Written.{Part, no-pattern, part, Judged, not-one-pattern, too-many-leaves, judged}
 use Rattle.patterns.specs.Masks.{places, mask-of, table}
 use Rattle.patterns.specs.declared.reader.Reading.{Reading}
 
@@ -40,3 +40,15 @@ nothing =
       follow = replicate places 0;
       taking = replicate characters 0;
     }
+
+-- what reading all the bytes as one pattern gives, by how they are judged
+abbrev pub Whole-as : Judged → Reading → Type 0
+Whole-as not-one-pattern r = r ≡ nothing
+Whole-as too-many-leaves r = (r .ok ≡ true) × (places < r .next)
+Whole-as (judged p) r = Reads p [] 1 r × (r .next ≤ places)
+
+-- what reading them as a good pattern gives
+abbrev pub Good-as : Judged → Reading → Type 0
+Good-as not-one-pattern r = r ≡ nothing
+Good-as too-many-leaves r = r ≡ nothing
+Good-as (judged p) r = Reads p [] 1 r

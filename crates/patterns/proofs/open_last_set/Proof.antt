@@ -1,0 +1,11 @@
+use Rattle.patterns.proofs.open_last_set.Statement.{statement}
+use Rattle.patterns.proofs.open_last_set.Tie as tie
+use Rattle.patterns.proofs.open_last_set.Reads as reads
+use Rattle.patterns.proofs.open_last_set.Lts as lts
+
+-- src/lib.rt:105:1
+returns : tie.Need-returns
+returns c = ?
+
+pub open-last-set-spec : {M : Type 1} → statement M
+open-last-set-spec = tie.close (tie.spec returns)

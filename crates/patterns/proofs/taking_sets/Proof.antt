@@ -1,0 +1,17 @@
+use borrow.Author.Needs.{needs}
+use Rattle.patterns.proofs.taking_sets.Statement.{statement}
+use Rattle.patterns.proofs.taking_sets.Tie as tie
+use Rattle.patterns.proofs.taking_sets.Reads as reads
+use Rattle.patterns.proofs.taking_sets.Lts as lts
+use Rattle.patterns.proofs.good.Reads as good-reads
+
+-- src/lib.rt:78:9
+good-requires : tie.Need-good-requires
+good-requires c κs = search needs
+
+-- src/lib.rt:75:1
+returns : tie.Need-returns
+returns c = ?
+
+pub taking-sets-spec : {M : Type 1} → statement M
+taking-sets-spec = tie.close (tie.spec good-requires returns)
