@@ -8,11 +8,11 @@ use mathlib.Core.List.{List, [], _∷_}
 use lib.Dec.{leb, eqb}
 use lib.Bits.{bitOr}
 use lib.ListN.{length, set, replicate}
-use Rattle.base.specs.Numbers.{most-leaves}
-use Rattle.base.proofs.Tests.{by-bool, true-false, cond-by, leb-true, leb-false}
-use Rattle.patterns.specs.Pattern.{Pattern, pattern}
-use Rattle.patterns.specs.Places.{leaves, takes-empty, may-be-last, ends-at}
-use Rattle.patterns.specs.Written.{Part, no-pattern, part, read-part, Judged, not-one-pattern, too-many-leaves, judged, judge-part, judge}
+use Rattle.paper.specs.Numbers.{most-leaves}
+use Rattle.paper.proofs.Tests.{by-bool, true-false, cond-by, leb-true, leb-false}
+use Rattle.paper.specs.Pattern.{Pattern, pattern}
+use Rattle.paper.specs.Places.{leaves, takes-empty, may-be-last, ends-at}
+use Rattle.paper.specs.Written.{Part, no-pattern, part, read-part, Judged, not-one-pattern, too-many-leaves, judged, judge-part, judge}
 use Rattle.patterns.specs.Masks.{places, mask-of, table, follow-masks, taking-mask, taking-masks, last-mask, verdict, follow-sets-of, taking-sets-of, last-set-of}
 use Rattle.patterns.specs.Reading.{Reads, Read-as, nothing, Whole-as, Good-as}
 use Rattle.patterns.specs.declared.reader.Reading.{Reading}

@@ -9,9 +9,9 @@ use mathlib.Core.Bool.{Bool, true, false, cond, not, _&&_, _||_}
 use mathlib.Core.List.{[], _∷_, _++_}
 use lib.Dec.{eqb, eqb·zero-suc, eqb·suc-zero, eqb·suc-suc}
 use lib.Bits.{bitAnd, bitOr, and-step, or-step}
-use Rattle.base.specs.Lists.{from, upto, any, only, keep}
-use Rattle.base.proofs.Tests.{eq-eqb, neq-eqb}
-use Rattle.patterns.specs.Places.{PlaceSet}
+use Rattle.paper.specs.Lists.{from, upto, any, only, keep}
+use Rattle.paper.proofs.Tests.{eq-eqb, neq-eqb}
+use Rattle.paper.specs.Places.{PlaceSet}
 use Rattle.patterns.specs.Masks.{places, mask, mask-of, in-mask}
 
 abbrev pub below : ℕ → (ℕ → Bool) → ℕ

@@ -11,8 +11,8 @@ use lib.Dec.{eqb}
 use lib.Bits.{bitOr}
 use lib.ListN.{length, getD, set, drop, replicate, length-map, length-set, drop-of-length-le}
 use lib.Seq.{drop-cons, set-at, getD-at}
-use Rattle.base.specs.Lists.{from, upto}
-use Rattle.base.proofs.Lists.{cons-eq, length-from, map-append}
+use Rattle.paper.specs.Lists.{from, upto}
+use Rattle.paper.proofs.Lists.{cons-eq, length-from, map-append}
 use Rattle.patterns.specs.Masks.{places, mask-of, in-mask, table}
 use Rattle.patterns.proofs.MaskOf.{mask-of-same, mask-of-or, mask-of-cond, mask-of-none, in-mask-of}
 

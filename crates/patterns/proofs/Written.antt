@@ -8,12 +8,12 @@ use mathlib.Core.List.{List, [], _∷_, _++_, append-assoc}
 use lib.Dec.{leb, ltb, eqb}
 use lib.ListN.{length, getD, take, drop, length-append, length-drop}
 use lib.Seq.{drop-at, take-all, drop-drop}
-use Rattle.base.specs.Numbers.{characters, empty-code, range-code, then-code, or-code, many-code}
-use Rattle.base.proofs.Tests.{cond-by, cond-true, cond-false, true-false, both-true, left-false, right-false, le-leb, lt-leb, lt-ltb, le-ltb, neq-eqb, same-tests, leb-true, and-left, and-right, eq-eqb, eqb-true, eqb-false, by-bool}
-use Rattle.base.proofs.Lists.{cons-eq}
-use Rattle.patterns.specs.Pattern.{takes, char, range, Pattern, leaf, empty, then, either, many}
-use Rattle.patterns.specs.Places.{leaves}
-use Rattle.patterns.specs.Written.{Part, no-pattern, part, read-range, second-part, two-parts, many-part, read-part}
+use Rattle.paper.specs.Numbers.{characters, empty-code, range-code, then-code, or-code, many-code}
+use Rattle.paper.proofs.Tests.{cond-by, cond-true, cond-false, true-false, both-true, left-false, right-false, le-leb, lt-leb, lt-ltb, le-ltb, neq-eqb, same-tests, leb-true, and-left, and-right, eq-eqb, eqb-true, eqb-false, by-bool}
+use Rattle.paper.proofs.Lists.{cons-eq}
+use Rattle.paper.specs.Pattern.{takes, char, range, Pattern, leaf, empty, then, either, many}
+use Rattle.paper.specs.Places.{leaves}
+use Rattle.paper.specs.Written.{Part, no-pattern, part, read-range, second-part, two-parts, many-part, read-part}
 use Rattle.patterns.specs.Masks.{mask-of}
 use Rattle.patterns.specs.Reading.{Reads, Read-as}
 use Rattle.patterns.specs.declared.reader.Reading.{Reading}

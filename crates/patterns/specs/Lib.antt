@@ -1,5 +1,2 @@
 pub mod Masks
-pub mod Pattern
-pub mod Places
 pub mod Reading
-pub mod Written

@@ -8,11 +8,11 @@ use mathlib.Core.Bool.{Bool, true, _&&_}
 use mathlib.Core.List.{List, [], _∷_, map}
 use lib.Dec.{eqb}
 use lib.ListN.{getD, replicate}
-use Rattle.base.specs.Lists.{upto, any, keep}
-use Rattle.base.specs.Numbers.{characters, most-leaves}
-use Rattle.patterns.specs.Pattern.{Pattern, Held, any-text, pattern}
-use Rattle.patterns.specs.Places.{leaf-takes, follows, ends-at, PlaceSet}
-use Rattle.patterns.specs.Written.{Judged, not-one-pattern, too-many-leaves, judged}
+use Rattle.paper.specs.Lists.{upto, any, keep}
+use Rattle.paper.specs.Numbers.{characters, most-leaves}
+use Rattle.paper.specs.Pattern.{Pattern, Held, any-text, pattern}
+use Rattle.paper.specs.Places.{leaf-takes, follows, ends-at, PlaceSet}
+use Rattle.paper.specs.Written.{Judged, not-one-pattern, too-many-leaves, judged}
 use Rattle.patterns.specs.declared.Verdict.{Verdict}
 use Rattle.patterns.specs.declared.Verdict.the-variants.{NotOnePattern, TooManyLeaves, Good}
 

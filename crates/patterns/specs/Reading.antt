@@ -5,10 +5,10 @@ use mathlib.Core.Path.{_≡_}
 use mathlib.Core.Bool.{true, false}
 use mathlib.Core.List.{List, []}
 use lib.ListN.{length, replicate}
-use Rattle.base.specs.Numbers.{characters}
-use Rattle.patterns.specs.Pattern.{Pattern}
-use Rattle.patterns.specs.Places.{leaves, takes-empty, may-be-first, may-be-last, may-follow, leaf-takes}
-use Rattle.patterns.specs.Written.{Part, no-pattern, part, Judged, not-one-pattern, too-many-leaves, judged}
+use Rattle.paper.specs.Numbers.{characters}
+use Rattle.paper.specs.Pattern.{Pattern}
+use Rattle.paper.specs.Places.{leaves, takes-empty, may-be-first, may-be-last, may-follow, leaf-takes}
+use Rattle.paper.specs.Written.{Part, no-pattern, part, Judged, not-one-pattern, too-many-leaves, judged}
 use Rattle.patterns.specs.Masks.{places, mask-of, table}
 use Rattle.patterns.specs.declared.reader.Reading.{Reading}
 

@@ -11,8 +11,8 @@ use place_sets::when;
 use reader::Reading;
 use reader::read;
 ghost use mathlib.Core.Path.{_≡_};
-ghost use Rattle.patterns.specs.Pattern.{any-text};
-ghost use Rattle.patterns.specs.Written.{judge};
+ghost use Rattle.paper.specs.Pattern.{any-text};
+ghost use Rattle.paper.specs.Written.{judge};
 ghost use Rattle.patterns.specs.Masks.{follow-masks, taking-masks, last-mask, followers-of, verdict, follow-sets-of, taking-sets-of, last-set-of};
 ghost use Rattle.patterns.specs.Reading.{Whole-as, Good-as};
 

@@ -5,7 +5,7 @@ ghost use Prim.Native.Nat.{ℕ, _<_};
 ghost use lib.Dec.{eqb};
 ghost use lib.ListN.{length, getD};
 ghost use lib.Bits.{bitOr};
-ghost use Rattle.patterns.specs.Pattern.{takes, range};
+ghost use Rattle.paper.specs.Pattern.{takes, range};
 ghost use Rattle.patterns.specs.Masks.{places, mask-of, in-mask, table};
 
 // "31 leaves and the start make 32 places".

@@ -8,10 +8,10 @@ ghost use mathlib.Core.Path.{_≡_};
 ghost use mathlib.Core.List.{List};
 ghost use Prim.Native.Nat.{ℕ, _+_, _^_, _<_, _≤_};
 ghost use lib.ListN.{length, getD};
-ghost use Rattle.base.specs.Numbers.{then-code};
-ghost use Rattle.patterns.specs.Pattern.{Pattern, range, leaf, empty, then, either, many};
-ghost use Rattle.patterns.specs.Places.{leaves};
-ghost use Rattle.patterns.specs.Written.{read-part, read-range};
+ghost use Rattle.paper.specs.Numbers.{then-code};
+ghost use Rattle.paper.specs.Pattern.{Pattern, range, leaf, empty, then, either, many};
+ghost use Rattle.paper.specs.Places.{leaves};
+ghost use Rattle.paper.specs.Written.{read-part, read-range};
 ghost use Rattle.patterns.specs.Reading.{Reads, Read-as, nothing};
 
 // "Code 39, by value": 0 to 42.

@@ -1,7 +1,7 @@
 use mathlib.Core.Path.{sym, ap}
 use mathlib.Core.Bool.{Bool, _&&_}
 use lib.Dec.{leb}
-use Rattle.base.proofs.Tests.{le-leb, lt-leb, left-false}
+use Rattle.paper.proofs.Tests.{le-leb, lt-leb, left-false}
 use Rattle.patterns.proofs.place_sets.between.Statement.{statement}
 use Rattle.patterns.proofs.place_sets.between.Tie as tie
 use Rattle.patterns.proofs.place_sets.between.Reads as reads

@@ -7,7 +7,7 @@ use mathlib.Core.List.{List}
 use lib.Dec.{eqb}
 use lib.Bits.{bitOr}
 use lib.ListN.{length, getD}
-use Rattle.patterns.specs.Pattern.{takes, range}
+use Rattle.paper.specs.Pattern.{takes, range}
 use Rattle.patterns.specs.Masks.{mask-of, in-mask, table}
 use Rattle.patterns.proofs.Tables.{Filling, filling-none, filling-read, filling-more, filling-all}
 use Rattle.patterns.proofs.place_sets.stay.Statement.{statement}

@@ -2,7 +2,7 @@ use Prim.Native.Nat.{_-_}
 use native.Mathlib.Omega.{arith}
 use mathlib.Core.Path.{ap}
 use lib.ListN.{take, drop, length-drop}
-use Rattle.base.proofs.Tests.{not-is-true, not-is-false}
+use Rattle.paper.proofs.Tests.{not-is-true, not-is-false}
 use Rattle.patterns.specs.Reading.{nothing}
 use Rattle.patterns.specs.declared.reader.Reading.{Reading}
 use Rattle.patterns.proofs.Written.{to-end, as-nothing, as-none, as-no-first, as-many, as-then, as-or, as-no-second, second-within, second-room}

@@ -1,6 +1,6 @@
 use native.Mathlib.Omega.{arith}
 use mathlib.Core.Path.{refl, sym, ap, _∙_}
-use Rattle.base.specs.Numbers.{characters}
+use Rattle.paper.specs.Numbers.{characters}
 use Rattle.patterns.specs.Masks.{places}
 use Rattle.patterns.specs.Reading.{nothing}
 use Rattle.patterns.specs.declared.reader.Reading.{Reading}

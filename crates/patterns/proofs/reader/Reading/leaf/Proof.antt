@@ -2,8 +2,8 @@ use Prim.Native.Nat.{ℕ}
 use mathlib.Core.Path.{refl, sym, ap, _∙_}
 use mathlib.Core.Bool.{cond}
 use lib.ListN.{length}
-use Rattle.base.specs.Numbers.{characters}
-use Rattle.patterns.specs.Pattern.{takes, range}
+use Rattle.paper.specs.Numbers.{characters}
+use Rattle.paper.specs.Pattern.{takes, range}
 use Rattle.patterns.specs.Masks.{places, table}
 use Rattle.patterns.specs.Reading.{nothing}
 use Rattle.patterns.specs.declared.reader.Reading.{Reading}

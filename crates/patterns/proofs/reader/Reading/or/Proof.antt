@@ -4,8 +4,8 @@ use mathlib.Core.Path.{_≡_, refl, sym, ap, ap₂, _∙_}
 use mathlib.Core.Bool.{Bool, cond, _&&_, _||_}
 use lib.Bits.{bitOr}
 use lib.ListN.{length, getD}
-use Rattle.base.specs.Numbers.{characters}
-use Rattle.patterns.specs.Places.{leaves, takes-empty, may-be-first, may-be-last, may-follow, leaf-takes}
+use Rattle.paper.specs.Numbers.{characters}
+use Rattle.paper.specs.Places.{leaves, takes-empty, may-be-first, may-be-last, may-follow, leaf-takes}
 use Rattle.patterns.specs.Masks.{places, table}
 use Rattle.patterns.proofs.MaskOf.{mask-of-or, mask-of-cond}
 use Rattle.patterns.proofs.Tables.{masks-joined, masks-linked}

@@ -1,0 +1,3 @@
+// The library.
+mod search;
+mod situation;

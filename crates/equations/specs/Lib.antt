@@ -1,4 +1,0 @@
-pub mod Decides
-pub mod Equation
-pub mod Situation
-pub mod Way

@@ -1,0 +1,150 @@
+-- The question sheet (document 01, "The question sheet" and "Checks on the sheet"): every fault in 01's order with its place,
+-- and the question of a good sheet. A sheet is any list of bytes.
+use Prim.Native.Nat.{ℕ, zero, suc, _+_, _-_}
+use mathlib.Core.Bool.{Bool, cond, _&&_, _||_}
+use mathlib.Core.List.{List, map}
+use lib.Dec.{leb, ltb, eqb}
+use lib.ListN.{length, getD, take, drop, set, replicate}
+use Rattle.paper.specs.Lists.{all}
+use Rattle.paper.specs.Numbers.{characters, fields, field-token, pattern-bytes, sheet-side}
+use Rattle.paper.specs.Pattern.{Pattern, Held, any-text, pattern}
+use Rattle.paper.specs.Written.{Judged, judged, judge}
+use Rattle.paper.specs.Written as Written
+use Rattle.paper.specs.Equation.{Token, chr, fld, Side}
+use Rattle.paper.specs.Question.{Question}
+
+-- the faults of a sheet
+pub data Fault : Type 0 where
+  cut-short : Fault
+  wrong-mark : Fault
+  wrong-field : Fault
+  wrong-length : Fault
+  not-one-pattern : Fault
+  too-many-leaves : Fault
+  wrong-token : Fault
+
+-- 01's numbers for them
+abbrev pub fault-number : Fault → ℕ
+fault-number cut-short = 11
+fault-number wrong-mark = 12
+fault-number wrong-field = 13
+fault-number wrong-length = 14
+fault-number not-one-pattern = 15
+fault-number too-many-leaves = 16
+fault-number wrong-token = 17
+
+-- what a check on a record finds: the fault, or what the record says and the offset at which it ends
+pub data Checked (A : Type 0) : Type 0 where
+  fault : Fault → Checked A
+  read : A → ℕ → Checked A
+
+-- a field and its pattern
+pub record FieldPattern : Type 0 where
+  pub field : ℕ
+  pub its : Pattern
+
+abbrev pub byte-at : List ℕ → ℕ → ℕ
+byte-at s i = getD s i 0
+
+-- the bytes from the offset on
+abbrev pub bytes-left : List ℕ → ℕ → ℕ
+bytes-left s at = length s - at
+
+abbrev pub body : List ℕ → ℕ → ℕ → List ℕ
+body s at n = take n (drop at s)
+
+-- "Every record begins with a two-byte mark": `PA`, `LE`, `RI`
+pub data Mark : Type 0 where
+  PA : Mark
+  LE : Mark
+  RI : Mark
+
+abbrev pub first-letter : Mark → ℕ
+first-letter PA = 80
+first-letter LE = 76
+first-letter RI = 82
+
+abbrev pub second-letter : Mark → ℕ
+second-letter PA = 65
+second-letter LE = 69
+second-letter RI = 73
+
+unfoldable pub marked : Mark → List ℕ → ℕ → Bool
+marked m s at = eqb (byte-at s at) (first-letter m) && eqb (byte-at s (at + 1)) (second-letter m)
+
+-- "then for a pattern 15, then 16"
+abbrev pub pattern-judged : Judged → ℕ → ℕ → Checked FieldPattern
+pattern-judged Written.not-one-pattern f next = fault not-one-pattern
+pattern-judged Written.too-many-leaves f next = fault too-many-leaves
+pattern-judged (judged p) f next = read (record { field = f; its = p }) next
+
+-- A record `PA` at the offset, field numbers allowed from `least` on: "missing field or length byte 11; field above 7 or not above the
+-- field before it 13; length out of its range 14; missing body 11; then for a pattern 15, then 16".
+unfoldable pub pattern-record : List ℕ → ℕ → ℕ → Checked FieldPattern
+pattern-record s at least =
+    cond (ltb (bytes-left s at) 4) (fault cut-short)
+    (cond (leb fields (byte-at s (at + 2)) || ltb (byte-at s (at + 2)) least) (fault wrong-field)
+    (cond (eqb (byte-at s (at + 3)) 0 || ltb pattern-bytes (byte-at s (at + 3))) (fault wrong-length)
+    (cond (ltb (bytes-left s at) (4 + byte-at s (at + 3))) (fault cut-short)
+    (pattern-judged (judge (body s (at + 4) (byte-at s (at + 3)))) (byte-at s (at + 2)) (at + (4 + byte-at s (at + 3)))))))
+
+-- "A token is 0 to 42 (a character) or 64 to 71 (field 0 to 7)."
+abbrev pub is-token : ℕ → Bool
+is-token b = ltb b characters || (leb field-token b && ltb b (field-token + fields))
+
+abbrev pub token : ℕ → Token
+token b = cond (ltb b characters) (chr b) (fld (b - field-token))
+
+-- A side at the offset: "missing .. length byte 11; .. length out of its range 14; missing body 11; .. for a side 17".
+unfoldable pub side-record : List ℕ → ℕ → Checked Side
+side-record s at =
+    cond (ltb (bytes-left s at) 3) (fault cut-short)
+    (cond (ltb sheet-side (byte-at s (at + 2))) (fault wrong-length)
+    (cond (ltb (bytes-left s at) (3 + byte-at s (at + 2))) (fault cut-short)
+    (cond (all is-token (body s (at + 3) (byte-at s (at + 2))))
+    (read (map token (body s (at + 3) (byte-at s (at + 2)))) (at + (3 + byte-at s (at + 2))))
+    (fault wrong-token))))
+
+-- what reading a sheet gives: the first fault met with its place, "the offset at which that record's mark stands or should stand",
+-- or the question
+pub data Reading : Type 0 where
+  refused : Fault → ℕ → Reading
+  asked : Question → Reading
+
+-- "after `RI`, any byte left gives 12"
+unfoldable pub read-end : List ℕ → ℕ → Question → Reading
+read-end s at q = cond (ltb at (length s)) (refused wrong-mark at) (asked q)
+
+abbrev pub right-read : List ℕ → ℕ → List Held → Side → Checked Side → Reading
+right-read s at held l (fault x) = refused x at
+right-read s at held l (read r next) = read-end s next (record { left = l; right = r; held = held })
+
+-- "one `LE`; one `RI`": behind `LE` only `RI` is allowed
+unfoldable pub read-right : List ℕ → ℕ → List Held → Side → Reading
+read-right s at held l =
+    cond (ltb (bytes-left s at) 2) (refused cut-short at)
+    (cond (marked RI s at) (right-read s at held l (side-record s at)) (refused wrong-mark at))
+
+abbrev pub left-read : List ℕ → ℕ → List Held → Checked Side → Reading
+left-read s at held (fault x) = refused x at
+left-read s at held (read l next) = read-right s next held l
+
+-- A pattern record, then what comes behind it: "Reading goes on from where the last record ended."
+abbrev pub pattern-read : ℕ → List Held → (ℕ → ℕ → List Held → Reading) → Checked FieldPattern → Reading
+pattern-read at held go-on (fault x) = refused x at
+pattern-read at held go-on (read fp next) = go-on next (suc (fp .field)) (set held (fp .field) (pattern (fp .its)))
+
+-- "no, one or several `PA`, field numbers rising; one `LE`; one `RI`; the end". Every record has bytes, so as many turns as the sheet
+-- has bytes, and one, are enough.
+abbrev pub read-records : ℕ → List ℕ → ℕ → ℕ → List Held → Reading
+read-records zero s at least held = refused cut-short at
+read-records (suc n) s at least held =
+    let behind-pattern =
+    pattern-read at held (λ (next l : ℕ) (h : List Held). read-records n s next l h) (pattern-record s at least) in
+    cond (ltb (bytes-left s at) 2) (refused cut-short at)
+    (cond (marked PA s at) behind-pattern
+    (cond (marked LE s at) (left-read s at held (side-record s at)) (refused wrong-mark at)))
+
+-- "A field without `PA` is open": before the first record every field is.
+unfoldable pub read-sheet : List ℕ → Reading
+read-sheet s = read-records (suc (length s)) s 0 0 (replicate fields any-text)

@@ -1,1 +1,0 @@
-// Definitions only: see specs/.
