@@ -5,11 +5,12 @@ use native.Mathlib.Omega.{arith}
 use mathlib.Core.Path.{_≡_, refl, sym, ap, ap₂, _∙_}
 use mathlib.Core.Bool.{Bool, true, false, cond, _&&_, _||_, or-false, and-true, and-false}
 use mathlib.Core.List.{List, [], _∷_}
-use lib.Dec.{leb, eqb}
+use lib.Dec.{leb, eqb, eqb·zero-suc}
 use lib.Bits.{bitOr}
 use lib.ListN.{length, set, replicate}
 use Rattle.paper.specs.Numbers.{most-leaves}
-use Rattle.paper.proofs.Tests.{by-bool, true-false, cond-by, leb-true, leb-false}
+use Rattle.paper.proofs.Tests.{true-false, not-true, cond-by, leb-true, leb-false}
+use Rattle.paper.proofs.Parts.{last-within}
 use Rattle.paper.specs.Pattern.{Pattern, pattern}
 use Rattle.paper.specs.Places.{leaves, takes-empty, may-be-last, ends-at}
 use Rattle.paper.specs.Written.{Part, no-pattern, part, read-part, Judged, not-one-pattern, too-many-leaves, judged, judge-part, judge}
@@ -101,3 +102,26 @@ module _ (r : Reading) where
   taking-sets-is not-one-pattern h = ap (λ (x : Reading). x .taking) h
   taking-sets-is too-many-leaves h = ap (λ (x : Reading). x .taking) h
   taking-sets-is (judged p) h = h .taking
+
+  -- the start may be the last one "if the pattern takes the empty text", and it is no leaf
+  last-at : (p : Pattern) (i : ℕ) → may-be-last p 1 i || (takes-empty p && eqb 0 i) ≡ ends-at (pattern p) i
+  last-at p zero =
+      ap₂ _||_ (not-true (may-be-last p 1 0) (λ (e : may-be-last p 1 0 ≡ true). let w = last-within p 1 0 e in absurd (omega arith)))
+      (and-true (takes-empty p))
+  last-at p (suc i) =
+      ap (λ (b : Bool). may-be-last p 1 (suc i) || (takes-empty p && b)) (eqb·zero-suc i)
+      ∙ ap (λ (b : Bool). may-be-last p 1 (suc i) || b) (and-false (takes-empty p))
+      ∙ or-false (may-be-last p 1 (suc i))
+
+  pub last-set-is : (start w : ℕ) → start ≡ mask-of (λ (q : ℕ). eqb 0 q) → w ≡ cond (r .empty) start 0
+      → (j : Judged) → Good-as j r → bitOr (r .last) w ≡ last-set-of j
+  unfolding nothing last-mask
+  last-set-is start w es ew not-one-pattern h =
+      ap₂ bitOr (ap (λ (x : Reading). x .last) h) (ew ∙ ap (λ (x : Reading). cond (x .empty) start 0) h)
+  last-set-is start w es ew too-many-leaves h =
+      ap₂ bitOr (ap (λ (x : Reading). x .last) h) (ew ∙ ap (λ (x : Reading). cond (x .empty) start 0) h)
+  last-set-is start w es ew (judged p) h =
+      ap₂ bitOr (h .last)
+      (ew ∙ ap₂ (λ (b : Bool) (m : ℕ). cond b m 0) (h .empty) es ∙ mask-of-cond (λ (q : ℕ). eqb 0 q) (takes-empty p))
+      ∙ mask-of-or (λ (i : ℕ). may-be-last p 1 i) (λ (i : ℕ). takes-empty p && eqb 0 i)
+      ∙ mask-of-same (λ (i : ℕ). may-be-last p 1 i || (takes-empty p && eqb 0 i)) (λ (i : ℕ). ends-at (pattern p) i) (λ i l. last-at p i)

@@ -2,3 +2,4 @@ pub mod MaskOf
 pub mod Tables
 pub mod Written
 pub mod Judged
+pub mod Gathered

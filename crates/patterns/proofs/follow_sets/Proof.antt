@@ -1,3 +1,5 @@
+use Rattle.paper.specs.Written.{judge}
+use Rattle.patterns.proofs.Judged.{follow-sets-is}
 use borrow.Author.Needs.{needs}
 use Rattle.patterns.proofs.follow_sets.Statement.{statement}
 use Rattle.patterns.proofs.follow_sets.Tie as tie
@@ -15,7 +17,7 @@ array-write-follow c = search needs
 
 -- src/lib.rt:65:1
 returns : tie.Need-returns
-returns c = ?
+returns c = follow-sets-is (c .before .good2 .result) (judge (c .before .before .before .args .s .now)) (c .before .good2 .ensures)
 
 pub follow-sets-spec : {M : Type 1} → statement M
 follow-sets-spec = tie.close (tie.spec good-requires array-write-follow returns)

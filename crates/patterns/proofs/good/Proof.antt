@@ -1,3 +1,5 @@
+use Rattle.paper.specs.Written.{judge}
+use Rattle.patterns.proofs.Judged.{good-none, good-some}
 use borrow.Author.Needs.{needs}
 use Rattle.patterns.proofs.good.Statement.{statement}
 use Rattle.patterns.proofs.good.Tie as tie
@@ -16,11 +18,15 @@ none-requires c κs = search needs
 
 -- src/lib.rt:59:9
 returns : tie.Need-returns
-returns c = ?
+returns c =
+    let w = c .before .before .before .whole in
+    good-none (w .result) (judge (c .before .before .before .before .before .args .s .now)) (w .ensures) (c .before .if1 .taken) (c .none .result) (c .none .ensures)
 
 -- src/lib.rt:54:1
 returns-2 : tie.Need-returns-2
-returns-2 c = ?
+returns-2 c =
+    let w = c .before .before .whole in
+    good-some (w .result) (judge (c .before .before .before .before .args .s .now)) (w .ensures) (c .if1 .left)
 
 pub good-spec : {M : Type 1} → statement M
 good-spec = tie.close (tie.spec whole-requires none-requires returns returns-2)

@@ -1,3 +1,5 @@
+use Rattle.paper.specs.Written.{judge}
+use Rattle.patterns.proofs.Judged.{last-set-is}
 use borrow.Author.Needs.{needs}
 use Rattle.patterns.proofs.last_set.Statement.{statement}
 use Rattle.patterns.proofs.last_set.Tie as tie
@@ -21,7 +23,11 @@ when-requires c κs = search needs
 
 -- src/lib.rt:83:1
 returns : tie.Need-returns
-returns c = ?
+returns c =
+    let g = c .before .before .before .good2 in
+    let p = c .before .before .place in
+    let w = c .before .when in
+    last-set-is (g .result) (p .result) (w .result) (p .ensures) (w .ensures) (judge (c .before .before .before .before .before .args .s .now)) (g .ensures)
 
 pub last-set-spec : {M : Type 1} → statement M
 last-set-spec = tie.close (tie.spec good-requires place-requires when-requires returns)

@@ -1,3 +1,4 @@
+use Rattle.patterns.specs.Masks.{follow-masks}
 use borrow.Author.Needs.{needs}
 use Rattle.patterns.proofs.open_follow_sets.Statement.{statement}
 use Rattle.patterns.proofs.open_follow_sets.Tie as tie
@@ -15,7 +16,8 @@ stay-requires c κs = search needs
 
 -- src/lib.rt:91:1
 returns : tie.Need-returns
-returns c = ?
+unfolding follow-masks
+returns c = c .before .stay .ensures
 
 pub open-follow-sets-spec : {M : Type 1} → statement M
 open-follow-sets-spec = tie.close (tie.spec slice-aggregate-stay stay-requires returns)

@@ -1,3 +1,5 @@
+use Rattle.paper.specs.Written.{judge}
+use Rattle.patterns.proofs.Judged.{taking-sets-is}
 use borrow.Author.Needs.{needs}
 use Rattle.patterns.proofs.taking_sets.Statement.{statement}
 use Rattle.patterns.proofs.taking_sets.Tie as tie
@@ -11,7 +13,7 @@ good-requires c κs = search needs
 
 -- src/lib.rt:75:1
 returns : tie.Need-returns
-returns c = ?
+returns c = taking-sets-is (c .before .good2 .result) (judge (c .before .before .before .args .s .now)) (c .before .good2 .ensures)
 
 pub taking-sets-spec : {M : Type 1} → statement M
 taking-sets-spec = tie.close (tie.spec good-requires returns)
