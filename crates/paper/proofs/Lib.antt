@@ -37,3 +37,5 @@ pub mod Tails
 pub mod Standings
 pub mod Reached
 pub mod Plain
+-- from bytes to bytes
+pub mod Asked
