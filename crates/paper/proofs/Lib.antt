@@ -39,3 +39,7 @@ pub mod Reached
 pub mod Plain
 -- from bytes to bytes
 pub mod Asked
+pub mod Children
+pub mod Rows
+pub mod QuestionSearched
+pub mod Demand2
