@@ -43,3 +43,4 @@ pub mod Children
 pub mod Rows
 pub mod QuestionSearched
 pub mod Demand2
+pub mod Demand3
