@@ -1,2 +1,3 @@
 // The library.
 mod situation;
+mod slots;
