@@ -1,8 +1,367 @@
 // Situations by value: sides of at most 48 tokens in 48 bytes, zero behind the last; a place set for each field, 0 where it is gone.
+// A child is made by striking a field or by putting a character before the fields in front; then it is trimmed and judged.
+ghost use mathlib.Core.Bool.{_&&_, _||_};
+ghost use mathlib.Core.List.{_++_};
+ghost use mathlib.Core.Path.{_≡_};
+ghost use Prim.Native.Nat.{_+_, _≤_};
+ghost use lib.Dec.{eqb};
+ghost use lib.ListN.{length, take, replicate};
+ghost use Rattle.paper.specs.Lists.{member};
+ghost use Rattle.paper.specs.Numbers.{field-token, longest-side, sheet-side};
+ghost use Rattle.bradovusc.specs.Coded.{Coded, front, is-field, strike-bytes, put-bytes, equal-fronts, dead-sides, finished-coded, judged-sides, settle, struck, with-set, put-child};
+ghost use Rattle.bradovusc.specs.Made.{Becomes, Sized, Written, first-sets, question-coded};
+ghost use Rattle.bradovusc.specs.Struct.{as-struct, Short};
+
+// "0 to 42 (a character) or 64 to 71 (field 0 to 7)"
+const CHARACTERS: u8 = 43;
+const FIELD_TOKEN: u8 = 64;
+const FIELDS: usize = 8;
+// "a side above 48 tokens gives 19"
+const LONGEST_SIDE: usize = 48;
+// a side with a character put before each of its tokens
+const WIDEST_SIDE: usize = 96;
+// "length byte 0 to 24"
+const SHEET_SIDE: usize = 24;
+// the front of an empty side
+const NO_TOKEN: u8 = 255;
+
 pub struct Situation {
-    pub left: [u8; 48],
+    pub left: [u8; LONGEST_SIDE],
     pub left_len: usize,
-    pub right: [u8; 48],
+    pub right: [u8; LONGEST_SIDE],
     pub right_len: usize,
-    pub sets: [u32; 8],
+    pub sets: [u32; FIELDS],
+}
+
+// What becomes of a child: dropped where it is dead, a side above 48 tokens, or made.
+pub enum Fate {
+    Dropped,
+    Above,
+    Made,
+}
+
+// The situation is that of a child that is made.
+pub struct Child {
+    pub fate: Fate,
+    pub at: Situation,
+}
+
+pub fn is_finished(s: Situation) -> bool
+    ensures { λ r. ⌜ ((k : Coded) → s ≡ as-struct k → r ≡ finished-coded k) ⌝ }
+{
+    if s.left_len == 0 {
+        return s.right_len == 0;
+    }
+    false
+}
+
+// The token in front of a side, 255 where there is none.
+fn front_of(side: &[u8]) -> u8
+    ensures { λ r. ⌜ r ≡ front (now (side .entry)) ⌝ }
+{
+    if side.len() == 0 {
+        return NO_TOKEN;
+    }
+    side[0]
+}
+
+pub fn left_front(s: Situation) -> u8
+    requires { ⌜ Sized s ⌝ }
+    ensures { λ r. ⌜ ((k : Coded) → s ≡ as-struct k → r ≡ front (k .left)) ⌝ }
+{
+    let side = s.left;
+    let len = s.left_len;
+    front_of(&side[..len])
+}
+
+pub fn right_front(s: Situation) -> u8
+    requires { ⌜ Sized s ⌝ }
+    ensures { λ r. ⌜ ((k : Coded) → s ≡ as-struct k → r ≡ front (k .right)) ⌝ }
+{
+    let side = s.right;
+    let len = s.right_len;
+    front_of(&side[..len])
+}
+
+// "strike it everywhere"
+fn strike_in(dst: &mut [u8], side: &[u8], b: u8) -> usize
+    requires { ⌜ length (now side) ≤ length (now dst) ⌝ }
+    ensures { λ r. ⌜ Written (now (dst .entry)) (now (dst .exit)) r (strike-bytes b (now (side .entry))) ⌝ }
+{
+    let mut n: usize = 0;
+    let mut i: usize = 0;
+    while i < side.len() {
+        let x = side[i];
+        if x != b {
+            dst[n] = x;
+            n += 1;
+        }
+        i += 1;
+    }
+    n
+}
+
+// Is x the token of a field in front?
+fn is_front(x: u8, a: u8, b: u8) -> bool
+    ensures { λ r. ⌜ r ≡ (is-field x && (eqb x a || eqb x b)) ⌝ }
+{
+    if x < FIELD_TOKEN {
+        return false;
+    }
+    if x == a {
+        return true;
+    }
+    x == b
+}
+
+// "put c before each front field wherever that field stands"
+fn put_in(dst: &mut [u8], side: &[u8], c: u8, a: u8, b: u8) -> usize
+    requires { ⌜ length (now side) + length (now side) ≤ length (now dst) ⌝ }
+    ensures { λ r. ⌜ Written (now (dst .entry)) (now (dst .exit)) r (put-bytes c a b (now (side .entry))) ⌝ }
+{
+    let mut n: usize = 0;
+    let mut i: usize = 0;
+    while i < side.len() {
+        let x = side[i];
+        if is_front(x, a, b) {
+            dst[n] = c;
+            n += 1;
+        }
+        dst[n] = x;
+        n += 1;
+        i += 1;
+    }
+    n
+}
+
+fn copy_in(dst: &mut [u8], side: &[u8])
+    requires { ⌜ length (now side) ≤ length (now dst) ⌝ }
+    ensures { λ _. ⌜ Written (now (dst .entry)) (now (dst .exit)) (length (now (side .entry))) (now (side .entry)) ⌝ }
+{
+    let mut i: usize = 0;
+    while i < side.len() {
+        dst[i] = side[i];
+        i += 1;
+    }
+}
+
+// "Trimming drops equal characters from both fronts while there are any": how many
+fn equal_fronts(l: &[u8], r: &[u8]) -> usize
+    ensures { λ n. ⌜ n ≡ equal-fronts (now (l .entry)) (now (r .entry)) ⌝ }
+{
+    let mut n: usize = 0;
+    while n < l.len() {
+        if r.len() <= n {
+            return n;
+        }
+        let a = l[n];
+        if CHARACTERS <= a {
+            return n;
+        }
+        let b = r[n];
+        if a != b {
+            return n;
+        }
+        n += 1;
+    }
+    n
+}
+
+// "dead": two different characters in front, or one side empty and a character in front of the other
+fn is_dead(l: &[u8], r: &[u8]) -> bool
+    ensures { λ b. ⌜ b ≡ dead-sides (now (l .entry)) (now (r .entry)) ⌝ }
+{
+    let a = front_of(l);
+    let b = front_of(r);
+    if a < CHARACTERS {
+        if r.len() == 0 {
+            return true;
+        }
+        return b < CHARACTERS;
+    }
+    if l.len() == 0 {
+        return b < CHARACTERS;
+    }
+    false
+}
+
+fn no_side() -> [u8; LONGEST_SIDE]
+    ensures { λ r. ⌜ r ≡ replicate 48 0 ⌝ }
+{
+    [0; LONGEST_SIDE]
+}
+
+fn no_wide_side() -> [u8; WIDEST_SIDE]
+    ensures { λ r. ⌜ r ≡ replicate 96 0 ⌝ }
+{
+    [0; WIDEST_SIDE]
+}
+
+// The situation of these sides and sets.
+fn held(l: &[u8], r: &[u8], sets: [u32; FIELDS]) -> Situation
+    requires { ⌜ (length (now l) ≤ longest-side) × (length (now r) ≤ longest-side) ⌝ }
+    ensures { λ s. ⌜ s ≡ as-struct (record { left = now (l .entry); right = now (r .entry); sets = sets }) ⌝ }
+{
+    let mut left = no_side();
+    let mut right = no_side();
+    copy_in(&mut left, l);
+    copy_in(&mut right, r);
+    Situation {
+        left,
+        left_len: l.len(),
+        right,
+        right_len: r.len(),
+        sets,
+    }
+}
+
+// A child that is not made: its situation says nothing.
+fn not_made(fate: Fate) -> Child
+    ensures { λ r. ⌜ r .fate ≡ fate ⌝ }
+{
+    let left = no_side();
+    let right = no_side();
+    let at = Situation {
+        left,
+        left_len: 0,
+        right,
+        right_len: 0,
+        sets: [0; FIELDS],
+    };
+    Child { fate, at }
+}
+
+// "dead is dropped; a side above 48 tokens gives 19"
+fn judge(l: &[u8], r: &[u8], sets: [u32; FIELDS]) -> Child
+    ensures { λ child. ⌜ Becomes (judged-sides (now (l .entry)) (now (r .entry)) sets) child ⌝ }
+{
+    if is_dead(l, r) {
+        return not_made(Fate::Dropped);
+    }
+    if LONGEST_SIDE < l.len() {
+        return not_made(Fate::Above);
+    }
+    if LONGEST_SIDE < r.len() {
+        return not_made(Fate::Above);
+    }
+    let at = held(l, r, sets);
+    Child {
+        fate: Fate::Made,
+        at,
+    }
+}
+
+// "Each child is trimmed", then judged.
+fn settle_child(l: &[u8], r: &[u8], sets: [u32; FIELDS]) -> Child
+    ensures { λ child. ⌜ Becomes (settle (now (l .entry)) (now (r .entry)) sets) child ⌝ }
+{
+    let n = equal_fronts(l, r);
+    judge(&l[n..], &r[n..], sets)
+}
+
+fn with_set_of(mut sets: [u32; FIELDS], b: u8, m: u32) -> [u32; FIELDS]
+    ensures { λ r. ⌜ r ≡ with-set b m sets ⌝ }
+{
+    if b < FIELD_TOKEN {
+        return sets;
+    }
+    let f = (b - FIELD_TOKEN) as usize;
+    if f < FIELDS {
+        sets[f] = m;
+    }
+    sets
+}
+
+// The child by striking the field with the token b.
+pub fn strike(s: Situation, b: u8) -> Child
+    requires { ⌜ Sized s × (field-token ≤ b) ⌝ }
+    ensures { λ r. ⌜ ((k : Coded) → s ≡ as-struct k → Short k → Becomes (struck k b) r) ⌝ }
+{
+    let left = s.left;
+    let left_len = s.left_len;
+    let right = s.right;
+    let right_len = s.right_len;
+    let mut l = no_side();
+    let mut r = no_side();
+    let n = strike_in(&mut l, &left[..left_len], b);
+    let m = strike_in(&mut r, &right[..right_len], b);
+    let old = s.sets;
+    let sets = with_set_of(old, b, 0);
+    settle_child(&l[..n], &r[..m], sets)
+}
+
+// The child by putting c before the fields in front, whose new sets are m and n.
+pub fn put(s: Situation, c: u8, m: u32, n: u32) -> Child
+    requires { ⌜ Sized s ⌝ }
+    ensures { λ r. ⌜ ((k : Coded) → s ≡ as-struct k → Short k → Becomes (put-child k c m n) r) ⌝ }
+{
+    let a = left_front(s);
+    let b = right_front(s);
+    let left = s.left;
+    let left_len = s.left_len;
+    let right = s.right;
+    let right_len = s.right_len;
+    let mut l = no_wide_side();
+    let mut r = no_wide_side();
+    let l_len = put_in(&mut l, &left[..left_len], c, a, b);
+    let r_len = put_in(&mut r, &right[..right_len], c, a, b);
+    let old = s.sets;
+    let with_left = with_set_of(old, a, m);
+    let sets = with_set_of(with_left, b, n);
+    settle_child(&l[..l_len], &r[..r_len], sets)
+}
+
+fn stands(side: &[u8], token: u8) -> bool
+    ensures { λ r. ⌜ r ≡ member token (now (side .entry)) ⌝ }
+{
+    let mut i: usize = 0;
+    while i < side.len() {
+        let x = side[i];
+        if token == x {
+            return true;
+        }
+        i += 1;
+    }
+    false
+}
+
+// The mask of the start for a field that stands in either side, 0 for one that does not.
+fn first_set_of(l: &[u8], r: &[u8], token: u8) -> u32
+{
+    if stands(l, token) {
+        return 1;
+    }
+    if stands(r, token) {
+        return 1;
+    }
+    0
+}
+
+fn first_sets_of(l: &[u8], r: &[u8]) -> [u32; FIELDS]
+    ensures { λ sets. ⌜ sets ≡ first-sets (now (l .entry) ++ now (r .entry)) ⌝ }
+{
+    let mut sets: [u32; FIELDS] = [0; FIELDS];
+    let mut f: usize = 0;
+    while f < FIELDS {
+        sets[f] = first_set_of(l, r, FIELD_TOKEN + f as u8);
+        f += 1;
+    }
+    sets
+}
+
+fn trimmed(l: &[u8], r: &[u8]) -> Situation
+    requires { ⌜ (length (now l) ≤ longest-side) × (length (now r) ≤ longest-side) ⌝ }
+    ensures { λ s. ⌜ s ≡ as-struct (question-coded (now (l .entry)) (now (r .entry))) ⌝ }
+{
+    let n = equal_fronts(l, r);
+    let sets = first_sets_of(l, r);
+    held(&l[n..], &r[n..], sets)
+}
+
+// The trimmed question, from the sides of the sheet.
+pub fn question(left: [u8; SHEET_SIDE], left_len: usize, right: [u8; SHEET_SIDE], right_len: usize) -> Situation
+    requires { ⌜ («left_len» ≤ sheet-side) × («right_len» ≤ sheet-side) ⌝ }
+    ensures { λ r. ⌜ r ≡ as-struct (question-coded (take «left_len» left) (take «right_len» right)) ⌝ }
+{
+    trimmed(&left[..left_len], &right[..right_len])
 }

@@ -1,0 +1,74 @@
+-- Laws of sides as lists of tokens: a list that is written into the front of a buffer, a side in its 48 bytes, and, turn by turn, what
+-- striking, putting and trimming do to a side. Follows from the definitions by induction on the side.
+use Prim.Native.Nat.{ℕ, zero, suc, _+_, _-_, _≤_, _<_, zero-le, suc-le-suc}
+use native.Mathlib.Numerals.{add-one}
+use native.Mathlib.Omega.{arith}
+use mathlib.Core.Path.{_≡_, refl, sym, ap, _∙_}
+use mathlib.Core.Bool.{Bool, true, false, not, _&&_, _||_}
+use mathlib.Core.List.{List, [], _∷_, _++_, append-assoc, append-nil}
+use lib.Dec.{eqb}
+use lib.ListN.{length, getD, set, take, drop, replicate, length-append, length-drop, length-set, length-replicate, drop-of-length-le}
+use lib.Seq.{take-suc, drop-cons, append-snoc, set-at, take-at, take-append-seam}
+use Rattle.paper.specs.Lists.{only, keep}
+use Rattle.paper.specs.Numbers.{longest-side}
+use Rattle.bradovusc.specs.Coded.{is-char, is-field, strike-bytes, put-bytes, equal-fronts}
+use Rattle.bradovusc.specs.Made.{Written}
+use Rattle.bradovusc.specs.Struct.{padded}
+
+-- nothing is written yet
+pub written-none : (d : List ℕ) → Written d d 0 []
+written-none d = record { bytes = refl; many = refl; same-length = refl }
+
+-- one more token is written
+pub written-more : {d e : List ℕ} {n : ℕ} {l : List ℕ} → Written d e n l → (x : ℕ) → n < length d → Written d (set e n x) (n + 1) (l ++ (x ∷ []))
+written-more {d} {e} {n} {l} w x h =
+    record {
+      bytes =
+        rw (w .bytes, drop-cons d (length l) 0 (rw (w .many) at h), set-at l (getD d (length l) 0) (drop (suc (length l)) d) x n (sym (w .many)))
+        (rw (length-append l (x ∷ []), append-assoc, add-one) refl);
+      many = rw (length-append l (x ∷ []), w .many) refl;
+      same-length = rw length-set (w .same-length);
+    }
+
+-- one more token is written under a test, or none
+pub written-taken : {d e e′ l : List ℕ} {n n′ : ℕ} → Written d e n l → n < length d → (t : Bool) (x : ℕ) → t ≡ true → e′ ≡ set e n x → n′ ≡ n + 1 → Written d e′ n′ (l ++ only t x)
+written-taken w h t x p q r = rw (p, q, r) (written-more w x h)
+
+pub written-left : {d e e′ l : List ℕ} {n n′ : ℕ} → Written d e n l → (t : Bool) (x : ℕ) → t ≡ false → e′ ≡ e → n′ ≡ n → Written d e′ n′ (l ++ only t x)
+written-left w t x p q r = rw (p, q, r, append-nil) w
+
+-- the tokens of a loop's first turns, and of one turn more
+keep-append : (p : ℕ → Bool) (l m : List ℕ) → keep p (l ++ m) ≡ keep p l ++ keep p m
+keep-append p [] m = refl
+keep-append p (x ∷ l) m = rw (keep-append p l m, append-assoc)
+
+put-append : (c a b : ℕ) (l m : List ℕ) → put-bytes c a b (l ++ m) ≡ put-bytes c a b l ++ put-bytes c a b m
+put-append c a b [] m = refl
+put-append c a b (x ∷ l) m = rw (put-append c a b l m, append-assoc)
+
+module _ (side : List ℕ) (i : ℕ) (h : i < length side) where
+  pub strike-more : (b : ℕ) → strike-bytes b (take (i + 1) side) ≡ strike-bytes b (take i side) ++ only (not (eqb (getD side i 0) b)) (getD side i 0)
+  strike-more b = rw (add-one, take-suc side i 0 h, keep-append (λ (x : ℕ). not (eqb x b)), append-nil)
+
+  pub put-more : (c a b : ℕ) → put-bytes c a b (take (i + 1) side) ≡ (put-bytes c a b (take i side) ++ only (is-field (getD side i 0) && (eqb (getD side i 0) a || eqb (getD side i 0) b)) c) ++ (getD side i 0 ∷ [])
+  put-more c a b = rw (add-one, take-suc side i 0 h, put-append c a b, append-assoc)
+
+  pub copy-more : take (i + 1) side ≡ take i side ++ (getD side i 0 ∷ [])
+  copy-more = rw (add-one, take-suc side i 0 h)
+
+-- Trimming: one more equal character in front of what is left, or none.
+pub equal-more : (l r : List ℕ) (n : ℕ) → n < length l → n < length r → is-char (getD l n 0) ≡ true → eqb (getD l n 0) (getD r n 0) ≡ true → equal-fronts (drop n l) (drop n r) ≡ suc (equal-fronts (drop (n + 1) l) (drop (n + 1) r))
+equal-more l r n h k p q = rw (add-one, drop-cons l n 0 h, drop-cons r n 0 k, p, q)
+
+equal-none : (l : List ℕ) → equal-fronts l [] ≡ 0
+equal-none [] = refl
+equal-none (a ∷ l) = refl
+
+pub equal-left-ends : (l r : List ℕ) (n : ℕ) → length l ≤ n → equal-fronts (drop n l) (drop n r) ≡ 0
+equal-left-ends l r n h = rw (drop-of-length-le l h)
+
+pub equal-right-ends : (l r : List ℕ) (n : ℕ) → length r ≤ n → equal-fronts (drop n l) (drop n r) ≡ 0
+equal-right-ends l r n h = rw (drop-of-length-le r h) (equal-none (drop n l))
+
+pub equal-stops : (l r : List ℕ) (n : ℕ) → n < length l → n < length r → is-char (getD l n 0) && eqb (getD l n 0) (getD r n 0) ≡ false → equal-fronts (drop n l) (drop n r) ≡ 0
+equal-stops l r n h k p = rw (drop-cons l n 0 h, drop-cons r n 0 k, p)
