@@ -1,17 +1,19 @@
 -- Laws of sides as lists of tokens: a list that is written into the front of a buffer, a side in its 48 bytes, and, turn by turn, what
 -- striking, putting and trimming do to a side. Follows from the definitions by induction on the side.
 use Prim.Native.Nat.{ℕ, zero, suc, _+_, _-_, _≤_, _<_, zero-le, suc-le-suc}
+use native.Mathlib.Nat.{sub-zero, zero-sub, suc-sub-suc}
 use native.Mathlib.Numerals.{add-one}
 use native.Mathlib.Omega.{arith}
 use mathlib.Core.Path.{_≡_, refl, sym, ap, _∙_}
-use mathlib.Core.Bool.{Bool, true, false, not, _&&_, _||_}
+use mathlib.Core.Bool.{Bool, true, false, not, _&&_, _||_, or-false}
 use mathlib.Core.List.{List, [], _∷_, _++_, append-assoc, append-nil}
-use lib.Dec.{eqb}
+use lib.Dec.{ltb, eqb, eqb·suc-zero}
 use lib.ListN.{length, getD, set, take, drop, replicate, length-append, length-drop, length-set, length-replicate, drop-of-length-le}
-use lib.Seq.{take-suc, drop-cons, append-snoc, set-at, take-at, take-append-seam}
+use lib.Seq.{take-suc, drop-cons, append-snoc, set-at, set-out, take-at, take-all, take-append-seam, length-take-le}
 use Rattle.paper.specs.Lists.{only, keep}
-use Rattle.paper.specs.Numbers.{longest-side}
-use Rattle.bradovusc.specs.Coded.{is-char, is-field, strike-bytes, put-bytes, equal-fronts}
+use Rattle.paper.specs.Numbers.{fields, field-token, longest-side}
+use Rattle.paper.proofs.Tests.{cond-by, true-false, and-is-false, le-leb, lt-leb, ltb-false, right-false}
+use Rattle.bradovusc.specs.Coded.{front, none, is-char, is-field, is-standing, field-of, strike-bytes, put-bytes, equal-fronts, dead-sides, with-set}
 use Rattle.bradovusc.specs.Made.{Written}
 use Rattle.bradovusc.specs.Struct.{padded}
 
@@ -36,6 +38,32 @@ written-taken w h t x p q r = rw (p, q, r) (written-more w x h)
 
 pub written-left : {d e e′ l : List ℕ} {n n′ : ℕ} → Written d e n l → (t : Bool) (x : ℕ) → t ≡ false → e′ ≡ e → n′ ≡ n → Written d e′ n′ (l ++ only t x)
 written-left w t x p q r = rw (p, q, r, append-nil) w
+
+-- what is written can be read back
+pub written-fits : {d e : List ℕ} {n : ℕ} {l : List ℕ} → Written d e n l → n ≤ length e
+written-fits {d} {e} {n} {l} w = rw (w .bytes, length-append) (omega (arith, w .many))
+
+pub written-part : {d e : List ℕ} {n : ℕ} {l : List ℕ} → Written d e n l → take n e ≡ l
+written-part {d} {e} {n} {l} w = rw (w .bytes) (take-at l (drop (length l) d) n (sym (w .many)))
+
+-- a side that is written into 48 zeros, and read back
+drop-replicate : (n k : ℕ) (x : ℕ) → drop k (replicate n x) ≡ replicate (n - k) x
+drop-replicate n zero x = rw sub-zero
+drop-replicate zero (suc k) x = rw zero-sub
+drop-replicate (suc n) (suc k) x = rw suc-sub-suc (drop-replicate n k x)
+
+pub written-padded : {d e : List ℕ} {n : ℕ} {l : List ℕ} → Written d e n l → d ≡ replicate longest-side 0 → e ≡ padded l
+written-padded {d} {e} {n} {l} w z = rw (w .bytes, z, drop-replicate longest-side (length l) 0)
+
+pub padded-part : (l : List ℕ) → take (length l) (padded l) ≡ l
+padded-part l = take-append-seam l (replicate (longest-side - length l) 0)
+
+-- the part of a list from an index on, and up to one
+pub rest-part : (n : ℕ) (l : List ℕ) → take (length l - n) (drop n l) ≡ drop n l
+rest-part n l = take-all (length l - n) (drop n l) (rw length-drop (omega arith))
+
+pub part-length : (n : ℕ) (l : List ℕ) → n ≤ length l → n ≡ length (take n l)
+part-length n l h = sym (length-take-le n l h)
 
 -- the tokens of a loop's first turns, and of one turn more
 keep-append : (p : ℕ → Bool) (l m : List ℕ) → keep p (l ++ m) ≡ keep p l ++ keep p m
@@ -72,3 +100,56 @@ equal-right-ends l r n h = rw (drop-of-length-le r h) (equal-none (drop n l))
 
 pub equal-stops : (l r : List ℕ) (n : ℕ) → n < length l → n < length r → is-char (getD l n 0) && eqb (getD l n 0) (getD r n 0) ≡ false → equal-fronts (drop n l) (drop n r) ≡ 0
 equal-stops l r n h k p = rw (drop-cons l n 0 h, drop-cons r n 0 k, p)
+
+-- no more than either side has
+pub equal-within : (l r : List ℕ) → (equal-fronts l r ≤ length l) × (equal-fronts l r ≤ length r)
+equal-within [] r = (omega arith, omega arith)
+equal-within (a ∷ l) [] = (omega arith, omega arith)
+equal-within (a ∷ l) (b ∷ r) =
+    cond-by (λ (n : ℕ). (n ≤ suc (length l)) × (n ≤ suc (length r))) (is-char a && eqb a b)
+    (λ p. let h = equal-within l r in (omega (arith, h .0), omega (arith, h .1)))
+    (λ p. (omega arith, omega arith))
+
+-- The front of a side.
+pub front-none : (l : List ℕ) → length l ≡ 0 → front l ≡ 255
+front-none [] e = refl
+front-none (a ∷ l) e = absurd (omega arith)
+
+pub front-some : (l : List ℕ) → (length l ≡ 0 → ⊥) → front l ≡ getD l 0 0
+front-some [] n = absurd (n refl)
+front-some (a ∷ l) n = refl
+
+pub none-true : (l : List ℕ) → length l ≡ 0 → none l ≡ true
+none-true [] e = refl
+none-true (a ∷ l) e = absurd (omega arith)
+
+pub none-false : (l : List ℕ) → (length l ≡ 0 → ⊥) → none l ≡ false
+none-false [] n = absurd (n refl)
+none-false (a ∷ l) n = refl
+
+pub none-length : (l : List ℕ) → none l ≡ eqb (length l) 0
+none-length [] = refl
+none-length (a ∷ l) = sym (eqb·suc-zero (length l))
+
+pub front-padded : (l : List ℕ) → (length l ≡ 0 → ⊥) → getD (padded l) 0 0 ≡ front l
+front-padded [] n = absurd (n refl)
+front-padded (a ∷ l) n = refl
+
+-- Dead, by whether a character is in front of the left side.
+pub dead-by-right : (l r : List ℕ) → is-char (front l) ≡ true → dead-sides l r ≡ (none r || is-char (front r))
+dead-by-right [] r e = absurd (true-false e refl)
+dead-by-right (a ∷ l) r e = rw (e, or-false)
+
+pub dead-by-left : (l r : List ℕ) → is-char (front l) ≡ false → dead-sides l r ≡ (none l && is-char (front r))
+dead-by-left l r e = rw e
+
+-- The sets with a field's new one.
+pub with-set-none : (b m : ℕ) (sets : List ℕ) → b < field-token → with-set b m sets ≡ sets
+with-set-none b m sets h = rw (lt-leb field-token b h)
+
+pub with-set-field : (b m : ℕ) (sets : List ℕ) → length sets ≡ fields → field-token ≤ b → with-set b m sets ≡ set sets (field-of b) m
+with-set-field b m sets e h =
+    rw (le-leb field-token b h)
+    (cond-by (λ (l : List ℕ). l ≡ set sets (field-of b) m) (ltb b 255)
+    (λ p. refl)
+    (λ p. let k : 255 ≤ b = ltb-false b 255 p in sym (set-out sets (field-of b) m (omega arith))))

@@ -1,16 +1,16 @@
 // Situations by value: sides of at most 48 tokens in 48 bytes, zero behind the last; a place set for each field, 0 where it is gone.
 // A child is made by striking a field or by putting a character before the fields in front; then it is trimmed and judged.
 ghost use mathlib.Core.Bool.{_&&_, _||_};
-ghost use mathlib.Core.List.{_++_};
+ghost use mathlib.Core.List.{List, _++_};
 ghost use mathlib.Core.Path.{_≡_};
-ghost use Prim.Native.Nat.{_+_, _≤_};
+ghost use Prim.Native.Nat.{ℕ, _+_, _≤_, _<_};
 ghost use lib.Dec.{eqb};
 ghost use lib.ListN.{length, take, replicate};
 ghost use Rattle.paper.specs.Lists.{member};
-ghost use Rattle.paper.specs.Numbers.{field-token, longest-side, sheet-side};
+ghost use Rattle.paper.specs.Numbers.{fields, field-token, longest-side, sheet-side};
 ghost use Rattle.bradovusc.specs.Coded.{Coded, front, is-field, strike-bytes, put-bytes, equal-fronts, dead-sides, finished-coded, judged-sides, settle, struck, with-set, put-child};
-ghost use Rattle.bradovusc.specs.Made.{Becomes, Sized, Written, first-sets, question-coded};
-ghost use Rattle.bradovusc.specs.Struct.{as-struct, Short};
+ghost use Rattle.bradovusc.specs.Made.{Becomes, Sized, Written, first-set, first-sets, question-coded};
+ghost use Rattle.bradovusc.specs.Struct.{padded, as-struct, Short};
 
 // "0 to 42 (a character) or 64 to 71 (field 0 to 7)"
 const CHARACTERS: u8 = 43;
@@ -65,22 +65,14 @@ fn front_of(side: &[u8]) -> u8
     side[0]
 }
 
-pub fn left_front(s: Situation) -> u8
-    requires { ⌜ Sized s ⌝ }
-    ensures { λ r. ⌜ ((k : Coded) → s ≡ as-struct k → r ≡ front (k .left)) ⌝ }
+// The same of a situation's side.
+pub fn front_in(side: [u8; LONGEST_SIDE], len: usize) -> u8
+    ensures { λ r. ⌜ ((l : List ℕ) → side ≡ padded l → len ≡ length l → r ≡ front l) ⌝ }
 {
-    let side = s.left;
-    let len = s.left_len;
-    front_of(&side[..len])
-}
-
-pub fn right_front(s: Situation) -> u8
-    requires { ⌜ Sized s ⌝ }
-    ensures { λ r. ⌜ ((k : Coded) → s ≡ as-struct k → r ≡ front (k .right)) ⌝ }
-{
-    let side = s.right;
-    let len = s.right_len;
-    front_of(&side[..len])
+    if len == 0 {
+        return NO_TOKEN;
+    }
+    side[0]
 }
 
 // "strike it everywhere"
@@ -295,12 +287,12 @@ pub fn put(s: Situation, c: u8, m: u32, n: u32) -> Child
     requires { ⌜ Sized s ⌝ }
     ensures { λ r. ⌜ ((k : Coded) → s ≡ as-struct k → Short k → Becomes (put-child k c m n) r) ⌝ }
 {
-    let a = left_front(s);
-    let b = right_front(s);
     let left = s.left;
     let left_len = s.left_len;
     let right = s.right;
     let right_len = s.right_len;
+    let a = front_in(left, left_len);
+    let b = front_in(right, right_len);
     let mut l = no_wide_side();
     let mut r = no_wide_side();
     let l_len = put_in(&mut l, &left[..left_len], c, a, b);
@@ -326,8 +318,11 @@ fn stands(side: &[u8], token: u8) -> bool
 }
 
 // The mask of the start for a field that stands in either side, 0 for one that does not.
-fn first_set_of(l: &[u8], r: &[u8], token: u8) -> u32
+fn first_set_of(l: &[u8], r: &[u8], f: usize) -> u32
+    requires { ⌜ f < fields ⌝ }
+    ensures { λ m. ⌜ m ≡ first-set (now (l .entry) ++ now (r .entry)) f ⌝ }
 {
+    let token = FIELD_TOKEN + f as u8;
     if stands(l, token) {
         return 1;
     }
@@ -340,10 +335,10 @@ fn first_set_of(l: &[u8], r: &[u8], token: u8) -> u32
 fn first_sets_of(l: &[u8], r: &[u8]) -> [u32; FIELDS]
     ensures { λ sets. ⌜ sets ≡ first-sets (now (l .entry) ++ now (r .entry)) ⌝ }
 {
-    let mut sets: [u32; FIELDS] = [0; FIELDS];
+    let mut sets = [0u32; FIELDS];
     let mut f: usize = 0;
     while f < FIELDS {
-        sets[f] = first_set_of(l, r, FIELD_TOKEN + f as u8);
+        sets[f] = first_set_of(l, r, f);
         f += 1;
     }
     sets
