@@ -3,13 +3,14 @@ use Prim.Native.Nat.{ℕ, _+_, _≤_}
 use mathlib.Core.Path.{_≡_}
 use mathlib.Core.Bool.{cond}
 use mathlib.Core.List.{List, _++_, map}
-use lib.ListN.{length, drop}
+use lib.ListN.{length, take, drop}
 use Rattle.paper.specs.Lists.{upto, member}
 use Rattle.paper.specs.Numbers.{fields, field-token, longest-side}
 use Rattle.bradovusc.specs.Coded.{Coded, Settled, dropped, above, made, equal-fronts}
 use Rattle.bradovusc.specs.Struct.{as-struct}
 use Rattle.bradovusc.specs.declared.situation.Situation.{Situation}
 use Rattle.bradovusc.specs.declared.situation.Child.{Child}
+use Rattle.bradovusc.specs.declared.situation.Wide.{Wide}
 use Rattle.bradovusc.specs.declared.situation.Fate.the-variants.{Dropped, Above, Made}
 
 -- the lengths of the sides are such that the sides are in their 48 bytes
@@ -22,6 +23,18 @@ abbrev pub Becomes : Settled → Child → Type 0
 Becomes dropped r = r .fate ≡ Dropped
 Becomes above r = r .fate ≡ Above
 Becomes (made t) r = (r .fate ≡ Made) × (r .at ≡ as-struct t)
+
+-- a side with a character put before each of its tokens
+abbrev pub widest-side : ℕ
+widest-side = longest-side + longest-side
+
+-- the tokens of a side before it is trimmed
+abbrev pub tokens : Wide → List ℕ
+tokens w = take (w .len) (w .bytes)
+
+pub record Holds (w : Wide) (l : List ℕ) : Type 0 where
+  pub few : w .len ≤ widest-side
+  pub holds : tokens w ≡ l
 
 -- The list l was written into the front of d, which is now e; n is its length.
 pub record Written (d e : List ℕ) (n : ℕ) (l : List ℕ) : Type 0 where

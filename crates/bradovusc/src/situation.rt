@@ -9,7 +9,7 @@ ghost use lib.ListN.{length, take, replicate};
 ghost use Rattle.paper.specs.Lists.{member};
 ghost use Rattle.paper.specs.Numbers.{fields, field-token, longest-side, sheet-side};
 ghost use Rattle.bradovusc.specs.Coded.{Coded, front, is-field, strike-bytes, put-bytes, equal-fronts, dead-sides, finished-coded, judged-sides, settle, struck, with-set, put-child};
-ghost use Rattle.bradovusc.specs.Made.{Becomes, Sized, Written, first-set, first-sets, question-coded};
+ghost use Rattle.bradovusc.specs.Made.{Becomes, Sized, Written, Holds, tokens, widest-side, first-set, first-sets, question-coded};
 ghost use Rattle.bradovusc.specs.Struct.{padded, as-struct, Short};
 
 // "0 to 42 (a character) or 64 to 71 (field 0 to 7)"
@@ -46,6 +46,12 @@ pub struct Child {
     pub at: Situation,
 }
 
+// A side before it is trimmed.
+struct Wide {
+    bytes: [u8; WIDEST_SIDE],
+    len: usize,
+}
+
 pub fn is_finished(s: Situation) -> bool
     ensures { λ r. ⌜ ((k : Coded) → s ≡ as-struct k → r ≡ finished-coded k) ⌝ }
 {
@@ -76,21 +82,22 @@ pub fn front_in(side: [u8; LONGEST_SIDE], len: usize) -> u8
 }
 
 // "strike it everywhere"
-fn strike_in(dst: &mut [u8], side: &[u8], b: u8) -> usize
-    requires { ⌜ length (now side) ≤ length (now dst) ⌝ }
-    ensures { λ r. ⌜ Written (now (dst .entry)) (now (dst .exit)) r (strike-bytes b (now (side .entry))) ⌝ }
+fn struck_side(side: [u8; LONGEST_SIDE], len: usize, b: u8) -> Wide
+    requires { ⌜ len ≤ longest-side ⌝ }
+    ensures { λ w. ⌜ Holds w (strike-bytes b (take len side)) ⌝ }
 {
+    let mut bytes = no_wide_side();
     let mut n: usize = 0;
     let mut i: usize = 0;
-    while i < side.len() {
+    while i < len {
         let x = side[i];
         if x != b {
-            dst[n] = x;
+            bytes[n] = x;
             n += 1;
         }
         i += 1;
     }
-    n
+    Wide { bytes, len: n }
 }
 
 // Is x the token of a field in front?
@@ -107,23 +114,24 @@ fn is_front(x: u8, a: u8, b: u8) -> bool
 }
 
 // "put c before each front field wherever that field stands"
-fn put_in(dst: &mut [u8], side: &[u8], c: u8, a: u8, b: u8) -> usize
-    requires { ⌜ length (now side) + length (now side) ≤ length (now dst) ⌝ }
-    ensures { λ r. ⌜ Written (now (dst .entry)) (now (dst .exit)) r (put-bytes c a b (now (side .entry))) ⌝ }
+fn put_side(side: [u8; LONGEST_SIDE], len: usize, c: u8, a: u8, b: u8) -> Wide
+    requires { ⌜ len ≤ longest-side ⌝ }
+    ensures { λ w. ⌜ Holds w (put-bytes c a b (take len side)) ⌝ }
 {
+    let mut bytes = no_wide_side();
     let mut n: usize = 0;
     let mut i: usize = 0;
-    while i < side.len() {
+    while i < len {
         let x = side[i];
         if is_front(x, a, b) {
-            dst[n] = c;
+            bytes[n] = c;
             n += 1;
         }
-        dst[n] = x;
+        bytes[n] = x;
         n += 1;
         i += 1;
     }
-    n
+    Wide { bytes, len: n }
 }
 
 fn copy_in(dst: &mut [u8], side: &[u8])
@@ -244,11 +252,22 @@ fn judge(l: &[u8], r: &[u8], sets: [u32; FIELDS]) -> Child
 }
 
 // "Each child is trimmed", then judged.
-fn settle_child(l: &[u8], r: &[u8], sets: [u32; FIELDS]) -> Child
+fn settle_sides(l: &[u8], r: &[u8], sets: [u32; FIELDS]) -> Child
     ensures { λ child. ⌜ Becomes (settle (now (l .entry)) (now (r .entry)) sets) child ⌝ }
 {
     let n = equal_fronts(l, r);
     judge(&l[n..], &r[n..], sets)
+}
+
+fn settle_child(l: Wide, r: Wide, sets: [u32; FIELDS]) -> Child
+    requires { ⌜ (l .len ≤ widest-side) × (r .len ≤ widest-side) ⌝ }
+    ensures { λ child. ⌜ Becomes (settle (tokens l) (tokens r) sets) child ⌝ }
+{
+    let left = l.bytes;
+    let left_len = l.len;
+    let right = r.bytes;
+    let right_len = r.len;
+    settle_sides(&left[..left_len], &right[..right_len], sets)
 }
 
 fn with_set_of(mut sets: [u32; FIELDS], b: u8, m: u32) -> [u32; FIELDS]
@@ -270,16 +289,12 @@ pub fn strike(s: Situation, b: u8) -> Child
     ensures { λ r. ⌜ ((k : Coded) → s ≡ as-struct k → Short k → Becomes (struck k b) r) ⌝ }
 {
     let left = s.left;
-    let left_len = s.left_len;
     let right = s.right;
-    let right_len = s.right_len;
-    let mut l = no_side();
-    let mut r = no_side();
-    let n = strike_in(&mut l, &left[..left_len], b);
-    let m = strike_in(&mut r, &right[..right_len], b);
     let old = s.sets;
+    let l = struck_side(left, s.left_len, b);
+    let r = struck_side(right, s.right_len, b);
     let sets = with_set_of(old, b, 0);
-    settle_child(&l[..n], &r[..m], sets)
+    settle_child(l, r, sets)
 }
 
 // The child by putting c before the fields in front, whose new sets are m and n.
@@ -288,19 +303,15 @@ pub fn put(s: Situation, c: u8, m: u32, n: u32) -> Child
     ensures { λ r. ⌜ ((k : Coded) → s ≡ as-struct k → Short k → Becomes (put-child k c m n) r) ⌝ }
 {
     let left = s.left;
-    let left_len = s.left_len;
     let right = s.right;
-    let right_len = s.right_len;
-    let a = front_in(left, left_len);
-    let b = front_in(right, right_len);
-    let mut l = no_wide_side();
-    let mut r = no_wide_side();
-    let l_len = put_in(&mut l, &left[..left_len], c, a, b);
-    let r_len = put_in(&mut r, &right[..right_len], c, a, b);
     let old = s.sets;
+    let a = front_in(left, s.left_len);
+    let b = front_in(right, s.right_len);
+    let l = put_side(left, s.left_len, c, a, b);
+    let r = put_side(right, s.right_len, c, a, b);
     let with_left = with_set_of(old, a, m);
     let sets = with_set_of(with_left, b, n);
-    settle_child(&l[..l_len], &r[..r_len], sets)
+    settle_child(l, r, sets)
 }
 
 fn stands(side: &[u8], token: u8) -> bool

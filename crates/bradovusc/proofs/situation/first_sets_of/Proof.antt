@@ -1,3 +1,14 @@
+-- `situation::first_sets_of` meets its contract. The loop's invariant: the sets of the fields below `f` are written.
+use Prim.Native.Nat.{_≤_, _-_}
+use native.Mathlib.Omega.{arith}
+use mathlib.Core.Path.{_≡_, refl}
+use mathlib.Core.List.{_++_, map, append-nil}
+use borrow.Author.Needs.{needs}
+use Rattle.paper.specs.Lists.{upto}
+use Rattle.paper.specs.Numbers.{fields}
+use Rattle.bradovusc.specs.Made.{Written, first-set, first-sets}
+use Rattle.bradovusc.proofs.Made.{first-more}
+use Rattle.bradovusc.proofs.Sides.{written-none, written-more}
 use Rattle.bradovusc.proofs.situation.first_sets_of.Statement.{statement}
 use Rattle.bradovusc.proofs.situation.first_sets_of.Tie as tie
 use Rattle.bradovusc.proofs.situation.first_sets_of.Reads as reads
@@ -5,42 +16,42 @@ use Rattle.bradovusc.proofs.situation.first_sets_of.Lts as lts
 use Rattle.bradovusc.proofs.situation.first_set_of.Reads as first-set-of-reads
 
 abbrev Inv-loop : tie.InvT-loop
-Inv-loop l r sets₀ f₀ sets f = ?
+Inv-loop l r sets₀ f₀ sets f = (f ≤ fields) × Written sets₀ sets f (map (first-set (l ++ r)) (upto f))
 
 abbrev μ-loop : tie.MeasureT-loop
-μ-loop l r sets₀ f₀ sets f = ?
+μ-loop l r sets₀ f₀ sets f = fields - f
 
--- src/situation.rt:340:5
 loop-holds : tie.Need-loop-holds Inv-loop μ-loop
-loop-holds c = ?
+loop-holds c = (omega arith, record { bytes = refl; many = refl; same-length = refl })
 
--- src/situation.rt:341:19
 first-set-of-requires : tie.Need-first-set-of-requires Inv-loop μ-loop
-first-set-of-requires c κs = ?
+first-set-of-requires c κs = omega arith
 
--- src/situation.rt:341:9
 mul-sets : tie.Need-mul-sets Inv-loop μ-loop
-mul-sets c = ?
+mul-sets c = search needs
 
--- src/situation.rt:341:9
 array-write-sets : tie.Need-array-write-sets Inv-loop μ-loop
-array-write-sets c = ?
+array-write-sets c = search needs
 
--- src/situation.rt:342:9
 add-f : tie.Need-add-f Inv-loop μ-loop
-add-f c = ?
+add-f c = omega arith
 
--- src/situation.rt:340:5
 loop-less : tie.Need-loop-less Inv-loop μ-loop
-loop-less c = ?
+loop-less c = omega arith
 
--- src/situation.rt:340:5
 loop-again : tie.Need-loop-again Inv-loop μ-loop
-loop-again c = ?
+loop-again c =
+    let l = c .before .before .loop in
+    let a = c .before .before .before .before .before .args in
+    let tokens = a .l .now ++ a .r .now in
+    (omega arith, rw (c .first-set-of .ensures, first-more tokens (l .f)) (written-more (l .inv .1) (first-set tokens (l .f)) (omega arith)))
 
--- src/situation.rt:335:1
 returns : tie.Need-returns Inv-loop μ-loop
-returns c = ?
+unfolding first-sets
+returns c =
+    let l = c .before .loop in
+    let e : l .f ≡ fields = omega arith in
+    (rw e at (l .inv .1)) .bytes
 
 pub first-sets-of-spec : {M : Type 1} → statement M
 first-sets-of-spec =

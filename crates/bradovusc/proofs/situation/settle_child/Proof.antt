@@ -1,64 +1,52 @@
--- `situation::settle_child` meets its contract: what is judged are the sides behind their equal characters.
+-- `situation::settle_child` meets its contract: the sides are within their bytes.
 use Prim.Native.Nat.{_≤_}
 use native.Mathlib.Omega.{arith}
+use mathlib.Core.Path.{_≡_}
 use lib.ListN.{length}
 use borrow.Author.Needs.{needs}
-use Rattle.bradovusc.specs.Coded.{settle}
-use Rattle.bradovusc.proofs.Sides.{equal-within, rest-part}
+use Rattle.bradovusc.specs.Made.{widest-side}
+use Rattle.bradovusc.proofs.Sides.{part-length}
 use Rattle.bradovusc.proofs.situation.settle_child.Statement.{statement}
 use Rattle.bradovusc.proofs.situation.settle_child.Tie as tie
 use Rattle.bradovusc.proofs.situation.settle_child.Reads as reads
 use Rattle.bradovusc.proofs.situation.settle_child.Lts as lts
-use Rattle.bradovusc.proofs.situation.equal_fronts.Reads as equal-fronts-reads
-use Rattle.bradovusc.proofs.situation.judge.Reads as judge-reads
+use Rattle.bradovusc.proofs.situation.settle_sides.Reads as settle-sides-reads
 
--- the equal characters are within both sides
-within : (c : tie.After-equal-fronts) →
-    let a = c .before .before .before .args in
-    (c .equal-fronts .result ≤ length (a .l .now)) × (c .equal-fronts .result ≤ length (a .r .now))
-within c = let a = c .before .before .before .args in rw (c .equal-fronts .ensures) (equal-within (a .l .now) (a .r .now))
+left-fits : (c : tie.Start) → c .args .l .len ≤ length (c .args .l .bytes)
+left-fits c = let e : length (c .args .l .bytes) ≡ widest-side = search needs in omega arith
 
-equal-fronts-requires : tie.Need-equal-fronts-requires
-equal-fronts-requires c κs = search needs
+right-fits : (c : tie.Start) → c .args .r .len ≤ length (c .args .r .bytes)
+right-fits c = let e : length (c .args .r .bytes) ≡ widest-side = search needs in omega arith
 
-sub-judge : tie.Need-sub-judge
-sub-judge c = within c .0
+array-share-prefix-left : tie.Need-array-share-prefix-left
+array-share-prefix-left c = left-fits (c .before .before)
 
-part-judge-start : tie.Need-part-judge-start
-part-judge-start c = within c .0
+slice-aggregate-settle-sides : tie.Need-slice-aggregate-settle-sides
+slice-aggregate-settle-sides c =
+    let start = c .before .before .before in
+    part-length (start .args .l .len) (start .args .l .bytes) (left-fits start)
 
-part-judge-end : tie.Need-part-judge-end
-part-judge-end c = search needs
+array-share-prefix-right : tie.Need-array-share-prefix-right
+array-share-prefix-right c = right-fits (c .before .before .before)
 
-sub-judge-2 : tie.Need-sub-judge-2
-sub-judge-2 c = within (c .before) .1
+slice-aggregate-settle-sides-2 : tie.Need-slice-aggregate-settle-sides-2
+slice-aggregate-settle-sides-2 c =
+    let start = c .before .before .before .before in
+    part-length (start .args .r .len) (start .args .r .bytes) (right-fits start)
 
-part-judge-start-2 : tie.Need-part-judge-start-2
-part-judge-start-2 c = within (c .before) .1
-
-part-judge-end-2 : tie.Need-part-judge-end-2
-part-judge-end-2 c = search needs
-
-judge-requires : tie.Need-judge-requires
-judge-requires c κs = search needs
+settle-sides-requires : tie.Need-settle-sides-requires
+settle-sides-requires c κs = search needs
 
 returns : tie.Need-returns
-unfolding settle
-returns c =
-    let f = c .before .before .before in
-    let a = f .before .before .before .args in
-    rw (rest-part (f .equal-fronts .result) (a .l .now), rest-part (f .equal-fronts .result) (a .r .now), f .equal-fronts .ensures) at (c .judge .ensures)
+returns c = search needs
 
 pub settle-child-spec : {M : Type 1} → statement M
 settle-child-spec =
     tie.close
     (tie.spec
-    equal-fronts-requires
-    sub-judge
-    part-judge-start
-    part-judge-end
-    sub-judge-2
-    part-judge-start-2
-    part-judge-end-2
-    judge-requires
+    array-share-prefix-left
+    slice-aggregate-settle-sides
+    array-share-prefix-right
+    slice-aggregate-settle-sides-2
+    settle-sides-requires
     returns)
