@@ -1,19 +1,19 @@
 -- Laws of sides as lists of tokens: a list that is written into the front of a buffer, a side in its 48 bytes, and, turn by turn, what
 -- striking, putting and trimming do to a side. Follows from the definitions by induction on the side.
-use Prim.Native.Nat.{ℕ, zero, suc, _+_, _-_, _≤_, _<_, zero-le, suc-le-suc}
+use Prim.Native.Nat.{ℕ, zero, suc, _+_, _-_, _≤_, _<_}
 use native.Mathlib.Nat.{sub-zero, zero-sub, suc-sub-suc}
 use native.Mathlib.Numerals.{add-one}
 use native.Mathlib.Omega.{arith}
-use mathlib.Core.Path.{_≡_, refl, sym, ap, _∙_}
+use mathlib.Core.Path.{_≡_, refl, sym}
 use mathlib.Core.Bool.{Bool, true, false, not, _&&_, _||_, or-false}
 use mathlib.Core.List.{List, [], _∷_, _++_, append-assoc, append-nil}
 use lib.Dec.{ltb, eqb, eqb·suc-zero}
-use lib.ListN.{length, getD, set, take, drop, replicate, length-append, length-drop, length-set, length-replicate, drop-of-length-le}
-use lib.Seq.{take-suc, drop-cons, append-snoc, set-at, set-out, take-at, take-all, take-append-seam, length-take-le}
+use lib.ListN.{length, getD, set, take, drop, replicate, length-append, length-drop, length-set, drop-of-length-le}
+use lib.Seq.{take-suc, drop-cons, set-at, set-out, take-at, take-all, take-append-seam, length-take-le}
 use Rattle.paper.specs.Lists.{only, keep}
 use Rattle.paper.specs.Numbers.{fields, field-token, longest-side}
-use Rattle.paper.proofs.Tests.{cond-by, true-false, and-is-false, le-leb, lt-leb, ltb-false, right-false}
-use Rattle.bradovusc.specs.Coded.{front, none, is-char, is-field, is-standing, field-of, strike-bytes, put-bytes, equal-fronts, dead-sides, with-set}
+use Rattle.paper.proofs.Tests.{cond-by, true-false, le-leb, lt-leb, ltb-false}
+use Rattle.bradovusc.specs.Coded.{front, none, is-char, is-field, field-of, strike-bytes, put-bytes, equal-fronts, dead-sides, with-set}
 use Rattle.bradovusc.specs.Made.{Written}
 use Rattle.bradovusc.specs.Struct.{padded}
 
@@ -26,8 +26,8 @@ pub written-more : {d e : List ℕ} {n : ℕ} {l : List ℕ} → Written d e n l
 written-more {d} {e} {n} {l} w x h =
     record {
       bytes =
-        rw (w .bytes, drop-cons d (length l) 0 (rw (w .many) at h), set-at l (getD d (length l) 0) (drop (suc (length l)) d) x n (sym (w .many)))
-        (rw (length-append l (x ∷ []), append-assoc, add-one) refl);
+          rw (w .bytes, drop-cons d (length l) 0 (rw (w .many) at h), set-at l (getD d (length l) 0) (drop (suc (length l)) d) x n (sym (w .many)))
+          (rw (length-append l (x ∷ []), append-assoc, add-one) refl);
       many = rw (length-append l (x ∷ []), w .many) refl;
       same-length = rw length-set (w .same-length);
     }
@@ -40,9 +40,6 @@ pub written-left : {d e e′ l : List ℕ} {n n′ : ℕ} → Written d e n l �
 written-left w t x p q r = rw (p, q, r, append-nil) w
 
 -- what is written can be read back
-pub written-fits : {d e : List ℕ} {n : ℕ} {l : List ℕ} → Written d e n l → n ≤ length e
-written-fits {d} {e} {n} {l} w = rw (w .bytes, length-append) (omega (arith, w .many))
-
 pub written-part : {d e : List ℕ} {n : ℕ} {l : List ℕ} → Written d e n l → take n e ≡ l
 written-part {d} {e} {n} {l} w = rw (w .bytes) (take-at l (drop (length l) d) n (sym (w .many)))
 

@@ -12,18 +12,20 @@ ghost use Rattle.bradovusc.specs.Coded.{Coded, front, is-field, strike-b
 ghost use Rattle.bradovusc.specs.Made.{Becomes, Sized, Written, Holds, tokens, widest-side, first-set, first-sets, question-coded};
 ghost use Rattle.bradovusc.specs.Struct.{padded, as-struct, Short};
 
-// "0 to 42 (a character) or 64 to 71 (field 0 to 7)"
-const CHARACTERS: u8 = 43;
-const FIELD_TOKEN: u8 = 64;
-const FIELDS: usize = 8;
+// "A token is 0 to 42 (a character) or 64 to 71 (field 0 to 7)."
+pub const CHARACTERS: u8 = 43;
+// the token of field 0
+pub const FIELD_TOKEN: u8 = 64;
+// how many fields
+pub const FIELDS: usize = 8;
 // "a side above 48 tokens gives 19"
-const LONGEST_SIDE: usize = 48;
+pub const LONGEST_SIDE: usize = 48;
 // a side with a character put before each of its tokens
-const WIDEST_SIDE: usize = 96;
+const WIDEST_SIDE: usize = LONGEST_SIDE + LONGEST_SIDE;
 // "length byte 0 to 24"
-const SHEET_SIDE: usize = 24;
+pub const SHEET_SIDE: usize = 24;
 // the front of an empty side
-const NO_TOKEN: u8 = 255;
+pub const NO_TOKEN: u8 = 255;
 
 pub struct Situation {
     pub left: [u8; LONGEST_SIDE],
@@ -52,6 +54,7 @@ struct Wide {
     len: usize,
 }
 
+// "finished (both sides empty)"
 pub fn is_finished(s: Situation) -> bool
     ensures { λ r. ⌜ ((k : Coded) → s ≡ as-struct k → r ≡ finished-coded k) ⌝ }
 {
@@ -79,6 +82,18 @@ pub fn front_in(side: [u8; LONGEST_SIDE], len: usize) -> u8
         return NO_TOKEN;
     }
     side[0]
+}
+
+fn no_side() -> [u8; LONGEST_SIDE]
+    ensures { λ r. ⌜ r ≡ replicate longest-side 0 ⌝ }
+{
+    [0; LONGEST_SIDE]
+}
+
+fn no_wide_side() -> [u8; WIDEST_SIDE]
+    ensures { λ r. ⌜ r ≡ replicate widest-side 0 ⌝ }
+{
+    [0; WIDEST_SIDE]
 }
 
 // "strike it everywhere"
@@ -134,17 +149,6 @@ fn put_side(side: [u8; LONGEST_SIDE], len: usize, c: u8, a: u8, b: u8) -> Wide
     Wide { bytes, len: n }
 }
 
-fn copy_in(dst: &mut [u8], side: &[u8])
-    requires { ⌜ length (now side) ≤ length (now dst) ⌝ }
-    ensures { λ _. ⌜ Written (now (dst .entry)) (now (dst .exit)) (length (now (side .entry))) (now (side .entry)) ⌝ }
-{
-    let mut i: usize = 0;
-    while i < side.len() {
-        dst[i] = side[i];
-        i += 1;
-    }
-}
-
 // "Trimming drops equal characters from both fronts while there are any": how many
 fn equal_fronts(l: &[u8], r: &[u8]) -> usize
     ensures { λ n. ⌜ n ≡ equal-fronts (now (l .entry)) (now (r .entry)) ⌝ }
@@ -185,16 +189,16 @@ fn is_dead(l: &[u8], r: &[u8]) -> bool
     false
 }
 
-fn no_side() -> [u8; LONGEST_SIDE]
-    ensures { λ r. ⌜ r ≡ replicate 48 0 ⌝ }
+// Writes the side into the front of dst.
+fn copy_in(dst: &mut [u8], side: &[u8])
+    requires { ⌜ length (now side) ≤ length (now dst) ⌝ }
+    ensures { λ _. ⌜ Written (now (dst .entry)) (now (dst .exit)) (length (now (side .entry))) (now (side .entry)) ⌝ }
 {
-    [0; LONGEST_SIDE]
-}
-
-fn no_wide_side() -> [u8; WIDEST_SIDE]
-    ensures { λ r. ⌜ r ≡ replicate 96 0 ⌝ }
-{
-    [0; WIDEST_SIDE]
+    let mut i: usize = 0;
+    while i < side.len() {
+        dst[i] = side[i];
+        i += 1;
+    }
 }
 
 // The situation of these sides and sets.
@@ -259,6 +263,7 @@ fn settle_sides(l: &[u8], r: &[u8], sets: [u32; FIELDS]) -> Child
     judge(&l[n..], &r[n..], sets)
 }
 
+// The same of sides as they are made.
 fn settle_child(l: Wide, r: Wide, sets: [u32; FIELDS]) -> Child
     requires { ⌜ (l .len ≤ widest-side) × (r .len ≤ widest-side) ⌝ }
     ensures { λ child. ⌜ Becomes (settle (tokens l) (tokens r) sets) child ⌝ }
@@ -270,6 +275,7 @@ fn settle_child(l: Wide, r: Wide, sets: [u32; FIELDS]) -> Child
     settle_sides(&left[..left_len], &right[..right_len], sets)
 }
 
+// The sets with the new one of the field with the token b, if it is a field's.
 fn with_set_of(mut sets: [u32; FIELDS], b: u8, m: u32) -> [u32; FIELDS]
     ensures { λ r. ⌜ r ≡ with-set b m sets ⌝ }
 {
@@ -314,6 +320,7 @@ pub fn put(s: Situation, c: u8, m: u32, n: u32) -> Child
     settle_child(l, r, sets)
 }
 
+// Does the token stand in the side?
 fn stands(side: &[u8], token: u8) -> bool
     ensures { λ r. ⌜ r ≡ member token (now (side .entry)) ⌝ }
 {
@@ -343,6 +350,7 @@ fn first_set_of(l: &[u8], r: &[u8], f: usize) -> u32
     0
 }
 
+// "at first it holds only the start"
 fn first_sets_of(l: &[u8], r: &[u8]) -> [u32; FIELDS]
     ensures { λ sets. ⌜ sets ≡ first-sets (now (l .entry) ++ now (r .entry)) ⌝ }
 {
@@ -355,6 +363,7 @@ fn first_sets_of(l: &[u8], r: &[u8]) -> [u32; FIELDS]
     sets
 }
 
+// "The trimmed question"
 fn trimmed(l: &[u8], r: &[u8]) -> Situation
     requires { ⌜ (length (now l) ≤ longest-side) × (length (now r) ≤ longest-side) ⌝ }
     ensures { λ s. ⌜ s ≡ as-struct (question-coded (now (l .entry)) (now (r .entry))) ⌝ }
@@ -364,8 +373,13 @@ fn trimmed(l: &[u8], r: &[u8]) -> Situation
     held(&l[n..], &r[n..], sets)
 }
 
-// The trimmed question, from the sides of the sheet.
-pub fn question(left: [u8; SHEET_SIDE], left_len: usize, right: [u8; SHEET_SIDE], right_len: usize) -> Situation
+// The same from the sides as the sheet's reader gives them.
+pub fn question(
+    left: [u8; SHEET_SIDE],
+    left_len: usize,
+    right: [u8; SHEET_SIDE],
+    right_len: usize,
+) -> Situation
     requires { ⌜ («left_len» ≤ sheet-side) × («right_len» ≤ sheet-side) ⌝ }
     ensures { λ r. ⌜ r ≡ as-struct (question-coded (take «left_len» left) (take «right_len» right)) ⌝ }
 {

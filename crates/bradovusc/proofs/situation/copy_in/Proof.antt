@@ -8,8 +8,6 @@ use Rattle.bradovusc.specs.Made.{Written}
 use Rattle.bradovusc.proofs.Sides.{written-none, written-more, copy-more}
 use Rattle.bradovusc.proofs.situation.copy_in.Statement.{statement}
 use Rattle.bradovusc.proofs.situation.copy_in.Tie as tie
-use Rattle.bradovusc.proofs.situation.copy_in.Reads as reads
-use Rattle.bradovusc.proofs.situation.copy_in.Lts as lts
 
 abbrev Inv-loop : tie.InvT-loop
 Inv-loop dst₀ side i₀ dst i = (i ≤ length side) × Written dst₀ dst i (take i side)

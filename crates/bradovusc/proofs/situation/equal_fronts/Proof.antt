@@ -3,7 +3,6 @@
 use Prim.Native.Nat.{_≤_, _+_, _-_}
 use native.Mathlib.Omega.{arith}
 use mathlib.Core.Path.{_≡_}
-use mathlib.Core.Bool.{false, _&&_}
 use lib.Dec.{eqb}
 use lib.ListN.{length, drop, getD}
 use Rattle.paper.specs.Numbers.{characters}
@@ -12,8 +11,6 @@ use Rattle.bradovusc.specs.Coded.{equal-fronts, is-char}
 use Rattle.bradovusc.proofs.Sides.{equal-more, equal-left-ends, equal-right-ends, equal-stops}
 use Rattle.bradovusc.proofs.situation.equal_fronts.Statement.{statement}
 use Rattle.bradovusc.proofs.situation.equal_fronts.Tie as tie
-use Rattle.bradovusc.proofs.situation.equal_fronts.Reads as reads
-use Rattle.bradovusc.proofs.situation.equal_fronts.Lts as lts
 
 abbrev Inv-loop : tie.InvT-loop
 Inv-loop l r n₀ n = (n ≤ length l) × (equal-fronts l r ≡ n + equal-fronts (drop n l) (drop n r))

@@ -4,9 +4,6 @@ use borrow.Author.Needs.{needs}
 use Rattle.bradovusc.proofs.Made.{first-left, first-right, first-neither}
 use Rattle.bradovusc.proofs.situation.first_set_of.Statement.{statement}
 use Rattle.bradovusc.proofs.situation.first_set_of.Tie as tie
-use Rattle.bradovusc.proofs.situation.first_set_of.Reads as reads
-use Rattle.bradovusc.proofs.situation.first_set_of.Lts as lts
-use Rattle.bradovusc.proofs.situation.stands.Reads as stands-reads
 
 cast-token : tie.Need-cast-token
 cast-token c = search needs

@@ -2,18 +2,15 @@
 use Prim.Native.Nat.{_≤_, _-_}
 use native.Mathlib.Omega.{arith}
 use mathlib.Core.Path.{_≡_, refl}
-use mathlib.Core.List.{_++_, map, append-nil}
+use mathlib.Core.List.{_++_, map}
 use borrow.Author.Needs.{needs}
 use Rattle.paper.specs.Lists.{upto}
 use Rattle.paper.specs.Numbers.{fields}
 use Rattle.bradovusc.specs.Made.{Written, first-set, first-sets}
 use Rattle.bradovusc.proofs.Made.{first-more}
-use Rattle.bradovusc.proofs.Sides.{written-none, written-more}
+use Rattle.bradovusc.proofs.Sides.{written-more}
 use Rattle.bradovusc.proofs.situation.first_sets_of.Statement.{statement}
 use Rattle.bradovusc.proofs.situation.first_sets_of.Tie as tie
-use Rattle.bradovusc.proofs.situation.first_sets_of.Reads as reads
-use Rattle.bradovusc.proofs.situation.first_sets_of.Lts as lts
-use Rattle.bradovusc.proofs.situation.first_set_of.Reads as first-set-of-reads
 
 abbrev Inv-loop : tie.InvT-loop
 Inv-loop l r sets₀ f₀ sets f = (f ≤ fields) × Written sets₀ sets f (map (first-set (l ++ r)) (upto f))

@@ -4,8 +4,6 @@ use borrow.Author.Needs.{needs}
 use Rattle.bradovusc.proofs.Sides.{front-none, front-padded}
 use Rattle.bradovusc.proofs.situation.front_in.Statement.{statement}
 use Rattle.bradovusc.proofs.situation.front_in.Tie as tie
-use Rattle.bradovusc.proofs.situation.front_in.Reads as reads
-use Rattle.bradovusc.proofs.situation.front_in.Lts as lts
 
 returns : tie.Need-returns
 returns c l e n = sym (front-none l (sym n ∙ c .if1 .taken))

@@ -4,8 +4,6 @@ use borrow.Author.Needs.{needs}
 use Rattle.bradovusc.proofs.Sides.{front-none, front-some}
 use Rattle.bradovusc.proofs.situation.front_of.Statement.{statement}
 use Rattle.bradovusc.proofs.situation.front_of.Tie as tie
-use Rattle.bradovusc.proofs.situation.front_of.Reads as reads
-use Rattle.bradovusc.proofs.situation.front_of.Lts as lts
 
 returns : tie.Need-returns
 returns c = sym (front-none (c .before .args .side .now) (c .if1 .taken))

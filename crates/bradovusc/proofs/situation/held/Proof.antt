@@ -1,13 +1,8 @@
 -- `situation::held` meets its contract: each side is written into 48 zeros.
-use mathlib.Core.Path.{_≡_}
 use borrow.Author.Needs.{needs}
 use Rattle.bradovusc.proofs.Sides.{written-padded}
 use Rattle.bradovusc.proofs.situation.held.Statement.{statement}
 use Rattle.bradovusc.proofs.situation.held.Tie as tie
-use Rattle.bradovusc.proofs.situation.held.Reads as reads
-use Rattle.bradovusc.proofs.situation.held.Lts as lts
-use Rattle.bradovusc.proofs.situation.copy_in.Reads as copy-in-reads
-use Rattle.bradovusc.proofs.situation.no_side.Reads as no-side-reads
 
 no-side-requires : tie.Need-no-side-requires
 no-side-requires c κs = search needs

@@ -1,5 +1,4 @@
 -- `situation::is_dead` meets its contract: each way out by its tests, from what `front_of` ensures of both fronts.
-use Prim.Native.Nat.{_<_, _≤_}
 use mathlib.Core.Path.{_≡_}
 use mathlib.Core.Bool.{true, false}
 use borrow.Author.Needs.{needs}
@@ -9,9 +8,6 @@ use Rattle.bradovusc.specs.Coded.{front, is-char}
 use Rattle.bradovusc.proofs.Sides.{none-true, none-false, dead-by-right, dead-by-left}
 use Rattle.bradovusc.proofs.situation.is_dead.Statement.{statement}
 use Rattle.bradovusc.proofs.situation.is_dead.Tie as tie
-use Rattle.bradovusc.proofs.situation.is_dead.Reads as reads
-use Rattle.bradovusc.proofs.situation.is_dead.Lts as lts
-use Rattle.bradovusc.proofs.situation.front_of.Reads as front-of-reads
 
 front-of-requires : tie.Need-front-of-requires
 front-of-requires c κs = search needs

@@ -5,8 +5,6 @@ use Rattle.bradovusc.specs.declared.situation.Situation.{Situation}
 use Rattle.bradovusc.proofs.Sides.{none-true, none-false, none-length}
 use Rattle.bradovusc.proofs.situation.is_finished.Statement.{statement}
 use Rattle.bradovusc.proofs.situation.is_finished.Tie as tie
-use Rattle.bradovusc.proofs.situation.is_finished.Reads as reads
-use Rattle.bradovusc.proofs.situation.is_finished.Lts as lts
 
 returns : tie.Need-returns
 returns c k e =

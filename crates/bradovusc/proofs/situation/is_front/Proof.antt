@@ -3,8 +3,6 @@ use Rattle.paper.specs.Numbers.{field-token}
 use Rattle.paper.proofs.Tests.{le-leb, lt-leb, eq-eqb, neq-eqb}
 use Rattle.bradovusc.proofs.situation.is_front.Statement.{statement}
 use Rattle.bradovusc.proofs.situation.is_front.Tie as tie
-use Rattle.bradovusc.proofs.situation.is_front.Reads as reads
-use Rattle.bradovusc.proofs.situation.is_front.Lts as lts
 
 returns : tie.Need-returns
 returns c = rw (lt-leb field-token (c .before .args .x) (c .if1 .taken))

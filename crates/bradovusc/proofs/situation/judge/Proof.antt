@@ -1,16 +1,11 @@
 -- `situation::judge` meets its contract: each way out by its tests.
 use mathlib.Core.Path.{_≡_, refl, sym, _∙_}
-use mathlib.Core.Bool.{true, false}
+use mathlib.Core.Bool.{false}
 use borrow.Author.Needs.{needs}
 use Rattle.bradovusc.specs.Coded.{dead-sides}
 use Rattle.bradovusc.proofs.Made.{judged-dead, judged-left-above, judged-right-above, judged-made}
 use Rattle.bradovusc.proofs.situation.judge.Statement.{statement}
 use Rattle.bradovusc.proofs.situation.judge.Tie as tie
-use Rattle.bradovusc.proofs.situation.judge.Reads as reads
-use Rattle.bradovusc.proofs.situation.judge.Lts as lts
-use Rattle.bradovusc.proofs.situation.held.Reads as held-reads
-use Rattle.bradovusc.proofs.situation.is_dead.Reads as is-dead-reads
-use Rattle.bradovusc.proofs.situation.not_made.Reads as not-made-reads
 
 is-dead-requires : tie.Need-is-dead-requires
 is-dead-requires c κs = search needs

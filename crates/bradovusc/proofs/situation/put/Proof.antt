@@ -5,12 +5,6 @@ use Rattle.bradovusc.specs.declared.situation.Situation.{Situation}
 use Rattle.bradovusc.proofs.Made.{put-by}
 use Rattle.bradovusc.proofs.situation.put.Statement.{statement}
 use Rattle.bradovusc.proofs.situation.put.Tie as tie
-use Rattle.bradovusc.proofs.situation.put.Reads as reads
-use Rattle.bradovusc.proofs.situation.put.Lts as lts
-use Rattle.bradovusc.proofs.situation.front_in.Reads as front-in-reads
-use Rattle.bradovusc.proofs.situation.put_side.Reads as put-side-reads
-use Rattle.bradovusc.proofs.situation.settle_child.Reads as settle-child-reads
-use Rattle.bradovusc.proofs.situation.with_set_of.Reads as with-set-of-reads
 
 front-in-requires : tie.Need-front-in-requires
 front-in-requires c κs = search needs

@@ -15,10 +15,6 @@ use Rattle.bradovusc.specs.Made.{Written, widest-side}
 use Rattle.bradovusc.proofs.Sides.{written-none, written-more, written-taken, written-left, written-part, put-more}
 use Rattle.bradovusc.proofs.situation.put_side.Statement.{statement}
 use Rattle.bradovusc.proofs.situation.put_side.Tie as tie
-use Rattle.bradovusc.proofs.situation.put_side.Reads as reads
-use Rattle.bradovusc.proofs.situation.put_side.Lts as lts
-use Rattle.bradovusc.proofs.situation.is_front.Reads as is-front-reads
-use Rattle.bradovusc.proofs.situation.no_wide_side.Reads as no-wide-side-reads
 
 abbrev Inv-loop : tie.InvT-loop
 Inv-loop len c a b side bytes₀ n₀ i₀ bytes n i = (i ≤ len) × (n ≤ i + i) × Written bytes₀ bytes n (put-bytes c a b (take i side))

@@ -7,9 +7,6 @@ use Rattle.paper.specs.Numbers.{sheet-side}
 use Rattle.bradovusc.proofs.Sides.{part-length}
 use Rattle.bradovusc.proofs.situation.question.Statement.{statement}
 use Rattle.bradovusc.proofs.situation.question.Tie as tie
-use Rattle.bradovusc.proofs.situation.question.Reads as reads
-use Rattle.bradovusc.proofs.situation.question.Lts as lts
-use Rattle.bradovusc.proofs.situation.trimmed.Reads as trimmed-reads
 
 array-share-prefix-left : tie.Need-array-share-prefix-left
 array-share-prefix-left c = search needs

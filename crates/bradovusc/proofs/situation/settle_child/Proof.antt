@@ -8,9 +8,6 @@ use Rattle.bradovusc.specs.Made.{widest-side}
 use Rattle.bradovusc.proofs.Sides.{part-length}
 use Rattle.bradovusc.proofs.situation.settle_child.Statement.{statement}
 use Rattle.bradovusc.proofs.situation.settle_child.Tie as tie
-use Rattle.bradovusc.proofs.situation.settle_child.Reads as reads
-use Rattle.bradovusc.proofs.situation.settle_child.Lts as lts
-use Rattle.bradovusc.proofs.situation.settle_sides.Reads as settle-sides-reads
 
 left-fits : (c : tie.Start) → c .args .l .len ≤ length (c .args .l .bytes)
 left-fits c = let e : length (c .args .l .bytes) ≡ widest-side = search needs in omega arith

@@ -1,16 +1,11 @@
 -- `situation::settle_sides` meets its contract: what is judged are the sides behind their equal characters.
 use Prim.Native.Nat.{_≤_}
-use native.Mathlib.Omega.{arith}
 use lib.ListN.{length}
 use borrow.Author.Needs.{needs}
 use Rattle.bradovusc.specs.Coded.{settle}
 use Rattle.bradovusc.proofs.Sides.{equal-within, rest-part}
 use Rattle.bradovusc.proofs.situation.settle_sides.Statement.{statement}
 use Rattle.bradovusc.proofs.situation.settle_sides.Tie as tie
-use Rattle.bradovusc.proofs.situation.settle_sides.Reads as reads
-use Rattle.bradovusc.proofs.situation.settle_sides.Lts as lts
-use Rattle.bradovusc.proofs.situation.equal_fronts.Reads as equal-fronts-reads
-use Rattle.bradovusc.proofs.situation.judge.Reads as judge-reads
 
 -- the equal characters are within both sides
 within : (c : tie.After-equal-fronts) →

@@ -9,8 +9,6 @@ use Rattle.paper.specs.Lists.{member}
 use Rattle.paper.proofs.Tests.{eq-eqb, neq-eqb}
 use Rattle.bradovusc.proofs.situation.stands.Statement.{statement}
 use Rattle.bradovusc.proofs.situation.stands.Tie as tie
-use Rattle.bradovusc.proofs.situation.stands.Reads as reads
-use Rattle.bradovusc.proofs.situation.stands.Lts as lts
 
 abbrev Inv-loop : tie.InvT-loop
 Inv-loop side token i₀ i = (i ≤ length side) × (member token side ≡ member token (drop i side))
@@ -39,9 +37,10 @@ loop-less c = omega arith
 loop-again : tie.Need-loop-again Inv-loop μ-loop
 loop-again c =
     let a = c .before .before .before .before .args in
-    let l = c .before .before .before .loop in
-    (omega arith,
-    rw (add-one, l .inv .1, drop-cons (a .side .now) (l .i) 0 (omega arith), neq-eqb (a .token) (getD (a .side .now) (l .i) 0) (c .if1 .left)))
+    let l = c .before .before .before .loop in (
+      omega arith,
+      rw (add-one, l .inv .1, drop-cons (a .side .now) (l .i) 0 (omega arith), neq-eqb (a .token) (getD (a .side .now) (l .i) 0) (c .if1 .left)),
+    )
 
 returns-2 : tie.Need-returns-2 Inv-loop μ-loop
 returns-2 c =

@@ -3,11 +3,6 @@ use borrow.Author.Needs.{needs}
 use Rattle.bradovusc.proofs.Made.{struck-by}
 use Rattle.bradovusc.proofs.situation.strike.Statement.{statement}
 use Rattle.bradovusc.proofs.situation.strike.Tie as tie
-use Rattle.bradovusc.proofs.situation.strike.Reads as reads
-use Rattle.bradovusc.proofs.situation.strike.Lts as lts
-use Rattle.bradovusc.proofs.situation.settle_child.Reads as settle-child-reads
-use Rattle.bradovusc.proofs.situation.struck_side.Reads as struck-side-reads
-use Rattle.bradovusc.proofs.situation.with_set_of.Reads as with-set-of-reads
 
 struck-side-requires : tie.Need-struck-side-requires
 struck-side-requires c κs = search needs

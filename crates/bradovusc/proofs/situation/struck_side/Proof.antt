@@ -14,9 +14,6 @@ use Rattle.bradovusc.specs.Made.{Written, widest-side}
 use Rattle.bradovusc.proofs.Sides.{written-none, written-taken, written-left, written-part, strike-more}
 use Rattle.bradovusc.proofs.situation.struck_side.Statement.{statement}
 use Rattle.bradovusc.proofs.situation.struck_side.Tie as tie
-use Rattle.bradovusc.proofs.situation.struck_side.Reads as reads
-use Rattle.bradovusc.proofs.situation.struck_side.Lts as lts
-use Rattle.bradovusc.proofs.situation.no_wide_side.Reads as no-wide-side-reads
 
 abbrev Inv-loop : tie.InvT-loop
 Inv-loop len b side bytes₀ n₀ i₀ bytes n i = (i ≤ len) × (n ≤ i) × Written bytes₀ bytes n (strike-bytes b (take i side))

@@ -1,17 +1,11 @@
 -- `situation::trimmed` meets its contract: what is held are the sides behind their equal characters, with the first sets.
 use Prim.Native.Nat.{_≤_}
-use native.Mathlib.Omega.{arith}
-use lib.ListN.{length, length-drop}
+use lib.ListN.{length}
 use borrow.Author.Needs.{needs}
 use Rattle.bradovusc.specs.Made.{question-coded}
 use Rattle.bradovusc.proofs.Sides.{equal-within, rest-part}
 use Rattle.bradovusc.proofs.situation.trimmed.Statement.{statement}
 use Rattle.bradovusc.proofs.situation.trimmed.Tie as tie
-use Rattle.bradovusc.proofs.situation.trimmed.Reads as reads
-use Rattle.bradovusc.proofs.situation.trimmed.Lts as lts
-use Rattle.bradovusc.proofs.situation.equal_fronts.Reads as equal-fronts-reads
-use Rattle.bradovusc.proofs.situation.first_sets_of.Reads as first-sets-of-reads
-use Rattle.bradovusc.proofs.situation.held.Reads as held-reads
 
 -- the equal characters are within both sides
 within : (c : tie.After-equal-fronts) →

@@ -9,8 +9,6 @@ use Rattle.bradovusc.specs.Coded.{field-of}
 use Rattle.bradovusc.proofs.Sides.{with-set-none, with-set-field}
 use Rattle.bradovusc.proofs.situation.with_set_of.Statement.{statement}
 use Rattle.bradovusc.proofs.situation.with_set_of.Tie as tie
-use Rattle.bradovusc.proofs.situation.with_set_of.Reads as reads
-use Rattle.bradovusc.proofs.situation.with_set_of.Lts as lts
 
 returns : tie.Need-returns
 returns c =
