@@ -32,6 +32,7 @@ widest-side = longest-side + longest-side
 abbrev pub tokens : Wide → List ℕ
 tokens w = take (w .len) (w .bytes)
 
+-- these tokens, and no more than there is room for
 pub record Holds (w : Wide) (l : List ℕ) : Type 0 where
   pub few : w .len ≤ widest-side
   pub holds : tokens w ≡ l

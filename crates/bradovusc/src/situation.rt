@@ -84,6 +84,7 @@ pub fn front_in(side: [u8; LONGEST_SIDE], len: usize) -> u8
     side[0]
 }
 
+// zeros, for a side to be written over
 fn no_side() -> [u8; LONGEST_SIDE]
     ensures { λ r. ⌜ r ≡ replicate longest-side 0 ⌝ }
 {
