@@ -1,0 +1,3 @@
+pub mod Made
+pub mod Short
+pub mod Sides
