@@ -6,3 +6,4 @@ pub mod Grown
 pub mod Ended
 pub mod Room
 pub mod Searched
+pub mod Mapped
