@@ -6,8 +6,8 @@ use mathlib.Core.List.{List, [], _∷_, _++_}
 use lib.Bits.{bitAnd}
 use lib.Dec.{leb, ltb, eqb}
 use lib.ListN.{length, getD, set, drop}
-use Rattle.paper.specs.Lists.{upto, any, only, keep, each, same-by}
-use Rattle.paper.specs.Numbers.{characters, fields, field-token, longest-side}
+use Rattle.paper.specs.Lists.{upto, only, keep, each, same-by}
+use Rattle.paper.specs.Numbers.{characters, field-token, longest-side}
 use Rattle.paper.specs.Search.{Child, child, long}
 use Rattle.patterns.specs.Masks.{followers-of}
 

@@ -4,12 +4,15 @@ pub mod Numbers
 -- the meaning
 pub mod Equation
 pub mod Pattern
+pub mod Taken
 pub mod Places
+pub mod Reachable
 pub mod Search
 pub mod Leads
 pub mod Situation
 pub mod Decides
 pub mod Way
+pub mod Plain
 pub mod Question
 -- the bytes
 pub mod Written
