@@ -5,13 +5,13 @@ use Prim.Native.Nat.{ℕ, zero, suc, _+_, _-_, _<_}
 use native.Mathlib.Nat.{zero-add, suc-add, add-suc}
 use native.Mathlib.Omega.{arith}
 use mathlib.Core.Path.{_≡_, refl, sym, ap, _∙_, subst}
-use mathlib.Core.Bool.{Bool, true, false, cond, _&&_, _||_}
+use mathlib.Core.Bool.{Bool, true, false, _&&_, _||_}
 use mathlib.Core.List.{List, [], _∷_, _++_, map, append-nil, append-assoc}
 use lib.Dec.{leb, ltb, eqb}
 use lib.ListN.{length, getD, length-append, length-map, List·getD-append, List·getD-map}
-use lib.Seq.{getD-append-seam, getD-at}
+use lib.Seq.{getD-at}
 use Rattle.paper.specs.Lists.{any, same-by}
-use Rattle.paper.specs.Search.{Child, long, child, Entry, End, found, used-up, no-room, too-long, State, going, ended, entered, enter, offer, offer-all, take-next, turns, search, how, entries, count}
+use Rattle.paper.specs.Search.{Child, long, child, Entry, End, found, used-up, no-room, too-long, State, going, ended, entered, enter, offer, offer-all, take-next, turns, search, how, entries}
 use Rattle.paper.specs.Leads.{situations}
 use Rattle.paper.proofs.Tests.{by-bool, and-left, and-right, both-true, eqb-true, eqb-same, ltb-true, ltb-false, lt-ltb, le-ltb}
 use Rattle.paper.proofs.Lists.{map-append, same-by-equal, same-by-same}
@@ -19,7 +19,7 @@ use Rattle.paper.proofs.Room.{ended-turns}
 use Rattle.paper.proofs.Searched.{settled, found-is-last}
 use Rattle.bradovusc.specs.Coded.{Coded, Tables, finished-coded, same-coded, children-coded}
 use Rattle.bradovusc.specs.Slots.{Slot}
-use Rattle.bradovusc.specs.Run.{Running, is-going, enter-slot, offer-going, offer-slot, offer-slots, nowhere, no-slot, slot-at, take-slot, slot-turns, slot-search}
+use Rattle.bradovusc.specs.Run.{Running, is-going, enter-slot, offer-slot, offer-slots, nowhere, no-slot, slot-at, take-slot, slot-turns, slot-search}
 use Rattle.bradovusc.specs.declared.search.Status.{Status}
 use Rattle.bradovusc.specs.declared.search.Status.the-variants.{Going, Found, UsedUp, NoRoom, TooLong}
 
