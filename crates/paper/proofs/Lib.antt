@@ -30,6 +30,7 @@ pub mod Moves
 pub mod Question
 pub mod Progress
 pub mod Spelled
+pub mod Answered
 pub mod Sound
 pub mod Complete
 -- plain questions
