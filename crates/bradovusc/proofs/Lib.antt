@@ -1,3 +1,4 @@
 pub mod Numbered
 pub mod TextBack
 pub mod CodedSides
+pub mod CodedSets
