@@ -87,7 +87,7 @@ strike-coded f (t ∷ side) h =
     (ap (λ (l : List ℕ). only (not (is-field f t)) (code-token t) ++ l) (strike-coded f side (h .1)))
 
 -- a byte in front is the field's, where the field is in front; 255 is no field's
-front-byte : (h : ℕ) (side : Side) → h < fields → Known-side side → eqb (field-token + h) (front (code-side side)) ≡ member h (front-field side)
+pub front-byte : (h : ℕ) (side : Side) → h < fields → Known-side side → eqb (field-token + h) (front (code-side side)) ≡ member h (front-field side)
 front-byte h [] b k = neq-eqb (field-token + h) 255 (λ e. omega arith)
 front-byte h (chr a ∷ side) b k = eqb-symmetric (field-token + h) a ∙ char-field a h (k .0)
 front-byte h (fld f ∷ side) b k = eqb-field h f ∙ sym (or-false (eqb h f))
@@ -105,7 +105,7 @@ kept-member h l (g ∷ r) n =
 other-member : (h : ℕ) (l r : List ℕ) → (member h l || member h (keep (λ (g : ℕ). not (any (eqb g) l)) r)) ≡ (member h l || member h r)
 other-member h l r = by-bool (member h l) (λ m. rw m) (λ m. rw m (kept-member h l r m))
 
-front-member : (h : ℕ) (l r : Side) → h < fields → Known-side l → Known-side r
+pub front-member : (h : ℕ) (l r : Side) → h < fields → Known-side l → Known-side r
     → member h (front-fields l r) ≡ (eqb (field-token + h) (front (code-side l)) || eqb (field-token + h) (front (code-side r)))
 front-member h l r b k m =
     any-append (eqb h) (front-field l) (keep (λ (g : ℕ). not (any (eqb g) (front-field l))) (front-field r))

@@ -2,3 +2,4 @@ pub mod Numbered
 pub mod TextBack
 pub mod CodedSides
 pub mod CodedSets
+pub mod CodedChildren
