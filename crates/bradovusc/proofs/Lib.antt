@@ -3,3 +3,4 @@ pub mod TextBack
 pub mod CodedSides
 pub mod CodedSets
 pub mod CodedChildren
+pub mod KeptGood
