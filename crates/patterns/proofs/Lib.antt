@@ -1,0 +1,5 @@
+pub mod MaskOf
+pub mod Tables
+pub mod Written
+pub mod Judged
+pub mod Gathered
