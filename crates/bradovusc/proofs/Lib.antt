@@ -4,3 +4,5 @@ pub mod CodedSides
 pub mod CodedSets
 pub mod CodedChildren
 pub mod KeptGood
+pub mod Ways
+pub mod Simulated

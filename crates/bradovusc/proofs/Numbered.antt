@@ -1,7 +1,7 @@
 -- The search over slots is the paper's search at coded situations: it ends the same way, the slots hold the entries' situations in their
 -- order, every slot but the first has its parent before it, and walking from parent to parent gives the entry's way.
 -- Follows by a relation of the two states that every step keeps: those taken are the first k slots.
-use Prim.Native.Nat.{ℕ, zero, suc, _+_, _-_, _<_}
+use Prim.Native.Nat.{ℕ, zero, suc, _+_, _<_}
 use native.Mathlib.Nat.{zero-add, suc-add, add-suc}
 use native.Mathlib.Omega.{arith}
 use mathlib.Core.Path.{_≡_, refl, sym, ap, _∙_, subst}
@@ -16,7 +16,7 @@ use Rattle.paper.specs.Leads.{situations}
 use Rattle.paper.proofs.Tests.{by-bool, and-left, and-right, both-true, eqb-true, eqb-same, ltb-true, ltb-false, lt-ltb, le-ltb}
 use Rattle.paper.proofs.Lists.{map-append, same-by-equal, same-by-same}
 use Rattle.paper.proofs.Room.{ended-turns}
-use Rattle.paper.proofs.Searched.{settled, found-is-last}
+use Rattle.paper.proofs.Searched.{settled}
 use Rattle.bradovusc.specs.Coded.{Coded, Tables, finished-coded, same-coded, children-coded}
 use Rattle.bradovusc.specs.Slots.{Slot}
 use Rattle.bradovusc.specs.Run.{Running, is-going, enter-slot, offer-slot, offer-slots, nowhere, no-slot, slot-at, take-slot, slot-turns, slot-search}
@@ -38,7 +38,7 @@ abbrev pub situations-in : List Slot → List Coded
 situations-in ss = map (λ (x : Slot). x .at) ss
 
 -- how a search over slots ends
-abbrev pub status-of : End Coded ℕ → Status
+abbrev pub status-of : {S M : Type 0} → End S M → Status
 status-of (found e) = Found
 status-of used-up = UsedUp
 status-of no-room = NoRoom
@@ -273,12 +273,3 @@ module _ (T : Tables) (room : ℕ) where
     -- Its slots hold the paper's entries.
     pub slots-linked : Linked (slot-search T room s .slots) the-entries
     slots-linked = over .1
-
-    -- Where one is found, it is in the last slot.
-    pub found-last-slot : (e : Entry Coded ℕ) → the-end ≡ found e
-        → (0 < length (slot-search T room s .slots)) × (entry-at the-entries (length (slot-search T room s .slots) - 1) ≡ e)
-    found-last-slot e h =
-        let r = found-is-last same-coded finished-coded (children-coded T) coded-equal equal-coded room s e h in
-        let n : length (slot-search T room s .slots) ≡ suc (length (r .0)) =
-        omega (arith, linked-length slots-linked, ap length (r .1), length-append (r .0) (e ∷ [])) in
-        (omega arith, rw (r .1) (getD-at (r .0) e [] no-entry (length (slot-search T room s .slots) - 1) (omega arith)))
