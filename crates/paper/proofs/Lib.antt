@@ -7,6 +7,7 @@ pub mod Ended
 pub mod Ends
 pub mod Room
 pub mod Searched
+pub mod Mapped
 -- places
 pub mod Parts
 pub mod After
