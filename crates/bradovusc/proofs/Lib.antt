@@ -6,3 +6,5 @@ pub mod CodedChildren
 pub mod KeptGood
 pub mod Ways
 pub mod Simulated
+pub mod GoodSheet
+pub mod FirstCoded

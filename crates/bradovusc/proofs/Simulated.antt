@@ -18,7 +18,7 @@ use Rattle.paper.specs.Search.{Entry, End, found, used-up, no-room, too-long, s
 use Rattle.paper.specs.Leads.{Leads}
 use Rattle.paper.specs.Situation.{Situation, Move, same-situation, finished, children, question}
 use Rattle.paper.specs.Way.{text-along, texts-of, search-from}
-use Rattle.paper.specs.Question.{Question, held-by, acceptor}
+use Rattle.paper.specs.Question.{Question, acceptor}
 use Rattle.paper.specs.Outcome.{searched, count-of, how-of}
 use Rattle.paper.proofs.Same.{situation-equal, situation-same}
 use Rattle.paper.proofs.PlaceSets.{same-equal, equal-same}
@@ -29,17 +29,12 @@ use Rattle.bradovusc.specs.Codes.{code-situation, code-move, tables-of}
 use Rattle.bradovusc.specs.Run.{Running, slot-at, slot-search, given-coded, text-back}
 use Rattle.bradovusc.proofs.Numbered.{entry-at, status-of, Linked, linked-length, linked-at, slots-status, slots-linked}
 use Rattle.bradovusc.proofs.TextBack.{text-back-is}
-use Rattle.bradovusc.proofs.CodedSides.{Known-side, same-sides, finished-sides}
-use Rattle.bradovusc.proofs.CodedSets.{Few, MaskLaws, Good, same-sets}
+use Rattle.bradovusc.proofs.CodedSides.{same-sides, finished-sides}
+use Rattle.bradovusc.proofs.CodedSets.{MaskLaws, Good, same-sets}
 use Rattle.bradovusc.proofs.CodedChildren.{children-agree}
 use Rattle.bradovusc.proofs.KeptGood.{child-good, question-good}
+use Rattle.bradovusc.proofs.GoodSheet.{GoodQuestion}
 use Rattle.bradovusc.proofs.Ways.{way-last, way-known, text-last, given-agrees}
-
--- A question that the code can hold: known tokens, and patterns of few leaves.
-pub record GoodQuestion (q : Question) : Type 0 where
-  pub left : Known-side (q .left)
-  pub right : Known-side (q .right)
-  pub few : (f : ℕ) → Few (held-by q f)
 
 abbrev Paper-entries : Type 0
 Paper-entries = List (Entry (Situation PlaceSet) Move)
