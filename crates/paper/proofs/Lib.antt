@@ -38,3 +38,10 @@ pub mod Tails
 pub mod Standings
 pub mod Reached
 pub mod Plain
+-- from bytes to bytes
+pub mod Asked
+pub mod Children
+pub mod Rows
+pub mod QuestionSearched
+pub mod Demand2
+pub mod Demand3

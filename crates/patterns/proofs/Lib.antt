@@ -1,3 +1,4 @@
+pub mod Masks
 pub mod MaskOf
 pub mod Tables
 pub mod Written
