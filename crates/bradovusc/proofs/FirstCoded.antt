@@ -1,21 +1,20 @@
 -- The trimmed question as the code holds it: the bytes of the sides without their equal characters in front, the mask 1 for every field that
 -- stands in them. Follows from the laws of sides as bytes.
-use Prim.Native.Nat.{ℕ, _+_, _<_}
+use Prim.Native.Nat.{ℕ, _+_}
 use mathlib.Core.Path.{_≡_, refl, sym, ap, ap₂, _∙_}
 use mathlib.Core.Bool.{Bool, true, false, cond, _||_}
 use mathlib.Core.List.{List, [], _∷_, _++_, map, map-map}
-use lib.Dec.{eqb}
 use lib.ListN.{drop}
 use Rattle.paper.specs.Lists.{upto, member}
 use Rattle.paper.specs.Numbers.{fields, field-token}
-use Rattle.paper.specs.Places.{PlaceSet, first-set}
-use Rattle.paper.specs.Equation.{Token, Side, is-field, stands-in}
+use Rattle.paper.specs.Places.{first-set}
+use Rattle.paper.specs.Equation.{Side, stands-in}
 use Rattle.paper.specs.Situation.{trimmed, question}
 use Rattle.paper.specs.Question.{Question, acceptor}
 use Rattle.paper.proofs.Tests.{eqb-symmetric}
 use Rattle.paper.proofs.Lists.{cons-eq, map-append}
 use Rattle.patterns.specs.Masks.{mask}
-use Rattle.bradovusc.specs.Coded.{Coded, equal-fronts}
+use Rattle.bradovusc.specs.Coded.{equal-fronts}
 use Rattle.bradovusc.specs.Codes.{code-token, code-side, code-situation}
 use Rattle.bradovusc.proofs.CodedSides.{Known-side, byte-of-field, trim-coded}
 

@@ -6,5 +6,4 @@ pub mod CodedChildren
 pub mod KeptGood
 pub mod Ways
 pub mod Simulated
-pub mod GoodSheet
 pub mod FirstCoded
