@@ -5,24 +5,30 @@ ghost use Prim.Native.Nat.{ℕ, _+_, _-_, _*_, _<_, _≤_};
 ghost use lib.ListN.{length, getD, take, drop, replicate};
 ghost use lib.Dec.{eqb};
 ghost use Rattle.paper.specs.Lists.{any, each, same-by};
-ghost use Rattle.paper.specs.Numbers.{situation-bytes, longest-side};
+ghost use Rattle.paper.specs.Numbers.{fields, longest-side, situation-bytes};
 ghost use Rattle.bradovusc.specs.Coded.{Coded, same-coded};
 ghost use Rattle.bradovusc.specs.Struct.{as-struct, Short};
-ghost use Rattle.bradovusc.specs.Slots.{mask-bytes, struct-key, origin-bytes, struct-slot, key-bytes, sets-bytes, rest-at, Slot, slot-bytes, Holds-slots, has-key, key-entered};
+ghost use Rattle.bradovusc.specs.Slots.{mask-width, mask-bytes, left-at, origin-width, struct-key, origin-bytes, struct-slot, key-bytes, sets-bytes, rest-at, Slot, slot-bytes, Holds-slots, has-key, key-entered};
 use crate::situation::Situation;
 
-// Bytes of a slot, and where its parts begin.
+// A slot's parts: the two lengths, the sides, the sets; the parent and the step; zeros.
 const SLOT: usize = 144;
+
+const SIDE: usize = 48;
+
+const FIELDS: usize = 8;
+
+const MASK: usize = 4;
 
 const LEFT: usize = 2;
 
-const RIGHT: usize = 50;
+const RIGHT: usize = LEFT + SIDE;
 
-const SETS: usize = 98;
+const SETS: usize = RIGHT + SIDE;
 
-const KEY: usize = 130;
+const KEY: usize = SETS + MASK * FIELDS;
 
-const REST: usize = 133;
+const REST: usize = KEY + 3;
 
 fn put(to: &mut [u8], from: &[u8])
     requires { ⌜ length (now to) ≡ length (now from) ⌝ }
@@ -36,7 +42,7 @@ fn put(to: &mut [u8], from: &[u8])
 }
 
 fn put_lengths(to: &mut [u8], left: u8, right: u8)
-    requires { ⌜ length (now to) ≡ 2 ⌝ }
+    requires { ⌜ length (now to) ≡ left-at ⌝ }
     ensures { λ _. ⌜ now (to .exit) ≡ left ∷ right ∷ [] ⌝ }
 {
     to[0] = left;
@@ -44,7 +50,7 @@ fn put_lengths(to: &mut [u8], left: u8, right: u8)
 }
 
 fn put_mask(to: &mut [u8], mask: u32)
-    requires { ⌜ length (now to) ≡ 4 ⌝ }
+    requires { ⌜ length (now to) ≡ mask-width ⌝ }
     ensures { λ _. ⌜ now (to .exit) ≡ mask-bytes mask ⌝ }
 {
     to[0] = (mask % 256) as u8;
@@ -54,12 +60,12 @@ fn put_mask(to: &mut [u8], mask: u32)
 }
 
 fn put_sets(to: &mut [u8], sets: &[u32])
-    requires { ⌜ length (now to) ≡ 4 * length (now sets) ⌝ }
+    requires { ⌜ length (now to) ≡ mask-width * length (now sets) ⌝ }
     ensures { λ _. ⌜ now (to .exit) ≡ each mask-bytes (now (sets .entry)) ⌝ }
 {
     let mut i = 0;
     while i < sets.len() {
-        put_mask(&mut to[4 * i..4 * i + 4], sets[i]);
+        put_mask(&mut to[MASK * i..MASK * i + MASK], sets[i]);
         i += 1;
     }
 }
@@ -75,7 +81,7 @@ fn put_key(to: &mut [u8], s: Situation)
 }
 
 fn put_origin(to: &mut [u8], parent: usize, step: u8)
-    requires { ⌜ (length (now to) ≡ 3) × (parent < 65536) ⌝ }
+    requires { ⌜ (length (now to) ≡ origin-width) × (parent < 65536) ⌝ }
     ensures { λ _. ⌜ now (to .exit) ≡ origin-bytes parent step ⌝ }
 {
     to[0] = (parent % 256) as u8;
@@ -113,11 +119,11 @@ pub fn write_slot(work: &mut [u8], n: usize, s: Situation, parent: usize, step: 
     put_slot(&mut work[at..at + SLOT], s, parent, step);
 }
 
-fn side_of(from: &[u8]) -> [u8; 48]
+fn side_of(from: &[u8]) -> [u8; SIDE]
     requires { ⌜ length (now from) ≡ longest-side ⌝ }
     ensures { λ r. ⌜ r ≡ now (from .entry) ⌝ }
 {
-    let mut side = [0u8; 48];
+    let mut side = [0u8; SIDE];
     put(&mut side, from);
     side
 }
@@ -130,20 +136,20 @@ fn joined(a: u8, b: u8, c: u8, d: u8) -> u32
 }
 
 fn mask_of(from: &[u8]) -> u32
-    requires { ⌜ length (now from) ≡ 4 ⌝ }
+    requires { ⌜ length (now from) ≡ mask-width ⌝ }
     ensures { λ r. ⌜ ((m : ℕ) → now (from .entry) ≡ mask-bytes m → r ≡ m) ⌝ }
 {
     joined(from[0], from[1], from[2], from[3])
 }
 
-fn sets_of(from: &[u8]) -> [u32; 8]
+fn sets_of(from: &[u8]) -> [u32; FIELDS]
     requires { ⌜ length (now from) ≡ sets-bytes ⌝ }
-    ensures { λ r. ⌜ ((ms : List ℕ) → length ms ≡ 8 → now (from .entry) ≡ each mask-bytes ms → r ≡ ms) ⌝ }
+    ensures { λ r. ⌜ ((ms : List ℕ) → length ms ≡ fields → now (from .entry) ≡ each mask-bytes ms → r ≡ ms) ⌝ }
 {
-    let mut sets = [0u32; 8];
+    let mut sets = [0u32; FIELDS];
     let mut i = 0;
-    while i < 8 {
-        sets[i] = mask_of(&from[4 * i..4 * i + 4]);
+    while i < FIELDS {
+        sets[i] = mask_of(&from[MASK * i..MASK * i + MASK]);
         i += 1;
     }
     sets
