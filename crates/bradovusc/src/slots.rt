@@ -1,14 +1,14 @@
 // Situations in the working buffer: a slot of 144 bytes for each, in the order of entry.
 ghost use mathlib.Core.Path.{_≡_};
 ghost use mathlib.Core.List.{List, _∷_, [], _++_};
-ghost use Prim.Native.Nat.{ℕ, _+_, _-_, _*_, _<_, _≤_};
-ghost use lib.ListN.{length, getD, take, drop, replicate};
+ghost use Prim.Native.Nat.{ℕ, _+_, _*_, _<_, _≤_};
+ghost use lib.ListN.{length, getD, replicate};
 ghost use lib.Dec.{eqb};
 ghost use Rattle.paper.specs.Lists.{any, each, same-by};
 ghost use Rattle.paper.specs.Numbers.{fields, longest-side, situation-bytes};
 ghost use Rattle.bradovusc.specs.Coded.{Coded, same-coded};
 ghost use Rattle.bradovusc.specs.Struct.{as-struct, Short};
-ghost use Rattle.bradovusc.specs.Slots.{mask-width, mask-bytes, left-at, origin-width, struct-key, origin-bytes, struct-slot, key-bytes, sets-bytes, rest-at, Slot, slot-bytes, Holds-slots, has-key, key-entered};
+ghost use Rattle.bradovusc.specs.Slots.{mask-width, mask-bytes, left-at, origin-width, struct-key, origin-bytes, struct-slot, key-bytes, sets-bytes, Slot, slot-bytes, Holds-slots, has-key, key-entered};
 use crate::situation::Situation;
 
 // A slot's parts: the two lengths, the sides, the sets; the parent and the step; zeros.
@@ -30,6 +30,7 @@ const KEY: usize = SETS + MASK * FIELDS;
 
 const REST: usize = KEY + 3;
 
+// A copy.
 fn put(to: &mut [u8], from: &[u8])
     requires { ⌜ length (now to) ≡ length (now from) ⌝ }
     ensures { λ _. ⌜ now (to .exit) ≡ now (from .entry) ⌝ }
@@ -49,6 +50,7 @@ fn put_lengths(to: &mut [u8], left: u8, right: u8)
     to[1] = right;
 }
 
+// A mask, low byte first.
 fn put_mask(to: &mut [u8], mask: u32)
     requires { ⌜ length (now to) ≡ mask-width ⌝ }
     ensures { λ _. ⌜ now (to .exit) ≡ mask-bytes mask ⌝ }
@@ -80,6 +82,7 @@ fn put_key(to: &mut [u8], s: Situation)
     put_sets(&mut to[SETS..KEY], &s.sets);
 }
 
+// Where a situation comes from: its parent's number, low byte first, and the step from there.
 fn put_origin(to: &mut [u8], parent: usize, step: u8)
     requires { ⌜ (length (now to) ≡ origin-width) × (parent < 65536) ⌝ }
     ensures { λ _. ⌜ now (to .exit) ≡ origin-bytes parent step ⌝ }
@@ -128,7 +131,7 @@ fn side_of(from: &[u8]) -> [u8; SIDE]
     side
 }
 
-// A mask from its bytes, low first.
+// The number of four bytes, low first.
 fn joined(a: u8, b: u8, c: u8, d: u8) -> u32
     ensures { λ r. ⌜ r ≡ a + 256 * b + 65536 * c + 16777216 * d ⌝ }
 {
@@ -186,6 +189,7 @@ pub fn read_situation(work: &[u8], i: usize) -> Situation
     read_slot(&work[at..at + SLOT])
 }
 
+// The number of two bytes.
 fn pair(low: u8, high: u8) -> usize
     ensures { λ r. ⌜ r ≡ low + 256 * high ⌝ }
 {
@@ -263,7 +267,7 @@ fn entered(work: &[u8], n: usize, key: &[u8]) -> bool
     false
 }
 
-// Is the situation that of one of the first n slots?
+// Is the situation already entered, in one of the first n slots?
 pub fn look_up(work: &[u8], n: usize, s: Situation) -> bool
     requires { ⌜ situation-bytes * n ≤ length (now work) ⌝ }
     requires { ⌜ (s .«left_len» ≤ longest-side) × (s .«right_len» ≤ longest-side) ⌝ }
