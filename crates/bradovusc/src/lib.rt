@@ -1,3 +1,4 @@
 // The library.
+mod answer;
 mod search;
 mod situation;

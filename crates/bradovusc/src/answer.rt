@@ -1,0 +1,151 @@
+// The answer of a clash: the texts, spelt from the slots of the working buffer, and their records, each directly behind the one before.
+ghost use mathlib.Core.Path.{_≡_};
+ghost use mathlib.Core.Bool.{false};
+ghost use mathlib.Core.List.{_∷_, [], _++_};
+ghost use Prim.Native.Nat.{_+_, _*_, _/_, _%_, _<_, _≤_};
+ghost use lib.ListN.{length, getD, drop};
+ghost use Rattle.paper.specs.Lists.{member};
+ghost use Rattle.paper.specs.Numbers.{fields, longest-text};
+ghost use Rattle.paper.specs.Outcome.{value-record};
+ghost use Rattle.bradovusc.specs.Coded.{front};
+ghost use Rattle.bradovusc.specs.Run.{slot-at};
+ghost use Rattle.bradovusc.specs.Answer.{Way-to, Steps-back, puts-before, text-at, standing-among, text-above, value-records, answer-given, buffer-after, record-head};
+
+// Bytes of a slot, and where its parts are.
+const SLOT: usize = 144;
+const LEFT: usize = 2;
+const RIGHT: usize = 50;
+const PARENT: usize = 130;
+const STEP: usize = 132;
+
+// "0 to 42 (a character) or 64 to 71 (field 0 to 7)"
+const CHARACTERS: u8 = 43;
+const FIELD_TOKEN: u8 = 64;
+const FIELDS: usize = 8;
+// the front of an empty side
+const NO_TOKEN: u8 = 255;
+
+// mark, field and length of a record
+const HEAD: usize = 5;
+const LONGEST_TEXT: usize = 65535;
+
+// What became of the answer: a text above 65,535 characters, an answer buffer too short, or so many bytes written.
+pub enum Answer {
+    TextTooLong,
+    TooShort,
+    Written(usize),
+}
+
+// One step back along the way: the parent's number, the step from there, and whether it put its character before the field.
+pub struct Back {
+    pub parent: usize,
+    pub step: u8,
+    pub puts: bool,
+}
+
+fn wide(b: u8) -> usize
+    ensures { λ r. ⌜ r ≡ b ⌝ }
+{
+    b as usize
+}
+
+// The number of the slot from which slot i was entered.
+fn parent_of(work: &[u8], i: usize) -> usize
+    requires { ⌜ Way-to (now work) i ⌝ }
+    ensures { λ r. ⌜ ((w : Way-to (now (work .entry)) i) → r ≡ slot-at (w .slots) i .parent) ⌝ }
+{
+    let at = SLOT * i + PARENT;
+    wide(work[at]) + 256 * wide(work[at + 1])
+}
+
+// The step by which slot i was entered.
+fn step_of(work: &[u8], i: usize) -> u8
+    requires { ⌜ Way-to (now work) i ⌝ }
+    ensures { λ r. ⌜ ((w : Way-to (now (work .entry)) i) → r ≡ slot-at (w .slots) i .step) ⌝ }
+{
+    work[SLOT * i + STEP]
+}
+
+fn front_left(work: &[u8], i: usize) -> u8
+    requires { ⌜ Way-to (now work) i ⌝ }
+    ensures { λ r. ⌜ ((w : Way-to (now (work .entry)) i) → r ≡ front (slot-at (w .slots) i .at .left)) ⌝ }
+{
+    if work[SLOT * i] == 0 {
+        return NO_TOKEN;
+    }
+    work[SLOT * i + LEFT]
+}
+
+fn front_right(work: &[u8], i: usize) -> u8
+    requires { ⌜ Way-to (now work) i ⌝ }
+    ensures { λ r. ⌜ ((w : Way-to (now (work .entry)) i) → r ≡ front (slot-at (w .slots) i .at .right)) ⌝ }
+{
+    if work[SLOT * i + 1] == 0 {
+        return NO_TOKEN;
+    }
+    work[SLOT * i + RIGHT]
+}
+
+// Did this step from slot i put its character before the field f?
+fn puts_before(work: &[u8], i: usize, step: u8, f: u8) -> bool
+    requires { ⌜ Way-to (now work) i ⌝ }
+    requires { ⌜ f < fields ⌝ }
+    ensures { λ r. ⌜ ((w : Way-to (now (work .entry)) i) → r ≡ puts-before f (slot-at (w .slots) i .at) step) ⌝ }
+{
+    if step >= CHARACTERS {
+        return false;
+    }
+    if front_left(work, i) == FIELD_TOKEN + f {
+        return true;
+    }
+    front_right(work, i) == FIELD_TOKEN + f
+}
+
+// One step back from slot i, which isn't the first.
+fn step_back(work: &[u8], i: usize, f: u8) -> Back
+    requires { ⌜ Way-to (now work) i ⌝ }
+    requires { ⌜ (0 < i) × (f < fields) ⌝ }
+    ensures { λ r. ⌜ ((w : Way-to (now (work .entry)) i) → Steps-back (w .slots) i f r) ⌝ }
+{
+    let parent = parent_of(work, i);
+    let step = step_of(work, i);
+    let puts = puts_before(work, parent, step, f);
+    Back { parent, step, puts }
+}
+
+// The length of the text of the field f, along the way from slot 0 to the last.
+fn text_length(work: &[u8], last: usize, f: u8) -> usize
+    requires { ⌜ Way-to (now work) last ⌝ }
+    requires { ⌜ f < fields ⌝ }
+    ensures { λ r. ⌜ ((w : Way-to (now (work .entry)) last) → r ≡ length (text-at (w .slots) last f)) ⌝ }
+{
+    let mut n = 0;
+    let mut i = last;
+    while i > 0 {
+        let back = step_back(work, i, f);
+        if back.puts {
+            n += 1;
+        }
+        i = back.parent;
+    }
+    n
+}
+
+// The text of the field f, written from its end back.
+fn write_text(out: &mut [u8], work: &[u8], last: usize, f: u8)
+    requires { ⌜ Way-to (now work) last ⌝ }
+    requires { ⌜ f < fields ⌝ }
+    requires { ⌜ ((w : Way-to (now work) last) → length (now out) ≡ length (text-at (w .slots) last f)) ⌝ }
+    ensures { λ _. ⌜ ((w : Way-to (now (work .entry)) last) → now (out .exit) ≡ text-at (w .slots) last f) ⌝ }
+{
+    let mut at = out.len();
+    let mut i = last;
+    while i > 0 {
+        let back = step_back(work, i, f);
+        if back.puts {
+            at -= 1;
+            out[at] = back.step;
+        }
+        i = back.parent;
+    }
+}
