@@ -1,6 +1,6 @@
 -- The answer of a clash, from the slots: the way to the last slot, the texts that it spells, the records of the fields that stand, and
 -- what becomes of the answer buffer.
-use Prim.Native.Nat.{ℕ, _+_, _/_, _%_, _<_}
+use Prim.Native.Nat.{ℕ, _+_, _/_, _%_, _≤_, _<_}
 use mathlib.Core.Path.{_≡_}
 use mathlib.Core.Bool.{Bool, false, cond, not, _&&_, _||_}
 use mathlib.Core.List.{List, [], _∷_, _++_, map}
@@ -47,6 +47,23 @@ pub record Steps-back (ss : List Slot) (i f : ℕ) (back : Back) : Type 0 where
 abbrev pub record-head : ℕ → ℕ → List ℕ
 record-head f n = 86 ∷ 65 ∷ f ∷ n % 256 ∷ n / 256 ∷ []
 
+abbrev pub head-bytes : ℕ
+head-bytes = 5
+
+-- the record of a text has room in the buffer, and its length two bytes
+pub record Record-fits (text buffer : List ℕ) : Type 0 where
+  pub short : length text ≤ longest-text
+  pub room : head-bytes + length text ≤ length buffer
+
+-- the bytes in front, "the rest unchanged"
+abbrev pub in-front : List ℕ → List ℕ → List ℕ
+in-front bytes buffer = bytes ++ drop (length bytes) buffer
+
+-- the bytes were put in front of the buffer, and so many they are
+pub record Put-in-front (bytes before after : List ℕ) (n : ℕ) : Type 0 where
+  pub many : n ≡ length bytes
+  pub put : after ≡ in-front bytes before
+
 -- a field stands if its token is among the tokens of the sides
 unfoldable pub standing-among : List ℕ → List Bool
 standing-among tokens = map (λ (f : ℕ). member (field-token + f) tokens) (upto fields)
@@ -64,6 +81,11 @@ module _ (stand : List Bool) (text : ℕ → List ℕ) where
   unfoldable pub text-above : Bool
   text-above = any (λ (f : ℕ). not (leb (length (text f)) longest-text)) (standing-fields stand)
 
+  -- no text is too long, and the records have room in the buffer
+  pub record Records-fit (buffer : List ℕ) : Type 0 where
+    pub short : text-above ≡ false
+    pub room : length value-records ≤ length buffer
+
   -- "21 comes before 20"
   unfoldable pub answer-given : List ℕ → Answer
   answer-given buffer =
@@ -76,4 +98,8 @@ module _ (stand : List Bool) (text : ℕ → List ℕ) where
   buffer-after buffer =
       cond text-above buffer
       (cond (not (leb (length value-records) (length buffer))) buffer
-      (value-records ++ drop (length value-records) buffer))
+      (in-front value-records buffer))
+
+  pub record Answered (before after : List ℕ) (answer : Answer) : Type 0 where
+    pub given : answer ≡ answer-given before
+    pub buffer : after ≡ buffer-after before

@@ -9,7 +9,8 @@ ghost use Rattle.paper.specs.Numbers.{fields, longest-text};
 ghost use Rattle.paper.specs.Outcome.{value-record};
 ghost use Rattle.bradovusc.specs.Coded.{front};
 ghost use Rattle.bradovusc.specs.Run.{slot-at};
-ghost use Rattle.bradovusc.specs.Answer.{Way-to, Steps-back, puts-before, text-at, standing-among, text-above, value-records, answer-given, buffer-after, record-head};
+ghost use Rattle.bradovusc.specs.Answer.{Way-to, Steps-back, Record-fits, Put-in-front, Records-fit, Answered};
+ghost use Rattle.bradovusc.specs.Answer.{puts-before, text-at, record-head, head-bytes, in-front, text-above, value-records};
 
 // Bytes of a slot, and where its parts are.
 const SLOT: usize = 144;
@@ -148,4 +149,94 @@ fn write_text(out: &mut [u8], work: &[u8], last: usize, f: u8)
         }
         i = back.parent;
     }
+}
+
+// "`VA`, field byte, length in two bytes (low first)"
+fn write_head(out: &mut [u8], f: u8, n: usize)
+    requires { ⌜ (length (now out) ≡ head-bytes) × (n ≤ longest-text) ⌝ }
+    ensures { λ _. ⌜ now (out .exit) ≡ record-head f n ⌝ }
+{
+    out[0] = b'V';
+    out[1] = b'A';
+    out[2] = f;
+    out[3] = (n % 256) as u8;
+    out[4] = (n / 256) as u8;
+}
+
+// The record of the field f, into the front of what is lent. How many bytes it has.
+fn write_record(out: &mut [u8], work: &[u8], last: usize, f: u8) -> usize
+    requires { ⌜ Way-to (now work) last ⌝ }
+    requires { ⌜ f < fields ⌝ }
+    requires { ⌜ ((w : Way-to (now work) last) → Record-fits (text-at (w .slots) last f) (now out)) ⌝ }
+    ensures { λ r. ⌜ ((w : Way-to (now (work .entry)) last) → Put-in-front (value-record f (text-at (w .slots) last f)) (now (out .entry)) (now (out .exit)) r) ⌝ }
+{
+    let n = text_length(work, last, f);
+    write_head(&mut out[0..HEAD], f, n);
+    write_text(&mut out[HEAD..HEAD + n], work, last, f);
+    HEAD + n
+}
+
+// Is a text above 65,535 characters?
+fn some_text_above(work: &[u8], last: usize, stand: [bool; FIELDS]) -> bool
+    requires { ⌜ Way-to (now work) last ⌝ }
+    ensures { λ r. ⌜ ((w : Way-to (now (work .entry)) last) → r ≡ text-above stand (text-at (w .slots) last)) ⌝ }
+{
+    let mut f = 0;
+    while f < FIELDS {
+        if stand[f] {
+            if text_length(work, last, f as u8) > LONGEST_TEXT {
+                return true;
+            }
+        }
+        f += 1;
+    }
+    false
+}
+
+// How many bytes the records have.
+fn records_length(work: &[u8], last: usize, stand: [bool; FIELDS]) -> usize
+    requires { ⌜ Way-to (now work) last ⌝ }
+    ensures { λ r. ⌜ ((w : Way-to (now (work .entry)) last) → r ≡ length (value-records stand (text-at (w .slots) last))) ⌝ }
+{
+    let mut total = 0;
+    let mut f = 0;
+    while f < FIELDS {
+        if stand[f] {
+            total += HEAD + text_length(work, last, f as u8);
+        }
+        f += 1;
+    }
+    total
+}
+
+// "each record written directly behind the one before"
+fn write_records(answer: &mut [u8], work: &[u8], last: usize, stand: [bool; FIELDS])
+    requires { ⌜ Way-to (now work) last ⌝ }
+    requires { ⌜ ((w : Way-to (now work) last) → Records-fit stand (text-at (w .slots) last) (now answer)) ⌝ }
+    ensures { λ _. ⌜ ((w : Way-to (now (work .entry)) last) → now (answer .exit) ≡ in-front (value-records stand (text-at (w .slots) last)) (now (answer .entry))) ⌝ }
+{
+    let mut at = 0;
+    let mut f = 0;
+    while f < FIELDS {
+        if stand[f] {
+            at += write_record(&mut answer[at..], work, last, f as u8);
+        }
+        f += 1;
+    }
+}
+
+// The answer of a clash whose finish is in the last slot. "21 comes before 20", and both before any byte is written.
+pub fn answer_clash(answer: &mut [u8], work: &[u8], last: usize, stand: [bool; FIELDS]) -> Answer
+    requires { ⌜ Way-to (now work) last ⌝ }
+    ensures { λ r. ⌜ ((w : Way-to (now (work .entry)) last) → Answered stand (text-at (w .slots) last) (now (answer .entry)) (now (answer .exit)) r) ⌝ }
+{
+    if some_text_above(work, last, stand) {
+        return Answer::TextTooLong;
+    }
+    let total = records_length(work, last, stand);
+    if answer.len() < total {
+        return Answer::TooShort;
+    }
+    write_records(answer, work, last, stand);
+    Answer::Written(total)
 }
