@@ -10,7 +10,6 @@ use Rattle.paper.specs.Lists.{upto, any, only, keep, each, member}
 use Rattle.paper.specs.Numbers.{characters, fields, field-token, longest-text}
 use Rattle.paper.specs.Outcome.{value-record}
 use Rattle.bradovusc.specs.Coded.{Coded, front}
-use Rattle.bradovusc.specs.Struct.{Short}
 use Rattle.bradovusc.specs.Slots.{Slot, Holds-slots}
 use Rattle.bradovusc.specs.Run.{slot-at, text-back}
 use Rattle.bradovusc.specs.declared.answer.Back.{Back}
@@ -26,8 +25,11 @@ pub record Way-to (work : List ℕ) (last : ℕ) : Type 0 where
   pub slots : List Slot
   pub holds : Holds-slots work slots
   pub linked : Linked slots
-  pub short : (i : ℕ) → i < length slots → Short (slot-at slots i .at)
   pub entered : last < length slots
+
+-- the token in front of a side in a slot: its length stands at one place of the buffer, its tokens from another on
+abbrev pub front-at : List ℕ → ℕ → ℕ → ℕ
+front-at work count tokens = cond (eqb (getD work count 0) 0) 255 (getD work tokens 0)
 
 -- did the step m from the situation put its character before the field f?
 abbrev pub puts-before : ℕ → Coded → ℕ → Bool

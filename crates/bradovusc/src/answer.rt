@@ -7,17 +7,16 @@ ghost use lib.ListN.{length, getD, drop};
 ghost use Rattle.paper.specs.Lists.{member};
 ghost use Rattle.paper.specs.Numbers.{fields, longest-text};
 ghost use Rattle.paper.specs.Outcome.{value-record};
-ghost use Rattle.bradovusc.specs.Coded.{front};
 ghost use Rattle.bradovusc.specs.Run.{slot-at};
 ghost use Rattle.bradovusc.specs.Answer.{Way-to, Steps-back, Record-fits, Put-in-front, Records-fit, Answered};
-ghost use Rattle.bradovusc.specs.Answer.{puts-before, text-at, record-head, head-bytes, in-front, text-above, value-records};
+ghost use Rattle.bradovusc.specs.Answer.{front-at, puts-before, text-at, record-head, head-bytes, in-front, text-above, value-records};
 
-// Bytes of a slot, and where its parts are.
+use crate::slots::{parent_of, step_of};
+
+// Bytes of a slot, and where its sides begin.
 const SLOT: usize = 144;
 const LEFT: usize = 2;
 const RIGHT: usize = 50;
-const PARENT: usize = 130;
-const STEP: usize = 132;
 
 // "0 to 42 (a character) or 64 to 71 (field 0 to 7)"
 const CHARACTERS: u8 = 43;
@@ -44,47 +43,15 @@ pub struct Back {
     pub puts: bool,
 }
 
-fn wide(b: u8) -> usize
-    ensures { λ r. ⌜ r ≡ b ⌝ }
+// The token in front of a side, 255 where there is none.
+fn front_at(work: &[u8], count: usize, tokens: usize) -> u8
+    requires { ⌜ (count < length (now work)) × (tokens < length (now work)) ⌝ }
+    ensures { λ r. ⌜ r ≡ front-at (now (work .entry)) count tokens ⌝ }
 {
-    b as usize
-}
-
-// The number of the slot from which slot i was entered.
-fn parent_of(work: &[u8], i: usize) -> usize
-    requires { ⌜ Way-to (now work) i ⌝ }
-    ensures { λ r. ⌜ ((w : Way-to (now (work .entry)) i) → r ≡ slot-at (w .slots) i .parent) ⌝ }
-{
-    let at = SLOT * i + PARENT;
-    wide(work[at]) + 256 * wide(work[at + 1])
-}
-
-// The step by which slot i was entered.
-fn step_of(work: &[u8], i: usize) -> u8
-    requires { ⌜ Way-to (now work) i ⌝ }
-    ensures { λ r. ⌜ ((w : Way-to (now (work .entry)) i) → r ≡ slot-at (w .slots) i .step) ⌝ }
-{
-    work[SLOT * i + STEP]
-}
-
-fn front_left(work: &[u8], i: usize) -> u8
-    requires { ⌜ Way-to (now work) i ⌝ }
-    ensures { λ r. ⌜ ((w : Way-to (now (work .entry)) i) → r ≡ front (slot-at (w .slots) i .at .left)) ⌝ }
-{
-    if work[SLOT * i] == 0 {
+    if work[count] == 0 {
         return NO_TOKEN;
     }
-    work[SLOT * i + LEFT]
-}
-
-fn front_right(work: &[u8], i: usize) -> u8
-    requires { ⌜ Way-to (now work) i ⌝ }
-    ensures { λ r. ⌜ ((w : Way-to (now (work .entry)) i) → r ≡ front (slot-at (w .slots) i .at .right)) ⌝ }
-{
-    if work[SLOT * i + 1] == 0 {
-        return NO_TOKEN;
-    }
-    work[SLOT * i + RIGHT]
+    work[tokens]
 }
 
 // Did this step from slot i put its character before the field f?
@@ -96,10 +63,11 @@ fn puts_before(work: &[u8], i: usize, step: u8, f: u8) -> bool
     if step >= CHARACTERS {
         return false;
     }
-    if front_left(work, i) == FIELD_TOKEN + f {
+    let at = SLOT * i;
+    if front_at(work, at, at + LEFT) == FIELD_TOKEN + f {
         return true;
     }
-    front_right(work, i) == FIELD_TOKEN + f
+    front_at(work, at + 1, at + RIGHT) == FIELD_TOKEN + f
 }
 
 // One step back from slot i, which isn't the first.

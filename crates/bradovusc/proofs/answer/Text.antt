@@ -66,7 +66,7 @@ module _ (ss : List Slot) (linked : Linked ss) (f : ℕ) where
 abbrev pub way-back : {work : List ℕ} {last : ℕ} (i : ℕ) → i ≤ last → Way-to work last → Way-to work i
 way-back {last = last} i h w =
     let k : last < length (w .slots) = w .entered in
-    record { slots = w .slots; holds = w .holds; linked = w .linked; short = w .short; entered = omega arith }
+    record { slots = w .slots; holds = w .holds; linked = w .linked; entered = omega arith }
 
 module _ {work : List ℕ} {last : ℕ} (w : Way-to work last) (i : ℕ) (h : 0 < i) (k : i ≤ last) where
   in-slots : i < length (w .slots)

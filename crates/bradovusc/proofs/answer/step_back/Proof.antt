@@ -1,6 +1,7 @@
 -- `step_back` reads the parent, the step and the parent's fronts. Follows from `parent-below` and `text-back-one`.
 use native.Mathlib.Omega.{arith}
 use Prim.Native.Nat.{_≤_, _<_}
+use Rattle.bradovusc.specs.Run.{no-slot}
 use Rattle.bradovusc.specs.Answer.{Way-to}
 use Rattle.bradovusc.proofs.answer.Text.{way-back, parent-below, text-back-one}
 use borrow.Author.Needs.{needs}
@@ -8,9 +9,9 @@ use Rattle.bradovusc.proofs.answer.step_back.Statement.{statement}
 use Rattle.bradovusc.proofs.answer.step_back.Tie as tie
 use Rattle.bradovusc.proofs.answer.step_back.Reads as reads
 use Rattle.bradovusc.proofs.answer.step_back.Lts as lts
-use Rattle.bradovusc.proofs.answer.parent_of.Reads as parent-of-reads
+use Rattle.bradovusc.proofs.slots.parent_of.Reads as parent-of-reads
 use Rattle.bradovusc.proofs.answer.puts_before.Reads as puts-before-reads
-use Rattle.bradovusc.proofs.answer.step_of.Reads as step-of-reads
+use Rattle.bradovusc.proofs.slots.step_of.Reads as step-of-reads
 
 parent-of-requires : tie.Need-parent-of-requires
 parent-of-requires c κs = search needs
@@ -23,7 +24,7 @@ parent-before : (c : tie.After-parent-of) (w : Way-to (c .before .before .args .
     → c .parent-of .result < c .before .before .args .i
 parent-before c w =
     let at = c .before .before in
-    parent-below w (at .args .i) (at .pre .1 .0) (omega arith) (c .parent-of .result) (c .parent-of .ensures w)
+    parent-below w (at .args .i) (at .pre .1 .0) (omega arith) (c .parent-of .result) (c .parent-of .ensures (w .slots) no-slot (w .holds) (w .entered))
 
 puts-before-requires : tie.Need-puts-before-requires
 puts-before-requires c κs =
@@ -39,8 +40,8 @@ returns c w =
       falls = p;
       text =
         text-back-one w (at .args .i) (at .pre .1 .0) (omega arith) (at .args .f) (c .before .before .parent-of .result)
-        (c .before .step-of .result) (c .puts-before .result) (c .before .before .parent-of .ensures w)
-        (c .before .step-of .ensures w)
+        (c .before .step-of .result) (c .puts-before .result) (c .before .before .parent-of .ensures (w .slots) no-slot (w .holds) (w .entered))
+        (c .before .step-of .ensures (w .slots) no-slot (w .holds) (w .entered))
         (c .puts-before .ensures (way-back (c .before .before .parent-of .result) (omega arith) w));
     }
 
