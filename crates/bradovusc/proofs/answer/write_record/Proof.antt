@@ -1,3 +1,12 @@
+-- `write_record` stores the head and lends what follows to the text's writer. Follows from `text-part` and `record-stored`.
+use Prim.Native.Nat.{_+_, _≤_}
+use native.Mathlib.Omega.{arith}
+use mathlib.Core.Path.{_≡_, _∙_}
+use lib.ListN.{length}
+use lib.Seq.{length-take-le}
+use Rattle.paper.specs.Numbers.{longest-text}
+use Rattle.bradovusc.specs.Answer.{Way-to, text-at}
+use Rattle.bradovusc.proofs.answer.Records.{length-record, text-room, text-part, record-stored}
 use borrow.Author.Needs.{needs}
 use Rattle.bradovusc.proofs.answer.write_record.Statement.{statement}
 use Rattle.bradovusc.proofs.answer.write_record.Tie as tie
@@ -7,57 +16,76 @@ use Rattle.bradovusc.proofs.answer.text_length.Reads as text-length-rea
 use Rattle.bradovusc.proofs.answer.write_head.Reads as write-head-reads
 use Rattle.bradovusc.proofs.answer.write_text.Reads as write-text-reads
 
--- src/answer.rt:173:9
 text-length-requires : tie.Need-text-length-requires
 text-length-requires c κs = search needs
 
--- src/answer.rt:174:16
 sub-write-head : tie.Need-sub-write-head
 sub-write-head c = search needs
 
--- src/answer.rt:174:16
 part-write-head-start : tie.Need-part-write-head-start
 part-write-head-start c = search needs
 
--- src/answer.rt:174:16
+-- the text's length, as it was counted, is in its bounds
+short : (c : tie.After-text-length) → c .text-length .result ≤ longest-text
+short c =
+    let at = c .before .before .before in
+    rw (c .text-length .ensures (at .pre .0)) (at .pre .1 .1 (at .pre .0) .short)
+
+room : (c : tie.After-text-length) → 5 + c .text-length .result ≤ length (c .before .before .before .args .out .now)
+room c =
+    let at = c .before .before .before in
+    rw (c .text-length .ensures (at .pre .0)) (at .pre .1 .1 (at .pre .0) .room)
+
 part-write-head-end : tie.Need-part-write-head-end
-part-write-head-end c = ?
+part-write-head-end c = omega (arith, room c)
 
--- src/answer.rt:174:5
 write-head-requires : tie.Need-write-head-requires
-write-head-requires c κs = ?
+write-head-requires c κs =
+    (length-take-le 5 (c .before .before .before .before .args .out .now) (omega (arith, room (c .before))), short (c .before))
 
--- src/answer.rt:175:31
 add-write-text : tie.Need-add-write-text
-add-write-text c = ?
+add-write-text c = omega (arith, room (c .before .before .before .before))
 
--- src/answer.rt:175:16
 sub-write-text : tie.Need-sub-write-text
 sub-write-text c = search needs
 
--- src/answer.rt:175:16
 part-write-text-start : tie.Need-part-write-text-start
 part-write-text-start c = search needs
 
--- src/answer.rt:175:16
 part-write-text-end : tie.Need-part-write-text-end
-part-write-text-end c = ?
+part-write-text-end c =
+    let at = c .before .before .before .before in
+    let args = at .before .before .before .args in
+    let head = c .before .before .write-head in
+    text-room (args .out .now) (head .last .0) (args .f) (at .text-length .result) (head .ensures) (room at)
 
--- src/answer.rt:175:5
 write-text-requires : tie.Need-write-text-requires
-write-text-requires c κs = ?
+write-text-requires c κs =
+    let at = c .before .before .before .before .before in
+    let args = at .before .before .before .args in
+    (at .before .before .before .pre .0, (at .before .before .before .pre .1 .0, λ w.
+    text-part (args .out .now) (c .before .before .before .write-head .last .0) (args .f) (at .text-length .result) (c .before .before .before .write-head .ensures) (room at)
+    ∙ at .text-length .ensures w))
 
--- src/answer.rt:176:5
 add-result : tie.Need-add-result
-add-result c = ?
+add-result c = omega (arith, room (c .before .before .before .before .before .before .before .before))
 
--- src/answer.rt:167:1
 same-length : tie.Need-same-length
 same-length c = search needs
 
--- src/answer.rt:167:1
 returns : tie.Need-returns
-returns c = ?
+returns c w =
+    let at = c .before .before .before .before .before .before .before .before in
+    let args = at .before .before .before .args in
+    let head = c .before .before .before .before .before .before .write-head in
+    let text = c .before .before .write-text in
+    let n = at .text-length .ensures w in
+    record {
+      many = rw (n, length-record);
+      put =
+        rw (← text .ensures w)
+        (record-stored (args .out .now) (head .last .0) (args .f) (at .text-length .result) (head .ensures) (text .last .0) (rw (text .ensures w) n));
+    }
 
 pub write-record-spec : {M : Type 1} → statement M
 write-record-spec =
