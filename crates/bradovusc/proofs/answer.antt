@@ -1,3 +1,4 @@
 pub mod Fronts
 pub mod Records
+pub mod Standing
 pub mod Text

@@ -1,3 +1,12 @@
+-- `some_text_above` measures the texts of the standing fields. The loop's invariant: the test on all is the test on those left.
+use Prim.Native.Nat.{_+_, _-_, _≤_, _<_}
+use native.Mathlib.Omega.{arith}
+use mathlib.Core.Path.{_≡_, refl, sym, _∙_}
+use mathlib.Core.Logic.{⊎-elim}
+use lib.ListN.{length}
+use borrow.Author.Needs.{needs}
+use Rattle.bradovusc.specs.Answer.{Way-to, text-at, text-above}
+use Rattle.bradovusc.proofs.answer.Standing.{above-from, above-all, above-here, above-later, above-passed}
 use Rattle.bradovusc.proofs.answer.some_text_above.Statement.{statement}
 use Rattle.bradovusc.proofs.answer.some_text_above.Tie as tie
 use Rattle.bradovusc.proofs.answer.some_text_above.Reads as reads
@@ -5,46 +14,56 @@ use Rattle.bradovusc.proofs.answer.some_text_above.Lts as lts
 use Rattle.bradovusc.proofs.answer.text_length.Reads as text-length-reads
 
 abbrev Inv-loop : tie.InvT-loop
-Inv-loop work last stand f₀ f = ?
+Inv-loop work last stand f₀ f =
+    (f ≤ 8)
+    × ((w : Way-to work last) → above-from stand (text-at (w .slots) last) f ≡ text-above stand (text-at (w .slots) last))
 
 abbrev μ-loop : tie.MeasureT-loop
-μ-loop work last stand f₀ f = ?
+μ-loop work last stand f₀ f = 8 - f
 
--- src/answer.rt:185:5
 loop-holds : tie.Need-loop-holds Inv-loop μ-loop
-loop-holds c = ?
+loop-holds c =
+    let args = c .before .args in
+    (omega arith, λ w. above-all (args .t3) (text-at (w .slots) (args .last)))
 
--- src/answer.rt:186:12
 array-read-if1 : tie.Need-array-read-if1 Inv-loop μ-loop
-array-read-if1 c = ?
+array-read-if1 c = search needs
 
--- src/answer.rt:187:40
 cast-text-length : tie.Need-cast-text-length Inv-loop μ-loop
-cast-text-length c = ?
+cast-text-length c = search needs
 
--- src/answer.rt:187:16
 text-length-requires : tie.Need-text-length-requires Inv-loop μ-loop
-text-length-requires c κs = ?
+text-length-requires c κs = (c .before .before .before .before .pre, search needs)
 
--- src/answer.rt:188:17
 returns : tie.Need-returns Inv-loop μ-loop
-returns c = ?
+returns c w =
+    let at = c .before .before .before .before in
+    let args = at .before .before .args in
+    sym (above-here (args .t3) (text-at (w .slots) (args .last)) (at .loop .f) (omega arith) (c .before .before .if1 .taken)
+    (omega (arith, c .before .text-length .ensures w)))
+    ∙ at .loop .inv .1 w
 
--- src/answer.rt:191:9
 add-f : tie.Need-add-f Inv-loop μ-loop
-add-f c = ?
+add-f c = search needs
 
--- src/answer.rt:185:5
 loop-less : tie.Need-loop-less Inv-loop μ-loop
-loop-less c = ?
+loop-less c = search needs
 
--- src/answer.rt:185:5
 loop-again : tie.Need-loop-again Inv-loop μ-loop
-loop-again c = ?
+loop-again c =
+    let at = c .before .before in
+    let args = at .before .before .args in
+    (omega arith, λ w.
+    ⊎-elim
+    (λ g. sym (above-later (args .t3) (text-at (w .slots) (args .last)) (at .loop .f) (omega arith) (g .0 .taken) (omega (arith, g .1 .ensures w, g .2 .left))) ∙ at .loop .inv .1 w)
+    (λ g. sym (above-passed (args .t3) (text-at (w .slots) (args .last)) (at .loop .f) (omega arith) (g .left)) ∙ at .loop .inv .1 w)
+    (c .if1 .came))
 
--- src/answer.rt:180:1
 returns-2 : tie.Need-returns-2 Inv-loop μ-loop
-returns-2 c = ?
+returns-2 c w =
+    let at = c .before in
+    let z : at .loop .f ≡ 8 = omega arith in
+    rw z at (at .loop .inv .1 w)
 
 pub some-text-above-spec : {M : Type 1} → statement M
 some-text-above-spec =
