@@ -9,10 +9,11 @@ use mathlib.Core.Bool.{Bool, true, false, not, _||_}
 use mathlib.Core.List.{List, [], _∷_, _++_}
 use lib.Dec.{leb}
 use lib.ListN.{length, getD, length-append}
-use Rattle.paper.specs.Lists.{from, any, only, keep, each}
+use Rattle.paper.specs.Lists.{from, upto, any, only, keep, each}
 use Rattle.paper.specs.Numbers.{fields, longest-text}
 use Rattle.paper.specs.Outcome.{value-record}
-use Rattle.paper.proofs.Tests.{left-true, lt-leb, le-leb}
+use Rattle.paper.proofs.Tests.{lt-leb, le-leb, leb-true, not-is-false}
+use Rattle.paper.proofs.Lists.{any-false, keep-mem, upto-mem}
 use Rattle.bradovusc.specs.Answer.{standing-fields, text-above, value-records}
 use Rattle.bradovusc.proofs.answer.Records.{length-record}
 
@@ -69,3 +70,12 @@ module _ (stand : List Bool) where
 
       pub records-passed : getD stand f false ≡ false → records-from f ≡ records-from (f + 1)
       records-passed e = rw (passed-over f h e)
+
+      -- where no text is too long, that of a standing field is not
+      pub short-text : text-above stand text ≡ false → getD stand f false ≡ true → length (text f) ≤ longest-text
+      unfolding text-above standing-fields
+      short-text e k =
+          leb-true (length (text f)) longest-text
+          (not-is-false
+          (any-false (λ (g : ℕ). not (leb (length (text g)) longest-text)) (keep (λ (g : ℕ). getD stand g false) (upto fields)) e
+          (keep-mem (λ (g : ℕ). getD stand g false) (upto fields) (upto-mem fields h) k)))
