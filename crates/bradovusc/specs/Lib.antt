@@ -1,5 +1,7 @@
 pub mod Answer
 pub mod Coded
+pub mod Codes
+pub mod Made
 pub mod Run
 pub mod Slots
 pub mod Struct

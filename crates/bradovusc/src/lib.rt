@@ -2,3 +2,4 @@
 mod answer;
 mod search;
 mod situation;
+mod slots;

@@ -72,9 +72,13 @@ module _ {P : Type 0} (A : Acceptor P) where
   unfolding open-moves
   move-opened {m} s d =
       ⊎-elim
-      (λ (i : List·Memᴰ m (strikes-of-left s)). let (e, q) = mem-only (front-may-end A s (front-field (s .left))) i in subst (Opened s) (sym q) (strikes-left e))
+      (λ (i : List·Memᴰ m (strikes-of-left s)).
+      let (e, q) = mem-only (front-may-end A s (front-field (s .left))) i in
+      subst (Opened s) (sym q) (strikes-left e))
       (λ j. ⊎-elim
-      (λ (i : List·Memᴰ m (strikes-of-right s)). let (e, q) = mem-only (front-may-end A s (other-front (s .left) (s .right))) i in subst (Opened s) (sym q) (strikes-right (other-ends e)))
+      (λ (i : List·Memᴰ m (strikes-of-right s)).
+      let (e, q) = mem-only (front-may-end A s (other-front (s .left) (s .right))) i in
+      subst (Opened s) (sym q) (strikes-right (other-ends e)))
       (λ (i : List·Memᴰ m (puts-of s)). let (c, k, q) = mem-map put (keep (fronts-take s) (upto (A .characters))) i in
       subst (Opened s) (sym q) (puts (mem-upto (A .characters) ((mem-keep (fronts-take s) (upto (A .characters)) k) .0))))
       (List·Memᴰ·append-cases (strikes-of-right s) j))
@@ -92,16 +96,20 @@ module _ {P : Type 0} (A : Acceptor P) where
   unfolding open-moves
   open-strike-left s e = Memᴰ·append-left (strikes-of-right s ++ puts-of s) (only-mem (front-may-end A s (front-field (s .left))) strike-left e)
 
-  pub open-strike-right : (s : Situation P) → front-may-end A s (other-front (s .left) (s .right)) ≡ true → List·Memᴰ strike-right (open-moves A s)
+  pub open-strike-right : (s : Situation P) → front-may-end A s (other-front (s .left) (s .right)) ≡ true
+      → List·Memᴰ strike-right (open-moves A s)
   unfolding open-moves
   open-strike-right s e =
-      Memᴰ·append-right (strikes-of-left s) (Memᴰ·append-left (puts-of s) (only-mem (front-may-end A s (other-front (s .left) (s .right))) strike-right e))
+      Memᴰ·append-right (strikes-of-left s)
+      (Memᴰ·append-left (puts-of s) (only-mem (front-may-end A s (other-front (s .left) (s .right))) strike-right e))
 
-  pub open-put : (c : ℕ) (s : Situation P) → c < A .characters → front-takes A s c (s .left) ≡ true → front-takes A s c (s .right) ≡ true → List·Memᴰ (put c) (open-moves A s)
+  pub open-put : (c : ℕ) (s : Situation P) → c < A .characters → front-takes A s c (s .left) ≡ true → front-takes A s c (s .right) ≡ true
+      → List·Memᴰ (put c) (open-moves A s)
   unfolding open-moves
   open-put c s h p q =
       Memᴰ·append-right (strikes-of-left s)
-      (Memᴰ·append-right (strikes-of-right s) (map-mem put (keep-mem (fronts-take s) (upto (A .characters)) (upto-mem (A .characters) h) (both-true p q))))
+      (Memᴰ·append-right (strikes-of-right s)
+      (map-mem put (keep-mem (fronts-take s) (upto (A .characters)) (upto-mem (A .characters) h) (both-true p q))))
 
   cond-child : {m n : Move} {t u : Situation P} (b : Bool) → child m u ≡ cond b long (child n t) → (m ≡ n) × (u ≡ t)
   cond-child true e = (cc, cc)
@@ -123,20 +131,26 @@ module _ {P : Type 0} (A : Acceptor P) where
   unfolding children child-by
   child-made {m} {u} limit s d =
       let (n, i, j) = mem-each (child-by A limit s) (moves-of A (kind A s) s) d in
-      let (e, f) = kept-child (kind A (trimmed A (moved A s n))) (side-above A limit (trimmed A (moved A s n))) j in
-      (subst (λ (x : Move). List·Memᴰ x (open-moves A s)) (sym e) (move-open (kind A s) s i), subst (λ (x : Move). u ≡ trimmed A (moved A s x)) (sym e) f)
+      let (e, f) = kept-child (kind A (trimmed A (moved A s n))) (side-above A limit (trimmed A (moved A s n))) j in (
+        subst (λ (x : Move). List·Memᴰ x (open-moves A s)) (sym e) (move-open (kind A s) s i),
+        subst (λ (x : Move). u ≡ trimmed A (moved A s x)) (sym e) f,
+      )
 
-  kept-made : (m : Move) (t : Situation P) (k : Kind) (b : Bool) → (k ≡ is-dead → ⊥) → List·Memᴰ (cond b long (child m t)) (kept A k b m t)
+  kept-made : (m : Move) (t : Situation P) (k : Kind) (b : Bool) → (k ≡ is-dead → ⊥)
+      → List·Memᴰ (cond b long (child m t)) (kept A k b m t)
   kept-made m t is-finished b n = List·Memᴰ·head refl
   kept-made m t is-dead b n = absurd (n refl)
   kept-made m t is-open b n = List·Memᴰ·head refl
 
   -- a move makes a child, or one that is too long, if what it makes is not dead
-  pub made-child : (m : Move) (limit : ℕ) (s : Situation P) → kind A s ≡ is-open → List·Memᴰ m (open-moves A s) → (kind A (trimmed A (moved A s m)) ≡ is-dead → ⊥)
+  pub made-child : (m : Move) (limit : ℕ) (s : Situation P) → kind A s ≡ is-open → List·Memᴰ m (open-moves A s)
+      → (kind A (trimmed A (moved A s m)) ≡ is-dead → ⊥)
       → List·Memᴰ long (children A limit s) ⊎ List·Memᴰ (child m (trimmed A (moved A s m))) (children A limit s)
   unfolding children child-by
   made-child m limit s o d n =
       let t = trimmed A (moved A s m) in
       let i : List·Memᴰ (cond (side-above A limit t) long (child m t)) (children A limit s) =
       each-mem (child-by A limit s) {x = m} (moves-of A (kind A s) s) (rw o d) (kept-made m t (kind A t) (side-above A limit t) n) in
-      by-bool (side-above A limit t) (λ (e : side-above A limit t ≡ true). inl (rw e at i)) (λ (e : side-above A limit t ≡ false). inr (rw e at i))
+      by-bool (side-above A limit t)
+      (λ (e : side-above A limit t ≡ true). inl (rw e at i))
+      (λ (e : side-above A limit t ≡ false). inr (rw e at i))

@@ -12,7 +12,7 @@ use Rattle.paper.specs.Lists.{any, member}
 use Rattle.paper.proofs.Tests.{by-bool, cond-by, not-true, left-true, right-true, false-not, eqb-true, eqb-same, eq-eqb}
 use Rattle.paper.proofs.Lists.{any-true, any-append, member-true}
 use Rattle.paper.specs.Equation.{chr, fld, Side, Texts, label, is-field, stands-in}
-use Rattle.paper.specs.Situation.{Acceptor, Situation, Sides, trim, is-dead, is-open, kind-of, Move, strike-left, strike-right, put, front-field, front-fields, set-of, trimmed, kind, moved, front-may-end, front-takes, open-moves}
+use Rattle.paper.specs.Situation.{Acceptor, Situation, Sides, trim, is-dead, is-open, kind-of, Move, strike-left, strike-right, put, front-field, front-fields, set-of, trimmed, kind, moved, front-takes, open-moves}
 use Rattle.paper.specs.Decides.{Decides}
 use Rattle.paper.proofs.Standing.{stands}
 use Rattle.paper.proofs.Weight.{weight-of, weight-struck}
@@ -76,7 +76,8 @@ starts-label : {texts : Texts} {c : ℕ} {side : Side} → Starts texts c side �
 starts-label {texts} (by-character {side = side} e) = (label texts side, λ i. e i ∷ label texts side)
 starts-label {texts} (by-field {w = w} {side = side} e) = (w ++ label texts side, rw e)
 
-starts-front : {texts : Texts} {c : ℕ} {side : Side} → Starts texts c side → (f : ℕ) → List·Memᴰ f (front-field side) → (w : List ℕ) × (texts f ≡ c ∷ w)
+starts-front : {texts : Texts} {c : ℕ} {side : Side} → Starts texts c side → (f : ℕ) → List·Memᴰ f (front-field side)
+    → (w : List ℕ) × (texts f ≡ c ∷ w)
 starts-front (by-character e) f d = absurd (List·Memᴰ·not-nil d)
 starts-front (by-field {w = w} e) f d = (w, rw (List·Memᴰ·eq-of-singleton d) e)
 
@@ -92,15 +93,17 @@ module _ {P : Type 0} (A : Acceptor P) where
     pub solution : Solution A (moved A s move) after
     pub smaller : weight-of after (moved A s move) < weight-of texts s
 
-  abbrev sit : Side → Side → List P → Situation P
-  sit l r q = record { left = l; right = r; sets = q }
+  abbrev situation : Side → Side → List P → Situation P
+  situation l r q = record { left = l; right = r; sets = q }
 
-  may-end-now : (s : Situation P) (texts : Texts) (f : ℕ) → texts f ≡ [] → Solution A s texts → stands f s ≡ true → A .may-end f (set-of A s f) ≡ true
+  may-end-now : (s : Situation P) (texts : Texts) (f : ℕ) → texts f ≡ [] → Solution A s texts → stands f s ≡ true
+      → A .may-end f (set-of A s f) ≡ true
   may-end-now s texts f n x e = rw n at (x .takes f e .ends)
 
-  progress-left : (f : ℕ) (l r : Side) (q : List P) (texts : Texts) → texts f ≡ [] → Solution A (sit (fld f ∷ l) r q) texts → Progress (sit (fld f ∷ l) r q) texts
+  progress-left : (f : ℕ) (l r : Side) (q : List P) (texts : Texts) → texts f ≡ [] → Solution A (situation (fld f ∷ l) r q) texts
+      → Progress (situation (fld f ∷ l) r q) texts
   progress-left f l r q texts n x =
-      let s = sit (fld f ∷ l) r q in
+      let s = situation (fld f ∷ l) r q in
       let e : stands f s ≡ true = left-true (eqb f f) (stands-in f (l ++ r)) (eqb-same f) in
       record {
         move = strike-left;
@@ -111,14 +114,15 @@ module _ {P : Type 0} (A : Acceptor P) where
       }
 
   progress-right : (g : ℕ) (l r : Side) (q : List P) (texts : Texts) → texts g ≡ [] → any (eqb g) (front-field l) ≡ false
-      → Solution A (sit l (fld g ∷ r) q) texts → Progress (sit l (fld g ∷ r) q) texts
+      → Solution A (situation l (fld g ∷ r) q) texts → Progress (situation l (fld g ∷ r) q) texts
   progress-right g l r q texts n o x =
-      let s = sit l (fld g ∷ r) q in
-      let e : stands g s ≡ true = any-append (is-field g) l (fld g ∷ r) ∙ right-true (stands-in g l) (stands-in g (fld g ∷ r)) (left-true (eqb g g) (stands-in g r) (eqb-same g)) in
-      let m : front-may-end A s (other-front l (fld g ∷ r)) ≡ true = rw o (left-true (A .may-end g (set-of A s g)) false (may-end-now s texts g n x e)) in
+      let s = situation l (fld g ∷ r) q in
+      let here : stands-in g (fld g ∷ r) ≡ true = left-true (eqb g g) (stands-in g r) (eqb-same g) in
+      let e : stands g s ≡ true = any-append (is-field g) l (fld g ∷ r) ∙ right-true (stands-in g l) (stands-in g (fld g ∷ r)) here in
+      let m : A .may-end g (set-of A s g) ≡ true = may-end-now s texts g n x e in
       record {
         move = strike-right;
-        is-move = open-strike-right A s m;
+        is-move = open-strike-right A s (rw o (left-true (A .may-end g (set-of A s g)) false m));
         after = texts;
         solution = solution-struck A texts g s n x;
         smaller = weight-struck A texts g s e;
@@ -134,14 +138,15 @@ module _ {P : Type 0} (A : Acceptor P) {Holds : ℕ → List ℕ → Type 0} (D 
       (takes-rest A f (set-of A s f) c w (rw e at (t f (left-true (eqb f f) (stands-in f side) (eqb-same f))))))
 
   -- every front field's text begins with the character
-  fronts-start : {texts : Texts} {c : ℕ} (l r : Side) → Starts texts c l → Starts texts c r → (f : ℕ) → List·Memᴰ f (front-fields l r) → (w : List ℕ) × (texts f ≡ c ∷ w)
+  fronts-start : {texts : Texts} {c : ℕ} (l r : Side) → Starts texts c l → Starts texts c r → (f : ℕ) → List·Memᴰ f (front-fields l r)
+      → (w : List ℕ) × (texts f ≡ c ∷ w)
   fronts-start l r h k f d =
       ⊎-elim (starts-front h f)
       (λ (i : List·Memᴰ f (other-front l r)). starts-front k f (other-is-front l r i))
       (List·Memᴰ·append-cases (front-field l) d)
 
   progress-put : (c : ℕ) (l r : Side) (q : List P) (texts : Texts) → Starts texts c l → Starts texts c r → HasFront l r
-      → Solution A (sit A l r q) texts → Progress A (sit A l r q) texts
+      → Solution A (situation A l r q) texts → Progress A (situation A l r q) texts
   progress-put c l r q texts h k (f, d) x =
       record {
         move = put c;
@@ -152,7 +157,7 @@ module _ {P : Type 0} (A : Acceptor P) {Holds : ℕ → List ℕ → Type 0} (D 
       }
     where
       s : Situation P
-      s = sit A l r q
+      s = situation A l r q
 
       after : Texts
       after g = cond (member g (front-fields l r)) (tail (texts g)) (texts g)
@@ -175,13 +180,15 @@ module _ {P : Type 0} (A : Acceptor P) {Holds : ℕ → List ℕ → Type 0} (D 
       takes-right = starts-takes s k (λ g e. x .takes g (any-append (is-field g) l r ∙ right-true (stands-in g l) (stands-in g r) e))
 
   -- a field with the empty text is not in front of a side that starts
-  not-front : {texts : Texts} {c : ℕ} {side : Side} → Starts texts c side → (g : ℕ) → texts g ≡ [] → any (eqb g) (front-field side) ≡ false
+  not-front : {texts : Texts} {c : ℕ} {side : Side} → Starts texts c side → (g : ℕ) → texts g ≡ []
+      → any (eqb g) (front-field side) ≡ false
   not-front {texts} {side = side} h g n =
       not-true (any (eqb g) (front-field side))
       (λ t. let (f, d, e) = any-true (eqb g) (front-field side) t in
       let (w, i) = starts-front h f d in nil≢cons (sym n ∙ ap texts (eqb-true g f e) ∙ i))
 
-  progress : {l r : Side} (q : List P) (texts : Texts) → Front texts l → Front texts r → HasFront l r → Solution A (sit A l r q) texts → Progress A (sit A l r q) texts
+  progress : {l r : Side} (q : List P) (texts : Texts) → Front texts l → Front texts r → HasFront l r
+      → Solution A (situation A l r q) texts → Progress A (situation A l r q) texts
   progress {r = r} q texts (strikes {f = f} {side = l} e) k i x = progress-left A f l r q texts e x
   progress q texts ends ends i x = absurd (List·Memᴰ·not-nil (i .1))
   progress q texts ends (strikes {f = g} {side = r} e) i x = progress-right A g [] r q texts e refl x
@@ -189,10 +196,13 @@ module _ {P : Type 0} (A : Acceptor P) {Holds : ℕ → List ℕ → Type 0} (D 
   progress q texts (starts h) ends i x = absurd (nil≢cons (sym (x .same-label) ∙ starts-label h .1))
   progress {l} q texts (starts h) (strikes {f = g} {side = r} e) i x = progress-right A g l r q texts e (not-front h g e) x
   progress {l} {r} q texts (starts {c = c} h) (starts {c = d} k) i x =
-      progress-put c l r q texts h (subst (λ (b : ℕ). Starts texts b r) (head-eq-of-cons-eq (sym (starts-label k .1) ∙ sym (x .same-label) ∙ starts-label h .1)) k) i x
+      let e : d ≡ c = head-eq-of-cons-eq (sym (starts-label k .1) ∙ sym (x .same-label) ∙ starts-label h .1) in
+      progress-put c l r q texts h (subst (λ (b : ℕ). Starts texts b r) e k) i x
 
   -- An open situation with a solution has a move to one with a smaller solution.
-  pub open-progress : (s : Situation P) (texts : Texts) → kind A (trimmed A s) ≡ is-open → Solution A (trimmed A s) texts → Progress A (trimmed A s) texts
+  pub open-progress : (s : Situation P) (texts : Texts) → kind A (trimmed A s) ≡ is-open → Solution A (trimmed A s) texts
+      → Progress A (trimmed A s) texts
   unfolding trimmed
   open-progress s texts k x =
-      progress (s .sets) texts (front texts (trim (s .left) (s .right) .l)) (front texts (trim (s .left) (s .right) .r)) (open-front (s .left) (s .right) k) x
+      let t = trim (s .left) (s .right) in
+      progress (s .sets) texts (front texts (t .l)) (front texts (t .r)) (open-front (s .left) (s .right) k) x

@@ -1,23 +1,18 @@
 -- The question as a situation: texts solve it exactly if they solve the equation, where the fields are the acceptor's.
 -- Follows from what an acceptor decides (`Decides`).
-use Prim.Native.Nat.{ℕ, zero, suc, _+_, _<_}
-use native.Mathlib.Omega.{arith}
-use mathlib.Core.Path.{_≡_, ap, _∙_}
+use Prim.Native.Nat.{ℕ, _<_}
+use mathlib.Core.Path.{_≡_, _∙_}
 use mathlib.Core.Bool.{true, cond}
 use mathlib.Core.List.{List, _++_, map}
-use lib.ListN.{length, getD, length-map}
-use Rattle.paper.specs.Lists.{from, upto}
+use lib.ListN.{length, length-map}
+use Rattle.paper.specs.Lists.{upto}
 use Rattle.paper.proofs.Tests.{cond-true}
 use Rattle.paper.proofs.Lists.{length-from}
 use Rattle.paper.specs.Equation.{Side, Texts, stands-in, Solves}
 use Rattle.paper.specs.Situation.{Acceptor, Situation, set-of}
 use Rattle.paper.specs.Decides.{Decides}
+use Rattle.paper.proofs.Standings.{getD-map-upto}
 use Rattle.paper.proofs.Solution.{Solution, takes-in-range}
-
-getD-from : {P : Type 0} (h : ℕ → P) (a n i : ℕ) (d : P) → i < n → getD (map h (from a n)) i d ≡ h (a + i)
-getD-from h a zero i d k = absurd (omega arith)
-getD-from h a (suc n) zero d k = ap h (omega arith)
-getD-from h a (suc n) (suc i) d k = getD-from h (suc a) n i d (omega arith) ∙ ap h (omega arith)
 
 module _ {P : Type 0} (A : Acceptor P) where
   -- the question before it is trimmed
@@ -29,7 +24,8 @@ module _ {P : Type 0} (A : Acceptor P) where
 
   asked-set : (l r : Side) (f : ℕ) → f < A .fields → stands-in f (l ++ r) ≡ true → set-of A (asked l r) f ≡ A .first-set f
   asked-set l r f h e =
-      getD-from (first-set-of l r) 0 (A .fields) f (A .gone) h ∙ ap (first-set-of l r) (omega arith) ∙ cond-true (stands-in f (l ++ r)) (A .first-set f) (A .gone) e
+      getD-map-upto (first-set-of l r) (A .gone) (A .fields) f h
+      ∙ cond-true (stands-in f (l ++ r)) (A .first-set f) (A .gone) e
 
   asked-sets : (l r : Side) → length (asked l r .sets) ≡ A .fields
   asked-sets l r = length-map (upto (A .fields)) (first-set-of l r) ∙ length-from 0 (A .fields)
@@ -45,7 +41,8 @@ module _ {P : Type 0} (A : Acceptor P) {Holds : ℕ → List ℕ → Type 0} (D 
             D .only-held f (texts f) h (t .over) (rw (asked-set A l r f h e) at (t .ends));
       }
 
-  pub solves-asked : (l r : Side) (texts : Texts) → ((f : ℕ) → stands-in f (l ++ r) ≡ true → f < A .fields) → Solves (A .characters) Holds l r texts → Solution A (asked A l r) texts
+  pub solves-asked : (l r : Side) (texts : Texts) → ((f : ℕ) → stands-in f (l ++ r) ≡ true → f < A .fields)
+      → Solves (A .characters) Holds l r texts → Solution A (asked A l r) texts
   solves-asked l r texts known x =
       record {
         same-label = x .same-label;

@@ -67,4 +67,6 @@ module _ {P : Type 0} (A : Acceptor P) {Holds : ℕ → List ℕ → Type 0} (D 
   pub takes-in-range : (f : ℕ) (sets : List P) (w : List ℕ) → Takes A f (getD sets f (A .gone)) w → f < length sets
   takes-in-range f sets w t =
       by-bool (ltb f (length sets)) (ltb-true f (length sets))
-      (λ e. absurd (true-false (rw (List·getD-eq-default sets (A .gone) (ltb-false f (length sets) e)) (D .gone-empty)) (takes-not-empty f (getD sets f (A .gone)) w t)))
+      (λ e.
+      let q : getD sets f (A .gone) ≡ A .gone = List·getD-eq-default sets (A .gone) (ltb-false f (length sets) e) in
+      absurd (true-false (rw q (D .gone-empty)) (takes-not-empty f (getD sets f (A .gone)) w t)))

@@ -3,27 +3,24 @@
 use Prim.Native.Nat.{ℕ}
 use mathlib.Core.Path.{_≡_}
 use mathlib.Core.List.{List}
-use Rattle.paper.specs.Search.{Entry, found, how}
-use Rattle.paper.proofs.Searched.{way-leads, found-entered, found-finished}
+use Rattle.paper.specs.Search.{Entry, found}
 use Rattle.paper.specs.Equation.{Side, Solves}
-use Rattle.paper.specs.Situation.{Acceptor, Situation, Move, same-situation, children, finished, question}
+use Rattle.paper.specs.Situation.{Acceptor, Situation, Move, question}
 use Rattle.paper.specs.Decides.{Decides}
-use Rattle.paper.specs.Way.{search-from, texts-of}
-use Rattle.paper.proofs.Same.{situation-equal, situation-same}
+use Rattle.paper.specs.Way.{texts-of}
 use Rattle.paper.proofs.Question.{asked, asked-solves}
 use Rattle.paper.proofs.Spelled.{spelled-trimmed, way-spelled}
+use Rattle.paper.proofs.Answered.{end-of, found-way}
 
 -- The texts of the entry found solve the question, whatever the limit on the sides and the room.
 abbrev pub Sound : {P : Type 0} → Acceptor P → (ℕ → List ℕ → Type 0) → Type 0
 Sound {P} A Holds =
     (limit room : ℕ) (l r : Side) (e : Entry (Situation P) Move)
-    → how (same-situation A) (finished A) (children A limit) (search-from A limit room l r) ≡ found e
+    → end-of A limit room l r ≡ found e
     → Solves (A .characters) Holds l r (texts-of A l r e)
 
 pub sound : {P : Type 0} (A : Acceptor P) {Holds : ℕ → List ℕ → Type 0} (D : Decides A Holds) → Sound A Holds
-unfolding search-from texts-of question
+unfolding texts-of question
 sound A D limit room l r e h =
-    let d = found-entered (same-situation A) (finished A) (children A limit) (situation-equal A (D .same-equal)) (situation-same A (D .equal-same)) room (question A l r) e h in
-    let w = way-leads (same-situation A) (finished A) (children A limit) (situation-equal A (D .same-equal)) (situation-same A (D .equal-same)) room (question A l r) e d in
-    let f = found-finished (same-situation A) (finished A) (children A limit) (situation-equal A (D .same-equal)) (situation-same A (D .equal-same)) room (question A l r) e h in
-    asked-solves A D l r (texts-of A l r e) (spelled-trimmed A (asked A l r) (texts-of A l r e) (way-spelled A D limit w f) .solution)
+    let (way, end) = found-way A D limit room l r e h in
+    asked-solves A D l r (texts-of A l r e) (spelled-trimmed A (asked A l r) (texts-of A l r e) (way-spelled A D limit way end) .solution)

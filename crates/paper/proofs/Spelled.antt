@@ -2,13 +2,12 @@
 -- its parent with the characters that the move gives in front. So the texts spelled by a way to a finished situation solve its start.
 -- Follows from the laws of strikes and puts.
 use Prim.Native.Nat.{ℕ, _<_}
-use mathlib.Core.Path.{_≡_, refl, _∙_, subst}
-use mathlib.Core.Logic.{⊎-elim}
-use mathlib.Core.Bool.{true, false}
+use mathlib.Core.Path.{_≡_, refl, sym, _∙_, subst}
+use mathlib.Core.Bool.{true, false, or-false}
 use mathlib.Core.List.{List, [], _∷_, _++_, reverse, reverseAux, List·Memᴰ}
 use lib.Dec.{eqb}
 use Rattle.paper.specs.Lists.{member}
-use Rattle.paper.proofs.Tests.{by-bool, true-false, not-true, or-is-true, eqb-true}
+use Rattle.paper.proofs.Tests.{by-bool, true-false, not-true, eqb-true}
 use Rattle.paper.proofs.Lists.{member-true}
 use Rattle.paper.specs.Leads.{Leads, start, step}
 use Rattle.paper.specs.Equation.{chr, fld, Side, Texts}
@@ -47,14 +46,15 @@ module _ {P : Type 0} (A : Acceptor P) where
   spelled-trimmed s texts x =
       record { solution = trimmed-solution A s texts (x .solution); empty = λ f e. x .empty f (stands-trimmed A f s ∙ e) }
 
-  spelled-strike : (side : Side) (s : Situation P) (texts : Texts) → front-may-end A s (front-field side) ≡ true → Spelled (strike-all A (front-field side) s) texts → Spelled s texts
+  spelled-strike : (side : Side) (s : Situation P) (texts : Texts) → front-may-end A s (front-field side) ≡ true
+      → Spelled (strike-all A (front-field side) s) texts → Spelled s texts
   spelled-strike [] s texts m x = x
   spelled-strike (chr a ∷ side) s texts m x = x
   spelled-strike (fld f ∷ side) s texts m x =
       record {
-        solution = struck-solution A texts f s (x .empty f (struck-stands A f s))
-            (⊎-elim (λ e. e) (λ (e : false ≡ true). absurd (true-false e refl)) (or-is-true (A .may-end f (set-of A s f)) false m)) (x .solution);
-        empty = λ g e. x .empty g (by-bool (eqb g f) (λ q. rw (eqb-true g f q) (struck-stands A f s)) (λ q. strike-stands A g f s q ∙ e));
+        solution = struck-solution A texts f s (x .empty f (struck-stands A f s)) (sym (or-false (A .may-end f (set-of A s f))) ∙ m) (x .solution);
+        empty = λ g e.
+            x .empty g (by-bool (eqb g f) (λ q. rw (eqb-true g f q) (struck-stands A f s)) (λ q. strike-stands A g f s q ∙ e));
       }
 
   put-all-stands : (g c : ℕ) (fs : List ℕ) (s : Situation P) → stands g (put-before-all A c fs s) ≡ stands g s
@@ -62,17 +62,22 @@ module _ {P : Type 0} (A : Acceptor P) where
   put-all-stands g c (f ∷ fs) s = put-all-stands g c fs (put-before A c f s) ∙ put-stands A g c f s
 
 module _ {P : Type 0} (A : Acceptor P) {Holds : ℕ → List ℕ → Type 0} (D : Decides A Holds) where
-  spelled-put : (c : ℕ) (s : Situation P) (texts : Texts) → c < A .characters → Spelled A (moved A s (put c)) texts → Spelled A s (with-puts c (front-fields (s .left) (s .right)) texts)
+  spelled-put : (c : ℕ) (s : Situation P) (texts : Texts) → c < A .characters → Spelled A (moved A s (put c)) texts
+      → Spelled A s (with-puts c (front-fields (s .left) (s .right)) texts)
   spelled-put c s texts h x =
       let fs = front-fields (s .left) (s .right) in
       record {
-        solution = put-all-solution A D (with-puts c fs texts) texts c s (front-fields-different (s .left) (s .right)) (λ g. refl) h (x .solution);
-        empty = λ g e. let n : member g fs ≡ false = not-true (member g fs) (λ m. true-false (front-fields-stand g (s .left) (s .right) (member-true g fs m)) e) in
-            rw n (x .empty g (put-all-stands A g c fs s ∙ e));
+        solution =
+            let d = front-fields-different (s .left) (s .right) in
+            put-all-solution A D (with-puts c fs texts) texts c s d (λ g. refl) h (x .solution);
+        empty = λ g e.
+            let stand : member g fs ≡ true → ⊥ = λ m. true-false (front-fields-stand g (s .left) (s .right) (member-true g fs m)) e in
+            rw (not-true (member g fs) stand) (x .empty g (put-all-stands A g c fs s ∙ e));
       }
 
   -- What solves a child solves its parent, with the characters that the move gives in front.
-  parent-spelled : (s : Situation P) (m : Move) (texts : Texts) → List·Memᴰ m (open-moves A s) → Spelled A (trimmed A (moved A s m)) texts → Spelled A s (λ (f : ℕ). given A f s m ++ texts f)
+  parent-spelled : (s : Situation P) (m : Move) (texts : Texts) → List·Memᴰ m (open-moves A s)
+      → Spelled A (trimmed A (moved A s m)) texts → Spelled A s (λ (f : ℕ). given A f s m ++ texts f)
   parent-spelled s m texts d x = by (move-opened A s d) (spelled-trimmed A (moved A s m) texts x)
     where
       by : {n : Move} → Opened A s n → Spelled A (moved A s n) texts → Spelled A s (λ (f : ℕ). given A f s n ++ texts f)

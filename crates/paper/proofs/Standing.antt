@@ -61,8 +61,8 @@ module _ {P : Type 0} (A : Acceptor P) where
   pub strike-stands : (g f : ℕ) (s : Situation P) → eqb g f ≡ false → stands g (strike A f s) ≡ stands g s
   unfolding strike
   strike-stands g f s n =
-      rw (any-append (is-field g) (strike-in f (s .left)) (strike-in f (s .right)), stands-strike g f (s .left) n, stands-strike g f (s .right) n)
-      (sym (any-append (is-field g) (s .left) (s .right)))
+      rw (any-append (is-field g) (strike-in f (s .left)) (strike-in f (s .right)), stands-strike g f (s .left) n)
+      (rw (stands-strike g f (s .right) n) (sym (any-append (is-field g) (s .left) (s .right))))
 
   pub put-stands : (g c f : ℕ) (s : Situation P) → stands g (put-before A c f s) ≡ stands g s
   unfolding put-before

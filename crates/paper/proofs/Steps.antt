@@ -7,7 +7,7 @@ use native.Mathlib.Nat.{le-refl}
 use native.Mathlib.Omega.{arith}
 use mathlib.Core.Path.{_≡_, refl, sym, _∙_, subst, fun-ext}
 use mathlib.Core.Bool.{true, false}
-use mathlib.Core.List.{List, [], _∷_, _++_, List·Memᴰ, List·Memᴰ·head, List·Memᴰ·tail}
+use mathlib.Core.List.{List, [], _∷_, _++_, List·Memᴰ, List·Memᴰ·head, List·Memᴰ·tail, Memᴰ·cast}
 use lib.Dec.{eqb}
 use lib.ListN.{length, length-set}
 use lib.Seq.{getD-set-same, getD-set-other}
@@ -28,7 +28,8 @@ module _ {P : Type 0} (A : Acceptor P) where
   unfolding strike
   strike-set g f s n = getD-set-other (s .sets) f g (A .gone) (A .gone) (eqb-false g f n)
 
-  put-set : (g c f : ℕ) (s : Situation P) → f ≡ g → g < length (s .sets) → set-of A (put-before A c f s) g ≡ A .set-after g (set-of A s g) c
+  put-set : (g c f : ℕ) (s : Situation P) → f ≡ g → g < length (s .sets)
+      → set-of A (put-before A c f s) g ≡ A .set-after g (set-of A s g) c
   unfolding put-before
   put-set g c f s e h = rw e (getD-set-same (s .sets) g (A .set-after g (set-of A s g) c) (A .gone) h)
 
@@ -52,7 +53,8 @@ module _ {P : Type 0} (A : Acceptor P) where
             (λ q. subst (λ (p : P). Takes A g p (texts g)) (sym (strike-set g f s q)) (x .takes g (sym (strike-stands A g f s q) ∙ e)));
       }
 
-  pub struck-solution : (texts : Texts) (f : ℕ) (s : Situation P) → texts f ≡ [] → A .may-end f (set-of A s f) ≡ true → Solution A (strike A f s) texts → Solution A s texts
+  pub struck-solution : (texts : Texts) (f : ℕ) (s : Situation P) → texts f ≡ [] → A .may-end f (set-of A s f) ≡ true
+      → Solution A (strike A f s) texts → Solution A s texts
   unfolding strike
   struck-solution texts f s n m x =
       record {
@@ -63,29 +65,43 @@ module _ {P : Type 0} (A : Acceptor P) where
       }
 
 module _ {P : Type 0} (A : Acceptor P) {Holds : ℕ → List ℕ → Type 0} (D : Decides A Holds) where
+  -- the field takes a text with c in front before the put, and the rest after it
+  takes-after-put : (g c f : ℕ) (s : Situation P) (w : List ℕ) → f ≡ g → Takes A g (set-of A s g) (c ∷ w)
+      → Takes A g (set-of A (put-before A c f s) g) w
+  takes-after-put g c f s w e t =
+      rw (put-set A g c f s e (takes-in-range A D g (s .sets) (c ∷ w) t)) (takes-rest A g (set-of A s g) c w t)
+
+  takes-before-put : (g c f : ℕ) (s : Situation P) (w : List ℕ) → f ≡ g → c < A .characters → Takes A g (set-of A (put-before A c f s) g) w
+      → Takes A g (set-of A s g) (c ∷ w)
+  takes-before-put g c f s w e h t =
+      let known : g < length (s .sets) = rw (put-sets-length A c f s) at (takes-in-range A D g (put-before A c f s .sets) w t) in
+      takes-more A g (set-of A s g) c w h (rw (put-set A g c f s e known) at t)
+
   -- a put that takes its character from the field's text
-  solution-put : (before after : Texts) (c f : ℕ) (s : Situation P) → Put c f before after → Solution A s before → Solution A (put-before A c f s) after
+  solution-put : (before after : Texts) (c f : ℕ) (s : Situation P) → Put c f before after → Solution A s before
+      → Solution A (put-before A c f s) after
   unfolding put-before
   solution-put before after c f s p x =
       record {
         same-label = label-put before after c f (s .left) p ∙ x .same-label ∙ sym (label-put before after c f (s .right) p);
-        takes = λ g e. let t : Takes A g (set-of A s g) (only (eqb f g) c ++ after g) = rw (p g) at (x .takes g (sym (put-stands A g c f s) ∙ e)) in
+        takes = λ g e.
+            let t = rw (p g) at (x .takes g (sym (put-stands A g c f s) ∙ e)) in
             by-bool (eqb f g)
-            (λ q. rw (put-set A g c f s (eqb-true f g q) (takes-in-range A D g (s .sets) (before g) (rw (← (p g)) at t))) (takes-rest A g (set-of A s g) c (after g) (rw q at t)))
+            (λ q. takes-after-put g c f s (after g) (eqb-true f g q) (rw q at t))
             (λ q. rw (put-other-set A g c f s q) (rw q at t));
       }
 
-  put-solution : (before after : Texts) (c f : ℕ) (s : Situation P) → Put c f before after → c < A .characters → Solution A (put-before A c f s) after → Solution A s before
+  put-solution : (before after : Texts) (c f : ℕ) (s : Situation P) → Put c f before after → c < A .characters
+      → Solution A (put-before A c f s) after → Solution A s before
   unfolding put-before
   put-solution before after c f s p h x =
       record {
         same-label = sym (label-put before after c f (s .left) p) ∙ x .same-label ∙ label-put before after c f (s .right) p;
-        takes = λ g e. let t = x .takes g (put-stands A g c f s ∙ e) in
+        takes = λ g e.
+            let t = x .takes g (put-stands A g c f s ∙ e) in
             rw (p g)
             (by-bool (eqb f g)
-            (λ q. rw q
-            (takes-more A g (set-of A s g) c (after g) h
-            (rw (put-set A g c f s (eqb-true f g q) (rw (put-sets-length A c f s) at (takes-in-range A D g (put-before A c f s .sets) (after g) t))) at t)))
+            (λ q. rw q (takes-before-put g c f s (after g) (eqb-true f g q) h t))
             (λ q. rw q (rw (put-other-set A g c f s q) at t)));
       }
 
@@ -98,10 +114,11 @@ abbrev pub with-puts : ℕ → List ℕ → Texts → Texts
 with-puts c fs after g = only (member g fs) c ++ after g
 
 -- one field after another
-first-put : (c f : ℕ) (fs : List ℕ) (before after : Texts) → (List·Memᴰ f fs → ⊥) → Puts c (f ∷ fs) before after → Put c f before (with-puts c fs after)
+first-put : (c f : ℕ) (fs : List ℕ) (before after : Texts) → (List·Memᴰ f fs → ⊥) → Puts c (f ∷ fs) before after
+    → Put c f before (with-puts c fs after)
 first-put c f fs before after n p g =
     p g ∙ by-bool (eqb g f)
-    (λ q. let m : member g fs ≡ false = not-true (member g fs) (λ i. n (subst (λ (h : ℕ). List·Memᴰ h fs) (eqb-true g f q) (member-true g fs i))) in
+    (λ q. let m : member g fs ≡ false = not-true (member g fs) (λ i. n (Memᴰ·cast (sym (eqb-true g f q)) (member-true g fs i))) in
     rw (eqb-symmetric f g, q, m))
     (λ q. rw (eqb-symmetric f g, q))
 
@@ -113,7 +130,8 @@ module _ {P : Type 0} (A : Acceptor P) {Holds : ℕ → List ℕ → Type 0} (D 
       solution-put-all (with-puts c fs after) after c (put-before A c f s) d (λ g. refl)
       (solution-put A D before (with-puts c fs after) c f s (first-put c f fs before after n p) x)
 
-  pub put-all-solution : (before after : Texts) (c : ℕ) {fs : List ℕ} (s : Situation P) → NoDup fs → Puts c fs before after → c < A .characters
+  pub put-all-solution : (before after : Texts) (c : ℕ) {fs : List ℕ} (s : Situation P) → NoDup fs → Puts c fs before after
+      → c < A .characters
       → Solution A (put-before-all A c fs s) after → Solution A s before
   put-all-solution before after c s none p h x = subst (Solution A s) (sym (fun-ext p)) x
   put-all-solution before after c s (more {x = f} {l = fs} n d) p h x =
@@ -123,13 +141,15 @@ module _ {P : Type 0} (A : Acceptor P) {Holds : ℕ → List ℕ → Type 0} (D 
 module _ {P : Type 0} (A : Acceptor P) where
   weight-put-all : (before after : Texts) (c : ℕ) {fs : List ℕ} (s : Situation P) → NoDup fs → Puts c fs before after
       → weight-of after (put-before-all A c fs s) ≤ weight-of before s
-  weight-put-all before after c s none p = subst (λ (t : Texts). weight-of after s ≤ weight-of t s) (sym (fun-ext p)) (le-refl (weight-of after s))
+  weight-put-all before after c s none p =
+      subst (λ (t : Texts). weight-of after s ≤ weight-of t s) (sym (fun-ext p)) (le-refl (weight-of after s))
   weight-put-all before after c s (more {x = f} {l = fs} n d) p =
       let i = weight-put-all (with-puts c fs after) after c (put-before A c f s) d (λ g. refl) in
       omega (arith, i, weight-put-le A before (with-puts c fs after) c f s (first-put c f fs before after n p))
 
   -- strictly, if one of them stands
-  pub weight-put-some : (before after : Texts) (c : ℕ) {f : ℕ} {fs : List ℕ} (s : Situation P) → NoDup fs → Puts c fs before after → List·Memᴰ f fs → stands f s ≡ true
+  pub weight-put-some : (before after : Texts) (c : ℕ) {f : ℕ} {fs : List ℕ} (s : Situation P) → NoDup fs → Puts c fs before after
+      → List·Memᴰ f fs → stands f s ≡ true
       → weight-of after (put-before-all A c fs s) < weight-of before s
   weight-put-some before after c s (more {x = g} {l = fs} n d) p (List·Memᴰ·head q) e =
       let i = weight-put-all (with-puts c fs after) after c (put-before A c g s) d (λ h. refl) in

@@ -47,7 +47,8 @@ weight-put before after c f (fld h ∷ side) p =
     rw (weight-character after c (eqb f h) (fld h ∷ put-in c f side), p h)
     (by-bool (eqb f h) (λ e. rw e (omega arith)) (λ e. rw e (omega arith)))
 
-weight-trim : (texts : Texts) {l r l′ r′ : Side} → Trimming l r l′ r′ → (weight texts l′ ≡ weight texts l) × (weight texts r′ ≡ weight texts r)
+weight-trim : (texts : Texts) {l r l′ r′ : Side} → Trimming l r l′ r′
+    → (weight texts l′ ≡ weight texts l) × (weight texts r′ ≡ weight texts r)
 weight-trim texts stop = (refl, refl)
 weight-trim texts (drop e t) = weight-trim texts t
 
@@ -71,12 +72,14 @@ module _ {P : Type 0} (A : Acceptor P) where
   weight-struck texts f s e =
       omega (arith, weight-strike texts f (s .left), weight-strike texts f (s .right), standing-both f (s .left) (s .right) e)
 
-  pub weight-put-le : (before after : Texts) (c f : ℕ) (s : Situation P) → Put c f before after → weight-of after (put-before A c f s) ≤ weight-of before s
+  pub weight-put-le : (before after : Texts) (c f : ℕ) (s : Situation P) → Put c f before after
+      → weight-of after (put-before A c f s) ≤ weight-of before s
   unfolding put-before
   weight-put-le before after c f s p =
       omega (arith, weight-put before after c f (s .left) p, weight-put before after c f (s .right) p)
 
-  pub weight-put-lt : (before after : Texts) (c f : ℕ) (s : Situation P) → Put c f before after → stands f s ≡ true → weight-of after (put-before A c f s) < weight-of before s
+  pub weight-put-lt : (before after : Texts) (c f : ℕ) (s : Situation P) → Put c f before after → stands f s ≡ true
+      → weight-of after (put-before A c f s) < weight-of before s
   unfolding put-before
   weight-put-lt before after c f s p e =
       omega (arith, weight-put before after c f (s .left) p, weight-put before after c f (s .right) p, standing-both f (s .left) (s .right) e)
