@@ -1,3 +1,4 @@
+pub mod Answer
 pub mod Coded
 pub mod Codes
 pub mod Made

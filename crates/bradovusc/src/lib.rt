@@ -1,4 +1,5 @@
 // The library.
+mod answer;
 mod search;
 mod situation;
 mod slots;

@@ -1,0 +1,107 @@
+-- The answer of a clash, from the slots: the way to the last slot, the texts that it spells, the records of the fields that stand, and
+-- what becomes of the answer buffer.
+use Prim.Native.Nat.{ℕ, _+_, _/_, _%_, _≤_, _<_}
+use mathlib.Core.Path.{_≡_}
+use mathlib.Core.Bool.{Bool, false, cond, not, _&&_, _||_}
+use mathlib.Core.List.{List, [], _∷_, _++_, map}
+use lib.Dec.{leb, ltb, eqb}
+use lib.ListN.{length, getD, drop}
+use Rattle.paper.specs.Lists.{upto, any, only, keep, each, member}
+use Rattle.paper.specs.Numbers.{characters, fields, field-token, longest-text}
+use Rattle.paper.specs.Outcome.{value-record}
+use Rattle.bradovusc.specs.Coded.{Coded, front}
+use Rattle.bradovusc.specs.Slots.{Slot, Holds-slots}
+use Rattle.bradovusc.specs.Run.{slot-at, text-back}
+use Rattle.bradovusc.specs.declared.answer.Back.{Back}
+use Rattle.bradovusc.specs.declared.answer.Answer.{Answer}
+use Rattle.bradovusc.specs.declared.answer.Answer.the-variants.{TextTooLong, TooShort, Written}
+
+-- every slot but the first has its parent before it
+abbrev pub Linked : List Slot → Type 0
+Linked ss = (i : ℕ) → 0 < i → i < length ss → slot-at ss i .parent < i
+
+-- the buffer begins with these slots, the one with the number last is among them, and parents lead from it back to the first
+pub record Way-to (work : List ℕ) (last : ℕ) : Type 0 where
+  pub slots : List Slot
+  pub holds : Holds-slots work slots
+  pub linked : Linked slots
+  pub entered : last < length slots
+
+-- the token in front of a side in a slot: its length stands at one place of the buffer, its tokens from another on
+abbrev pub front-at : List ℕ → ℕ → ℕ → ℕ
+front-at work count tokens = cond (eqb (getD work count 0) 0) 255 (getD work tokens 0)
+
+-- did the step m from the situation put its character before the field f?
+abbrev pub puts-before : ℕ → Coded → ℕ → Bool
+puts-before f s m =
+    ltb m characters && (eqb (front (s .left)) (field-token + f) || eqb (front (s .right)) (field-token + f))
+
+-- the text of the field f, spelt from slot i back to slot 0
+abbrev pub text-at : List Slot → ℕ → ℕ → List ℕ
+text-at ss i f = text-back i ss f i
+
+-- one step back from slot i: the parent is before it, and the text at the slot is that at its parent, with the character that was put
+pub record Steps-back (ss : List Slot) (i f : ℕ) (back : Back) : Type 0 where
+  pub falls : back .parent < i
+  pub text : text-at ss i f ≡ text-at ss (back .parent) f ++ only (back .puts) (back .step)
+
+-- "`VA`, field byte, length in two bytes (low first)"
+abbrev pub record-head : ℕ → ℕ → List ℕ
+record-head f n = 86 ∷ 65 ∷ f ∷ n % 256 ∷ n / 256 ∷ []
+
+abbrev pub head-bytes : ℕ
+head-bytes = 5
+
+-- the record of a text has room in the buffer, and its length two bytes
+pub record Record-fits (text buffer : List ℕ) : Type 0 where
+  pub short : length text ≤ longest-text
+  pub room : head-bytes + length text ≤ length buffer
+
+-- the bytes in front, "the rest unchanged"
+abbrev pub in-front : List ℕ → List ℕ → List ℕ
+in-front bytes buffer = bytes ++ drop (length bytes) buffer
+
+-- the bytes were put in front of the buffer, and so many they are
+pub record Put-in-front (bytes before after : List ℕ) (n : ℕ) : Type 0 where
+  pub many : n ≡ length bytes
+  pub put : after ≡ in-front bytes before
+
+-- a field stands if its token is among the tokens of the sides
+unfoldable pub standing-among : List ℕ → List Bool
+standing-among tokens = map (λ (f : ℕ). member (field-token + f) tokens) (upto fields)
+
+-- "for each field standing in the sides, by rising number"
+unfoldable pub standing-fields : List Bool → List ℕ
+standing-fields stand = keep (λ (f : ℕ). getD stand f false) (upto fields)
+
+module _ (stand : List Bool) (text : ℕ → List ℕ) where
+  -- "each record written directly behind the one before"
+  unfoldable pub value-records : List ℕ
+  value-records = each (λ (f : ℕ). value-record f (text f)) (standing-fields stand)
+
+  -- "a text above 65,535 characters"
+  unfoldable pub text-above : Bool
+  text-above = any (λ (f : ℕ). not (leb (length (text f)) longest-text)) (standing-fields stand)
+
+  -- no text is too long, and the records have room in the buffer
+  pub record Records-fit (buffer : List ℕ) : Type 0 where
+    pub short : text-above ≡ false
+    pub room : length value-records ≤ length buffer
+
+  -- "21 comes before 20"
+  unfoldable pub answer-given : List ℕ → Answer
+  answer-given buffer =
+      cond text-above TextTooLong
+      (cond (not (leb (length value-records) (length buffer))) TooShort
+      (Written (length value-records)))
+
+  -- "records, the rest unchanged", or "unchanged"
+  unfoldable pub buffer-after : List ℕ → List ℕ
+  buffer-after buffer =
+      cond text-above buffer
+      (cond (not (leb (length value-records) (length buffer))) buffer
+      (in-front value-records buffer))
+
+  pub record Answered (before after : List ℕ) (answer : Answer) : Type 0 where
+    pub given : answer ≡ answer-given before
+    pub buffer : after ≡ buffer-after before

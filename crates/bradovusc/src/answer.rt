@@ -1,0 +1,210 @@
+// The answer of a clash: the texts, spelt from the slots of the working buffer, and their records, each directly behind the one before.
+ghost use mathlib.Core.Path.{_≡_};
+ghost use mathlib.Core.Bool.{false};
+ghost use mathlib.Core.List.{_∷_, [], _++_};
+ghost use Prim.Native.Nat.{_+_, _*_, _/_, _%_, _<_, _≤_};
+ghost use lib.ListN.{length, getD, drop};
+ghost use Rattle.paper.specs.Lists.{member};
+ghost use Rattle.paper.specs.Numbers.{fields, longest-text};
+ghost use Rattle.paper.specs.Outcome.{value-record};
+ghost use Rattle.bradovusc.specs.Run.{slot-at};
+ghost use Rattle.bradovusc.specs.Answer.{Way-to, Steps-back, Record-fits, Put-in-front, Records-fit, Answered};
+ghost use Rattle.bradovusc.specs.Answer.{front-at, puts-before, text-at, record-head, head-bytes, in-front, text-above, value-records};
+
+use crate::slots::{parent_of, step_of};
+
+// Bytes of a slot, and where its sides begin.
+const SLOT: usize = 144;
+const LEFT: usize = 2;
+const RIGHT: usize = 50;
+
+// "0 to 42 (a character) or 64 to 71 (field 0 to 7)"
+const CHARACTERS: u8 = 43;
+const FIELD_TOKEN: u8 = 64;
+const FIELDS: usize = 8;
+// the front of an empty side
+const NO_TOKEN: u8 = 255;
+
+// mark, field and length of a record
+const HEAD: usize = 5;
+const LONGEST_TEXT: usize = 65535;
+
+// What became of the answer: a text above 65,535 characters, an answer buffer too short, or so many bytes written.
+pub enum Answer {
+    TextTooLong,
+    TooShort,
+    Written(usize),
+}
+
+// One step back along the way: the parent's number, the step from there, and whether it put its character before the field.
+pub struct Back {
+    pub parent: usize,
+    pub step: u8,
+    pub puts: bool,
+}
+
+// The token in front of a side, 255 where there is none.
+fn front_at(work: &[u8], count: usize, tokens: usize) -> u8
+    requires { ⌜ (count < length (now work)) × (tokens < length (now work)) ⌝ }
+    ensures { λ r. ⌜ r ≡ front-at (now (work .entry)) count tokens ⌝ }
+{
+    if work[count] == 0 {
+        return NO_TOKEN;
+    }
+    work[tokens]
+}
+
+// Did this step from slot i put its character before the field f?
+fn puts_before(work: &[u8], i: usize, step: u8, f: u8) -> bool
+    requires { ⌜ Way-to (now work) i ⌝ }
+    requires { ⌜ f < fields ⌝ }
+    ensures { λ r. ⌜ ((w : Way-to (now (work .entry)) i) → r ≡ puts-before f (slot-at (w .slots) i .at) step) ⌝ }
+{
+    if step >= CHARACTERS {
+        return false;
+    }
+    let at = SLOT * i;
+    if front_at(work, at, at + LEFT) == FIELD_TOKEN + f {
+        return true;
+    }
+    front_at(work, at + 1, at + RIGHT) == FIELD_TOKEN + f
+}
+
+// One step back from slot i, which isn't the first.
+fn step_back(work: &[u8], i: usize, f: u8) -> Back
+    requires { ⌜ Way-to (now work) i ⌝ }
+    requires { ⌜ (0 < i) × (f < fields) ⌝ }
+    ensures { λ r. ⌜ ((w : Way-to (now (work .entry)) i) → Steps-back (w .slots) i f r) ⌝ }
+{
+    let parent = parent_of(work, i);
+    let step = step_of(work, i);
+    let puts = puts_before(work, parent, step, f);
+    Back { parent, step, puts }
+}
+
+// The length of the text of the field f, along the way from slot 0 to the last.
+fn text_length(work: &[u8], last: usize, f: u8) -> usize
+    requires { ⌜ Way-to (now work) last ⌝ }
+    requires { ⌜ f < fields ⌝ }
+    ensures { λ r. ⌜ ((w : Way-to (now (work .entry)) last) → r ≡ length (text-at (w .slots) last f)) ⌝ }
+{
+    let mut n = 0;
+    let mut i = last;
+    while i > 0 {
+        let back = step_back(work, i, f);
+        if back.puts {
+            n += 1;
+        }
+        i = back.parent;
+    }
+    n
+}
+
+// The text of the field f, written from its end back.
+fn write_text(out: &mut [u8], work: &[u8], last: usize, f: u8)
+    requires { ⌜ Way-to (now work) last ⌝ }
+    requires { ⌜ f < fields ⌝ }
+    requires { ⌜ ((w : Way-to (now work) last) → length (now out) ≡ length (text-at (w .slots) last f)) ⌝ }
+    ensures { λ _. ⌜ ((w : Way-to (now (work .entry)) last) → now (out .exit) ≡ text-at (w .slots) last f) ⌝ }
+{
+    let mut at = out.len();
+    let mut i = last;
+    while i > 0 {
+        let back = step_back(work, i, f);
+        if back.puts {
+            at -= 1;
+            out[at] = back.step;
+        }
+        i = back.parent;
+    }
+}
+
+// "`VA`, field byte, length in two bytes (low first)"
+fn write_head(out: &mut [u8], f: u8, n: usize)
+    requires { ⌜ (length (now out) ≡ head-bytes) × (n ≤ longest-text) ⌝ }
+    ensures { λ _. ⌜ now (out .exit) ≡ record-head f n ⌝ }
+{
+    out[0] = b'V';
+    out[1] = b'A';
+    out[2] = f;
+    out[3] = (n % 256) as u8;
+    out[4] = (n / 256) as u8;
+}
+
+// The record of the field f, into the front of what is lent. How many bytes it has.
+fn write_record(out: &mut [u8], work: &[u8], last: usize, f: u8) -> usize
+    requires { ⌜ Way-to (now work) last ⌝ }
+    requires { ⌜ f < fields ⌝ }
+    requires { ⌜ ((w : Way-to (now work) last) → Record-fits (text-at (w .slots) last f) (now out)) ⌝ }
+    ensures { λ r. ⌜ ((w : Way-to (now (work .entry)) last) → Put-in-front (value-record f (text-at (w .slots) last f)) (now (out .entry)) (now (out .exit)) r) ⌝ }
+{
+    let n = text_length(work, last, f);
+    write_head(&mut out[0..HEAD], f, n);
+    write_text(&mut out[HEAD..HEAD + n], work, last, f);
+    HEAD + n
+}
+
+// Is a text above 65,535 characters?
+fn some_text_above(work: &[u8], last: usize, stand: [bool; FIELDS]) -> bool
+    requires { ⌜ Way-to (now work) last ⌝ }
+    ensures { λ r. ⌜ ((w : Way-to (now (work .entry)) last) → r ≡ text-above stand (text-at (w .slots) last)) ⌝ }
+{
+    let mut f = 0;
+    while f < FIELDS {
+        if stand[f] {
+            if text_length(work, last, f as u8) > LONGEST_TEXT {
+                return true;
+            }
+        }
+        f += 1;
+    }
+    false
+}
+
+// How many bytes the records have.
+fn records_length(work: &[u8], last: usize, stand: [bool; FIELDS]) -> usize
+    requires { ⌜ Way-to (now work) last ⌝ }
+    ensures { λ r. ⌜ ((w : Way-to (now (work .entry)) last) → r ≡ length (value-records stand (text-at (w .slots) last))) ⌝ }
+{
+    let mut total = 0;
+    let mut f = 0;
+    while f < FIELDS {
+        if stand[f] {
+            total += HEAD + text_length(work, last, f as u8);
+        }
+        f += 1;
+    }
+    total
+}
+
+// "each record written directly behind the one before"
+fn write_records(answer: &mut [u8], work: &[u8], last: usize, stand: [bool; FIELDS])
+    requires { ⌜ Way-to (now work) last ⌝ }
+    requires { ⌜ ((w : Way-to (now work) last) → Records-fit stand (text-at (w .slots) last) (now answer)) ⌝ }
+    ensures { λ _. ⌜ ((w : Way-to (now (work .entry)) last) → now (answer .exit) ≡ in-front (value-records stand (text-at (w .slots) last)) (now (answer .entry))) ⌝ }
+{
+    let mut at = 0;
+    let mut f = 0;
+    while f < FIELDS {
+        if stand[f] {
+            at += write_record(&mut answer[at..], work, last, f as u8);
+        }
+        f += 1;
+    }
+}
+
+// The answer of a clash whose finish is in the last slot. "21 comes before 20", and both before any byte is written.
+pub fn answer_clash(answer: &mut [u8], work: &[u8], last: usize, stand: [bool; FIELDS]) -> Answer
+    requires { ⌜ Way-to (now work) last ⌝ }
+    ensures { λ r. ⌜ ((w : Way-to (now (work .entry)) last) → Answered stand (text-at (w .slots) last) (now (answer .entry)) (now (answer .exit)) r) ⌝ }
+{
+    if some_text_above(work, last, stand) {
+        return Answer::TextTooLong;
+    }
+    let total = records_length(work, last, stand);
+    if answer.len() < total {
+        return Answer::TooShort;
+    }
+    write_records(answer, work, last, stand);
+    Answer::Written(total)
+}
