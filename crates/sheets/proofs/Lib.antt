@@ -1,0 +1,3 @@
+pub mod Verdicts
+pub mod Stand
+pub mod Reached
