@@ -1,3 +1,4 @@
 pub mod Verdicts
 pub mod Stand
 pub mod Reached
+pub mod Sides

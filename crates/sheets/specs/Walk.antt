@@ -10,7 +10,7 @@ use Rattle.paper.specs.Numbers.{fields, sheet-side}
 use Rattle.paper.specs.Pattern.{Pattern, Held, any-text, pattern}
 use Rattle.paper.specs.Written.{judge, judged}
 use Rattle.paper.specs.Equation.{Side}
-use Rattle.paper.specs.Sheet.{Mark, PA, LE, RI, Checked, fault, read, cut-short, wrong-mark, bytes-left, body, marked, is-token, token, pattern-record, side-record, refused, left-read, read-sheet}
+use Rattle.paper.specs.Sheet.{Mark, PA, LE, RI, Checked, fault, read, cut-short, wrong-mark, bytes-left, body, marked, is-token, token, pattern-record, side-record, refused, asked, left-read, read-sheet}
 use Rattle.sheets.specs.Faults.{fault-of}
 use Rattle.sheets.specs.declared.Found.{Found}
 use Rattle.sheets.specs.declared.Found.the-variants.{Good, Refused}
@@ -22,6 +22,8 @@ use Rattle.sheets.specs.declared.cursor.PatternRecord.the-variants as Co
 use Rattle.sheets.specs.declared.cursor.SideRecord.{SideRecord}
 use Rattle.sheets.specs.declared.cursor.SideRecord.the-variants as Code-side
 use Rattle.sheets.specs.declared.walk.Patterns.{Patterns}
+use Rattle.sheets.specs.declared.walk.Sides.{Sides}
+use Rattle.sheets.specs.declared.walk.Sides.the-variants as Code-sides
 
 abbrev pub mark-of : Code.Mark → Mark
 mark-of Code-mark.PA = PA
@@ -55,11 +57,15 @@ marked-side m s at =
     cond (ltb (bytes-left s at) 2) (fault cut-short) (cond (marked m s at) (side-record s at) (fault wrong-mark))
 
 -- where the tokens of a side stand
-pub record Side-stands (m : Mark) (s : List ℕ) (at start len next : ℕ) : Type 0 where
-  pub reads : marked-side m s at ≡ read (map token (body s start len)) next
+pub record Tokens-stand (s : List ℕ) (start len : ℕ) : Type 0 where
   pub tokens : all is-token (body s start len) ≡ true
   pub short : len ≤ sheet-side
   pub within : start + len ≤ length s
+
+-- a side is read, and reading goes on behind it
+pub record Side-stands (m : Mark) (s : List ℕ) (at start len next : ℕ) : Type 0 where
+  pub reads : marked-side m s at ≡ read (map token (body s start len)) next
+  pub stands : Tokens-stand s start len
   pub goes-on : next ≤ length s
 
 -- what the checks on a side find
@@ -91,3 +97,16 @@ pub record Patterns-stand (s : List ℕ) (at : ℕ) (starts lens : List ℕ) : T
 abbrev pub Patterns-read : List ℕ → Found → Patterns → Type 0
 Patterns-read s Good r = Patterns-stand s (r .next .at) (r .starts) (r .lens)
 Patterns-read s (Refused x) r = read-sheet s ≡ refused (fault-of x) (r .next .at)
+
+-- the sides are read, and the sheet ends
+pub record Sides-stand (s : List ℕ) (at left left-len right right-len : ℕ) : Type 0 where
+  pub reads : (held : List Held) →
+      left-read s at held (marked-side LE s at)
+      ≡ asked (record { left = map token (body s left left-len); right = map token (body s right right-len); held = held })
+  pub left-stands : Tokens-stand s left left-len
+  pub right-stands : Tokens-stand s right right-len
+
+-- what reading the sides finds
+abbrev pub Sides-read : List ℕ → ℕ → Sides → Type 0
+Sides-read s at (Code-sides.Fault x place) = (held : List Held) → left-read s at held (marked-side LE s at) ≡ refused (fault-of x) place
+Sides-read s at (Code-sides.Read left left-len right right-len) = Sides-stand s at left left-len right right-len

@@ -1,8 +1,10 @@
 // The walk over a sheet's records: "no, one or several `PA`, field numbers rising; one `LE`; one `RI`; the end".
-use crate::cursor::{Cursor, PatternRecord};
-use crate::Found;
+use crate::cursor::{Cursor, Mark, PatternRecord, SideRecord};
+use crate::{Fault, Found};
 
-ghost use Rattle.sheets.specs.Walk.{Patterns-read};
+ghost use Prim.Native.Nat.{_≤_};
+ghost use lib.ListN.{length};
+ghost use Rattle.sheets.specs.Walk.{Patterns-read, Sides-read};
 
 pub struct Patterns {
     pub found: Found,
@@ -50,3 +52,48 @@ pub fn read_patterns(s: &[u8]) -> Patterns
     }
 }
 
+
+// What the checks on the two sides and the end find: the first fault with its place, or where the tokens stand.
+pub enum Sides {
+    Fault(Fault, usize),
+    Read {
+        left: usize,
+        left_len: usize,
+        right: usize,
+        right_len: usize,
+    },
+}
+
+// "one `LE`; one `RI`; the end", from the cursor behind the patterns on: "after `RI`, any byte left gives 12".
+pub fn read_sides(s: &[u8], c: Cursor) -> Sides
+    requires { ⌜ c .at ≤ length (now s) ⌝ }
+    ensures { λ r. ⌜ Sides-read (now (s .entry)) (c .at) r ⌝ }
+{
+    match c.side(s, Mark::LE) {
+        SideRecord::Fault(x) => Sides::Fault(x, c.at),
+        SideRecord::Read {
+            start: left,
+            len: left_len,
+            next,
+        } => match next.side(s, Mark::RI) {
+            SideRecord::Fault(x) => Sides::Fault(x, next.at),
+            SideRecord::Read {
+                start: right,
+                len: right_len,
+                next: end,
+            } => {
+                let at = end.at;
+                if at < s.len() {
+                    Sides::Fault(Fault::WrongMark, at)
+                } else {
+                    Sides::Read {
+                        left,
+                        left_len,
+                        right,
+                        right_len,
+                    }
+                }
+            }
+        },
+    }
+}

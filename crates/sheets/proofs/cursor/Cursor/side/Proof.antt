@@ -111,9 +111,12 @@ returns-6 : tie.Need-returns-6
 returns-6 c =
     record {
       reads = rw (past-length (c .before), c .if6 .taken) (simp (← add-assoc));
-      tokens = all-tokens (c .before) ∙ c .if6 .taken;
-      short = search needs;
-      within = omega (arith, c .before .before .before);
+      stands =
+          record {
+            tokens = all-tokens (c .before) ∙ c .if6 .taken;
+            short = search needs;
+            within = omega (arith, c .before .before .before);
+          };
       goes-on = omega (arith, c .before .before .before);
     }
 
