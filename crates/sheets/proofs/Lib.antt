@@ -2,3 +2,4 @@ pub mod Verdicts
 pub mod Stand
 pub mod Reached
 pub mod Sides
+pub mod Bytes
