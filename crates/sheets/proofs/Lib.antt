@@ -1,0 +1,5 @@
+pub mod Verdicts
+pub mod Stand
+pub mod Reached
+pub mod Sides
+pub mod Bytes
