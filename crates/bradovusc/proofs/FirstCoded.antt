@@ -19,12 +19,12 @@ use Rattle.bradovusc.specs.Codes.{code-token, code-side, code-situation}
 use Rattle.bradovusc.proofs.CodedSides.{Known-side, byte-of-field, trim-coded}
 
 -- a field stands where its byte does
-stands-coded : (f : ℕ) (side : Side) → Known-side side → member (field-token + f) (code-side side) ≡ stands-in f side
+pub stands-coded : (f : ℕ) (side : Side) → Known-side side → member (field-token + f) (code-side side) ≡ stands-in f side
 stands-coded f [] h = refl
 stands-coded f (t ∷ side) h =
     ap₂ _||_ (eqb-symmetric (field-token + f) (code-token t) ∙ byte-of-field f t (h .0)) (stands-coded f side (h .1))
 
-known-append : (l r : Side) → Known-side l → Known-side r → Known-side (l ++ r)
+pub known-append : (l r : Side) → Known-side l → Known-side r → Known-side (l ++ r)
 known-append [] r h k = k
 known-append (t ∷ l) r h k = (h .0, known-append l r (h .1) k)
 

@@ -12,3 +12,4 @@ pub mod KeptGood
 pub mod Ways
 pub mod Simulated
 pub mod FirstCoded
+pub mod Told

@@ -1,6 +1,7 @@
-pub mod Answer
+pub mod Records
 pub mod Coded
 pub mod Codes
+pub mod Entry
 pub mod Made
 pub mod Run
 pub mod Slots

@@ -3,7 +3,6 @@ mod cursor;
 mod walk;
 
 use crate::walk::Sides;
-
 ghost use mathlib.Core.Path.{_≡_};
 ghost use Prim.Native.Nat.{_≤_};
 ghost use mathlib.Core.List.{map};

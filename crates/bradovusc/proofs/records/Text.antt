@@ -13,8 +13,8 @@ use Rattle.paper.specs.Lists.{only}
 use Rattle.bradovusc.specs.Coded.{Coded}
 use Rattle.bradovusc.specs.Slots.{Slot}
 use Rattle.bradovusc.specs.Run.{slot-at, given-coded, text-back}
-use Rattle.bradovusc.specs.Answer.{Linked, Way-to, Steps-back, puts-before, text-at}
-use Rattle.bradovusc.specs.declared.answer.Back.{Back}
+use Rattle.bradovusc.specs.Records.{Linked, Way-to, Steps-back, puts-before, text-at}
+use Rattle.bradovusc.specs.declared.records.Back.{Back}
 
 pub given-only : (f : ℕ) (s : Coded) (m : ℕ) → given-coded f s m ≡ only (puts-before f s m) m
 unfolding given-coded

@@ -13,9 +13,10 @@ use Rattle.bradovusc.specs.Coded.{front}
 use Rattle.bradovusc.specs.Struct.{padded, as-struct}
 use Rattle.bradovusc.specs.Slots.{Slot, Holds-slots, slot-bytes, struct-slot, struct-key, part, left-at, right-at}
 use Rattle.bradovusc.specs.Run.{slot-at, no-slot}
-use Rattle.bradovusc.specs.Answer.{front-at}
+use Rattle.bradovusc.specs.Records.{front-at}
 use Rattle.bradovusc.proofs.slots.Keys.{Sized, behind-key, slot-split, left-part, right-part, length-key}
-use Rattle.bradovusc.proofs.slots.Held.{short-sized, short-held, slot-held}
+use Rattle.bradovusc.proofs.slots.Held.{short-held, slot-held}
+use Rattle.bradovusc.proofs.slots.Situations.{short-sized}
 
 -- the front of a side, by its length and its first byte
 front-byte : (side : List ℕ) (work : List ℕ) (count tokens : ℕ) → getD work count 0 ≡ length side → getD work tokens 0 ≡ getD (padded side) 0 0

@@ -12,9 +12,9 @@ use Rattle.paper.specs.Outcome.{value-record}
 use Rattle.bradovusc.specs.Coded.{Coded, front}
 use Rattle.bradovusc.specs.Slots.{Slot, Holds-slots}
 use Rattle.bradovusc.specs.Run.{slot-at, text-back}
-use Rattle.bradovusc.specs.declared.answer.Back.{Back}
-use Rattle.bradovusc.specs.declared.answer.Answer.{Answer}
-use Rattle.bradovusc.specs.declared.answer.Answer.the-variants.{TextTooLong, TooShort, Written}
+use Rattle.bradovusc.specs.declared.records.Back.{Back}
+use Rattle.bradovusc.specs.declared.records.Given.{Given}
+use Rattle.bradovusc.specs.declared.records.Given.the-variants.{TextTooLong, TooShort, Written}
 
 -- every slot but the first has its parent before it
 abbrev pub Linked : List Slot → Type 0
@@ -89,7 +89,7 @@ module _ (stand : List Bool) (text : ℕ → List ℕ) where
     pub room : length value-records ≤ length buffer
 
   -- "21 comes before 20"
-  unfoldable pub answer-given : List ℕ → Answer
+  unfoldable pub answer-given : List ℕ → Given
   answer-given buffer =
       cond text-above TextTooLong
       (cond (not (leb (length value-records) (length buffer))) TooShort
@@ -102,6 +102,6 @@ module _ (stand : List Bool) (text : ℕ → List ℕ) where
       (cond (not (leb (length value-records) (length buffer))) buffer
       (in-front value-records buffer))
 
-  pub record Answered (before after : List ℕ) (answer : Answer) : Type 0 where
+  pub record Answered (before after : List ℕ) (answer : Given) : Type 0 where
     pub given : answer ≡ answer-given before
     pub buffer : after ≡ buffer-after before

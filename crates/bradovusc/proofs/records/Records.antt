@@ -8,7 +8,7 @@ use lib.ListN.{length, take, drop, length-append, length-drop, take-append-drop,
 use lib.Seq.{take-at, take-all, drop-at, drop-drop, length-take-le}
 use borrow.Rule.Slice.PartMut.{putMid, postOf}
 use Rattle.paper.specs.Outcome.{value-record}
-use Rattle.bradovusc.specs.Answer.{record-head, head-bytes, in-front, Put-in-front}
+use Rattle.bradovusc.specs.Records.{record-head, head-bytes, in-front, Put-in-front}
 use Rattle.bradovusc.proofs.slots.Parts.{part-back}
 
 pub record-split : (f : ℕ) (text : List ℕ) → value-record f text ≡ record-head f (length text) ++ text

@@ -2,15 +2,15 @@
 use native.Mathlib.Omega.{arith}
 use Prim.Native.Nat.{_≤_, _<_}
 use Rattle.bradovusc.specs.Run.{no-slot}
-use Rattle.bradovusc.specs.Answer.{Way-to}
-use Rattle.bradovusc.proofs.answer.Text.{way-back, parent-below, text-back-one}
+use Rattle.bradovusc.specs.Records.{Way-to}
+use Rattle.bradovusc.proofs.records.Text.{way-back, parent-below, text-back-one}
 use borrow.Author.Needs.{needs}
-use Rattle.bradovusc.proofs.answer.step_back.Statement.{statement}
-use Rattle.bradovusc.proofs.answer.step_back.Tie as tie
-use Rattle.bradovusc.proofs.answer.step_back.Reads as reads
-use Rattle.bradovusc.proofs.answer.step_back.Lts as lts
+use Rattle.bradovusc.proofs.records.step_back.Statement.{statement}
+use Rattle.bradovusc.proofs.records.step_back.Tie as tie
+use Rattle.bradovusc.proofs.records.step_back.Reads as reads
+use Rattle.bradovusc.proofs.records.step_back.Lts as lts
 use Rattle.bradovusc.proofs.slots.parent_of.Reads as parent-of-reads
-use Rattle.bradovusc.proofs.answer.puts_before.Reads as puts-before-reads
+use Rattle.bradovusc.proofs.records.puts_before.Reads as puts-before-reads
 use Rattle.bradovusc.proofs.slots.step_of.Reads as step-of-reads
 
 parent-of-requires : tie.Need-parent-of-requires
@@ -39,10 +39,10 @@ returns c w =
     record {
       falls = p;
       text =
-        text-back-one w (at .args .i) (at .pre .1 .0) (omega arith) (at .args .f) (c .before .before .parent-of .result)
-        (c .before .step-of .result) (c .puts-before .result) (c .before .before .parent-of .ensures (w .slots) no-slot (w .holds) (w .entered))
-        (c .before .step-of .ensures (w .slots) no-slot (w .holds) (w .entered))
-        (c .puts-before .ensures (way-back (c .before .before .parent-of .result) (omega arith) w));
+          text-back-one w (at .args .i) (at .pre .1 .0) (omega arith) (at .args .f) (c .before .before .parent-of .result)
+          (c .before .step-of .result) (c .puts-before .result) (c .before .before .parent-of .ensures (w .slots) no-slot (w .holds) (w .entered))
+          (c .before .step-of .ensures (w .slots) no-slot (w .holds) (w .entered))
+          (c .puts-before .ensures (way-back (c .before .before .parent-of .result) (omega arith) w));
     }
 
 pub step-back-spec : {M : Type 1} → statement M

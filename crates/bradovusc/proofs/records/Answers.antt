@@ -6,8 +6,8 @@ use mathlib.Core.Bool.{Bool, true, false}
 use mathlib.Core.List.{List}
 use lib.ListN.{length}
 use Rattle.paper.proofs.Tests.{le-leb, lt-leb}
-use Rattle.bradovusc.specs.Answer.{text-above, value-records, in-front, answer-given, buffer-after, Answered}
-use Rattle.bradovusc.specs.declared.answer.Answer.the-variants.{TextTooLong, TooShort, Written}
+use Rattle.bradovusc.specs.Records.{text-above, value-records, in-front, answer-given, buffer-after, Answered}
+use Rattle.bradovusc.specs.declared.records.Given.the-variants.{TextTooLong, TooShort, Written}
 
 module _ (stand : List Bool) (text : ℕ → List ℕ) (buffer : List ℕ) where
   pub text-too-long : text-above stand text ≡ true → Answered stand text buffer buffer TextTooLong

@@ -1,13 +1,13 @@
 -- `write_head` stores the five bytes. Follows from `stored-whole`.
 use native.Mathlib.Omega.{arith}
 use lib.ListN.{length-set}
-use Rattle.bradovusc.specs.Answer.{record-head}
+use Rattle.bradovusc.specs.Records.{record-head}
 use Rattle.bradovusc.proofs.slots.Parts.{stored-whole}
 use borrow.Author.Needs.{needs}
-use Rattle.bradovusc.proofs.answer.write_head.Statement.{statement}
-use Rattle.bradovusc.proofs.answer.write_head.Tie as tie
-use Rattle.bradovusc.proofs.answer.write_head.Reads as reads
-use Rattle.bradovusc.proofs.answer.write_head.Lts as lts
+use Rattle.bradovusc.proofs.records.write_head.Statement.{statement}
+use Rattle.bradovusc.proofs.records.write_head.Tie as tie
+use Rattle.bradovusc.proofs.records.write_head.Reads as reads
+use Rattle.bradovusc.proofs.records.write_head.Lts as lts
 
 slice-write-out : tie.Need-slice-write-out
 slice-write-out c = search needs

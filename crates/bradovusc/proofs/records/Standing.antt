@@ -14,8 +14,8 @@ use Rattle.paper.specs.Numbers.{fields, longest-text}
 use Rattle.paper.specs.Outcome.{value-record}
 use Rattle.paper.proofs.Tests.{lt-leb, le-leb, leb-true, not-is-false}
 use Rattle.paper.proofs.Lists.{any-false, keep-mem, upto-mem}
-use Rattle.bradovusc.specs.Answer.{standing-fields, text-above, value-records}
-use Rattle.bradovusc.proofs.answer.Records.{length-record}
+use Rattle.bradovusc.specs.Records.{standing-fields, text-above, value-records}
+use Rattle.bradovusc.proofs.records.Records.{length-record}
 
 module _ (stand : List Bool) where
   -- the standing fields with the number f or above

@@ -8,29 +8,34 @@ ghost use Rattle.paper.specs.Lists.{member};
 ghost use Rattle.paper.specs.Numbers.{fields, longest-text};
 ghost use Rattle.paper.specs.Outcome.{value-record};
 ghost use Rattle.bradovusc.specs.Run.{slot-at};
-ghost use Rattle.bradovusc.specs.Answer.{Way-to, Steps-back, Record-fits, Put-in-front, Records-fit, Answered};
-ghost use Rattle.bradovusc.specs.Answer.{front-at, puts-before, text-at, record-head, head-bytes, in-front, text-above, value-records};
-
-use crate::slots::{parent_of, step_of};
+ghost use Rattle.bradovusc.specs.Records.{Way-to, Steps-back, Record-fits, Put-in-front, Records-fit, Answered};
+ghost use Rattle.bradovusc.specs.Records.{front-at, puts-before, text-at, record-head, head-bytes, in-front, text-above, value-records};
+use crate::slots::parent_of;
+use crate::slots::step_of;
 
 // Bytes of a slot, and where its sides begin.
 const SLOT: usize = 144;
+
 const LEFT: usize = 2;
+
 const RIGHT: usize = 50;
 
 // "0 to 42 (a character) or 64 to 71 (field 0 to 7)"
 const CHARACTERS: u8 = 43;
+
 const FIELD_TOKEN: u8 = 64;
+
 const FIELDS: usize = 8;
 // the front of an empty side
 const NO_TOKEN: u8 = 255;
 
 // mark, field and length of a record
 const HEAD: usize = 5;
+
 const LONGEST_TEXT: usize = 65535;
 
 // What became of the answer: a text above 65,535 characters, an answer buffer too short, or so many bytes written.
-pub enum Answer {
+pub enum Given {
     TextTooLong,
     TooShort,
     Written(usize),
@@ -194,17 +199,17 @@ fn write_records(answer: &mut [u8], work: &[u8], last: usize, stand: [bool; FIEL
 }
 
 // The answer of a clash whose finish is in the last slot. "21 comes before 20", and both before any byte is written.
-pub fn answer_clash(answer: &mut [u8], work: &[u8], last: usize, stand: [bool; FIELDS]) -> Answer
+pub fn answer_clash(answer: &mut [u8], work: &[u8], last: usize, stand: [bool; FIELDS]) -> Given
     requires { ⌜ Way-to (now work) last ⌝ }
     ensures { λ r. ⌜ ((w : Way-to (now (work .entry)) last) → Answered stand (text-at (w .slots) last) (now (answer .entry)) (now (answer .exit)) r) ⌝ }
 {
     if some_text_above(work, last, stand) {
-        return Answer::TextTooLong;
+        return Given::TextTooLong;
     }
     let total = records_length(work, last, stand);
     if answer.len() < total {
-        return Answer::TooShort;
+        return Given::TooShort;
     }
     write_records(answer, work, last, stand);
-    Answer::Written(total)
+    Given::Written(total)
 }

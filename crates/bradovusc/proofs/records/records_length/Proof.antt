@@ -6,14 +6,14 @@ use mathlib.Core.Path.{_≡_, refl, sym, ap, _∙_}
 use mathlib.Core.Logic.{⊎-elim}
 use lib.ListN.{length}
 use borrow.Author.Needs.{needs}
-use Rattle.bradovusc.specs.Answer.{Way-to, text-at, value-records}
-use Rattle.bradovusc.proofs.answer.Text.{text-short}
-use Rattle.bradovusc.proofs.answer.Standing.{records-from, records-all, length-here, records-passed}
-use Rattle.bradovusc.proofs.answer.records_length.Statement.{statement}
-use Rattle.bradovusc.proofs.answer.records_length.Tie as tie
-use Rattle.bradovusc.proofs.answer.records_length.Reads as reads
-use Rattle.bradovusc.proofs.answer.records_length.Lts as lts
-use Rattle.bradovusc.proofs.answer.text_length.Reads as text-length-reads
+use Rattle.bradovusc.specs.Records.{Way-to, text-at, value-records}
+use Rattle.bradovusc.proofs.records.Text.{text-short}
+use Rattle.bradovusc.proofs.records.Standing.{records-from, records-all, length-here, records-passed}
+use Rattle.bradovusc.proofs.records.records_length.Statement.{statement}
+use Rattle.bradovusc.proofs.records.records_length.Tie as tie
+use Rattle.bradovusc.proofs.records.records_length.Reads as reads
+use Rattle.bradovusc.proofs.records.records_length.Lts as lts
+use Rattle.bradovusc.proofs.records.text_length.Reads as text-length-reads
 
 abbrev Inv-loop : tie.InvT-loop
 Inv-loop work last stand total₀ f₀ total f =
@@ -27,9 +27,12 @@ abbrev μ-loop : tie.MeasureT-loop
 
 loop-holds : tie.Need-loop-holds Inv-loop μ-loop
 loop-holds c =
-    let args = c .before .args in
-    (omega arith, omega arith, λ w.
-    omega (arith, ap length (records-all (args .t3) (text-at (w .slots) (args .last)))))
+    let args = c .before .args in (
+      omega arith,
+      omega arith,
+      λ w.
+          omega (arith, ap length (records-all (args .t3) (text-at (w .slots) (args .last)))),
+    )
 
 array-read-if1 : tie.Need-array-read-if1 Inv-loop μ-loop
 array-read-if1 c = search needs
@@ -61,17 +64,18 @@ loop-less c = search needs
 loop-again : tie.Need-loop-again Inv-loop μ-loop
 loop-again c =
     let at = c .before .before in
-    let args = at .before .before .args in
-    (omega arith,
-    ⊎-elim
-    (λ g. omega (arith, g .1 .ensures (at .before .before .pre), g .2, short (c .before)))
-    (λ g. omega (arith, g .1))
-    (c .if1 .came),
-    λ w.
-    ⊎-elim
-    (λ g. omega (arith, g .1 .ensures w, g .2, at .loop .inv .2 w, length-here (args .t3) (text-at (w .slots) (args .last)) (at .loop .f) (omega arith) (g .0 .taken)))
-    (λ g. omega (arith, g .1, at .loop .inv .2 w, ap length (records-passed (args .t3) (text-at (w .slots) (args .last)) (at .loop .f) (omega arith) (g .0 .left))))
-    (c .if1 .came))
+    let args = at .before .before .args in (
+      omega arith,
+      ⊎-elim
+          (λ g. omega (arith, g .1 .ensures (at .before .before .pre), g .2, short (c .before)))
+          (λ g. omega (arith, g .1))
+          (c .if1 .came),
+      λ w.
+          ⊎-elim
+          (λ g. omega (arith, g .1 .ensures w, g .2, at .loop .inv .2 w, length-here (args .t3) (text-at (w .slots) (args .last)) (at .loop .f) (omega arith) (g .0 .taken)))
+          (λ g. omega (arith, g .1, at .loop .inv .2 w, ap length (records-passed (args .t3) (text-at (w .slots) (args .last)) (at .loop .f) (omega arith) (g .0 .left))))
+          (c .if1 .came),
+    )
 
 returns : tie.Need-returns Inv-loop μ-loop
 returns c w =
