@@ -2,8 +2,6 @@
 mod cursor;
 mod walk;
 
-use crate::walk::Sides;
-
 ghost use mathlib.Core.Path.{_≡_};
 ghost use Prim.Native.Nat.{_≤_};
 ghost use mathlib.Core.List.{map};
@@ -62,31 +60,20 @@ pub struct Sheet {
 pub fn read(s: &[u8]) -> Sheet
     ensures { λ r. ⌜ r ≡ sheet-of (read-sheet (now (s .entry))) ⌝ }
 {
-    let p = walk::read_patterns(s);
-    let found = p.found;
-    let next = p.next;
+    let r = walk::read_records(s);
+    let found = r.found;
     if let Found::Refused(x) = found {
-        return refuse(x, next.at);
+        return refuse(x, r.place);
     }
-    match walk::read_sides(s, next) {
-        Sides::Fault(x, place) => refuse(x, place),
-        Sides::Read {
-            left,
-            left_len,
-            right,
-            right_len,
-        } => {
-            let left_tokens = tokens(s, left, left_len);
-            let right_tokens = tokens(s, right, right_len);
-            Sheet {
-                found: Found::Good,
-                place: 0,
-                left: left_tokens,
-                left_len,
-                right: right_tokens,
-                right_len,
-            }
-        }
+    let left = tokens(s, r.left, r.left_len);
+    let right = tokens(s, r.right, r.right_len);
+    Sheet {
+        found: Found::Good,
+        place: 0,
+        left,
+        left_len: r.left_len,
+        right,
+        right_len: r.right_len,
     }
 }
 
