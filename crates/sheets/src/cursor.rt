@@ -1,7 +1,6 @@
 // A cursor that goes from record to record: "Reading goes on from where the last record ended."
 use crate::Fault;
 use patterns::Verdict;
-
 ghost use mathlib.Core.Path.{_≡_};
 ghost use mathlib.Core.Bool.{_&&_};
 ghost use Prim.Native.Nat.{_+_, _≤_};
@@ -14,6 +13,7 @@ ghost use Rattle.sheets.specs.Walk.{mark-of, pattern-next, Pattern-read,
 const CHARACTERS: u8 = 43;
 // "64 to 71 (field 0 to 7)"
 const FIELD_TOKEN: u8 = 64;
+
 const FIELDS: u8 = 8;
 // "length byte n 1 to 96"
 const PATTERN_BYTES: usize = 96;

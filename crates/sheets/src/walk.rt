@@ -1,7 +1,10 @@
 // The walk over a sheet's records: "no, one or several `PA`, field numbers rising; one `LE`; one `RI`; the end".
-use crate::cursor::{Cursor, Mark, PatternRecord, SideRecord};
-use crate::{Fault, Found};
-
+use crate::Fault;
+use crate::Found;
+use crate::cursor::Cursor;
+use crate::cursor::Mark;
+use crate::cursor::PatternRecord;
+use crate::cursor::SideRecord;
 ghost use mathlib.Core.Path.{_≡_};
 ghost use Prim.Native.Nat.{_≤_};
 ghost use lib.ListN.{length};
@@ -52,7 +55,6 @@ pub fn read_patterns(s: &[u8]) -> Patterns
         lens,
     }
 }
-
 
 // What the checks on the two sides and the end find: the first fault with its place, or where the tokens stand.
 pub enum Sides {

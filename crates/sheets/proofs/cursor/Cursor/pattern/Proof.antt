@@ -62,22 +62,24 @@ returns-4 : tie.Need-returns-4
 unfolding pattern-record
 returns-4 c =
     let field = c .before .before in
-    simp
-    (le-ltb _ _ (field .before .before .before .before .if1 .left),
-    lt-leb _ _ (field .before .before .if2 .left),
-    le-ltb _ _ (field .if3 .left),
-    eq-eqb _ _ (c .if4 .taken))
+    simp (
+      le-ltb _ _ (field .before .before .before .before .if1 .left),
+      lt-leb _ _ (field .before .before .if2 .left),
+      le-ltb _ _ (field .if3 .left),
+      eq-eqb _ _ (c .if4 .taken),
+    )
 
 returns-5 : tie.Need-returns-5
 unfolding pattern-record
 returns-5 c =
     let field = c .before .before .before in
-    simp
-    (le-ltb _ _ (field .before .before .before .before .if1 .left),
-    lt-leb _ _ (field .before .before .if2 .left),
-    le-ltb _ _ (field .if3 .left),
-    ne-eqb _ _ (c .before .if4 .left),
-    lt-ltb _ _ (c .if5 .taken))
+    simp (
+      le-ltb _ _ (field .before .before .before .before .if1 .left),
+      lt-leb _ _ (field .before .before .if2 .left),
+      le-ltb _ _ (field .if3 .left),
+      ne-eqb _ _ (c .before .if4 .left),
+      lt-ltb _ _ (c .if5 .taken),
+    )
 
 add-if6 : tie.Need-add-if6
 add-if6 c = search needs
@@ -86,13 +88,14 @@ returns-6 : tie.Need-returns-6
 unfolding pattern-record
 returns-6 c =
     let field = c .before .before .before .before in
-    simp
-    (le-ltb _ _ (field .before .before .before .before .if1 .left),
-    lt-leb _ _ (field .before .before .if2 .left),
-    le-ltb _ _ (field .if3 .left),
-    ne-eqb _ _ (c .before .before .if4 .left),
-    le-ltb _ _ (c .before .if5 .left),
-    lt-ltb _ _ (c .if6 .taken))
+    simp (
+      le-ltb _ _ (field .before .before .before .before .if1 .left),
+      lt-leb _ _ (field .before .before .if2 .left),
+      le-ltb _ _ (field .if3 .left),
+      ne-eqb _ _ (c .before .before .if4 .left),
+      le-ltb _ _ (c .before .if5 .left),
+      lt-ltb _ _ (c .if6 .taken),
+    )
 
 add-start : tie.Need-add-start
 add-start c = search needs
@@ -138,13 +141,14 @@ past-length : (c : tie.Else6) →
 unfolding pattern-record
 past-length c =
     let field = c .before .before .before .before in
-    simp
-    (le-ltb _ _ (field .before .before .before .before .if1 .left),
-    lt-leb _ _ (field .before .before .if2 .left),
-    le-ltb _ _ (field .if3 .left),
-    ne-eqb _ _ (c .before .before .if4 .left),
-    le-ltb _ _ (c .before .if5 .left),
-    le-ltb _ _ (c .if6 .left))
+    simp (
+      le-ltb _ _ (field .before .before .before .before .if1 .left),
+      lt-leb _ _ (field .before .before .if2 .left),
+      le-ltb _ _ (field .if3 .left),
+      ne-eqb _ _ (c .before .before .if4 .left),
+      le-ltb _ _ (c .before .if5 .left),
+      le-ltb _ _ (c .if6 .left),
+    )
 
 -- the body is what was lent to the pattern reader
 told : (c : tie.After-judge) → verdict (judgement (c .before .before)) ≡ c .judge .result
@@ -186,7 +190,6 @@ returns-9 c =
       moves = omega arith;
       goes-on = omega (arith, at-judged .before .before);
     }
-
 
 pub pattern-spec : {M : Type 1} → statement M
 pattern-spec =

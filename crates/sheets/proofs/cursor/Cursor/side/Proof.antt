@@ -50,7 +50,7 @@ shared-slice-read-len : tie.Need-shared-slice-read-len
 shared-slice-read-len c = search needs
 
 cast-len : tie.Need-cast-len
-cast-len c = omega (arith, c .shared-slice-known2 .given (c .before .before .before .before .before .before .args  .self .at + 2))
+cast-len c = omega (arith, c .shared-slice-known2 .given (c .before .before .before .before .before .before .args .self .at + 2))
 
 returns-4 : tie.Need-returns-4
 unfolding side-record
@@ -102,10 +102,11 @@ past-length : (c : tie.After-tokens) →
 unfolding side-record
 past-length c =
     rw (past-mark (c .before .before .before .before .before .before), ← all-tokens c)
-    (simp
-    (le-ltb _ _ (c .before .before .before .before .before .if3 .left),
-    le-ltb _ _ (c .before .before .before .if4 .left),
-    le-ltb _ _ (c .before .before .if5 .left)))
+    (simp (
+      le-ltb _ _ (c .before .before .before .before .before .if3 .left),
+      le-ltb _ _ (c .before .before .before .if4 .left),
+      le-ltb _ _ (c .before .before .if5 .left),
+    ))
 
 returns-6 : tie.Need-returns-6
 returns-6 c =
