@@ -12,7 +12,9 @@ use Rattle.paper.specs.Pattern.{Pattern, Held, any-text, pattern}
 use Rattle.paper.specs.Written.{judge, judged}
 use Rattle.paper.specs.Sheet.{body}
 use Rattle.paper.proofs.Tests.{by-bool, eqb-true, eqb-false}
-use Rattle.sheets.specs.Walk.{Stands-at, Fields-stand}
+use Rattle.sheets.specs.declared.Found.{Found}
+use Rattle.sheets.specs.declared.walk.Records.{Records}
+use Rattle.sheets.specs.Walk.{Stands-at, Fields-stand, Records-read}
 
 pub none-stand : (s : List ℕ) → Fields-stand s (replicate fields 0) (replicate fields 0) (replicate fields any-text)
 none-stand s =
@@ -48,3 +50,7 @@ module _ (s starts lens : List ℕ) (held : List Held) (t : Fields-stand s start
             (λ e.
             rw (getD-set-other starts field f start 0 (eqb-false f field e), getD-set-other lens field f len 0 (eqb-false f field e), getD-set-other held field f (pattern p) any-text (eqb-false f field e)) (t .stands f h));
       }
+
+-- what the walk over the records found, at what is known of it
+pub found-so : (s : List ℕ) (r : Records) {f : Found} → r .found ≡ f → Records-read s (r .found) r → Records-read s f r
+found-so s r e h = subst (λ (g : Found). Records-read s g r) e h

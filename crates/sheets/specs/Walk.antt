@@ -22,6 +22,7 @@ use Rattle.sheets.specs.declared.cursor.PatternRecord.the-variants as Co
 use Rattle.sheets.specs.declared.cursor.SideRecord.{SideRecord}
 use Rattle.sheets.specs.declared.cursor.SideRecord.the-variants as Code-side
 use Rattle.sheets.specs.declared.walk.Patterns.{Patterns}
+use Rattle.sheets.specs.declared.walk.Records.{Records}
 use Rattle.sheets.specs.declared.walk.Sides.{Sides}
 use Rattle.sheets.specs.declared.walk.Sides.the-variants as Code-sides
 
@@ -110,3 +111,20 @@ pub record Sides-stand (s : List ℕ) (at left left-len right right-len : ℕ) :
 abbrev pub Sides-read : List ℕ → ℕ → Sides → Type 0
 Sides-read s at (Code-sides.Fault x place) = (held : List Held) → left-read s at held (marked-side LE s at) ≡ refused (fault-of x) place
 Sides-read s at (Code-sides.Read left left-len right right-len) = Sides-stand s at left left-len right right-len
+
+-- where the parts of a good sheet stand
+pub record Parts-stand (s : List ℕ) (r : Records) : Type 0 where
+  pub held : List Held
+  pub reads : read-sheet s ≡ asked (record {
+    left = map token (body s (r .left) (r .«left_len»));
+    right = map token (body s (r .right) (r .«right_len»));
+    held = held;
+  })
+  pub left-stands : Tokens-stand s (r .left) (r .«left_len»)
+  pub right-stands : Tokens-stand s (r .right) (r .«right_len»)
+  pub fields-stand : Fields-stand s (r .starts) (r .lens) held
+
+-- what the walk over all records finds
+abbrev pub Records-read : List ℕ → Found → Records → Type 0
+Records-read s Good r = Parts-stand s r
+Records-read s (Refused x) r = read-sheet s ≡ refused (fault-of x) (r .place)

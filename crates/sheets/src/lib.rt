@@ -2,16 +2,21 @@
 mod cursor;
 mod walk;
 
-use crate::walk::Sides;
 ghost use mathlib.Core.Path.{_≡_};
-ghost use Prim.Native.Nat.{_≤_};
+ghost use Prim.Native.Nat.{_+_, _≤_};
 ghost use mathlib.Core.List.{map};
 ghost use lib.ListN.{length};
 ghost use Rattle.paper.specs.Numbers.{sheet-side};
 ghost use Rattle.paper.specs.Sheet.{fault-number, body, token, refused, read-sheet};
+ghost use Rattle.paper.specs.Pattern.{Held};
+ghost use Rattle.patterns.specs.Masks.{follow-masks, taking-masks, last-mask};
 ghost use Rattle.sheets.specs.Faults.{fault-of};
 ghost use Rattle.sheets.specs.Read.{padded, side-bytes, sheet-of};
-ghost use Rattle.sheets.specs.Walk.{Tokens-stand};
+ghost use Rattle.sheets.specs.Walk.{Tokens-stand, Stands-at};
+ghost use Rattle.sheets.specs.Tables.{follow-sets, taking-sets, last-sets};
+
+// "field byte 0 to 7"
+const FIELDS: usize = 8;
 
 // "The first fault met decides."
 pub enum Fault {
@@ -61,31 +66,20 @@ pub struct Sheet {
 pub fn read(s: &[u8]) -> Sheet
     ensures { λ r. ⌜ r ≡ sheet-of (read-sheet (now (s .entry))) ⌝ }
 {
-    let p = walk::read_patterns(s);
-    let found = p.found;
-    let next = p.next;
+    let r = walk::read_records(s);
+    let found = r.found;
     if let Found::Refused(x) = found {
-        return refuse(x, next.at);
+        return refuse(x, r.place);
     }
-    match walk::read_sides(s, next) {
-        Sides::Fault(x, place) => refuse(x, place),
-        Sides::Read {
-            left,
-            left_len,
-            right,
-            right_len,
-        } => {
-            let left_tokens = tokens(s, left, left_len);
-            let right_tokens = tokens(s, right, right_len);
-            Sheet {
-                found: Found::Good,
-                place: 0,
-                left: left_tokens,
-                left_len,
-                right: right_tokens,
-                right_len,
-            }
-        }
+    let left = tokens(s, r.left, r.left_len);
+    let right = tokens(s, r.right, r.right_len);
+    Sheet {
+        found: Found::Good,
+        place: 0,
+        left,
+        left_len: r.left_len,
+        right,
+        right_len: r.right_len,
     }
 }
 
@@ -123,4 +117,94 @@ fn padded(side: &[u8]) -> [u8; 24]
         i += 1;
     }
     tokens
+}
+
+// "For every field and every place, the set of places that may follow", of a good sheet; else zeros.
+pub fn follow_sets(s: &[u8]) -> [[u32; 32]; 8]
+    ensures { λ r. ⌜ r ≡ follow-sets (read-sheet (now (s .entry))) ⌝ }
+{
+    let mut sets = [[0; 32]; 8];
+    let r = walk::read_records(s);
+    let found = r.found;
+    let Found::Good = found else {
+        return sets;
+    };
+    let mut f = 0;
+    while f < FIELDS {
+        let start = r.starts[f];
+        let len = r.lens[f];
+        sets[f] = field_follow_sets(s, start, len);
+        f += 1;
+    }
+    sets
+}
+
+fn field_follow_sets(s: &[u8], start: usize, len: usize) -> [u32; 32]
+    requires { ⌜ start + len ≤ length (now s) ⌝ }
+    ensures { λ r. ⌜ ((h : Held) → Stands-at (now (s .entry)) start len h → r ≡ follow-masks h) ⌝ }
+{
+    if len == 0 {
+        return patterns::open_follow_sets();
+    }
+    patterns::follow_sets(&s[start..start + len])
+}
+
+// For every field and every character the set of places that take it, of a good sheet; else zeros.
+pub fn taking_sets(s: &[u8]) -> [[u32; 43]; 8]
+    ensures { λ r. ⌜ r ≡ taking-sets (read-sheet (now (s .entry))) ⌝ }
+{
+    let mut sets = [[0; 43]; 8];
+    let r = walk::read_records(s);
+    let found = r.found;
+    let Found::Good = found else {
+        return sets;
+    };
+    let mut f = 0;
+    while f < FIELDS {
+        let start = r.starts[f];
+        let len = r.lens[f];
+        sets[f] = field_taking_sets(s, start, len);
+        f += 1;
+    }
+    sets
+}
+
+fn field_taking_sets(s: &[u8], start: usize, len: usize) -> [u32; 43]
+    requires { ⌜ start + len ≤ length (now s) ⌝ }
+    ensures { λ r. ⌜ ((h : Held) → Stands-at (now (s .entry)) start len h → r ≡ taking-masks h) ⌝ }
+{
+    if len == 0 {
+        return patterns::open_taking_sets();
+    }
+    patterns::taking_sets(&s[start..start + len])
+}
+
+// For every field the set of places that may be the last one of a text, of a good sheet; else zeros.
+pub fn last_sets(s: &[u8]) -> [u32; 8]
+    ensures { λ r. ⌜ r ≡ last-sets (read-sheet (now (s .entry))) ⌝ }
+{
+    let mut sets = [0; 8];
+    let r = walk::read_records(s);
+    let found = r.found;
+    let Found::Good = found else {
+        return sets;
+    };
+    let mut f = 0;
+    while f < FIELDS {
+        let start = r.starts[f];
+        let len = r.lens[f];
+        sets[f] = field_last_set(s, start, len);
+        f += 1;
+    }
+    sets
+}
+
+fn field_last_set(s: &[u8], start: usize, len: usize) -> u32
+    requires { ⌜ start + len ≤ length (now s) ⌝ }
+    ensures { λ r. ⌜ ((h : Held) → Stands-at (now (s .entry)) start len h → r ≡ last-mask h) ⌝ }
+{
+    if len == 0 {
+        return patterns::open_last_set();
+    }
+    patterns::last_set(&s[start..start + len])
 }

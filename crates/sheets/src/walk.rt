@@ -5,9 +5,10 @@ use crate::cursor::Cursor;
 use crate::cursor::Mark;
 use crate::cursor::PatternRecord;
 use crate::cursor::SideRecord;
+ghost use mathlib.Core.Path.{_≡_};
 ghost use Prim.Native.Nat.{_≤_};
 ghost use lib.ListN.{length};
-ghost use Rattle.sheets.specs.Walk.{Patterns-read, Sides-read};
+ghost use Rattle.sheets.specs.Walk.{Patterns-read, Sides-read, Records-read};
 
 pub struct Patterns {
     pub found: Found,
@@ -97,5 +98,66 @@ pub fn read_sides(s: &[u8], c: Cursor) -> Sides
                 }
             }
         },
+    }
+}
+
+// What the walk over all records finds: the first fault and its place, or where the parts of the good sheet stand.
+pub struct Records {
+    pub found: Found,
+    pub place: usize,
+    pub left: usize,
+    pub left_len: usize,
+    pub right: usize,
+    pub right_len: usize,
+    pub starts: [usize; 8],
+    pub lens: [usize; 8],
+}
+
+// "The first fault met decides."
+pub fn read_records(s: &[u8]) -> Records
+    ensures { λ r. ⌜ Records-read (now (s .entry)) (r .found) r ⌝ }
+{
+    let p = read_patterns(s);
+    let found = p.found;
+    let next = p.next;
+    if let Found::Refused(x) = found {
+        return refuse(x, next.at);
+    }
+    match read_sides(s, next) {
+        Sides::Fault(x, place) => refuse(x, place),
+        Sides::Read {
+            left,
+            left_len,
+            right,
+            right_len,
+        } => {
+            let starts = p.starts;
+            let lens = p.lens;
+            Records {
+                found: Found::Good,
+                place: 0,
+                left,
+                left_len,
+                right,
+                right_len,
+                starts,
+                lens,
+            }
+        }
+    }
+}
+
+fn refuse(x: Fault, place: usize) -> Records
+    ensures { λ r. ⌜ (r .found ≡ Found.Refused x) × (r .place ≡ place) ⌝ }
+{
+    Records {
+        found: Found::Refused(x),
+        place,
+        left: 0,
+        left_len: 0,
+        right: 0,
+        right_len: 0,
+        starts: [0; 8],
+        lens: [0; 8],
     }
 }
