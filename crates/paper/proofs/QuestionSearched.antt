@@ -85,7 +85,7 @@ module _ (q : Question) where
         rw p
         (Searched.every-entry _ _ _ equal same (room-of work) first (λ (t : Situation PlaceSet). equal-fronts (t .left) (t .right) ≡ false)
         (trimmed-fronts (acceptor q) _)
-        (λ t m u h k. let c = child-of (acceptor q) longest-side t k in rw (c .makes) (trimmed-fronts (acceptor q) (moved (acceptor q) t (c .move))))
+        (λ t m u h k. let c = child-of (acceptor q) longest-side t k in rw (c .makes) (trimmed-fronts (acceptor q) (moved (acceptor q) t m)))
         e i)
 
     -- "no room gives 18"
@@ -99,6 +99,7 @@ module _ (q : Question) where
         left-out (p, m, s, i, c, n) =
             record {
               parent = p .at;
+              move = m;
               left-out = s;
               parent-entered = map-mem at i;
               is-child = child-of (acceptor q) longest-side (p .at) c;
@@ -107,12 +108,12 @@ module _ (q : Question) where
 
     -- "a side above 48 tokens gives 19"
     pub too-long-left : how-of q (searched q (room-of work)) ≡ too-long
-        → (s t : Situation PlaceSet)
+        → (s : Situation PlaceSet) × (m : Move) × (t : Situation PlaceSet)
         × List·Memᴰ s (entered q work)
-        × ChildOf (acceptor q) s t
+        × ChildOf (acceptor q) s m t
         × ((longest-side < length (t .left)) ⊎ (longest-side < length (t .right)))
     unfolding how-of searched search-from
     too-long-left h =
         let (p, i, c) = Searched.too-long-child _ _ _ equal same (room-of work) first h in
-        let (t, k, above) = long-of (acceptor q) longest-side (p .at) c in
-        (p .at, t, map-mem at i, k, above)
+        let (m, t, k, above) = long-of (acceptor q) longest-side (p .at) c in
+        (p .at, m, t, map-mem at i, k, above)
