@@ -14,8 +14,8 @@ use Rattle.paper.specs.Places.{PlaceSet, reachable-sets}
 use Rattle.paper.specs.Search.{End, found, used-up, no-room, too-long, entries}
 use Rattle.paper.specs.Leads.{situations}
 use Rattle.paper.specs.Equation.{chr, fld, Side, Texts, stands-in}
-use Rattle.paper.specs.Situation.{Acceptor, Situation, is-dead, Move, kind, trimmed, moved, moves-of, same-situation, finished}
-use Rattle.paper.specs.Situation.{children, question}
+use Rattle.paper.specs.Situation.{Situation, Move, same-situation, finished, children, question}
+use Rattle.paper.specs.Children.{ChildOf}
 use Rattle.paper.specs.Plain.{plain, plain-bound}
 use Rattle.paper.specs.Question.{Question, held-by, Solution, acceptor}
 use Rattle.paper.specs.Sheet.{Fault, refused, asked, read-sheet}
@@ -53,12 +53,6 @@ pub record NoClash (sheet : List ℕ) : Type 0 where
   pub question : Question
   pub good : Good sheet question
   pub none : (texts : Texts) → Solution question texts → ⊥
-
--- t is a child of s: what the move m, one of those of s, makes, trimmed. "Dead is dropped".
-pub record ChildOf {P : Type 0} (A : Acceptor P) (s : Situation P) (m : Move) (t : Situation P) : Type 0 where
-  pub is-move : List·Memᴰ m (moves-of A (kind A s) s)
-  pub makes : t ≡ trimmed A (moved A s m)
-  pub alive : kind A t ≡ is-dead → ⊥
 
 -- the situations that the search enters, in their order, in the room that the working buffer has
 abbrev pub entered : Question → List ℕ → List (Situation PlaceSet)
