@@ -17,9 +17,9 @@ use lib.ListN.{getD}
 use lib.Pow.{pow-pos}
 use Rattle.paper.specs.Lists.{from, upto, any, only, keep, member}
 use Rattle.paper.specs.Numbers.{most-leaves, characters}
-use Rattle.paper.specs.Pattern.{Pattern, Held, any-text, pattern}
+use Rattle.paper.specs.Pattern.{Held, any-text, pattern}
 use Rattle.paper.specs.Places.{leaves, leaf-takes, follows, ends-at, PlaceSet, leaf-places, first-set, set-after, may-end, is-empty}
-use Rattle.paper.proofs.Tests.{by-bool, true-false, not-true, same-tests, and-left, and-right, both-true, eqb-true, eqb-false, eq-eqb, neq-eqb, eqb-symmetric}
+use Rattle.paper.proofs.Tests.{by-bool, same-tests, and-left, and-right, both-true, eqb-true, eqb-false, neq-eqb, eqb-symmetric}
 use Rattle.paper.proofs.Lists.{cons-eq, mem-cons-by, any-true, mem-any, none-any, mem-keep, keep-mem, mem-from, from-mem, mem-upto, upto-mem, member-true, mem-member}
 use Rattle.paper.proofs.Parts.{takes-within}
 use Rattle.paper.proofs.Rising.{Rising, none, more, rising-first, rising-after, leaf-after}

@@ -6,9 +6,9 @@ use mathlib.Core.Bool.{true, false}
 use mathlib.Core.List.{List, []}
 use lib.ListN.{length, replicate}
 use Rattle.paper.specs.Numbers.{characters}
-use Rattle.paper.specs.Pattern.{Pattern}
+use Rattle.paper.specs.Pattern.{Pattern, many}
 use Rattle.paper.specs.Places.{leaves, takes-empty, may-be-first, may-be-last, may-follow, leaf-takes}
-use Rattle.paper.specs.Written.{Part, no-pattern, part, Judged, not-one-pattern, too-many-leaves, judged}
+use Rattle.paper.specs.Written.{Part, no-pattern, part, read-part, Judged, not-one-pattern, too-many-leaves, judged}
 use Rattle.patterns.specs.Masks.{places, mask-of, table}
 use Rattle.patterns.specs.declared.reader.Reading.{Reading}
 
@@ -26,6 +26,23 @@ pub record Reads (p : Pattern) (rest : List ℕ) (o : ℕ) (r : Reading) : Type 
 abbrev pub Read-as : Part → ℕ → Reading → Type 0
 Read-as no-pattern o r = r .ok ≡ false
 Read-as (part p rest) o r = Reads p rest o r
+
+-- r is the reading of the bytes s, whatever more than enough turns are taken
+abbrev pub Reading-of : List ℕ → ℕ → Reading → Type 0
+Reading-of s o r = (n : ℕ) → length s ≤ n → Read-as (read-part n s) o r
+
+-- r is the reading of a pattern that has no part, with so many bytes left behind it
+abbrev pub Single : Pattern → ℕ → ℕ → Reading → Type 0
+Single p left o r = (rest : List ℕ) → length rest ≡ left → Reads p rest o r
+
+-- r is the reading of two patterns under an operator, of which a and b are the readings
+abbrev pub Joined : (Pattern → Pattern → Pattern) → Reading → Reading → Reading → Type 0
+Joined op a b r =
+    (p q : Pattern) (s rest : List ℕ) (o : ℕ) → Reads p s o a → Reads q rest (o + leaves p) b → Reads (op p q) rest o r
+
+-- r is the reading of a pattern any number of times, of which a is the reading
+abbrev pub Repeated : Reading → Reading → Type 0
+Repeated a r = (p : Pattern) (rest : List ℕ) (o : ℕ) → Reads p rest o a → Reads (many p) rest o r
 
 -- reading where there is no pattern
 unfoldable pub nothing : Reading
