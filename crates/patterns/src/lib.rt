@@ -59,10 +59,10 @@ fn good(s: &[u8]) -> Reading
     ensures { λ r. ⌜ Good-as (judge (now (s .entry))) r ⌝ }
 {
     let r = whole(s);
-    if PLACES < r.next {
-        return Reading::none();
+    if r.next <= PLACES {
+        return r;
     }
-    r
+    Reading::none()
 }
 
 // For every place of a good pattern the places that may follow; zeros where the bytes are none.
