@@ -14,7 +14,8 @@ use Rattle.paper.proofs.Parts.{last-within}
 use Rattle.paper.specs.Pattern.{Pattern, pattern}
 use Rattle.paper.specs.Places.{leaves, takes-empty, may-be-last, ends-at}
 use Rattle.paper.specs.Written.{Part, no-pattern, part, read-part, Judged, not-one-pattern, too-many-leaves, judged, judge-part, judge}
-use Rattle.patterns.specs.Masks.{places, mask-of, table, follow-masks, taking-mask, taking-masks, last-mask, verdict, follow-sets-of, taking-sets-of, last-set-of}
+use Rattle.patterns.specs.Masks.{places, mask-of, table, follow-masks, taking-mask, taking-masks, last-mask}
+use Rattle.patterns.specs.Masks.{verdict, follow-sets-of, taking-sets-of, last-set-of}
 use Rattle.patterns.specs.Reading.{Read-as, nothing, Whole-as, Good-as}
 use Rattle.patterns.specs.declared.reader.Reading.{Reading}
 use Rattle.patterns.specs.declared.Verdict.the-variants.{NotOnePattern, TooManyLeaves, Good}

@@ -13,7 +13,8 @@ use Rattle.paper.specs.Numbers.{characters, empty-code, range-code, then-code, 
 use Rattle.paper.specs.Pattern.{takes, char, range, Pattern, leaf, empty, then, either}
 use Rattle.paper.specs.Places.{leaves}
 use Rattle.paper.specs.Written.{Part, no-pattern, part, read-range, two-parts, read-part}
-use Rattle.paper.proofs.Tests.{by-bool, cond-true, cond-false, true-false, same-tests, and-left, and-right, both-true, left-false, right-false}
+use Rattle.paper.proofs.Tests.{by-bool, cond-true, cond-false, true-false, same-tests}
+use Rattle.paper.proofs.Tests.{and-left, and-right, both-true, left-false, right-false}
 use Rattle.paper.proofs.Tests.{leb-true, le-leb, lt-leb, lt-ltb, le-ltb, eqb-true, eqb-false, eq-eqb, neq-eqb}
 use Rattle.patterns.specs.Masks.{mask-of}
 use Rattle.patterns.specs.Reading.{Reads, Read-as, Reading-of, Single, Joined, Repeated}
@@ -74,7 +75,8 @@ record Good (n : ℕ) (s : List ℕ) (o : ℕ) (a : Reading) : Type 0 where
   within : a .left ≤ length s
   room : a .next + a .left ≤ o + length s
 
-good-part : (n : ℕ) (s : List ℕ) (o : ℕ) (a : Reading) (x : Part) → read-part n s ≡ x → Leaves-behind s x → Read-as x o a → a .ok ≡ true → Good n s o a
+good-part : (n : ℕ) (s : List ℕ) (o : ℕ) (a : Reading) (x : Part) → read-part n s ≡ x → Leaves-behind s x → Read-as x o a
+    → a .ok ≡ true → Good n s o a
 good-part n s o a no-pattern e l h ok = absurd (true-false ok h)
 good-part n s o a (part p rest) e l h ok =
     let whole : length s ≡ length (l .used) + length rest = ap length (l .whole) ∙ length-append (l .used) rest in
@@ -138,7 +140,14 @@ module _ (s : List ℕ) (o : ℕ) (r : Reading) (h : 0 < length s) where
   read-other : (n : ℕ) (rest : List ℕ) (b : ℕ) → characters ≤ b → (b ≡ empty-code → ⊥) → (b ≡ range-code → ⊥)
       → (b ≡ then-code → ⊥) → (b ≡ or-code → ⊥) → (b ≡ many-code → ⊥) → read-part (suc n) (b ∷ rest) ≡ no-pattern
   read-other n rest b l e g t o m =
-      simp (le-ltb b characters l, neq-eqb b empty-code e, neq-eqb b range-code g, neq-eqb b then-code t, neq-eqb b or-code o, neq-eqb b many-code m)
+      simp (
+        le-ltb b characters l,
+        neq-eqb b empty-code e,
+        neq-eqb b range-code g,
+        neq-eqb b then-code t,
+        neq-eqb b or-code o,
+        neq-eqb b many-code m,
+      )
 
   pub as-char : first-byte s < characters
       → Single (leaf (range (first-byte s) (first-byte s))) (length s - 1) o r → Reading-of s o r
@@ -159,7 +168,8 @@ module _ (s : List ℕ) (o : ℕ) (r : Reading) (h : 0 < length s) where
       by-front (λ (x : Part). Read-as x o r) s h (λ k _. rw (read-other k (drop 1 s) (first-byte s) l e g t o′ m) z)
 
 -- With no first part there is no pattern.
-no-first : (n : ℕ) (s : List ℕ) (b : ℕ) → then-code ≤ b → b ≤ many-code → read-part n s ≡ no-pattern → read-part (suc n) (b ∷ s) ≡ no-pattern
+no-first : (n : ℕ) (s : List ℕ) (b : ℕ) → then-code ≤ b → b ≤ many-code → read-part n s ≡ no-pattern
+    → read-part (suc n) (b ∷ s) ≡ no-pattern
 no-first n s b l m e =
     by-bool (eqb b then-code)
     (λ (t : eqb b then-code ≡ true). let g : b ≡ then-code = eqb-true b then-code t in rw (g, e))

@@ -2,15 +2,28 @@
 -- `Reads p rest o r`: r tells of the pattern p, whose first leaf is the place o and behind which the bytes `rest` are left.
 use Prim.Native.Nat.{ℕ, _+_, _<_, _≤_}
 use mathlib.Core.Path.{_≡_}
-use mathlib.Core.Bool.{true, false}
+use mathlib.Core.Bool.{true, false, cond}
 use mathlib.Core.List.{List, []}
-use lib.ListN.{length, replicate}
+use lib.Bits.{bitOr}
+use lib.ListN.{length, getD, replicate}
 use Rattle.paper.specs.Numbers.{characters}
-use Rattle.paper.specs.Pattern.{Pattern, many}
+use Rattle.paper.specs.Pattern.{takes, range, Pattern, many}
 use Rattle.paper.specs.Places.{leaves, takes-empty, may-be-first, may-be-last, may-follow, leaf-takes}
 use Rattle.paper.specs.Written.{Part, no-pattern, part, read-part, Judged, not-one-pattern, too-many-leaves, judged}
-use Rattle.patterns.specs.Masks.{places, mask-of, table}
+use Rattle.patterns.specs.Masks.{places, mask-of, in-mask, table}
 use Rattle.patterns.specs.declared.reader.Reading.{Reading}
+
+-- the sets of two tables together, at i
+abbrev pub or-at : List ℕ → List ℕ → ℕ → ℕ
+or-at sets more i = bitOr (getD sets i 0) (getD more i 0)
+
+-- the followers of i, where every place of `first` may follow every place of `last` besides
+abbrev pub link-at : List ℕ → ℕ → ℕ → ℕ → ℕ
+link-at follow last first i = bitOr (getD follow i 0) (cond (in-mask last i) first 0)
+
+-- the set, where the character c is one from lo to hi
+abbrev pub mark-at : ℕ → ℕ → ℕ → ℕ → ℕ
+mark-at lo hi set c = cond (takes (range lo hi) c) set 0
 
 pub record Reads (p : Pattern) (rest : List ℕ) (o : ℕ) (r : Reading) : Type 0 where
   pub ok : r .ok ≡ true

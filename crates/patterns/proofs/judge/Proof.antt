@@ -22,7 +22,8 @@ returns-2 c =
 returns-3 : tie.Need-returns-3
 returns-3 c =
     let w = c .before .before .before .before .whole in
-    verdict-good (w .result) (judge (c .before .before .before .before .before .before .args .s .now)) (w .ensures) (not-is-false (c .before .before .if1 .left)) (c .if2 .left)
+    verdict-good (w .result) (judge (c .before .before .before .before .before .before .args .s .now)) (w .ensures)
+    (not-is-false (c .before .before .if1 .left)) (c .if2 .left)
 
 pub judge-spec : {M : Type 1} → statement M
 judge-spec = tie.close (tie.spec whole-requires returns returns-2 returns-3)

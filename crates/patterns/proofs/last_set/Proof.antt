@@ -19,7 +19,8 @@ returns c =
     let g = c .before .before .before .good2 in
     let p = c .before .before .place in
     let w = c .before .when in
-    last-set-is (g .result) (p .result) (w .result) (p .ensures) (w .ensures) (judge (c .before .before .before .before .before .args .s .now)) (g .ensures)
+    last-set-is (g .result) (p .result) (w .result) (p .ensures) (w .ensures)
+    (judge (c .before .before .before .before .before .args .s .now)) (g .ensures)
 
 pub last-set-spec : {M : Type 1} → statement M
 last-set-spec = tie.close (tie.spec good-requires place-requires when-requires returns)

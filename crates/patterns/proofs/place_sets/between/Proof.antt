@@ -7,10 +7,14 @@ use Rattle.patterns.proofs.place_sets.between.Statement.{statement}
 use Rattle.patterns.proofs.place_sets.between.Tie as tie
 
 returns : tie.Need-returns
-returns c = ap (λ (b : Bool). b && leb (c .before .args .c) (c .before .args .hi)) (sym (le-leb (c .before .args .lo) (c .before .args .c) (c .if1 .taken)))
+returns c =
+    let a = c .before .args in
+    ap (λ (b : Bool). b && leb (a .c) (a .hi)) (sym (le-leb (a .lo) (a .c) (c .if1 .taken)))
 
 returns-2 : tie.Need-returns-2
-returns-2 c = sym (left-false (leb (c .before .args .lo) (c .before .args .c)) (leb (c .before .args .c) (c .before .args .hi)) (lt-leb (c .before .args .lo) (c .before .args .c) (c .if1 .left)))
+returns-2 c =
+    let a = c .before .args in
+    sym (left-false (leb (a .lo) (a .c)) (leb (a .c) (a .hi)) (lt-leb (a .lo) (a .c) (c .if1 .left)))
 
 pub between-spec : {M : Type 1} → statement M
 between-spec = tie.close (tie.spec returns returns-2)

@@ -3,24 +3,21 @@ use borrow.Author.Needs.{needs}
 use Prim.Native.Nat.{ℕ, _-_, _<_}
 use native.Mathlib.Omega.{arith}
 use mathlib.Core.Path.{ap}
-use mathlib.Core.List.{List}
 use lib.Bits.{bitOr}
 use lib.ListN.{length, getD}
+use Rattle.patterns.specs.Reading.{or-at}
 use Rattle.patterns.proofs.Tables.{Filling, filling-none, filling-read, filling-more, filling-all}
 use Rattle.patterns.proofs.place_sets.join.Statement.{statement}
 use Rattle.patterns.proofs.place_sets.join.Tie as tie
 
-abbrev joined : List ℕ → List ℕ → ℕ → ℕ
-joined a b i = bitOr (getD a i 0) (getD b i 0)
-
 abbrev Inv-loop : tie.InvT-loop
-Inv-loop sets₀ more i₀ sets i = Filling (joined sets₀ more) sets₀ sets i
+Inv-loop sets₀ more i₀ sets i = Filling (or-at sets₀ more) sets₀ sets i
 
 abbrev μ-loop : tie.MeasureT-loop
 μ-loop sets₀ more i₀ sets i = length sets₀ - i
 
 loop-holds : tie.Need-loop-holds Inv-loop μ-loop
-loop-holds c = filling-none (joined (c .args .sets .now) (c .args .more .now)) (c .args .sets .now)
+loop-holds c = filling-none (or-at (c .args .sets .now) (c .args .more .now)) (c .args .sets .now)
 
 mul-sets : tie.Need-mul-sets Inv-loop μ-loop
 mul-sets c = search needs
@@ -51,10 +48,10 @@ loop-again c =
     let l = c .before .before .before .loop in
     let a = c .before .before .before .before .args in
     let h : l .i < length (a .sets .now) = omega arith in
-    filling-more (joined (a .sets .now) (a .more .now)) (a .sets .now) (l .sets) (l .i) (l .inv) h
+    filling-more (or-at (a .sets .now) (a .more .now)) (a .sets .now) (l .sets) (l .i) (l .inv) h
     (bitOr (getD (l .sets) (l .i) 0) (getD (a .more .now) (l .i) 0))
     (ap (λ (x : ℕ). bitOr x (getD (a .more .now) (l .i) 0))
-    (filling-read (joined (a .sets .now) (a .more .now)) (a .sets .now) (l .sets) (l .i) (l .inv) h))
+    (filling-read (or-at (a .sets .now) (a .more .now)) (a .sets .now) (l .sets) (l .i) (l .inv) h))
 
 same-length : tie.Need-same-length Inv-loop μ-loop
 same-length c = c .before .loop .inv .long
@@ -63,7 +60,7 @@ returns : tie.Need-returns Inv-loop μ-loop
 returns c =
     let l = c .before .loop in
     let a = c .before .before .args in
-    filling-all (joined (a .sets .now) (a .more .now)) (a .sets .now) (l .sets) (l .i) (l .inv) (omega arith)
+    filling-all (or-at (a .sets .now) (a .more .now)) (a .sets .now) (l .sets) (l .i) (l .inv) (omega arith)
 
 pub join-spec : {M : Type 1} → statement M
 join-spec =

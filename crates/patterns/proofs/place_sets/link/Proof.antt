@@ -4,25 +4,22 @@ use Prim.Native.Nat.{ℕ, _-_, _<_}
 use native.Mathlib.Omega.{arith}
 use mathlib.Core.Path.{ap, ap₂, _∙_}
 use mathlib.Core.Bool.{Bool, cond}
-use mathlib.Core.List.{List}
 use lib.Bits.{bitOr}
 use lib.ListN.{length, getD}
-use Rattle.patterns.specs.Masks.{in-mask, table}
+use Rattle.patterns.specs.Masks.{table}
+use Rattle.patterns.specs.Reading.{link-at}
 use Rattle.patterns.proofs.Tables.{Filling, filling-none, filling-read, filling-more, filling-all}
 use Rattle.patterns.proofs.place_sets.link.Statement.{statement}
 use Rattle.patterns.proofs.place_sets.link.Tie as tie
 
-abbrev linked : List ℕ → ℕ → ℕ → ℕ → ℕ
-linked follow last first i = bitOr (getD follow i 0) (cond (in-mask last i) first 0)
-
 abbrev Inv-loop : tie.InvT-loop
-Inv-loop follow₀ last first i₀ follow i = Filling (linked follow₀ last first) follow₀ follow i
+Inv-loop follow₀ last first i₀ follow i = Filling (link-at follow₀ last first) follow₀ follow i
 
 abbrev μ-loop : tie.MeasureT-loop
 μ-loop follow₀ last first i₀ follow i = length follow₀ - i
 
 loop-holds : tie.Need-loop-holds Inv-loop μ-loop
-loop-holds c = let a = c .before .args in filling-none (linked (a .follow .now) (a .last) (a .first)) (a .follow .now)
+loop-holds c = let a = c .before .args in filling-none (link-at (a .follow .now) (a .last) (a .first)) (a .follow .now)
 
 mul-follow : tie.Need-mul-follow Inv-loop μ-loop
 mul-follow c = search needs
@@ -52,7 +49,7 @@ loop-again : tie.Need-loop-again Inv-loop μ-loop
 loop-again c =
     let l = c .before .before .before .before .loop in
     let a = c .before .before .before .before .before .before .args in
-    let f : ℕ → ℕ = linked (a .follow .now) (a .last) (a .first) in
+    let f : ℕ → ℕ = link-at (a .follow .now) (a .last) (a .first) in
     let h : l .i < length (a .follow .now) = omega arith in
     filling-more f (a .follow .now) (l .follow) (l .i) (l .inv) h
     (bitOr (getD (l .follow) (l .i) 0) (c .when .result))
@@ -66,7 +63,7 @@ returns : tie.Need-returns Inv-loop μ-loop
 returns c =
     let l = c .before .loop in
     let s = c .before .before .before in
-    let f : ℕ → ℕ = linked (s .args .follow .now) (s .args .last) (s .args .first) in
+    let f : ℕ → ℕ = link-at (s .args .follow .now) (s .args .last) (s .args .first) in
     filling-all f (s .args .follow .now) (l .follow) (l .i) (l .inv) (omega arith) ∙ ap (table f) (s .pre)
 
 pub link-spec : {M : Type 1} → statement M

@@ -1,4 +1,5 @@
--- `place_sets::place` meets its contract: below `places` the shift is the power of two, which is the mask of one place; above it no place passes.
+-- `place_sets::place` meets its contract: below `places` the shift is the power of two, which is the mask of one place; above it no
+-- place passes.
 use borrow.Author.Needs.{needs}
 use Prim.Native.Nat.{ℕ, _^_, _%_}
 use native.Mathlib.Nat.{one-mul, mod-eq-of-lt}

@@ -1,5 +1,5 @@
--- `reader::read` meets its contract. It calls itself, and the measure is the number of bytes: the first part has one less, the second begins
--- behind it. Each way out is a case of the first byte and of what the parts' readings say (`Readings`).
+-- `reader::read` meets its contract. It calls itself, and the measure is the number of bytes: the first part has one less, and the
+-- second begins behind it. Each way out is a case of the first byte and of what the parts' readings say (`Readings`).
 use borrow.Author.Needs.{needs}
 use borrow.Fn.Kinds.{In}
 use borrow.Fn.PlainCycle.{Measures, is, falls, and}
@@ -11,7 +11,8 @@ use lib.ListN.{length, drop, length-drop}
 use Rattle.paper.proofs.Tests.{not-is-true, not-is-false}
 use Rattle.patterns.specs.Reading.{Reading-of, nothing}
 use Rattle.patterns.specs.declared.reader.Reading.{Reading}
-use Rattle.patterns.proofs.Readings.{to-end, as-nothing, as-none, First, as-no-first, as-many, as-then, as-or, as-no-second, second-within, second-room}
+use Rattle.patterns.proofs.Readings.{to-end, as-nothing, as-none, First, as-no-first, as-many, second-within, second-room}
+use Rattle.patterns.proofs.Readings.{as-then, as-or, as-no-second}
 use Rattle.patterns.proofs.reader.read.Reads as read
 use Rattle.patterns.proofs.reader.read.Kinds as read-kinds
 use Rattle.patterns.proofs.reader.+read.Lts-read as read-lts
@@ -50,18 +51,26 @@ calls t = (
   or-reads.Learnt,
 )
 
--- the first part, once it is read, and the second
+-- from where the first part was read back to the start, and from where the second was read back to the first
+abbrev start : (t : ℕ) → read-lts.After-read (calls t) (read-at t) read.Post → read-lts.Start (calls t) (read-at t) read.Post
+start t d = d .before .before .before .before .before .before .before
+
+abbrev before-second : (t : ℕ) → read-lts.After-read2 (calls t) (read-at t) read.Post → read-lts.After-read (calls t) (read-at t) read.Post
+before-second t d = d .before .before .before .before .before .before
+
 first : (t : ℕ) (d : read-lts.After-read (calls t) (read-at t) read.Post)
-    → First (d .before .before .before .before .before .before .before .args .s .now) (d .before .before .before .before .before .before .before .args .o) (d .read .result)
-first t d =
-    record { some = omega arith; reads = rw (to-end 1 (d .before .before .before .before .before .before .before .args .s .now)) at (d .read .ensures) }
+    → First (start t d .args .s .now) (start t d .args .o) (d .read .result)
+first t d = record { some = omega arith; reads = rw (to-end 1 (start t d .args .s .now)) at (d .read .ensures) }
 
 second : (t : ℕ) (d : read-lts.After-read2 (calls t) (read-at t) read.Post)
-    → Reading-of (drop (length (d .before .before .before .before .before .before .before .before .before .before .before .before .before .args .s .now) - d .before .before .before .before .before .before .read .result .left) (d .before .before .before .before .before .before .before .before .before .before .before .before .before .args .s .now))
-    (d .before .before .before .before .before .before .read .result .next) (d .read2 .result)
+    → Reading-of
+    (drop (length (start t (before-second t d) .args .s .now) - before-second t d .read .result .left)
+    (start t (before-second t d) .args .s .now))
+    (before-second t d .read .result .next)
+    (d .read2 .result)
 second t d =
-    let s = d .before .before .before .before .before .before .before .before .before .before .before .before .before .args .s .now in
-    rw (to-end (length s - d .before .before .before .before .before .before .read .result .left) s) at (d .read2 .ensures)
+    let s = start t (before-second t d) .args .s .now in
+    rw (to-end (length s - before-second t d .read .result .left) s) at (d .read2 .ensures)
 
 read-none-requires : (t : ℕ) → read-lts.Need-none-requires (calls t) (read-at t) read.Post
 read-none-requires t c κs = search needs
@@ -88,8 +97,8 @@ read-returns-3 : (t : ℕ) → read-lts.Need-returns-3 (calls t) (read-at t) rea
 unfolding nothing
 read-returns-3 t c =
     let a = c .before .before .before .before .before .before .args in
-    as-none (a .s .now) (a .o) (c .none2 .result) (omega arith) (omega arith) (omega arith) (omega arith) (omega arith) (omega arith) (omega arith)
-    (ap (λ (r : Reading). r .ok) (c .none2 .ensures))
+    as-none (a .s .now) (a .o) (c .none2 .result) (omega arith) (omega arith) (omega arith) (omega arith)
+    (omega arith) (omega arith) (omega arith) (ap (λ (r : Reading). r .ok) (c .none2 .ensures))
 
 read-sub-read : (t : ℕ) → read-lts.Need-sub-read (calls t) (read-at t) read.Post
 read-sub-read t c = search needs
@@ -105,14 +114,16 @@ read-read-requires t c κs = search needs
 
 read-returns-4 : (t : ℕ) → read-lts.Need-returns-4 (calls t) (read-at t) read.Post
 read-returns-4 t c =
-    as-no-first (first t (c .before .before)) (c .before .before .before .before .before .if2 .left) (c .before .before .before .before .if3 .left) (not-is-true (c .if4 .taken))
+    as-no-first (first t (c .before .before)) (c .before .before .before .before .before .if2 .left)
+    (c .before .before .before .before .if3 .left) (not-is-true (c .if4 .taken))
 
 read-many-requires : (t : ℕ) → read-lts.Need-many-requires (calls t) (read-at t) read.Post
 read-many-requires t c κs = search needs
 
 read-returns-5 : (t : ℕ) → read-lts.Need-returns-5 (calls t) (read-at t) read.Post
 read-returns-5 t c =
-    as-many (first t (c .before .before .before .before)) (not-is-false (c .before .before .if4 .left)) (c .many .result) (c .before .if5 .taken) (c .many .ensures)
+    as-many (first t (c .before .before .before .before)) (not-is-false (c .before .before .if4 .left))
+    (c .many .result) (c .before .if5 .taken) (c .many .ensures)
 
 read-sub-behind : (t : ℕ) → read-lts.Need-sub-behind (calls t) (read-at t) read.Post
 read-sub-behind t c =
@@ -129,23 +140,25 @@ read-part-read-end-2 t c = search needs
 
 read-read-requires-2 : (t : ℕ) → read-lts.Need-read-requires-2 (calls t) (read-at t) read.Post
 read-read-requires-2 t c κs =
-    let s = c .before .before .before .before .before .before .before .before .before .before .before .before .args .s .now in
-    let k = length s - c .before .before .before .before .before .read .result .left in
-    let f = first t (c .before .before .before .before .before) in
-    let ok : c .before .before .before .before .before .read .result .ok ≡ true = not-is-false (c .before .before .before .if4 .left) in
-    omega (arith, second-within f ok, second-room f ok, ap length (to-end k s), length-drop k s)
+    let d = c .before .before .before .before .before in
+    let s = start t d .args .s .now in
+    let k = length s - d .read .result .left in
+    let ok : d .read .result .ok ≡ true = not-is-false (c .before .before .before .if4 .left) in
+    omega (arith, second-within (first t d) ok, second-room (first t d) ok, ap length (to-end k s), length-drop k s)
 
 read-returns-6 : (t : ℕ) → read-lts.Need-returns-6 (calls t) (read-at t) read.Post
 read-returns-6 t c =
-    as-no-second (first t (c .before .before .before .before .before .before .before .before)) (not-is-false (c .before .before .before .before .before .before .if4 .left)) (second t (c .before .before))
-    (c .before .before .before .before .before .before .before .before .before .before .before .if2 .left) (omega arith) (not-is-true (c .if6 .taken))
+    let d = c .before .before in
+    as-no-second (first t (before-second t d)) (not-is-false (d .before .before .before .before .if4 .left)) (second t d)
+    (d .before .before .before .before .before .before .before .before .before .if2 .left) (omega arith) (not-is-true (c .if6 .taken))
 
 read-then-requires : (t : ℕ) → read-lts.Need-then-requires (calls t) (read-at t) read.Post
 read-then-requires t c κs = search needs
 
 read-returns-7 : (t : ℕ) → read-lts.Need-returns-7 (calls t) (read-at t) read.Post
 read-returns-7 t c =
-    as-then (first t (c .before .before .before .before .before .before .before .before .before .before)) (not-is-false (c .before .before .before .before .before .before .before .before .if4 .left)) (second t (c .before .before .before .before))
+    let d = c .before .before .before .before in
+    as-then (first t (before-second t d)) (not-is-false (d .before .before .before .before .if4 .left)) (second t d)
     (c .then .result) (c .before .if7 .taken) (not-is-false (c .before .before .if6 .left)) (c .then .ensures)
 
 read-or-requires : (t : ℕ) → read-lts.Need-or-requires (calls t) (read-at t) read.Post
@@ -153,7 +166,12 @@ read-or-requires t c κs = search needs
 
 read-returns-8 : (t : ℕ) → read-lts.Need-returns-8 (calls t) (read-at t) read.Post
 read-returns-8 t c =
-    as-or (first t (c .before .before .before .before .before .before .before .before .before .before)) (not-is-false (c .before .before .before .before .before .before .before .before .if4 .left)) (second t (c .before .before .before .before))
+    let d = c .before .before .before .before in
+    let not-then = c .before .if7 .left in
+    let not-many = d .before .before .before .if5 .left in
+    let low = before-second t d .before .before .before .if2 .left in
+    let high = before-second t d .before .before .if3 .left in
+    as-or (first t (before-second t d)) (not-is-false (d .before .before .before .before .if4 .left)) (second t d)
     (c .or .result) (omega arith) (not-is-false (c .before .before .if6 .left)) (c .or .ensures)
 
 pub +read-spec : {M : Type 1} → statement M

@@ -62,7 +62,8 @@ unfolding nothing
 returns-4 c =
     let s = c .before .before .before .before .before .before in
     let a = s .args in
-    as-none (a .s .now) (a .o) (c .none .result) (s .pre .1) (c .before .before .before .if1 .left) (c .before .before .if2 .left) (c .before .if3 .left)
+    as-none (a .s .now) (a .o) (c .none .result) (s .pre .1)
+    (c .before .before .before .if1 .left) (c .before .before .if2 .left) (c .before .if3 .left)
     (omega arith) (omega arith) (omega arith) (ap (λ (r : Reading). r .ok) (c .none .ensures))
 
 pub read-single-spec : {M : Type 1} → statement M

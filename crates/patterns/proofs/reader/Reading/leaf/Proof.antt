@@ -1,15 +1,12 @@
 -- `Reading::leaf` meets its contract: the one leaf is first and last, nothing follows it, and it takes the characters from lo to hi.
 use borrow.Author.Needs.{needs}
-use Prim.Native.Nat.{ℕ}
 use mathlib.Core.Path.{refl, sym, ap, _∙_}
-use mathlib.Core.Bool.{cond}
 use lib.ListN.{length}
 use Rattle.paper.specs.Numbers.{characters}
-use Rattle.paper.specs.Pattern.{takes, range}
 use Rattle.patterns.specs.Masks.{places, table}
-use Rattle.patterns.specs.Reading.{nothing}
+use Rattle.patterns.specs.Reading.{mark-at, nothing}
 use Rattle.patterns.specs.declared.reader.Reading.{Reading}
-use Rattle.patterns.proofs.Tables.{masks-none, masks-one}
+use Rattle.patterns.proofs.Tables.{masks-none, masks-marked}
 use Rattle.patterns.proofs.reader.Reading.leaf.Statement.{statement}
 use Rattle.patterns.proofs.reader.Reading.leaf.Tie as tie
 
@@ -44,8 +41,8 @@ returns c rest e =
       follow = ap (λ (r : Reading). r .follow) n ∙ masks-none places;
       taking =
           c .before .mark .ensures
-          ∙ ap (λ (r : Reading). table (λ (c : ℕ). cond (takes (range (a .lo) (a .hi)) c) (set .result) 0) (length (r .taking))) n
-          ∙ masks-one (a .o) (λ (c : ℕ). takes (range (a .lo) (a .hi)) c) (set .result) characters (set .ensures);
+          ∙ ap (λ (r : Reading). table (mark-at (a .lo) (a .hi) (set .result)) (length (r .taking))) n
+          ∙ masks-marked (a .o) (a .lo) (a .hi) (set .result) characters (set .ensures);
     }
 
 pub leaf-spec : {M : Type 1} → statement M

@@ -5,10 +5,11 @@ use native.Mathlib.Omega.{arith}
 use mathlib.Core.Path.{_≡_, sym, ap, ap₂, _∙_}
 use mathlib.Core.Bool.{_||_}
 use lib.Bits.{bitOr}
-use lib.ListN.{length, getD}
+use lib.ListN.{length}
 use Rattle.paper.specs.Numbers.{characters}
 use Rattle.paper.specs.Places.{leaves, may-be-first, may-be-last, may-follow, leaf-takes}
 use Rattle.patterns.specs.Masks.{places, table}
+use Rattle.patterns.specs.Reading.{or-at}
 use Rattle.patterns.proofs.MaskOf.{mask-of-or}
 use Rattle.patterns.proofs.Tables.{masks-joined}
 use Rattle.patterns.proofs.reader.Reading.or.Statement.{statement}
@@ -56,12 +57,12 @@ returns c p q s rest o x y =
       last = ap₂ bitOr (x .last) (y .last) ∙ mask-of-or (λ (i : ℕ). may-be-last p o i) (λ (i : ℕ). may-be-last q (o + leaves p) i);
       follow =
           followed .join .ensures
-          ∙ ap (table (λ (i : ℕ). bitOr (getD (a .self .follow) i 0) (getD (a .b .follow) i 0))) f
+          ∙ ap (table (or-at (a .self .follow) (a .b .follow))) f
           ∙ masks-joined (λ (i j : ℕ). may-follow p o i j) (λ (i j : ℕ). may-follow q (o + leaves p) i j) places
           (a .self .follow) (a .b .follow) (x .follow) (y .follow);
       taking =
           taken .join2 .ensures
-          ∙ ap (table (λ (i : ℕ). bitOr (getD (a .self .taking) i 0) (getD (a .b .taking) i 0))) t
+          ∙ ap (table (or-at (a .self .taking) (a .b .taking))) t
           ∙ masks-joined (λ (c i : ℕ). leaf-takes p o i c) (λ (c i : ℕ). leaf-takes q (o + leaves p) i c) characters
           (a .self .taking) (a .b .taking) (x .taking) (y .taking);
     }
