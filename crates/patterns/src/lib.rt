@@ -13,7 +13,8 @@ use reader::read;
 ghost use mathlib.Core.Path.{_≡_};
 ghost use Rattle.paper.specs.Pattern.{any-text};
 ghost use Rattle.paper.specs.Written.{judge};
-ghost use Rattle.patterns.specs.Masks.{follow-masks, taking-masks, last-mask, followers-of, verdict, follow-sets-of, taking-sets-of, last-set-of};
+ghost use Rattle.patterns.specs.Masks.{follow-masks, taking-masks, last-mask, followers-of};
+ghost use Rattle.patterns.specs.Masks.{verdict, follow-sets-of, taking-sets-of, last-set-of};
 ghost use Rattle.patterns.specs.Reading.{Whole-as, Good-as};
 
 // "15 bytes are not one pattern", "16 more than 31 leaves", or neither.
@@ -59,10 +60,10 @@ fn good(s: &[u8]) -> Reading
     ensures { λ r. ⌜ Good-as (judge (now (s .entry))) r ⌝ }
 {
     let r = whole(s);
-    if PLACES < r.next {
-        return Reading::none();
+    if r.next <= PLACES {
+        return r;
     }
-    r
+    Reading::none()
 }
 
 // For every place of a good pattern the places that may follow; zeros where the bytes are none.
