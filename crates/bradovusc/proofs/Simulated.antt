@@ -106,16 +106,16 @@ module _ (q : Question) (good : GoodQuestion q) where
     unfolding how-of searched search-from
     status-agrees =
         slots-status (tables-of q) room (code-situation first)
-        ∙ ap status-of (search-how code-situation code-move _ _ _ _ _ _ Good simulates room first first-good)
+        ∙ ap status-of (search-how simulates room first first-good)
         ∙ status-coded (how-of q (searched q room))
 
     entries-linked : Linked (slots .slots) (code-entries code-situation code-move the-entries)
-    entries-linked = rw (search-entries code-situation code-move _ _ _ _ _ _ Good simulates room first first-good) at (slots-linked (tables-of q) room (code-situation first))
+    entries-linked = rw (search-entries simulates room first first-good) at (slots-linked (tables-of q) room (code-situation first))
 
     as-many : length (slots .slots) ≡ length the-entries
     as-many =
         linked-length (slots-linked (tables-of q) room (code-situation first))
-        ∙ search-count code-situation code-move _ _ _ _ _ _ Good simulates room first first-good
+        ∙ search-count simulates room first first-good
 
     pub count-agrees : length (slots .slots) ≡ count-of q (searched q room)
     unfolding count-of searched search-from
