@@ -1,3 +1,8 @@
+-- situations by value
+pub mod Made
+pub mod Short
+pub mod Sides
+-- the search over slots, and how it stands for the paper's
 pub mod Numbered
 pub mod TextBack
 pub mod CodedSides
