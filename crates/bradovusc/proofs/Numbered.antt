@@ -5,16 +5,16 @@ use Prim.Native.Nat.{ℕ, zero, suc, _+_, _<_}
 use native.Mathlib.Nat.{zero-add, suc-add, add-suc}
 use native.Mathlib.Omega.{arith}
 use mathlib.Core.Path.{_≡_, refl, sym, ap, _∙_, subst}
-use mathlib.Core.Bool.{Bool, true, false, _&&_, _||_}
+use mathlib.Core.Bool.{Bool, true, false, _||_}
 use mathlib.Core.List.{List, [], _∷_, _++_, map, append-nil, append-assoc}
-use lib.Dec.{leb, ltb, eqb}
+use lib.Dec.{leb, ltb}
 use lib.ListN.{length, getD, length-append, length-map, List·getD-append, List·getD-map}
 use lib.Seq.{getD-at}
-use Rattle.paper.specs.Lists.{any, same-by}
+use Rattle.paper.specs.Lists.{any}
 use Rattle.paper.specs.Search.{Child, long, child, Entry, End, found, used-up, no-room, too-long, State, going, ended, entered, enter, offer, offer-all, take-next, turns, search, how, entries}
 use Rattle.paper.specs.Leads.{situations}
-use Rattle.paper.proofs.Tests.{by-bool, and-left, and-right, both-true, eqb-true, eqb-same, ltb-true, ltb-false, lt-ltb, le-ltb}
-use Rattle.paper.proofs.Lists.{map-append, same-by-equal, same-by-same}
+use Rattle.paper.proofs.Tests.{by-bool, ltb-true, ltb-false, lt-ltb, le-ltb}
+use Rattle.paper.proofs.Lists.{map-append}
 use Rattle.paper.proofs.Room.{ended-turns}
 use Rattle.paper.proofs.Searched.{settled}
 use Rattle.bradovusc.specs.Coded.{Coded, Tables, finished-coded, same-coded, children-coded}
@@ -22,6 +22,7 @@ use Rattle.bradovusc.specs.Slots.{Slot}
 use Rattle.bradovusc.specs.Run.{Running, is-going, enter-slot, offer-slot, offer-slots, nowhere, no-slot, slot-at, take-slot, slot-turns, slot-search}
 use Rattle.bradovusc.specs.declared.search.Status.{Status}
 use Rattle.bradovusc.specs.declared.search.Status.the-variants.{Going, Found, UsedUp, NoRoom, TooLong}
+use Rattle.bradovusc.proofs.slots.Situations.{same-coded-equal, equal-same-coded}
 
 abbrev Entries : Type 0
 Entries = List (Entry Coded ℕ)
@@ -64,19 +65,6 @@ module _ {ss : List Slot} {l : Entries} (k : Linked ss l) where
       sym (List·getD-map (λ (x : Slot). x .at) ss i no-slot)
       ∙ ap (λ (c : List Coded). getD c i nowhere) (k .alike)
       ∙ List·getD-map (λ (e : Entry Coded ℕ). e .at) l i no-entry
-
--- the test of coded situations is equality
-coded-equal : (s t : Coded) → same-coded s t ≡ true → s ≡ t
-coded-equal s t e =
-    let l : s .left ≡ t .left = same-by-equal eqb eqb-true (s .left) (t .left) (and-left (same-by eqb (s .left) (t .left)) _ e) in
-    let both : same-by eqb (s .right) (t .right) && same-by eqb (s .sets) (t .sets) ≡ true = and-right (same-by eqb (s .left) (t .left)) _ e in
-    let r : s .right ≡ t .right = same-by-equal eqb eqb-true (s .right) (t .right) (and-left (same-by eqb (s .right) (t .right)) _ both) in
-    let m : s .sets ≡ t .sets = same-by-equal eqb eqb-true (s .sets) (t .sets) (and-right (same-by eqb (s .right) (t .right)) _ both) in
-    λ i. record { left = l i; right = r i; sets = m i }
-
-equal-coded : (s : Coded) → same-coded s s ≡ true
-equal-coded s =
-    both-true (same-by-same eqb eqb-same (s .left)) (both-true (same-by-same eqb eqb-same (s .right)) (same-by-same eqb eqb-same (s .sets)))
 
 any-map {ℓ κ} : {A : Type ℓ} {B : Type κ} (p : B → Bool) (f : A → B) (l : List A) → any p (map f l) ≡ any (λ (x : A). p (f x)) l
 any-map p f [] = refl
@@ -264,7 +252,7 @@ module _ (T : Tables) (room : ℕ) where
         (enter-slot room [] (record { at = s; parent = 0; step = 0 })) (first-between s)
 
     over : Between (suc room + 0) (ended the-end the-entries) (slot-search T room s)
-    over = rw (settled same-coded finished-coded (children-coded T) coded-equal equal-coded room s) at between
+    over = rw (settled same-coded finished-coded (children-coded T) same-coded-equal equal-same-coded room s) at between
 
     -- The search over slots ends as the paper's does. It is never left going.
     pub slots-status : slot-search T room s .status ≡ status-of the-end
