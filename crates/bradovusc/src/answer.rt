@@ -145,13 +145,13 @@ fn write_record(out: &mut [u8], work: &[u8], last: usize, f: u8) -> usize
 }
 
 // Is a text above 65,535 characters?
-fn some_text_above(work: &[u8], last: usize, stand: [bool; FIELDS]) -> bool
+fn some_text_above(work: &[u8], last: usize, sets: [u32; FIELDS]) -> bool
     requires { ⌜ Way-to (now work) last ⌝ }
-    ensures { λ r. ⌜ ((w : Way-to (now (work .entry)) last) → r ≡ text-above stand (text-at (w .slots) last)) ⌝ }
+    ensures { λ r. ⌜ ((w : Way-to (now (work .entry)) last) → r ≡ text-above sets (text-at (w .slots) last)) ⌝ }
 {
     let mut f = 0;
     while f < FIELDS {
-        if stand[f] {
+        if sets[f] != 0 {
             if text_length(work, last, f as u8) > LONGEST_TEXT {
                 return true;
             }
@@ -162,14 +162,14 @@ fn some_text_above(work: &[u8], last: usize, stand: [bool; FIELDS]) -> bool
 }
 
 // How many bytes the records have.
-fn records_length(work: &[u8], last: usize, stand: [bool; FIELDS]) -> usize
+fn records_length(work: &[u8], last: usize, sets: [u32; FIELDS]) -> usize
     requires { ⌜ Way-to (now work) last ⌝ }
-    ensures { λ r. ⌜ ((w : Way-to (now (work .entry)) last) → r ≡ length (value-records stand (text-at (w .slots) last))) ⌝ }
+    ensures { λ r. ⌜ ((w : Way-to (now (work .entry)) last) → r ≡ length (value-records sets (text-at (w .slots) last))) ⌝ }
 {
     let mut total = 0;
     let mut f = 0;
     while f < FIELDS {
-        if stand[f] {
+        if sets[f] != 0 {
             total += HEAD + text_length(work, last, f as u8);
         }
         f += 1;
@@ -178,15 +178,15 @@ fn records_length(work: &[u8], last: usize, stand: [bool; FIELDS]) -> usize
 }
 
 // "each record written directly behind the one before"
-fn write_records(answer: &mut [u8], work: &[u8], last: usize, stand: [bool; FIELDS])
+fn write_records(answer: &mut [u8], work: &[u8], last: usize, sets: [u32; FIELDS])
     requires { ⌜ Way-to (now work) last ⌝ }
-    requires { ⌜ ((w : Way-to (now work) last) → Records-fit stand (text-at (w .slots) last) (now answer)) ⌝ }
-    ensures { λ _. ⌜ ((w : Way-to (now (work .entry)) last) → now (answer .exit) ≡ in-front (value-records stand (text-at (w .slots) last)) (now (answer .entry))) ⌝ }
+    requires { ⌜ ((w : Way-to (now work) last) → Records-fit sets (text-at (w .slots) last) (now answer)) ⌝ }
+    ensures { λ _. ⌜ ((w : Way-to (now (work .entry)) last) → now (answer .exit) ≡ in-front (value-records sets (text-at (w .slots) last)) (now (answer .entry))) ⌝ }
 {
     let mut at = 0;
     let mut f = 0;
     while f < FIELDS {
-        if stand[f] {
+        if sets[f] != 0 {
             at += write_record(&mut answer[at..], work, last, f as u8);
         }
         f += 1;
@@ -194,17 +194,17 @@ fn write_records(answer: &mut [u8], work: &[u8], last: usize, stand: [bool; FIEL
 }
 
 // The answer of a clash whose finish is in the last slot. "21 comes before 20", and both before any byte is written.
-pub fn answer_clash(answer: &mut [u8], work: &[u8], last: usize, stand: [bool; FIELDS]) -> Answer
+pub fn answer_clash(answer: &mut [u8], work: &[u8], last: usize, sets: [u32; FIELDS]) -> Answer
     requires { ⌜ Way-to (now work) last ⌝ }
-    ensures { λ r. ⌜ ((w : Way-to (now (work .entry)) last) → Answered stand (text-at (w .slots) last) (now (answer .entry)) (now (answer .exit)) r) ⌝ }
+    ensures { λ r. ⌜ ((w : Way-to (now (work .entry)) last) → Answered sets (text-at (w .slots) last) (now (answer .entry)) (now (answer .exit)) r) ⌝ }
 {
-    if some_text_above(work, last, stand) {
+    if some_text_above(work, last, sets) {
         return Answer::TextTooLong;
     }
-    let total = records_length(work, last, stand);
+    let total = records_length(work, last, sets);
     if answer.len() < total {
         return Answer::TooShort;
     }
-    write_records(answer, work, last, stand);
+    write_records(answer, work, last, sets);
     Answer::Written(total)
 }
