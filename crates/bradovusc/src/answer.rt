@@ -10,23 +10,28 @@ ghost use Rattle.paper.specs.Outcome.{value-record};
 ghost use Rattle.bradovusc.specs.Run.{slot-at};
 ghost use Rattle.bradovusc.specs.Answer.{Way-to, Steps-back, Record-fits, Put-in-front, Records-fit, Answered};
 ghost use Rattle.bradovusc.specs.Answer.{front-at, puts-before, text-at, record-head, head-bytes, in-front, text-above, value-records};
-
-use crate::slots::{parent_of, step_of};
+use crate::slots::parent_of;
+use crate::slots::step_of;
 
 // Bytes of a slot, and where its sides begin.
 const SLOT: usize = 144;
+
 const LEFT: usize = 2;
+
 const RIGHT: usize = 50;
 
 // "0 to 42 (a character) or 64 to 71 (field 0 to 7)"
 const CHARACTERS: u8 = 43;
+
 const FIELD_TOKEN: u8 = 64;
+
 const FIELDS: usize = 8;
 // the front of an empty side
 const NO_TOKEN: u8 = 255;
 
 // mark, field and length of a record
 const HEAD: usize = 5;
+
 const LONGEST_TEXT: usize = 65535;
 
 // What became of the answer: a text above 65,535 characters, an answer buffer too short, or so many bytes written.

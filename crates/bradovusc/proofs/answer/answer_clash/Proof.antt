@@ -5,11 +5,6 @@ use Rattle.bradovusc.proofs.answer.Answers.{text-too-long, too-short, w
 use borrow.Author.Needs.{needs}
 use Rattle.bradovusc.proofs.answer.answer_clash.Statement.{statement}
 use Rattle.bradovusc.proofs.answer.answer_clash.Tie as tie
-use Rattle.bradovusc.proofs.answer.answer_clash.Reads as reads
-use Rattle.bradovusc.proofs.answer.answer_clash.Lts as lts
-use Rattle.bradovusc.proofs.answer.records_length.Reads as records-length-reads
-use Rattle.bradovusc.proofs.answer.some_text_above.Reads as some-text-above-reads
-use Rattle.bradovusc.proofs.answer.write_records.Reads as write-records-reads
 
 some-text-above-requires : tie.Need-some-text-above-requires
 some-text-above-requires c κs = search needs
@@ -31,12 +26,14 @@ returns-2 c w =
 
 write-records-requires : tie.Need-write-records-requires
 write-records-requires c κs =
-    let at = c .before .before .before in
-    (at .before .before .before .before .pre, λ w.
-    record {
-      short = sym (at .before .some-text-above .ensures w) ∙ at .if1 .left;
-      room = rw (← c .before .before .records-length .ensures w) (c .before .if2 .left);
-    })
+    let at = c .before .before .before in (
+      at .before .before .before .before .pre,
+      λ w.
+          record {
+            short = sym (at .before .some-text-above .ensures w) ∙ at .if1 .left;
+            room = rw (← c .before .before .records-length .ensures w) (c .before .if2 .left);
+          },
+    )
 
 same-length : tie.Need-same-length
 same-length c = search needs

@@ -1,8 +1,8 @@
 -- `records_length` adds up the bytes of the records. The loop's invariant: those added and those of the fields left make the length.
 -- A text is no longer than its way, which the buffer holds, so the sum fits.
-use Prim.Native.Nat.{_+_, _-_, _*_, _^_, _≤_, _<_}
+use Prim.Native.Nat.{_+_, _-_, _*_, _^_, _≤_}
 use native.Mathlib.Omega.{arith}
-use mathlib.Core.Path.{_≡_, refl, sym, ap, _∙_}
+use mathlib.Core.Path.{_≡_, ap}
 use mathlib.Core.Logic.{⊎-elim}
 use lib.ListN.{length}
 use borrow.Author.Needs.{needs}
@@ -11,9 +11,6 @@ use Rattle.bradovusc.proofs.answer.Text.{text-short}
 use Rattle.bradovusc.proofs.answer.Standing.{records-from, records-all, length-here, records-passed}
 use Rattle.bradovusc.proofs.answer.records_length.Statement.{statement}
 use Rattle.bradovusc.proofs.answer.records_length.Tie as tie
-use Rattle.bradovusc.proofs.answer.records_length.Reads as reads
-use Rattle.bradovusc.proofs.answer.records_length.Lts as lts
-use Rattle.bradovusc.proofs.answer.text_length.Reads as text-length-reads
 
 abbrev Inv-loop : tie.InvT-loop
 Inv-loop work last sets total₀ f₀ total f =
@@ -27,9 +24,12 @@ abbrev μ-loop : tie.MeasureT-loop
 
 loop-holds : tie.Need-loop-holds Inv-loop μ-loop
 loop-holds c =
-    let args = c .before .args in
-    (omega arith, omega arith, λ w.
-    omega (arith, ap length (records-all (args .t3) (text-at (w .slots) (args .last)))))
+    let args = c .before .args in (
+      omega arith,
+      omega arith,
+      λ w.
+          omega (arith, ap length (records-all (args .t3) (text-at (w .slots) (args .last)))),
+    )
 
 mul-if1 : tie.Need-mul-if1 Inv-loop μ-loop
 mul-if1 c = search needs
@@ -64,17 +64,18 @@ loop-less c = search needs
 loop-again : tie.Need-loop-again Inv-loop μ-loop
 loop-again c =
     let at = c .before .before in
-    let args = at .before .before .args in
-    (omega arith,
-    ⊎-elim
-    (λ g. omega (arith, g .1 .ensures (at .before .before .pre), g .2, short (c .before)))
-    (λ g. omega (arith, g .1))
-    (c .if1 .came),
-    λ w.
-    ⊎-elim
-    (λ g. omega (arith, g .1 .ensures w, g .2, at .loop .inv .2 w, length-here (args .t3) (text-at (w .slots) (args .last)) (at .loop .f) (omega arith) (g .0 .taken)))
-    (λ g. omega (arith, g .1, at .loop .inv .2 w, ap length (records-passed (args .t3) (text-at (w .slots) (args .last)) (at .loop .f) (omega arith) (g .0 .left))))
-    (c .if1 .came))
+    let args = at .before .before .args in (
+      omega arith,
+      ⊎-elim
+          (λ g. omega (arith, g .1 .ensures (at .before .before .pre), g .2, short (c .before)))
+          (λ g. omega (arith, g .1))
+          (c .if1 .came),
+      λ w.
+          ⊎-elim
+          (λ g. omega (arith, g .1 .ensures w, g .2, at .loop .inv .2 w, length-here (args .t3) (text-at (w .slots) (args .last)) (at .loop .f) (omega arith) (g .0 .taken)))
+          (λ g. omega (arith, g .1, at .loop .inv .2 w, ap length (records-passed (args .t3) (text-at (w .slots) (args .last)) (at .loop .f) (omega arith) (g .0 .left))))
+          (c .if1 .came),
+    )
 
 returns : tie.Need-returns Inv-loop μ-loop
 returns c w =

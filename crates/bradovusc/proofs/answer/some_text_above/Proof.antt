@@ -1,17 +1,13 @@
 -- `some_text_above` measures the texts of the standing fields. The loop's invariant: the test on all is the test on those left.
-use Prim.Native.Nat.{_+_, _-_, _≤_, _<_}
+use Prim.Native.Nat.{_-_, _≤_}
 use native.Mathlib.Omega.{arith}
-use mathlib.Core.Path.{_≡_, refl, sym, _∙_}
+use mathlib.Core.Path.{_≡_, sym, _∙_}
 use mathlib.Core.Logic.{⊎-elim}
-use lib.ListN.{length}
 use borrow.Author.Needs.{needs}
 use Rattle.bradovusc.specs.Answer.{Way-to, text-at, text-above}
 use Rattle.bradovusc.proofs.answer.Standing.{above-from, above-all, above-here, above-later, above-passed}
 use Rattle.bradovusc.proofs.answer.some_text_above.Statement.{statement}
 use Rattle.bradovusc.proofs.answer.some_text_above.Tie as tie
-use Rattle.bradovusc.proofs.answer.some_text_above.Reads as reads
-use Rattle.bradovusc.proofs.answer.some_text_above.Lts as lts
-use Rattle.bradovusc.proofs.answer.text_length.Reads as text-length-reads
 
 abbrev Inv-loop : tie.InvT-loop
 Inv-loop work last sets f₀ f =
@@ -55,12 +51,14 @@ loop-less c = search needs
 loop-again : tie.Need-loop-again Inv-loop μ-loop
 loop-again c =
     let at = c .before .before in
-    let args = at .before .before .args in
-    (omega arith, λ w.
-    ⊎-elim
-    (λ g. sym (above-later (args .t3) (text-at (w .slots) (args .last)) (at .loop .f) (omega arith) (g .0 .taken) (omega (arith, g .1 .ensures w, g .2 .left))) ∙ at .loop .inv .1 w)
-    (λ g. sym (above-passed (args .t3) (text-at (w .slots) (args .last)) (at .loop .f) (omega arith) (g .left)) ∙ at .loop .inv .1 w)
-    (c .if1 .came))
+    let args = at .before .before .args in (
+      omega arith,
+      λ w.
+          ⊎-elim
+          (λ g. sym (above-later (args .t3) (text-at (w .slots) (args .last)) (at .loop .f) (omega arith) (g .0 .taken) (omega (arith, g .1 .ensures w, g .2 .left))) ∙ at .loop .inv .1 w)
+          (λ g. sym (above-passed (args .t3) (text-at (w .slots) (args .last)) (at .loop .f) (omega arith) (g .left)) ∙ at .loop .inv .1 w)
+          (c .if1 .came),
+    )
 
 returns-2 : tie.Need-returns-2 Inv-loop μ-loop
 returns-2 c w =

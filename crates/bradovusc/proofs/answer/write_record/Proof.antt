@@ -1,20 +1,14 @@
 -- `write_record` stores the head and lends what follows to the text's writer. Follows from `text-part` and `record-stored`.
 use Prim.Native.Nat.{_+_, _≤_}
 use native.Mathlib.Omega.{arith}
-use mathlib.Core.Path.{_≡_, _∙_}
+use mathlib.Core.Path.{_∙_}
 use lib.ListN.{length}
 use lib.Seq.{length-take-le}
 use Rattle.paper.specs.Numbers.{longest-text}
-use Rattle.bradovusc.specs.Answer.{Way-to, text-at}
 use Rattle.bradovusc.proofs.answer.Records.{length-record, text-room, text-part, record-stored}
 use borrow.Author.Needs.{needs}
 use Rattle.bradovusc.proofs.answer.write_record.Statement.{statement}
 use Rattle.bradovusc.proofs.answer.write_record.Tie as tie
-use Rattle.bradovusc.proofs.answer.write_record.Reads as reads
-use Rattle.bradovusc.proofs.answer.write_record.Lts as lts
-use Rattle.bradovusc.proofs.answer.text_length.Reads as text-length-reads
-use Rattle.bradovusc.proofs.answer.write_head.Reads as write-head-reads
-use Rattle.bradovusc.proofs.answer.write_text.Reads as write-text-reads
 
 text-length-requires : tie.Need-text-length-requires
 text-length-requires c κs = search needs
@@ -62,10 +56,15 @@ part-write-text-end c =
 write-text-requires : tie.Need-write-text-requires
 write-text-requires c κs =
     let at = c .before .before .before .before .before in
-    let args = at .before .before .before .args in
-    (at .before .before .before .pre .0, (at .before .before .before .pre .1 .0, λ w.
-    text-part (args .out .now) (c .before .before .before .write-head .last .0) (args .f) (at .text-length .result) (c .before .before .before .write-head .ensures) (room at)
-    ∙ at .text-length .ensures w))
+    let args = at .before .before .before .args in (
+      at .before .before .before .pre .0,
+      (
+        at .before .before .before .pre .1 .0,
+        λ w.
+            text-part (args .out .now) (c .before .before .before .write-head .last .0) (args .f) (at .text-length .result) (c .before .before .before .write-head .ensures) (room at)
+            ∙ at .text-length .ensures w,
+      ),
+    )
 
 add-result : tie.Need-add-result
 add-result c = omega (arith, room (c .before .before .before .before .before .before .before .before))
@@ -83,8 +82,8 @@ returns c w =
     record {
       many = rw (n, length-record);
       put =
-        rw (← text .ensures w)
-        (record-stored (args .out .now) (head .last .0) (args .f) (at .text-length .result) (head .ensures) (text .last .0) (rw (text .ensures w) n));
+          rw (← text .ensures w)
+          (record-stored (args .out .now) (head .last .0) (args .f) (at .text-length .result) (head .ensures) (text .last .0) (rw (text .ensures w) n));
     }
 
 pub write-record-spec : {M : Type 1} → statement M

@@ -1,8 +1,8 @@
 -- `write_records` lends the answer buffer's rest to the record's writer, for each standing field. The loop's invariant: the records so far
 -- sets in front, those of the fields left are missing, the rest is unchanged.
-use Prim.Native.Nat.{_+_, _-_, _≤_, _<_}
+use Prim.Native.Nat.{_+_, _-_, _≤_}
 use native.Mathlib.Omega.{arith}
-use mathlib.Core.Path.{_≡_, refl, sym, ap, _∙_}
+use mathlib.Core.Path.{_≡_, refl, _∙_}
 use mathlib.Core.Logic.{⊎-elim}
 use lib.ListN.{length}
 use borrow.Author.Needs.{needs}
@@ -13,9 +13,6 @@ use Rattle.bradovusc.proofs.answer.Records.{Underway, none-written, one
 use Rattle.bradovusc.proofs.answer.Standing.{records-from, records-all, records-here, length-here, records-passed, short-text}
 use Rattle.bradovusc.proofs.answer.write_records.Statement.{statement}
 use Rattle.bradovusc.proofs.answer.write_records.Tie as tie
-use Rattle.bradovusc.proofs.answer.write_records.Reads as reads
-use Rattle.bradovusc.proofs.answer.write_records.Lts as lts
-use Rattle.bradovusc.proofs.answer.write_record.Reads as write-record-reads
 
 abbrev Inv-loop : tie.InvT-loop
 Inv-loop answer₀ work last sets at₀ f₀ answer at f =
@@ -29,10 +26,13 @@ abbrev μ-loop : tie.MeasureT-loop
 
 loop-holds : tie.Need-loop-holds Inv-loop μ-loop
 loop-holds c =
-    let args = c .before .before .args in
-    (omega arith, refl, λ w.
-    none-written (value-records (args .t4) (text-at (w .slots) (args .last))) (records-from (args .t4) (text-at (w .slots) (args .last)) 0) (args .answer .now)
-    (records-all (args .t4) (text-at (w .slots) (args .last))))
+    let args = c .before .before .args in (
+      omega arith,
+      refl,
+      λ w.
+          none-written (value-records (args .t4) (text-at (w .slots) (args .last))) (records-from (args .t4) (text-at (w .slots) (args .last)) 0) (args .answer .now)
+          (records-all (args .t4) (text-at (w .slots) (args .last))),
+    )
 
 -- the place of the next record is in the buffer, and the record fits behind it
 place : (c : tie.At-loop Inv-loop μ-loop) (w : Way-to (c .before .before .before .args .work .now) (c .before .before .before .args .last))
@@ -40,7 +40,6 @@ place : (c : tie.At-loop Inv-loop μ-loop) (w : Way-to (c .before .before .befor
 place c w =
     let at = c .before .before .before in
     omega (arith, c .loop .inv .1, c .loop .inv .2 w .place, at .pre .1 w .room)
-
 
 mul-if1 : tie.Need-mul-if1 Inv-loop μ-loop
 mul-if1 c = search needs
@@ -65,23 +64,32 @@ write-record-requires c κs =
     let at = c .before .before .before in
     let args = at .before .before .before .args in
     let pre = at .before .before .before .pre in
-    let stands = c .before .if1 .taken in
-    (pre .0, (search needs, λ w.
-    record {
-      short = short-text (args .t4) (text-at (w .slots) (args .last)) (at .loop .f) (omega arith) (pre .1 w .short) stands;
-      room =
-        rw (length-rest (at .loop .at) (at .loop .answer))
-        (omega (arith, place at w, length-here (args .t4) (text-at (w .slots) (args .last)) (at .loop .f) (omega arith) stands));
-    }))
+    let stands = c .before .if1 .taken in (
+      pre .0,
+      (
+        search needs,
+        λ w.
+            record {
+              short = short-text (args .t4) (text-at (w .slots) (args .last)) (at .loop .f) (omega arith) (pre .1 w .short) stands;
+              room =
+                  rw (length-rest (at .loop .at) (at .loop .answer))
+                  (omega (arith, place at w, length-here (args .t4) (text-at (w .slots) (args .last)) (at .loop .f) (omega arith) stands));
+            },
+      ),
+    )
 
 add-at : tie.Need-add-at Inv-loop μ-loop
 add-at c =
     let at = c .before .before .before .before .before .before in
     let w = at .before .before .before .pre .0 in
     let args = at .before .before .before .args in
-    omega (arith, place at w, c .before .before .write-record .ensures w .many,
-    length-record (at .loop .f) (text-at (w .slots) (args .last) (at .loop .f)),
-    length-here (args .t4) (text-at (w .slots) (args .last)) (at .loop .f) (omega arith) (c .before .before .before .before .if1 .taken))
+    omega (
+      arith,
+      place at w,
+      c .before .before .write-record .ensures w .many,
+      length-record (at .loop .f) (text-at (w .slots) (args .last) (at .loop .f)),
+      length-here (args .t4) (text-at (w .slots) (args .last)) (at .loop .f) (omega arith) (c .before .before .before .before .if1 .taken),
+    )
 
 add-f : tie.Need-add-f Inv-loop μ-loop
 add-f c = search needs
@@ -92,21 +100,22 @@ loop-less c = search needs
 loop-again : tie.Need-loop-again Inv-loop μ-loop
 loop-again c =
     let at = c .before .before in
-    let args = at .before .before .before .args in
-    (omega arith,
-    ⊎-elim
-    (λ g. rw (g .5) (same-len-mid (at .loop .at) (length (at .loop .answer) - at .loop .at) (at .loop .answer) (g .2 .last .0) (g .2 .kept .0) ∙ at .loop .inv .1))
-    (λ g. rw (g .1) (at .loop .inv .1))
-    (c .if1 .came),
-    λ w.
-    let text = text-at (w .slots) (args .last) in
-    ⊎-elim
-    (λ g. rw (g .5, g .6)
-    (one-more (value-record (at .loop .f) (text (at .loop .f))) (records-from (args .t4) text (at .loop .f + 1)) (g .2 .last .0) (g .2 .result)
-    (rw (records-here (args .t4) text (at .loop .f) (omega arith) (g .0 .taken)) at (at .loop .inv .2 w))
-    (omega (arith, place at w)) (g .2 .ensures w)))
-    (λ g. rw (g .1, g .2, ← records-passed (args .t4) text (at .loop .f) (omega arith) (g .0 .left)) (at .loop .inv .2 w))
-    (c .if1 .came))
+    let args = at .before .before .before .args in (
+      omega arith,
+      ⊎-elim
+          (λ g. rw (g .5) (same-len-mid (at .loop .at) (length (at .loop .answer) - at .loop .at) (at .loop .answer) (g .2 .last .0) (g .2 .kept .0) ∙ at .loop .inv .1))
+          (λ g. rw (g .1) (at .loop .inv .1))
+          (c .if1 .came),
+      λ w.
+          let text = text-at (w .slots) (args .last) in
+          ⊎-elim
+          (λ g. rw (g .5, g .6)
+          (one-more (value-record (at .loop .f) (text (at .loop .f))) (records-from (args .t4) text (at .loop .f + 1)) (g .2 .last .0) (g .2 .result)
+          (rw (records-here (args .t4) text (at .loop .f) (omega arith) (g .0 .taken)) at (at .loop .inv .2 w))
+          (omega (arith, place at w)) (g .2 .ensures w)))
+          (λ g. rw (g .1, g .2, ← records-passed (args .t4) text (at .loop .f) (omega arith) (g .0 .left)) (at .loop .inv .2 w))
+          (c .if1 .came),
+    )
 
 same-length : tie.Need-same-length Inv-loop μ-loop
 same-length c = search needs

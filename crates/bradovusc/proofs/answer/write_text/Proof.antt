@@ -2,7 +2,7 @@
 -- at the present slot and what is stored already make the text; its length is the place. The slot's number falls.
 use Prim.Native.Nat.{_+_, _-_, _≤_, _<_}
 use native.Mathlib.Omega.{arith}
-use mathlib.Core.Path.{_≡_, sym, ap, _∙_}
+use mathlib.Core.Path.{_≡_, _∙_}
 use mathlib.Core.List.{_++_, append-nil}
 use lib.ListN.{length, drop, length-set}
 use lib.Seq.{drop-length}
@@ -11,9 +11,6 @@ use Rattle.bradovusc.specs.Answer.{Way-to, Steps-back, text-at}
 use Rattle.bradovusc.proofs.answer.Text.{way-back, length-put, text-kept, stored-before}
 use Rattle.bradovusc.proofs.answer.write_text.Statement.{statement}
 use Rattle.bradovusc.proofs.answer.write_text.Tie as tie
-use Rattle.bradovusc.proofs.answer.write_text.Reads as reads
-use Rattle.bradovusc.proofs.answer.write_text.Lts as lts
-use Rattle.bradovusc.proofs.answer.step_back.Reads as step-back-reads
 
 abbrev Inv-loop : tie.InvT-loop
 Inv-loop out₀ work last f at₀ i₀ out at i =
@@ -27,10 +24,15 @@ abbrev μ-loop : tie.MeasureT-loop
 μ-loop out₀ work last f at₀ i₀ out at i = i
 
 loop-holds : tie.Need-loop-holds Inv-loop μ-loop
-loop-holds c =
-    (search needs, search needs, search needs, λ w.
-    (c .before .before .pre .1 .1 w,
-    rw (drop-length (c .before .before .args .out .now)) (append-nil (text-at (w .slots) (c .before .before .args .last) (c .before .before .args .f)))))
+loop-holds c = (
+  search needs,
+  search needs,
+  search needs,
+  λ w. (
+    c .before .before .pre .1 .1 w,
+    rw (drop-length (c .before .before .args .out .now)) (append-nil (text-at (w .slots) (c .before .before .args .last) (c .before .before .args .f))),
+  ),
+)
 
 step-back-requires : tie.Need-step-back-requires Inv-loop μ-loop
 step-back-requires c κs =
@@ -64,11 +66,16 @@ loop-again c =
     let at = c .before .before .before in
     let k = place c in
     let p = stepped (c .before) (at .before .before .before .pre .0) .falls in
-    let n : at .loop .at - 1 + 1 ≡ at .loop .at = omega arith in
-    (omega (arith, at .loop .inv .0), simp length-set (at .loop .inv .1), simp length-set (omega (arith, at .loop .inv .2)), λ w.
-    (omega (arith, at .loop .inv .3 w .0, length-put (stepped (c .before) w) (c .if1 .taken)),
-    stored-before (stepped (c .before) w) (at .loop .out) (at .loop .at - 1) (c .if1 .taken) (omega (arith, at .loop .inv .2))
-    ∙ rw n (at .loop .inv .3 w .1)))
+    let n : at .loop .at - 1 + 1 ≡ at .loop .at = omega arith in (
+      omega (arith, at .loop .inv .0),
+      simp length-set (at .loop .inv .1),
+      simp length-set (omega (arith, at .loop .inv .2)),
+      λ w. (
+        omega (arith, at .loop .inv .3 w .0, length-put (stepped (c .before) w) (c .if1 .taken)),
+        stored-before (stepped (c .before) w) (at .loop .out) (at .loop .at - 1) (c .if1 .taken) (omega (arith, at .loop .inv .2))
+            ∙ rw n (at .loop .inv .3 w .1),
+      ),
+    )
 
 loop-less-2 : tie.Need-loop-less-2 Inv-loop μ-loop
 loop-less-2 c = stepped (c .before) (c .before .before .before .before .before .before .pre .0) .falls
@@ -76,9 +83,13 @@ loop-less-2 c = stepped (c .before) (c .before .before .before .before .before .
 loop-again-2 : tie.Need-loop-again-2 Inv-loop μ-loop
 loop-again-2 c =
     let at = c .before .before .before in
-    let p = stepped (c .before) (at .before .before .before .pre .0) .falls in
-    (omega (arith, at .loop .inv .0), at .loop .inv .1, at .loop .inv .2, λ w.
-    rw (← text-kept (stepped (c .before) w) (c .if1 .left)) (at .loop .inv .3 w))
+    let p = stepped (c .before) (at .before .before .before .pre .0) .falls in (
+      omega (arith, at .loop .inv .0),
+      at .loop .inv .1,
+      at .loop .inv .2,
+      λ w.
+          rw (← text-kept (stepped (c .before) w) (c .if1 .left)) (at .loop .inv .3 w),
+    )
 
 same-length : tie.Need-same-length Inv-loop μ-loop
 same-length c = search needs
