@@ -21,10 +21,11 @@ use Rattle.paper.proofs.Lists.{map-append, mem-upto}
 use Rattle.paper.proofs.Moves.{other-front}
 use Rattle.paper.proofs.Mapped.{code-child}
 use Rattle.patterns.specs.Masks.{mask}
+use Rattle.patterns.proofs.Masks.{Few}
 use Rattle.bradovusc.specs.Coded.{Coded, dropped, above, made, judged-sides, settle, as-child, front, with-set, struck, put-child, next-set, gathered, left-child, right-child, child-by-character, children-coded, may-strike}
 use Rattle.bradovusc.specs.Codes.{code-token, code-side, code-situation, code-move, tables-of}
 use Rattle.bradovusc.proofs.CodedSides.{Known-side, char-not-standing, field-standing, field-of-token, strike-coded, put-in-all, put-coded, trim-coded, kind-dead, dead-coded, front-byte, known-strike, known-put-all}
-use Rattle.bradovusc.proofs.CodedSets.{Few, MaskLaws, Good, set-mask, may-strike-coded, next-set-coded, takes-front-coded}
+use Rattle.bradovusc.proofs.CodedSets.{Good, set-mask, may-strike-coded, next-set-coded, takes-front-coded}
 
 -- `each` over the lists that the moves are made of
 module _ {A B : Type 0} (f : A → List B) where
@@ -148,7 +149,7 @@ module _ {P : Type 0} (A : Acceptor P) (c : ℕ) where
   put-all-right [] s = refl
   put-all-right (f ∷ fs) s = put-all-right fs (put-before A c f s)
 
-module _ (laws : MaskLaws) (q : Question) (few : (f : ℕ) → Few (held-by q f)) (s : Situation PlaceSet) (good : Good s) where
+module _ (q : Question) (few : (f : ℕ) → Few (held-by q f)) (s : Situation PlaceSet) (good : Good s) where
   -- a strike of the field in front of a side
   strike-child : (m : Move) (side : Side) → front-may-end (acceptor q) s (front-field side) ≡ true
       → as-child (code-move m) (struck (code-situation s) (front (code-side side))) ≡ map code-child-of (made-by q m (strike-all (acceptor q) (front-field side) s))
@@ -163,7 +164,7 @@ module _ (laws : MaskLaws) (q : Question) (few : (f : ℕ) → Few (held-by q f)
       ≡ map code-child-of (cond (front-may-end (acceptor q) s (front-field (s .left))) (child-by (acceptor q) longest-side s strike-left) [])
   unfolding left-child child-by
   left-coded =
-      rw (may-strike-coded laws q few s good (s .left) (good .left))
+      rw (may-strike-coded q few s good (s .left) (good .left))
       (by-bool (front-may-end (acceptor q) s (front-field (s .left)))
       (λ e. rw e (strike-child strike-left (s .left) e))
       (λ e. rw e))
@@ -172,10 +173,10 @@ module _ (laws : MaskLaws) (q : Question) (few : (f : ℕ) → Few (held-by q f)
   right-ends : (r : Side) → Known-side r
       → (may-strike (tables-of q) (code-situation s) (front (code-side r)) && not (eqb (front (code-side r)) (front (code-side (s .left)))))
       ≡ front-may-end (acceptor q) s (other-front (s .left) r)
-  right-ends [] k = rw (may-strike-coded laws q few s good [] k)
-  right-ends (chr b ∷ r) k = rw (may-strike-coded laws q few s good (chr b ∷ r) k)
+  right-ends [] k = rw (may-strike-coded q few s good [] k)
+  right-ends (chr b ∷ r) k = rw (may-strike-coded q few s good (chr b ∷ r) k)
   right-ends (fld g ∷ r) k =
-      rw (may-strike-coded laws q few s good (fld g ∷ r) k, front-byte g (s .left) (k .0) (good .left))
+      rw (may-strike-coded q few s good (fld g ∷ r) k, front-byte g (s .left) (k .0) (good .left))
       (by-bool (any (eqb g) (front-field (s .left)))
       (λ e. rw e (and-false (front-may-end (acceptor q) s (g ∷ []))))
       (λ e. rw e (and-true (front-may-end (acceptor q) s (g ∷ [])))))
@@ -187,7 +188,7 @@ module _ (laws : MaskLaws) (q : Question) (few : (f : ℕ) → Few (held-by q f)
       let ends = right-ends (s .right) (good .right) in
       rw ends
       (by-bool (front-may-end (acceptor q) s (other-front (s .left) (s .right)))
-      (λ e. rw e (strike-child strike-right (s .right) (sym (may-strike-coded laws q few s good (s .right) (good .right)) ∙ and-left _ _ (ends ∙ e))))
+      (λ e. rw e (strike-child strike-right (s .right) (sym (may-strike-coded q few s good (s .right) (good .right)) ∙ and-left _ _ (ends ∙ e))))
       (λ e. rw e))
 
   -- the set of the token in front after c, as the code works it out
@@ -200,7 +201,7 @@ module _ (laws : MaskLaws) (q : Question) (few : (f : ℕ) → Few (held-by q f)
   unfolding put-before
   sets-one c [] h k = refl
   sets-one c (chr a ∷ side) h k = rw (char-not-standing a (k .0))
-  sets-one c (fld f ∷ side) h k = rw (field-standing f (k .0), next-set-coded laws q few s good f c (k .0) h, field-of-token f) (set-mask (s .sets) f _)
+  sets-one c (fld f ∷ side) h k = rw (field-standing f (k .0), next-set-coded q few s good f c (k .0) h, field-of-token f) (set-mask (s .sets) f _)
 
   -- two, which are put before one after the other; the same one once
   sets-two : (c f g : ℕ) (l r : Side) → c < characters → f < fields → g < fields
@@ -208,7 +209,7 @@ module _ (laws : MaskLaws) (q : Question) (few : (f : ℕ) → Few (held-by q f)
       ≡ map mask (put-before-all (acceptor q) c (front-fields (fld f ∷ l) (fld g ∷ r)) s .sets)
   unfolding put-before acceptor
   sets-two c f g l r h kf kg =
-      rw (field-standing f kf, field-standing g kg, next-set-coded laws q few s good f c kf h, next-set-coded laws q few s good g c kg h, field-of-token f, field-of-token g)
+      rw (field-standing f kf, field-standing g kg, next-set-coded q few s good f c kf h, next-set-coded q few s good g c kg h, field-of-token f, field-of-token g)
       (by-bool (eqb g f)
       (λ e. rw (e, eqb-true g f e, set-set (map mask (s .sets)) f (mask (set-after (held-by q f) (getD (s .sets) f []) c))) (set-mask (s .sets) f _))
       (λ e.
@@ -241,7 +242,7 @@ module _ (laws : MaskLaws) (q : Question) (few : (f : ℕ) → Few (held-by q f)
       ≡ map code-child-of (cond (front-takes (acceptor q) s c (s .left) && front-takes (acceptor q) s c (s .right)) (child-by (acceptor q) longest-side s (put c)) [])
   unfolding child-by-character
   character-coded c h =
-      rw (takes-front-coded laws q few s good (s .left) c h (good .left), takes-front-coded laws q few s good (s .right) c h (good .right))
+      rw (takes-front-coded q few s good (s .left) c h (good .left), takes-front-coded q few s good (s .right) c h (good .right))
       (by-bool (front-takes (acceptor q) s c (s .left) && front-takes (acceptor q) s c (s .right))
       (λ e. rw e (put-coded-child c h))
       (λ e. rw e))

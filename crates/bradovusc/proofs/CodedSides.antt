@@ -1,10 +1,10 @@
 -- Sides as bytes: what the code does to bytes is what the paper does to tokens. Tests of tokens, trimming, dead, finished, strikes, puts.
--- Holds of known tokens: characters below 43 and fields below 8. Follows from the codes of tokens being different, by induction on sides.
+-- Holds of tokens in range: characters below 43 and fields below 8. Follows from the codes of tokens being different, by induction on sides.
 use Prim.Native.Nat.{ℕ, _+_, _<_}
 use native.Mathlib.Omega.{arith}
 use mathlib.Core.Path.{_≡_, refl, sym, ap, ap₂, _∙_}
 use mathlib.Core.Bool.{Bool, true, false, not, _&&_, _||_, or-false}
-use mathlib.Core.List.{List, [], _∷_, _++_, map}
+use mathlib.Core.List.{List, [], _∷_, _++_, map, List·Memᴰ, List·Memᴰ·head, List·Memᴰ·tail}
 use lib.Dec.{eqb}
 use lib.ListN.{drop}
 use Rattle.paper.specs.Lists.{any, only, keep, same-by, member}
@@ -13,19 +13,20 @@ use Rattle.paper.specs.Equation.{Token, chr, fld, Side, is-field}
 use Rattle.paper.specs.Situation.{Acceptor, Sides, trim, same-token, Kind, is-finished, is-dead, is-open, kind-of, strike-in, put-in, front-field, front-fields, kind-finished}
 use Rattle.paper.proofs.Tests.{by-bool, cond-by, true-false, not-true, same-tests, neq-eqb, eq-eqb, eqb-true, eqb-symmetric, lt-leb, le-leb, lt-ltb, le-ltb}
 use Rattle.paper.proofs.Lists.{cons-eq, map-append, any-append, NoDup, none, more, member-true}
+use Rattle.paper.proofs.Asked.{InRange}
 use Rattle.paper.proofs.Moves.{front-fields-different}
 use Rattle.bradovusc.specs.Coded as Coded
 use Rattle.bradovusc.specs.Coded.{is-char, field-of, front, none as no-token, is-standing, strike-bytes, put-bytes, equal-fronts, dead-sides}
 use Rattle.bradovusc.specs.Codes.{code-token, code-side}
 
--- a token that the code knows
-abbrev pub Known : Token → Type 0
-Known (chr c) = c < characters
-Known (fld f) = f < fields
-
+-- every token is a character or a field
 abbrev pub Known-side : Side → Type 0
 Known-side [] = Unit {0}
-Known-side (t ∷ side) = Known t × Known-side side
+Known-side (t ∷ side) = InRange t × Known-side side
+
+pub known-side : (side : Side) → ((t : Token) → List·Memᴰ t side → InRange t) → Known-side side
+known-side [] h = tt
+known-side (t ∷ side) h = (h t (List·Memᴰ·head refl), known-side side (λ u d. h u (List·Memᴰ·tail d)))
 
 -- characters and fields have different bytes
 char-is-char : (c : ℕ) → c < characters → is-char c ≡ true
@@ -59,7 +60,7 @@ char-field : (c f : ℕ) → c < characters → eqb c (field-token + f) ≡ fals
 char-field c f h = neq-eqb c (field-token + f) (λ e. omega arith)
 
 -- the test of tokens
-token-coded : (x y : Token) → Known x → Known y → eqb (code-token x) (code-token y) ≡ same-token x y
+token-coded : (x y : Token) → InRange x → InRange y → eqb (code-token x) (code-token y) ≡ same-token x y
 token-coded (chr a) (chr b) h k = refl
 token-coded (chr a) (fld g) h k = char-field a g h
 token-coded (fld f) (chr b) h k = eqb-symmetric (field-token + f) b ∙ char-field b f k
@@ -72,7 +73,7 @@ same-sides (x ∷ l) [] h k = refl
 same-sides (x ∷ l) (y ∷ m) h k = ap₂ _&&_ (token-coded x y (h .0) (k .0)) (same-sides l m (h .1) (k .1))
 
 -- is it the byte of the field?
-pub byte-of-field : (f : ℕ) (x : Token) → Known x → eqb (code-token x) (field-token + f) ≡ is-field f x
+pub byte-of-field : (f : ℕ) (x : Token) → InRange x → eqb (code-token x) (field-token + f) ≡ is-field f x
 byte-of-field f (chr c) h = char-field c f h
 byte-of-field f (fld g) h = eqb-field g f ∙ eqb-symmetric g f
 
@@ -210,8 +211,8 @@ finished-sides A (chr a ∷ l) [] = refl
 finished-sides A (chr a ∷ l) (fld g ∷ r) = refl
 finished-sides A (chr a ∷ l) (chr b ∷ r) = by-bool (eqb a b) (λ e. rw e) (λ e. rw e)
 
--- known tokens stay known
-known-only : (b : Bool) (t : Token) (side : Side) → Known t → Known-side side → Known-side (only b t ++ side)
+-- tokens in range stay so
+known-only : (b : Bool) (t : Token) (side : Side) → InRange t → Known-side side → Known-side (only b t ++ side)
 known-only true t side h k = (h, k)
 known-only false t side h k = k
 

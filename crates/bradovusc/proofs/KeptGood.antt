@@ -17,12 +17,12 @@ use Rattle.paper.specs.Situation.{Situation, Move, front-field, front-fields, t
 use Rattle.paper.specs.Question.{Question, held-by, acceptor}
 use Rattle.paper.proofs.Tests.{by-bool, cond-by, ltb-true, ltb-false}
 use Rattle.paper.proofs.Lists.{length-from}
-use Rattle.paper.proofs.Rising.{rising-first}
 use Rattle.paper.proofs.Standings.{getD-map-upto}
 use Rattle.paper.proofs.Moves.{other-is-front, Opened, strikes-left, strikes-right, puts, move-opened, child-made}
 use Rattle.paper.proofs.Question.{asked}
+use Rattle.patterns.proofs.Masks.{Masked, Few, masked-first, masked-none, masked-after}
 use Rattle.bradovusc.proofs.CodedSides.{Known-side, known-strike, known-put, known-trim}
-use Rattle.bradovusc.proofs.CodedSets.{Placed, placed-none, placed-set, Few, MaskLaws, Good}
+use Rattle.bradovusc.proofs.CodedSets.{Good, masked-set}
 
 -- fields that the code knows
 abbrev Known-fields : List ℕ → Type 0
@@ -37,33 +37,26 @@ known-fronts : (l r : Side) → Known-side l → Known-side r → Known-fields (
 known-fronts l r h k f d =
     ⊎-elim (known-front l h f) (λ i. known-front r k f (other-is-front l r i)) (List·Memᴰ·append-cases (front-field l) d)
 
-placed-first : Placed first-set
-placed-first =
-    record {
-      rising = rising-first;
-      below = λ (i : ℕ) (d : List·Memᴰ i first-set). let e = List·Memᴰ·eq-of-singleton d in omega arith;
-    }
-
 -- the first set of a field that stands in the sides
 abbrev first-of : Side → Side → ℕ → PlaceSet
 first-of l r f = cond (stands-in f (l ++ r)) first-set []
 
-placed-firsts : (l r : Side) (f : ℕ) → Placed (getD (map (first-of l r) (upto fields)) f [])
-placed-firsts l r f =
+masked-firsts : (l r : Side) (f : ℕ) → Masked (getD (map (first-of l r) (upto fields)) f [])
+masked-firsts l r f =
     by-bool (ltb f fields)
     (λ e.
     rw (getD-map-upto (first-of l r) [] fields f (ltb-true f fields e))
-    (cond-by Placed (stands-in f (l ++ r)) (λ _. placed-first) (λ _. placed-none)))
+    (cond-by Masked (stands-in f (l ++ r)) (λ _. masked-first) (λ _. masked-none)))
     (λ e.
     let out : length (map (first-of l r) (upto fields)) ≤ f = omega (arith, length-map (upto fields) (first-of l r), length-from 0 fields, ltb-false f fields e) in
-    rw (List·getD-eq-default (map (first-of l r) (upto fields)) [] out) placed-none)
+    rw (List·getD-eq-default (map (first-of l r) (upto fields)) [] out) masked-none)
 
-module _ (laws : MaskLaws) (q : Question) (few : (f : ℕ) → Few (held-by q f)) where
+module _ (q : Question) (few : (f : ℕ) → Few (held-by q f)) where
   good-trimmed : (s : Situation PlaceSet) → Good s → Good (trimmed (acceptor q) s)
   unfolding trimmed
   good-trimmed s g =
       let k = known-trim (s .left) (s .right) (g .left) (g .right) in
-      record { left = k .0; right = k .1; many = g .many; placed = g .placed }
+      record { left = k .0; right = k .1; many = g .many; masked = g .masked }
 
   good-strike : (f : ℕ) (s : Situation PlaceSet) → f < fields → Good s → Good (strike (acceptor q) f s)
   unfolding strike acceptor
@@ -72,7 +65,7 @@ module _ (laws : MaskLaws) (q : Question) (few : (f : ℕ) → Few (held-by q f)
         left = known-strike f (s .left) (g .left);
         right = known-strike f (s .right) (g .right);
         many = length-set (s .sets) f [] ∙ g .many;
-        placed = placed-set (s .sets) f [] (rw (g .many) b) placed-none (g .placed);
+        masked = masked-set (s .sets) f [] (rw (g .many) b) masked-none (g .masked);
       }
 
   good-strike-all : (fs : List ℕ) (s : Situation PlaceSet) → Known-fields fs → Good s → Good (strike-all (acceptor q) fs s)
@@ -86,7 +79,7 @@ module _ (laws : MaskLaws) (q : Question) (few : (f : ℕ) → Few (held-by q f)
         left = known-put c f (s .left) h (g .left);
         right = known-put c f (s .right) h (g .right);
         many = length-set (s .sets) f _ ∙ g .many;
-        placed = placed-set (s .sets) f _ (rw (g .many) b) (laws .placed-after (held-by q f) (getD (s .sets) f []) c (few f) (g .placed f)) (g .placed);
+        masked = masked-set (s .sets) f _ (rw (g .many) b) (masked-after (held-by q f) (getD (s .sets) f []) c (few f) (g .masked f)) (g .masked);
       }
 
   good-put-all : (c : ℕ) (fs : List ℕ) (s : Situation PlaceSet) → c < characters → Known-fields fs → Good s → Good (put-before-all (acceptor q) c fs s)
@@ -114,5 +107,5 @@ module _ (laws : MaskLaws) (q : Question) (few : (f : ℕ) → Few (held-by q f)
         left = h;
         right = k;
         many = length-map (upto fields) (first-of l r) ∙ length-from 0 fields;
-        placed = placed-firsts l r;
+        masked = masked-firsts l r;
       })

@@ -11,3 +11,4 @@ pub mod CodedChildren
 pub mod KeptGood
 pub mod Ways
 pub mod Simulated
+pub mod FirstCoded

@@ -10,9 +10,10 @@ use native.Mathlib.Omega.{arith}
 use mathlib.Core.Path.{_≡_, refl, sym, ap, ap₂, _∙_}
 use mathlib.Core.Bool.{true, _&&_}
 use mathlib.Core.List.{List, [], _∷_, _++_, map, reverse, List·Memᴰ, List·Memᴰ·head, List·Memᴰ·tail}
-use lib.ListN.{length, getD, length-map, length-append, List·getD-map}
+use lib.ListN.{length, getD, length-append, List·getD-map}
 use lib.Seq.{getD-at}
 use Rattle.paper.specs.Numbers.{fields, longest-side}
+use Rattle.paper.specs.Pattern.{Held, any-text, pattern}
 use Rattle.paper.specs.Places.{PlaceSet}
 use Rattle.paper.specs.Search.{Entry, End, found, used-up, no-room, too-long, search, entries}
 use Rattle.paper.specs.Leads.{Leads}
@@ -20,26 +21,22 @@ use Rattle.paper.specs.Situation.{Situation, Move, same-situation, finished, ch
 use Rattle.paper.specs.Way.{text-along, texts-of, search-from}
 use Rattle.paper.specs.Question.{Question, held-by, acceptor}
 use Rattle.paper.specs.Outcome.{searched, count-of, how-of}
+use Rattle.paper.proofs.Asked.{GoodHeld, GoodQuestion}
 use Rattle.paper.proofs.Same.{situation-equal, situation-same}
 use Rattle.paper.proofs.PlaceSets.{same-equal, equal-same}
 use Rattle.paper.proofs.Searched as Searched
-use Rattle.paper.proofs.Mapped.{code-entry, code-entries, code-end, Simulates, search-how, search-entries}
+use Rattle.paper.proofs.Mapped.{code-entry, code-entries, code-end, Simulates, search-how, search-entries, search-count}
+use Rattle.patterns.proofs.Masks.{Few}
 use Rattle.bradovusc.specs.Coded.{Coded, finished-coded, same-coded, children-coded}
 use Rattle.bradovusc.specs.Codes.{code-situation, code-move, tables-of}
 use Rattle.bradovusc.specs.Run.{Running, slot-at, slot-search, given-coded, text-back}
 use Rattle.bradovusc.proofs.Numbered.{entry-at, status-of, Linked, linked-length, linked-at, slots-status, slots-linked}
 use Rattle.bradovusc.proofs.TextBack.{text-back-is}
-use Rattle.bradovusc.proofs.CodedSides.{Known-side, same-sides, finished-sides}
-use Rattle.bradovusc.proofs.CodedSets.{Few, MaskLaws, Good, same-sets}
+use Rattle.bradovusc.proofs.CodedSides.{known-side, same-sides, finished-sides}
+use Rattle.bradovusc.proofs.CodedSets.{Good, same-sets}
 use Rattle.bradovusc.proofs.CodedChildren.{children-agree}
 use Rattle.bradovusc.proofs.KeptGood.{child-good, question-good}
 use Rattle.bradovusc.proofs.Ways.{way-last, way-known, text-last, given-agrees}
-
--- A question that the code can hold: known tokens, and patterns of few leaves.
-pub record GoodQuestion (q : Question) : Type 0 where
-  pub left : Known-side (q .left)
-  pub right : Known-side (q .right)
-  pub few : (f : ℕ) → Few (held-by q f)
 
 abbrev Paper-entries : Type 0
 Paper-entries = List (Entry (Situation PlaceSet) Move)
@@ -59,20 +56,27 @@ getD-mem [] d i h = absurd (omega arith)
 getD-mem (x ∷ l) d zero h = List·Memᴰ·head refl
 getD-mem (x ∷ l) d (suc i) h = List·Memᴰ·tail (getD-mem l d i (omega arith))
 
-module _ (laws : MaskLaws) (q : Question) (good : GoodQuestion q) where
+few-leaves : (h : Held) → GoodHeld h → Few h
+few-leaves any-text g = tt
+few-leaves (pattern p) g = g .1
+
+module _ (q : Question) (good : GoodQuestion q) where
+  few : (f : ℕ) → Few (held-by q f)
+  few f = few-leaves (held-by q f) (good .held .good f)
+
   same-agrees : (s t : Situation PlaceSet) → Good s → Good t → same-coded (code-situation s) (code-situation t) ≡ same-situation (acceptor q) s t
   unfolding acceptor
   same-agrees s t g h =
       ap₂ _&&_ (same-sides (s .left) (t .left) (g .left) (h .left))
-      (ap₂ _&&_ (same-sides (s .right) (t .right) (g .right) (h .right)) (same-sets laws (s .sets) (t .sets) (g .placed) (h .placed)))
+      (ap₂ _&&_ (same-sides (s .right) (t .right) (g .right) (h .right)) (same-sets (s .sets) (t .sets) (g .masked) (h .masked)))
 
   simulates : Simulates code-situation code-move (same-situation (acceptor q)) (finished (acceptor q)) (children (acceptor q) longest-side) same-coded finished-coded (children-coded (tables-of q)) Good
   simulates =
       record {
         same-alike = same-agrees;
         finished-alike = λ s g. finished-sides (acceptor q) (s .left) (s .right);
-        children-alike = children-agree laws q (good .few);
-        child-good = child-good laws q (good .few);
+        children-alike = children-agree q few;
+        child-good = child-good q few;
       }
 
   -- the trimmed question
@@ -80,7 +84,7 @@ module _ (laws : MaskLaws) (q : Question) (good : GoodQuestion q) where
   first = question (acceptor q) (q .left) (q .right)
 
   first-good : Good first
-  first-good = question-good laws q (good .few) (q .left) (q .right) (good .left) (good .right)
+  first-good = question-good q few (q .left) (q .right) (known-side (q .left) (good .left .tokens)) (known-side (q .right) (good .right .tokens))
 
   situations-equal : (s t : Situation PlaceSet) → same-situation (acceptor q) s t ≡ true → s ≡ t
   unfolding acceptor
@@ -109,7 +113,9 @@ module _ (laws : MaskLaws) (q : Question) (good : GoodQuestion q) where
     entries-linked = rw (search-entries code-situation code-move _ _ _ _ _ _ Good simulates room first first-good) at (slots-linked (tables-of q) room (code-situation first))
 
     as-many : length (slots .slots) ≡ length the-entries
-    as-many = linked-length entries-linked ∙ length-map the-entries (code-entry code-situation code-move)
+    as-many =
+        linked-length (slots-linked (tables-of q) room (code-situation first))
+        ∙ search-count code-situation code-move _ _ _ _ _ _ Good simulates room first first-good
 
     pub count-agrees : length (slots .slots) ≡ count-of q (searched q room)
     unfolding count-of searched search-from
@@ -130,7 +136,7 @@ module _ (laws : MaskLaws) (q : Question) (good : GoodQuestion q) where
       at-leads = Searched.way-leads _ _ _ situations-equal situations-same room first (paper-at i) at-mem
 
       at-good : Good (paper-at i .at)
-      at-good = Searched.every-entry _ _ _ situations-equal situations-same room first Good first-good (λ s m t g d. child-good laws q (good .few) s m t g d) (paper-at i) at-mem
+      at-good = Searched.every-entry _ _ _ situations-equal situations-same room first Good first-good (λ s m t g d. child-good q few s m t g d) (paper-at i) at-mem
 
     module _ (f : ℕ) (b : f < fields) where
       abbrev text : ℕ → List ℕ

@@ -4,3 +4,4 @@ pub mod Keys
 pub mod Parts
 pub mod Rows
 pub mod Sets
+pub mod Situations

@@ -1,36 +1,39 @@
 -- The working buffer: one slot of 144 bytes for each situation entered. A slot's key is what makes two situations the same; behind it
 -- stand the number of the parent's slot and the step that made it.
-use Prim.Native.Nat.{ℕ, zero, suc, _*_, _/_, _%_, _≤_}
+use Prim.Native.Nat.{ℕ, zero, suc, _+_, _-_, _*_, _/_, _%_, _≤_}
 use mathlib.Core.Path.{_≡_}
-use mathlib.Core.Bool.{Bool, true, false, _&&_, _||_}
+use mathlib.Core.Bool.{Bool, false, _&&_, _||_}
 use mathlib.Core.List.{List, [], _∷_, _++_, List·Memᴰ}
 use lib.Dec.{eqb}
 use lib.ListN.{length, getD, take, drop, replicate}
 use Rattle.paper.specs.Lists.{each, same-by}
-use Rattle.paper.specs.Numbers.{situation-bytes, longest-side}
+use Rattle.paper.specs.Numbers.{fields, longest-side, situation-bytes}
 use Rattle.bradovusc.specs.Coded.{Coded}
 use Rattle.bradovusc.specs.Struct.{as-struct, Short}
 use Rattle.bradovusc.specs.declared.situation.Situation.{Situation}
 
 -- a mask in four bytes, low first
+abbrev pub mask-width : ℕ
+mask-width = 4
+
 abbrev pub mask-bytes : ℕ → List ℕ
 mask-bytes m = m % 256 ∷ m / 256 % 256 ∷ m / 65536 % 256 ∷ m / 16777216 ∷ []
 
--- where the parts of a slot begin: behind the two lengths the sides, each in 48 bytes, and the sets; behind the key the parent
+-- where the parts of a slot begin: behind the two lengths the sides, each in 48 bytes, and the sets
 abbrev pub left-at : ℕ
 left-at = 2
 
 abbrev pub right-at : ℕ
-right-at = 50
+right-at = left-at + longest-side
 
 abbrev pub sets-at : ℕ
-sets-at = 98
+sets-at = right-at + longest-side
 
 abbrev pub sets-bytes : ℕ
-sets-bytes = 32
+sets-bytes = mask-width * fields
 
 abbrev pub key-bytes : ℕ
-key-bytes = 130
+key-bytes = sets-at + sets-bytes
 
 -- the two lengths, the sides, the sets
 unfoldable pub struct-key : Situation → List ℕ
@@ -39,16 +42,19 @@ struct-key s = (s .«left_len» ∷ s .«right_len» ∷ []) ++ s .left ++ s .ri
 abbrev pub key : Coded → List ℕ
 key s = struct-key (as-struct s)
 
--- parent in two bytes (low first), step
+-- behind the key: parent in two bytes (low first), step
+abbrev pub origin-width : ℕ
+origin-width = 3
+
 abbrev pub origin-bytes : ℕ → ℕ → List ℕ
 origin-bytes parent step = parent % 256 ∷ parent / 256 ∷ step ∷ []
 
 -- where what is left of a slot begins, and how much that is
 abbrev pub rest-at : ℕ
-rest-at = 133
+rest-at = key-bytes + origin-width
 
 abbrev pub rest-bytes : ℕ
-rest-bytes = 11
+rest-bytes = situation-bytes - rest-at
 
 -- key, origin, zeros
 unfoldable pub struct-slot : Situation → ℕ → ℕ → List ℕ
@@ -73,13 +79,13 @@ pub record Holds-slots (work : List ℕ) (ss : List Slot) : Type 0 where
   pub holds : take (situation-bytes * length ss) work ≡ slots-bytes ss
   pub short : (s : Slot) → List·Memᴰ s ss → Short (s .at)
 
--- the bytes of the slot with the number i
-abbrev pub slot-part : List ℕ → ℕ → List ℕ
-slot-part work i = take situation-bytes (drop (situation-bytes * i) work)
-
 -- the n bytes from the place a on
 abbrev pub part : ℕ → ℕ → List ℕ → List ℕ
 part a n bytes = take n (drop a bytes)
+
+-- the bytes of the slot with the number i
+abbrev pub slot-part : List ℕ → ℕ → List ℕ
+slot-part work i = part (situation-bytes * i) situation-bytes work
 
 -- Is the side of the slot that of the key? Where the lengths, which stand at n, are the same, only the tokens, from a on, are compared.
 abbrev pub same-side : ℕ → ℕ → List ℕ → List ℕ → Bool

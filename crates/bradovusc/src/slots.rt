@@ -1,29 +1,36 @@
 // Situations in the working buffer: a slot of 144 bytes for each, in the order of entry.
 ghost use mathlib.Core.Path.{_≡_};
 ghost use mathlib.Core.List.{List, _∷_, [], _++_};
-ghost use Prim.Native.Nat.{ℕ, _+_, _-_, _*_, _<_, _≤_};
-ghost use lib.ListN.{length, getD, take, drop, replicate};
+ghost use Prim.Native.Nat.{ℕ, _+_, _*_, _<_, _≤_};
+ghost use lib.ListN.{length, getD, replicate};
 ghost use lib.Dec.{eqb};
 ghost use Rattle.paper.specs.Lists.{any, each, same-by};
-ghost use Rattle.paper.specs.Numbers.{situation-bytes, longest-side};
+ghost use Rattle.paper.specs.Numbers.{fields, longest-side, situation-bytes};
 ghost use Rattle.bradovusc.specs.Coded.{Coded, same-coded};
 ghost use Rattle.bradovusc.specs.Struct.{as-struct, Short};
-ghost use Rattle.bradovusc.specs.Slots.{mask-bytes, struct-key, origin-bytes, struct-slot, key-bytes, sets-bytes, rest-at, Slot, slot-bytes, Holds-slots, has-key, key-entered};
+ghost use Rattle.bradovusc.specs.Slots.{mask-width, mask-bytes, left-at, origin-width, struct-key, origin-bytes, struct-slot, key-bytes, sets-bytes, Slot, slot-bytes, Holds-slots, has-key, key-entered};
 use crate::situation::Situation;
 
-// Bytes of a slot, and where its parts begin.
+// A slot's parts: the two lengths, the sides, the sets; the parent and the step; zeros.
 const SLOT: usize = 144;
+
+const SIDE: usize = 48;
+
+const FIELDS: usize = 8;
+
+const MASK: usize = 4;
 
 const LEFT: usize = 2;
 
-const RIGHT: usize = 50;
+const RIGHT: usize = LEFT + SIDE;
 
-const SETS: usize = 98;
+const SETS: usize = RIGHT + SIDE;
 
-const KEY: usize = 130;
+const KEY: usize = SETS + MASK * FIELDS;
 
-const REST: usize = 133;
+const REST: usize = KEY + 3;
 
+// A copy.
 fn put(to: &mut [u8], from: &[u8])
     requires { ⌜ length (now to) ≡ length (now from) ⌝ }
     ensures { λ _. ⌜ now (to .exit) ≡ now (from .entry) ⌝ }
@@ -36,15 +43,16 @@ fn put(to: &mut [u8], from: &[u8])
 }
 
 fn put_lengths(to: &mut [u8], left: u8, right: u8)
-    requires { ⌜ length (now to) ≡ 2 ⌝ }
+    requires { ⌜ length (now to) ≡ left-at ⌝ }
     ensures { λ _. ⌜ now (to .exit) ≡ left ∷ right ∷ [] ⌝ }
 {
     to[0] = left;
     to[1] = right;
 }
 
+// A mask, low byte first.
 fn put_mask(to: &mut [u8], mask: u32)
-    requires { ⌜ length (now to) ≡ 4 ⌝ }
+    requires { ⌜ length (now to) ≡ mask-width ⌝ }
     ensures { λ _. ⌜ now (to .exit) ≡ mask-bytes mask ⌝ }
 {
     to[0] = (mask % 256) as u8;
@@ -54,12 +62,12 @@ fn put_mask(to: &mut [u8], mask: u32)
 }
 
 fn put_sets(to: &mut [u8], sets: &[u32])
-    requires { ⌜ length (now to) ≡ 4 * length (now sets) ⌝ }
+    requires { ⌜ length (now to) ≡ mask-width * length (now sets) ⌝ }
     ensures { λ _. ⌜ now (to .exit) ≡ each mask-bytes (now (sets .entry)) ⌝ }
 {
     let mut i = 0;
     while i < sets.len() {
-        put_mask(&mut to[4 * i..4 * i + 4], sets[i]);
+        put_mask(&mut to[MASK * i..MASK * i + MASK], sets[i]);
         i += 1;
     }
 }
@@ -74,8 +82,9 @@ fn put_key(to: &mut [u8], s: Situation)
     put_sets(&mut to[SETS..KEY], &s.sets);
 }
 
+// Where a situation comes from: its parent's number, low byte first, and the step from there.
 fn put_origin(to: &mut [u8], parent: usize, step: u8)
-    requires { ⌜ (length (now to) ≡ 3) × (parent < 65536) ⌝ }
+    requires { ⌜ (length (now to) ≡ origin-width) × (parent < 65536) ⌝ }
     ensures { λ _. ⌜ now (to .exit) ≡ origin-bytes parent step ⌝ }
 {
     to[0] = (parent % 256) as u8;
@@ -113,16 +122,16 @@ pub fn write_slot(work: &mut [u8], n: usize, s: Situation, parent: usize, step: 
     put_slot(&mut work[at..at + SLOT], s, parent, step);
 }
 
-fn side_of(from: &[u8]) -> [u8; 48]
+fn side_of(from: &[u8]) -> [u8; SIDE]
     requires { ⌜ length (now from) ≡ longest-side ⌝ }
     ensures { λ r. ⌜ r ≡ now (from .entry) ⌝ }
 {
-    let mut side = [0u8; 48];
+    let mut side = [0u8; SIDE];
     put(&mut side, from);
     side
 }
 
-// A mask from its bytes, low first.
+// The number of four bytes, low first.
 fn joined(a: u8, b: u8, c: u8, d: u8) -> u32
     ensures { λ r. ⌜ r ≡ a + 256 * b + 65536 * c + 16777216 * d ⌝ }
 {
@@ -130,20 +139,20 @@ fn joined(a: u8, b: u8, c: u8, d: u8) -> u32
 }
 
 fn mask_of(from: &[u8]) -> u32
-    requires { ⌜ length (now from) ≡ 4 ⌝ }
+    requires { ⌜ length (now from) ≡ mask-width ⌝ }
     ensures { λ r. ⌜ ((m : ℕ) → now (from .entry) ≡ mask-bytes m → r ≡ m) ⌝ }
 {
     joined(from[0], from[1], from[2], from[3])
 }
 
-fn sets_of(from: &[u8]) -> [u32; 8]
+fn sets_of(from: &[u8]) -> [u32; FIELDS]
     requires { ⌜ length (now from) ≡ sets-bytes ⌝ }
-    ensures { λ r. ⌜ ((ms : List ℕ) → length ms ≡ 8 → now (from .entry) ≡ each mask-bytes ms → r ≡ ms) ⌝ }
+    ensures { λ r. ⌜ ((ms : List ℕ) → length ms ≡ fields → now (from .entry) ≡ each mask-bytes ms → r ≡ ms) ⌝ }
 {
-    let mut sets = [0u32; 8];
+    let mut sets = [0u32; FIELDS];
     let mut i = 0;
-    while i < 8 {
-        sets[i] = mask_of(&from[4 * i..4 * i + 4]);
+    while i < FIELDS {
+        sets[i] = mask_of(&from[MASK * i..MASK * i + MASK]);
         i += 1;
     }
     sets
@@ -180,6 +189,7 @@ pub fn read_situation(work: &[u8], i: usize) -> Situation
     read_slot(&work[at..at + SLOT])
 }
 
+// The number of two bytes.
 fn pair(low: u8, high: u8) -> usize
     ensures { λ r. ⌜ r ≡ low + 256 * high ⌝ }
 {
@@ -257,7 +267,7 @@ fn entered(work: &[u8], n: usize, key: &[u8]) -> bool
     false
 }
 
-// Is the situation that of one of the first n slots?
+// Is the situation already entered, in one of the first n slots?
 pub fn look_up(work: &[u8], n: usize, s: Situation) -> bool
     requires { ⌜ situation-bytes * n ≤ length (now work) ⌝ }
     requires { ⌜ (s .«left_len» ≤ longest-side) × (s .«right_len» ≤ longest-side) ⌝ }

@@ -175,7 +175,9 @@ standing-known f side g e =
     known (chr c) h k = absurd (true-false k refl)
     known (fld h) i k = rw (eqb-true f h k) i
 
-pub fields-known : (q : Question) → GoodQuestion q → (f : ℕ) → stands-in f (q .left ++ q .right) ≡ true → f < fields
-fields-known q g f e =
+pub fields-known : (sheet : List ℕ) (q : Question) → read-sheet sheet ≡ asked q
+    → (f : ℕ) → stands-in f (q .left ++ q .right) ≡ true → f < fields
+fields-known sheet q a f e =
+    let g : GoodQuestion q = asked-good sheet a in
     ⊎-elim (standing-known f (q .left) (g .left)) (standing-known f (q .right) (g .right))
     (or-is-true (stands-in f (q .left)) (stands-in f (q .right)) (sym (any-append (is-field f) (q .left) (q .right)) ∙ e))

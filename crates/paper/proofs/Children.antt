@@ -1,24 +1,37 @@
 -- The children that the search is given are the children of 01: what a move makes, trimmed and not dead. One that is given as too long has a
--- side above the limit. Follows from the definition of `children`.
+-- side above the limit. After trimming no two equal characters are in front. Follows from the definitions of `children` and `trim`.
 use Prim.Native.Nat.{ℕ, _<_}
 use native.Mathlib.Omega.{arith}
 use mathlib.Core.Path.{_≡_, refl, subst}
 use mathlib.Core.Logic.{_⊎_, ⊎-map}
 use mathlib.Core.Bool.{Bool, true, false, cond, not}
-use mathlib.Core.List.{List·Memᴰ, List·Memᴰ·not-nil, List·Memᴰ·eq-of-singleton}
-use lib.Dec.{leb}
+use mathlib.Core.List.{[], _∷_, List·Memᴰ, List·Memᴰ·not-nil, List·Memᴰ·eq-of-singleton}
+use lib.Dec.{leb, eqb}
 use lib.ListN.{length}
-use Rattle.paper.proofs.Tests.{not-is-true, or-is-true, leb-false}
+use Rattle.paper.proofs.Tests.{cond-by, not-is-true, or-is-true, leb-false}
 use Rattle.paper.proofs.Lists.{mem-each}
 use Rattle.paper.specs.Search.{Child, child, long}
+use Rattle.paper.specs.Equation.{chr, fld, Side}
 use Rattle.paper.specs.Situation.{Acceptor, Situation, Kind, is-finished, is-dead, is-open, Move, kind, trimmed, moved, moves-of}
-use Rattle.paper.specs.Situation.{side-above, kept, child-by, children}
-use Rattle.paper.specs.Demands.{ChildOf}
+use Rattle.paper.specs.Situation.{Sides, trim, side-above, kept, child-by, children}
+use Rattle.paper.specs.Demands.{ChildOf, equal-fronts}
 
 never : _≡_ {A = ℕ} 0 1 → ⊥
 never z = omega arith
 
+trim-fronts : (l r : Side) → equal-fronts (trim l r .l) (trim l r .r) ≡ false
+trim-fronts [] r = refl
+trim-fronts (fld f ∷ l) r = refl
+trim-fronts (chr a ∷ l) [] = refl
+trim-fronts (chr a ∷ l) (fld g ∷ r) = refl
+trim-fronts (chr a ∷ l) (chr b ∷ r) =
+    cond-by (λ (t : Sides). equal-fronts (t .l) (t .r) ≡ false) (eqb a b) (λ _. trim-fronts l r) (λ n. n)
+
 module _ {P : Type 0} (A : Acceptor P) where
+  pub trimmed-fronts : (s : Situation P) → equal-fronts (trimmed A s .left) (trimmed A s .right) ≡ false
+  unfolding trimmed
+  trimmed-fronts s = trim-fronts (s .left) (s .right)
+
   kept-one : (k : Kind) (above : Bool) (m : Move) (t : Situation P) {x : Child (Situation P) Move}
       → List·Memᴰ x (kept A k above m t) → (k ≡ is-dead → ⊥) × (x ≡ cond above long (child m t))
   kept-one is-finished above m t d = (λ e. never (cc), List·Memᴰ·eq-of-singleton d)

@@ -6,30 +6,31 @@ use Prim.Native.Nat.{ℕ}
 use native.Mathlib.Omega.{arith}
 use mathlib.Core.Path.{_≡_, _∙_}
 use mathlib.Core.Bool.{Bool, true, not}
-use mathlib.Core.List.{List, [], _∷_}
+use mathlib.Core.List.{List, [], _∷_, _++_}
 use lib.Dec.{leb}
 use lib.ListN.{length, drop, length-append, length-drop}
 use lib.Seq.{take-append-seam, drop-append-seam}
-use Rattle.paper.specs.Lists.{member}
-use Rattle.paper.specs.Numbers.{longest-text}
+use Rattle.paper.specs.Lists.{upto, member}
+use Rattle.paper.specs.Numbers.{fields, longest-text}
 use Rattle.paper.proofs.Tests.{not-is-true, not-is-false, leb-true, leb-false}
-use Rattle.paper.proofs.Lists.{any-true, any-false}
+use Rattle.paper.proofs.Lists.{any-true, any-false, keep-mem, upto-mem}
 use Rattle.paper.specs.Places.{PlaceSet}
 use Rattle.paper.specs.Search.{Entry, found}
+use Rattle.paper.specs.Equation.{stands-in}
 use Rattle.paper.specs.Situation.{Situation, Move}
 use Rattle.paper.specs.Way.{texts-of}
 use Rattle.paper.specs.Question.{Question, acceptor}
 use Rattle.paper.specs.Outcome.{Outcome, room-of, standing, records, some-text-too-long, outcome}
 use Rattle.paper.specs.Demands.{Good, Solved, Clash, NoClash, NoRoom, TooLong, TooShort, TextTooLong, InOrder, Demand2}
-use Rattle.paper.proofs.Asked.{asked-good, fields-known}
+use Rattle.paper.proofs.Asked.{fields-known}
 use Rattle.paper.proofs.Rows.{end-of, Row, faulty, clashes, clashes-not, has-no-room, is-too-long, is-too-short, has-long-text, in-row}
 use Rattle.paper.proofs.Rows.{good-outcome, number-of-search, refused-outcome, by-reading}
-use Rattle.paper.proofs.QuestionSearched.{found-solves, used-up-unsolved, count-entered, count-in-room, first-entered}
+use Rattle.paper.proofs.QuestionSearched.{found-solves, used-up-unsolved, count-entered, count-in-room, first-entered, entered-trimmed}
 use Rattle.paper.proofs.QuestionSearched.{no-room-left, too-long-left}
 
 -- For all sheets and buffers.
 pub demand-2 : (sheet work answer : List ℕ) → Demand2 sheet work answer (outcome sheet work answer)
-unfolding records some-text-too-long
+unfolding standing records some-text-too-long
 demand-2 sheet work answer =
     record {
       clash = λ e. clash (row 0 e);
@@ -76,6 +77,7 @@ demand-2 sheet work answer =
         record {
           solved = solved q e g h;
           written = rw (w, a) (take-append-seam r rest);
+          each-field = λ f i. keep-mem (λ (k : ℕ). stands-in k (q .left ++ q .right)) (upto fields) (upto-mem fields (fields-known sheet q g f i)) i;
           lengths = λ f i. leb-true (length (text q e f)) longest-text (not-is-false (any-false (above q e) (standing q) n i));
           rest = rw (w, a) (drop-append-seam r rest);
           fits = rw w fits;
@@ -85,7 +87,7 @@ demand-2 sheet work answer =
     no-clash : Row sheet work answer o 1 → NoClash sheet
     no-clash (faulty x at e low high c) = absurd (omega arith)
     no-clash (clashes-not q g h) =
-        record { question = q; good = g; none = used-up-unsolved q (room-of work) (fields-known q (asked-good sheet g)) h }
+        record { question = q; good = g; none = used-up-unsolved q (room-of work) (fields-known sheet q g) h }
 
     full : Row sheet work answer o 18 → NoRoom sheet work o
     full (faulty x at e low high c) = absurd (omega arith)
@@ -112,7 +114,7 @@ demand-2 sheet work answer =
     in-order : (q : Question) → Good sheet q → InOrder q work answer o
     in-order q g =
         let (n, c) = good-outcome sheet work answer q g in
-        record { number = n; count = c ∙ count-entered q work; first = first-entered q work }
+        record { number = n; count = c ∙ count-entered q work; first = first-entered q work; all-trimmed = entered-trimmed q work }
 
     good-number : (q : Question) → Good sheet q → member (o .number) (0 ∷ 1 ∷ 18 ∷ 19 ∷ 20 ∷ 21 ∷ []) ≡ true
     good-number q g = rw (good-outcome sheet work answer q g .0) (number-of-search q answer (end-of work q))

@@ -1,17 +1,17 @@
 -- Demand 3, from bytes to bytes: for all sheets and buffers, lists of bytes, the outcome of 01 meets it. What it says stands in specs/Demands.
 -- The number of a field's reachable place sets is the length of `reachable-sets`, which has each of them once (`Reachable`).
 -- Follows from demand 3 over any acceptor (`Plain`), from the laws of good sheets and of reachable place sets.
-use Prim.Native.Nat.{ℕ, _≤_, _<_}
+use Prim.Native.Nat.{ℕ, _≤_}
 use native.Mathlib.Omega.{arith}
 use mathlib.Core.Path.{_≡_, refl}
 use mathlib.Core.Bool.{true}
-use mathlib.Core.List.{List, [], _∷_, _++_}
-use Rattle.paper.specs.Numbers.{characters, fields, longest-side}
+use mathlib.Core.List.{List, [], _∷_}
+use Rattle.paper.specs.Numbers.{characters, longest-side}
 use Rattle.paper.specs.Pattern.{range, char, leaf, many, any-text, pattern}
 use Rattle.paper.specs.Places.{PlaceSet, set-after, reachable-sets}
 use Rattle.paper.specs.Written.{judge}
 use Rattle.paper.specs.Search.{enter, offer, take-next, search}
-use Rattle.paper.specs.Equation.{fld, stands-in}
+use Rattle.paper.specs.Equation.{fld}
 use Rattle.paper.specs.Plain.{plain, Reaches}
 use Rattle.paper.specs.Question.{Question, held-by, acceptor}
 use Rattle.paper.specs.Sheet.{marked, pattern-record, side-record, read-end, read-right, read-sheet}
@@ -26,11 +26,12 @@ use Rattle.paper.proofs.Rows.{Row, faulty, has-no-room, is-too-long, in
 
 -- For all sheets and buffers.
 pub demand-3 : (sheet work answer : List ℕ) → Demand3 sheet work (outcome sheet work answer)
-unfolding acceptor searched count-of how-of
+unfolding acceptor room-of searched count-of how-of
 demand-3 sheet work answer =
     record {
       bounded = λ q g p. rw (good-outcome sheet work answer q g .1)
-          (plain-count (acceptor q) same-equal equal-same (reach q) (reaches q) longest-side (room-of work) (q .left) (q .right) p (known q g));
+          (plain-count (acceptor q) same-equal equal-same (reach q) (reaches q) longest-side (room-of work) (q .left) (q .right) p (fields-known sheet q g));
+      room-counted = omega arith;
       enough-room = λ q g p enough. (
         λ e. has-room q g p enough (in-row sheet work answer 18 e),
         λ e. not-long q g p (in-row sheet work answer 19 e),
@@ -47,15 +48,12 @@ demand-3 sheet work answer =
           after = λ f s c h k d e. reachable-after characters (held-by q f) s c d k e;
         }
 
-    known : (q : Question) → Good sheet q → (f : ℕ) → stands-in f (q .left ++ q .right) ≡ true → f < fields
-    known q g = fields-known q (asked-good sheet g)
-
     has-room : (q : Question) → Good sheet q → plain (q .left) (q .right) ≡ true → bound-of q ≤ room-of work
         → Row sheet work answer (outcome sheet work answer) 18 → ⊥
     has-room q g p enough (faulty x at e low high c) = omega arith
     has-room q g p enough (has-no-room q′ g′ h) =
         let same : q′ ≡ q = cc in
-        plain-has-room (acceptor q) same-equal equal-same (reach q) (reaches q) longest-side (room-of work) (q .left) (q .right) p (known q g)
+        plain-has-room (acceptor q) same-equal equal-same (reach q) (reaches q) longest-side (room-of work) (q .left) (q .right) p (fields-known sheet q g)
         enough (rw same at h)
 
     not-long : (q : Question) → Good sheet q → plain (q .left) (q .right) ≡ true
@@ -64,7 +62,7 @@ demand-3 sheet work answer =
     not-long q g p (is-too-long q′ g′ h) =
         let same : q′ ≡ q = cc in
         let good = asked-good sheet g in
-        plain-not-long (acceptor q) same-equal equal-same (reach q) (reaches q) longest-side (room-of work) (q .left) (q .right) p (known q g)
+        plain-not-long (acceptor q) same-equal equal-same (reach q) (reaches q) longest-side (room-of work) (q .left) (q .right) p (fields-known sheet q g)
         (omega (arith, good .left .short)) (omega (arith, good .right .short)) (rw same at h)
 
 -- Sheet S, x any digits and y the digit 4: "The bound of demand 3 is (1 + 2) times (1 + 2) = 9."

@@ -3,11 +3,11 @@
 use Prim.Native.Nat.{ℕ, _≤_, _<_}
 use mathlib.Core.Path.{_≡_, ap}
 use mathlib.Core.Logic.{_⊎_, ⊎-map}
-use mathlib.Core.Bool.{true}
+use mathlib.Core.Bool.{true, false}
 use mathlib.Core.List.{List, _∷_, _++_, List·Memᴰ}
 use lib.ListN.{length, length-map}
 use Rattle.paper.specs.Numbers.{fields, longest-side}
-use Rattle.paper.proofs.Lists.{map-mem}
+use Rattle.paper.proofs.Lists.{mem-map, map-mem}
 use Rattle.paper.specs.Places.{PlaceSet}
 use Rattle.paper.specs.Search.{Entry, found, used-up, no-room, too-long, entries}
 use Rattle.paper.specs.Leads.{situations}
@@ -15,17 +15,17 @@ use Rattle.paper.proofs.Searched
 use Rattle.paper.proofs.Ended.{Left-out}
 use Rattle.paper.specs.Equation.{Texts, stands-in}
 use Rattle.paper.specs.Pattern.{Holds}
-use Rattle.paper.specs.Situation.{Situation, Move, same-situation, finished, children, question}
+use Rattle.paper.specs.Situation.{Situation, Move, moved, same-situation, finished, children, question}
 use Rattle.paper.specs.Decides.{Decides}
 use Rattle.paper.specs.Way.{search-from, texts-of}
 use Rattle.paper.specs.Question.{Question, held-by, Solution, acceptor}
 use Rattle.paper.specs.Outcome.{room-of, searched, count-of, how-of}
-use Rattle.paper.specs.Demands.{entered, ChildOf, LeftOut}
+use Rattle.paper.specs.Demands.{entered, equal-fronts, ChildOf, LeftOut}
 use Rattle.paper.proofs.Accepts.{question-decides}
 use Rattle.paper.proofs.Same.{situation-equal, situation-same}
 use Rattle.paper.proofs.Sound.{sound}
 use Rattle.paper.proofs.Complete.{complete}
-use Rattle.paper.proofs.Children.{child-of, long-of}
+use Rattle.paper.proofs.Children.{trimmed-fronts, child-of, long-of}
 
 module _ (q : Question) where
   decides : Decides (acceptor q) (λ (f : ℕ). Holds (held-by q f))
@@ -76,6 +76,17 @@ module _ (q : Question) where
     unfolding searched search-from
     first-entered h =
         let (l, e) = Searched.first-entered _ _ _ equal same (room-of work) first h in (situations l, ap situations e)
+
+    -- "Trimming drops equal characters from both fronts while there are any."
+    pub entered-trimmed : (s : Situation PlaceSet) → List·Memᴰ s (entered q work) → equal-fronts (s .left) (s .right) ≡ false
+    unfolding searched search-from question
+    entered-trimmed s d =
+        let (e, i, p) = mem-map at all d in
+        rw p
+        (Searched.every-entry _ _ _ equal same (room-of work) first (λ (t : Situation PlaceSet). equal-fronts (t .left) (t .right) ≡ false)
+        (trimmed-fronts (acceptor q) _)
+        (λ t m u h k. let c = child-of (acceptor q) longest-side t k in rw (c .makes) (trimmed-fronts (acceptor q) (moved (acceptor q) t (c .move))))
+        e i)
 
     -- "no room gives 18"
     pub no-room-left : how-of q (searched q (room-of work)) ≡ no-room

@@ -4,16 +4,16 @@
 use Prim.Native.Nat.{ℕ, _≤_, _<_}
 use mathlib.Core.Path.{_≡_}
 use mathlib.Core.Logic.{_⊎_}
-use mathlib.Core.Bool.{true, cond}
-use mathlib.Core.List.{List, [], _∷_, List·Memᴰ}
-use lib.Dec.{leb}
+use mathlib.Core.Bool.{Bool, true, false, cond}
+use mathlib.Core.List.{List, [], _∷_, _++_, List·Memᴰ}
+use lib.Dec.{leb, eqb}
 use lib.ListN.{length, take, drop}
 use Rattle.paper.specs.Lists.{each, member}
-use Rattle.paper.specs.Numbers.{characters, longest-side, longest-text}
+use Rattle.paper.specs.Numbers.{characters, longest-side, longest-text, most-room}
 use Rattle.paper.specs.Places.{PlaceSet, reachable-sets}
 use Rattle.paper.specs.Search.{End, found, used-up, no-room, too-long, entries}
 use Rattle.paper.specs.Leads.{situations}
-use Rattle.paper.specs.Equation.{Texts}
+use Rattle.paper.specs.Equation.{chr, fld, Side, Texts, stands-in}
 use Rattle.paper.specs.Situation.{Acceptor, Situation, is-dead, Move, kind, trimmed, moved, moves-of, same-situation, finished}
 use Rattle.paper.specs.Situation.{children, question}
 use Rattle.paper.specs.Plain.{plain, plain-bound}
@@ -37,10 +37,12 @@ abbrev pub records-of : Question → Texts → List ℕ
 records-of q texts = each (λ (f : ℕ). value-record f (texts f)) (standing q)
 
 -- "Clash carries a text for each field standing in the sides": the first bytes of the answer buffer, as many as are written, are the
--- records of texts that solve the question, each short enough for the two bytes of its length. The rest of the buffer is unchanged.
+-- records of texts that solve the question. No field that stands is left out, and each text is short enough for the two bytes of its length.
+-- The rest of the buffer is unchanged.
 pub record Clash (sheet answer : List ℕ) (o : Outcome) : Type 0 where
   pub solved : Solved sheet
   pub written : take (o .written) (o .answer) ≡ records-of (solved .question) (solved .texts)
+  pub each-field : (f : ℕ) → stands-in f (solved .question .left ++ solved .question .right) ≡ true → List·Memᴰ f (standing (solved .question))
   pub lengths : (f : ℕ) → List·Memᴰ f (standing (solved .question)) → length (solved .texts f) ≤ longest-text
   pub rest : drop (o .written) (o .answer) ≡ drop (o .written) answer
   pub fits : o .written ≤ length answer
@@ -108,14 +110,24 @@ number-of q answer used-up = 1
 number-of q answer no-room = 18
 number-of q answer too-long = 19
 
+-- two equal characters in front
+abbrev pub equal-fronts : Side → Side → Bool
+equal-fronts [] r = false
+equal-fronts (fld f ∷ l) r = false
+equal-fronts (chr a ∷ l) [] = false
+equal-fronts (chr a ∷ l) (fld g ∷ r) = false
+equal-fronts (chr a ∷ l) (chr b ∷ r) = eqb a b
+
 -- "Refusals 18, 19, 20 come exactly where 01's search order says, and otherwise a good sheet gets clash or no clash, with the count of that
--- order": the number is that of the search's end, the count that of the situations entered, of which the trimmed question is the first.
+-- order": the number is that of the search's end, the count that of the situations entered, of which the trimmed question is the first. Each is
+-- trimmed to the last.
 pub record InOrder (q : Question) (work answer : List ℕ) (o : Outcome) : Type 0 where
   pub number : o .number ≡ number-of q answer (how-of q (searched q (room-of work)))
   pub count : o .count ≡ length (entered q work)
   pub first :
       0 < room-of work
       → (later : List (Situation PlaceSet)) × (entered q work ≡ question (acceptor q) (q .left) (q .right) ∷ later)
+  pub all-trimmed : (s : Situation PlaceSet) → List·Memᴰ s (entered q work) → equal-fronts (s .left) (s .right) ≡ false
 
 -- Demand 2.
 pub record Demand2 (sheet work answer : List ℕ) (o : Outcome) : Type 0 where
@@ -147,6 +159,7 @@ pub record Demand3 (sheet work : List ℕ) (o : Outcome) : Type 0 where
   -- "If no field of a good sheet stands more than once in the two sides together, the count is at most (1 + L) times (1 + R)."
   pub bounded : (q : Question) → Good sheet q → plain (q .left) (q .right) ≡ true → o .count ≤ bound-of q
   -- "With working room, as 01 counts it (never above 65,535), for that many situations, the answer for such a sheet is never 18 or 19."
+  pub room-counted : room-of work ≤ most-room
   pub enough-room :
       (q : Question) → Good sheet q → plain (q .left) (q .right) ≡ true → bound-of q ≤ room-of work
       → (o .number ≡ 18 → ⊥) × (o .number ≡ 19 → ⊥)

@@ -1,8 +1,8 @@
 -- Laws of a key and of a slot, of a struct whose arrays have their lengths: how long they are, that the parts stored one behind the
 -- other make them, where their parts stand. Follows from the laws of parts.
-use Prim.Native.Nat.{ℕ, _+_, _*_}
+use Prim.Native.Nat.{ℕ, _+_}
 use native.Mathlib.Omega.{arith}
-use mathlib.Core.Path.{_≡_, refl, sym, ap, _∙_}
+use mathlib.Core.Path.{_≡_, refl, ap, _∙_}
 use mathlib.Core.List.{List, [], _∷_, _++_, append-assoc, append-nil}
 use lib.ListN.{length, getD, drop, replicate, length-append, length-drop, drop-of-length-le}
 use lib.Seq.{getD-append-add, drop-at, length-take-le}
@@ -10,7 +10,7 @@ use borrow.Rule.Slice.PartMut.{putMid, midOf, postOf}
 use Rattle.paper.specs.Lists.{each}
 use Rattle.paper.specs.Numbers.{fields, longest-side, situation-bytes}
 use Rattle.bradovusc.specs.declared.situation.Situation.{Situation}
-use Rattle.bradovusc.specs.Slots.{mask-bytes, key-bytes, left-at, right-at, sets-at, sets-bytes, rest-at, rest-bytes, origin-bytes, struct-key, struct-slot, part}
+use Rattle.bradovusc.specs.Slots.{mask-bytes, key-bytes, left-at, right-at, sets-at, sets-bytes, origin-width, rest-at, rest-bytes, origin-bytes, struct-key, struct-slot, part}
 use Rattle.bradovusc.proofs.slots.Parts.{part-back, part-at}
 use Rattle.bradovusc.proofs.slots.Sets.{length-sets}
 
@@ -42,10 +42,13 @@ module _ (s : Situation) (z : Sized s) where
   pub key-stored : (d : List ℕ) → length d ≡ key-bytes → putMid sets-at sets-bytes (putMid right-at longest-side (putMid left-at longest-side (lengths ++ postOf 0 left-at d) (s .left)) (s .right)) (each mask-bytes (s .sets)) ≡ struct-key s
   unfolding struct-key
   key-stored d n =
-      let a = part-back lengths (drop 2 d) (s .left) 2 48 refl refl in
-      let b = part-back (lengths ++ s .left) (drop 48 (drop 2 d)) (s .right) 50 48 a to-right in
-      let c = part-back (lengths ++ s .left ++ s .right) (drop 48 (drop 48 (drop 2 d))) (each mask-bytes (s .sets)) 98 32 b to-sets in
-      let e : drop 32 (drop 48 (drop 48 (drop 2 d))) ≡ [] = drop-of-length-le (drop 48 (drop 48 (drop 2 d))) {i = 32} (simp length-drop (omega arith)) in
+      let after-lengths = drop left-at d in
+      let after-left = drop longest-side after-lengths in
+      let after-right = drop longest-side after-left in
+      let a = part-back lengths after-lengths (s .left) left-at longest-side refl refl in
+      let b = part-back (lengths ++ s .left) after-left (s .right) right-at longest-side a to-right in
+      let c = part-back (lengths ++ s .left ++ s .right) after-right (each mask-bytes (s .sets)) sets-at sets-bytes b to-sets in
+      let e : drop sets-bytes after-right ≡ [] = drop-of-length-le after-right {i = sets-bytes} (simp length-drop (omega arith)) in
       c ∙ rw e (append-nil (struct-key s))
 
   key-rest : (t : List ℕ) → struct-key s ++ t ≡ lengths ++ s .left ++ s .right ++ (each mask-bytes (s .sets) ++ t)
@@ -57,18 +60,18 @@ module _ (s : Situation) (z : Sized s) where
   unfolding struct-key
   left-part t =
       ap (λ (l : List ℕ). part left-at longest-side l) (key-rest t ∙ append-assoc (lengths ++ s .left) (s .right) (each mask-bytes (s .sets) ++ t))
-      ∙ part-at lengths (s .left) (s .right ++ (each mask-bytes (s .sets) ++ t)) 2 48 refl (z .left)
+      ∙ part-at lengths (s .left) (s .right ++ (each mask-bytes (s .sets) ++ t)) left-at longest-side refl (z .left)
 
   pub right-part : (t : List ℕ) → part right-at longest-side (struct-key s ++ t) ≡ s .right
   unfolding struct-key
   right-part t =
       ap (λ (l : List ℕ). part right-at longest-side l) (key-rest t)
-      ∙ part-at (lengths ++ s .left) (s .right) (each mask-bytes (s .sets) ++ t) 50 48 to-right (z .right)
+      ∙ part-at (lengths ++ s .left) (s .right) (each mask-bytes (s .sets) ++ t) right-at longest-side to-right (z .right)
 
   pub sets-part : (t : List ℕ) → part sets-at sets-bytes (struct-key s ++ t) ≡ each mask-bytes (s .sets)
   unfolding struct-key
   sets-part t =
-      part-at (lengths ++ s .left ++ s .right) (each mask-bytes (s .sets)) t 98 32 to-sets (length-sets (s .sets) ∙ rw (z .sets))
+      part-at (lengths ++ s .left ++ s .right) (each mask-bytes (s .sets)) t sets-at sets-bytes to-sets (length-sets (s .sets) ∙ rw (z .sets))
 
 module _ (s : Situation) (k : length (struct-key s) ≡ key-bytes) where
   -- a slot is its key and what stands behind it
@@ -85,13 +88,15 @@ module _ (s : Situation) (k : length (struct-key s) ≡ key-bytes) where
       rw (slot-split parent step, ← k) (getD-append-add (struct-key s) (behind-key parent step) j 0)
 
   -- the parts of the slot, stored one behind the other
-  pub slot-stored : (parent step : ℕ) (d ks os zs : List ℕ) → length d ≡ situation-bytes → ks ≡ struct-key s → os ≡ origin-bytes parent step → zs ≡ replicate (length (midOf rest-at rest-bytes (putMid key-bytes 3 (ks ++ postOf 0 key-bytes d) os))) 0 → putMid rest-at rest-bytes (putMid key-bytes 3 (ks ++ postOf 0 key-bytes d) os) zs ≡ struct-slot s parent step
+  pub slot-stored : (parent step : ℕ) (d ks os zs : List ℕ) → length d ≡ situation-bytes → ks ≡ struct-key s → os ≡ origin-bytes parent step → zs ≡ replicate (length (midOf rest-at rest-bytes (putMid key-bytes origin-width (ks ++ postOf 0 key-bytes d) os))) 0 → putMid rest-at rest-bytes (putMid key-bytes origin-width (ks ++ postOf 0 key-bytes d) os) zs ≡ struct-slot s parent step
   unfolding struct-slot
   slot-stored parent step d ks os zs n e f g =
-      let h : length (ks ++ os) ≡ 133 = rw (e, f, length-append (struct-key s) (origin-bytes parent step), k) in
-      let a = part-back ks (drop 130 d) os 130 3 refl (rw e k) in
-      let m : length (drop 3 (drop 130 d)) ≡ 11 = simp length-drop (omega arith) in
-      let r : zs ≡ replicate 11 0 = g ∙ rw (a, drop-at (ks ++ os) (drop 3 (drop 130 d)) 133 h, length-take-le 11 (drop 3 (drop 130 d)) (omega arith)) in
-      let b = part-back (ks ++ os) (drop 3 (drop 130 d)) zs 133 11 a h in
-      let x : drop 11 (drop 3 (drop 130 d)) ≡ [] = drop-of-length-le (drop 3 (drop 130 d)) {i = 11} (omega arith) in
+      let after-key = drop key-bytes d in
+      let rest = drop origin-width after-key in
+      let h : length (ks ++ os) ≡ rest-at = rw (e, f, length-append (struct-key s) (origin-bytes parent step), k) in
+      let a = part-back ks after-key os key-bytes origin-width refl (rw e k) in
+      let m : length rest ≡ rest-bytes = simp length-drop (omega arith) in
+      let r : zs ≡ replicate rest-bytes 0 = g ∙ rw (a, drop-at (ks ++ os) rest rest-at h, length-take-le rest-bytes rest (omega arith)) in
+      let b = part-back (ks ++ os) rest zs rest-at rest-bytes a h in
+      let x : drop rest-bytes rest ≡ [] = drop-of-length-le rest {i = rest-bytes} (omega arith) in
       b ∙ rw (x, e, f, r) (append-nil (struct-slot s parent step))

@@ -1,16 +1,14 @@
--- `clear` fills with zeros. The loop's invariant: so many from the front are zero. Follows from `fill-none` and `fill-more`.
+-- `clear` fills with zeros. The loop's invariant: so many from the front are zero. Follows from `fill-more`.
 use Prim.Native.Nat.{_≤_, _-_}
 use native.Mathlib.Omega.{arith}
 use mathlib.Core.Path.{_≡_}
 use mathlib.Core.List.{_++_, append-nil}
 use lib.ListN.{length, drop, replicate, length-set}
 use lib.Seq.{drop-length}
-use borrow.Author.Fill.{fill-none, fill-more}
+use borrow.Author.Fill.{fill-more}
 use borrow.Author.Needs.{needs}
 use Rattle.bradovusc.proofs.slots.clear.Statement.{statement}
 use Rattle.bradovusc.proofs.slots.clear.Tie as tie
-use Rattle.bradovusc.proofs.slots.clear.Reads as reads
-use Rattle.bradovusc.proofs.slots.clear.Lts as lts
 
 abbrev Inv-loop : tie.InvT-loop
 Inv-loop work₀ i₀ work i = (i ≤ length work) × (length work ≡ length work₀) × (work ≡ replicate i 0 ++ drop i work₀)
@@ -18,23 +16,18 @@ Inv-loop work₀ i₀ work i = (i ≤ length work) × (length work ≡ length wo
 abbrev μ-loop : tie.MeasureT-loop
 μ-loop work₀ i₀ work i = length work₀ - i
 
--- src/slots.rt:87:5
 loop-holds : tie.Need-loop-holds Inv-loop μ-loop
 loop-holds c = search needs
 
--- src/slots.rt:88:9
 slice-write-work : tie.Need-slice-write-work Inv-loop μ-loop
 slice-write-work c = search needs
 
--- src/slots.rt:89:9
 add-i : tie.Need-add-i Inv-loop μ-loop
 add-i c = search needs
 
--- src/slots.rt:87:5
 loop-less : tie.Need-loop-less Inv-loop μ-loop
 loop-less c = search needs
 
--- src/slots.rt:87:5
 loop-again : tie.Need-loop-again Inv-loop μ-loop
 loop-again c =
     let at = c .before in (
@@ -43,11 +36,9 @@ loop-again c =
       rw (at .loop .inv .2) (fill-more (at .loop .i) 0 (at .before .args .work .now) (omega arith)),
     )
 
--- src/slots.rt:83:1
 same-length : tie.Need-same-length Inv-loop μ-loop
 same-length c = search needs
 
--- src/slots.rt:83:1
 returns : tie.Need-returns Inv-loop μ-loop
 returns c =
     let at = c .before in

@@ -1,6 +1,6 @@
 -- `entered` looks through the slots from the last to the first. The loop's invariant: the key is that of one of the n slots exactly if
 -- it is that of one of those not yet looked at. Follows from `last-slot`.
-use Prim.Native.Nat.{_≤_, _-_}
+use Prim.Native.Nat.{_≤_}
 use native.Mathlib.Omega.{arith}
 use mathlib.Core.Path.{_≡_, refl, sym, _∙_}
 use Rattle.bradovusc.specs.Slots.{key-entered}
@@ -8,9 +8,6 @@ use Rattle.bradovusc.proofs.slots.Compared.{last-slot}
 use borrow.Author.Needs.{needs}
 use Rattle.bradovusc.proofs.slots.entered.Statement.{statement}
 use Rattle.bradovusc.proofs.slots.entered.Tie as tie
-use Rattle.bradovusc.proofs.slots.entered.Reads as reads
-use Rattle.bradovusc.proofs.slots.entered.Lts as lts
-use Rattle.bradovusc.proofs.slots.same_key.Reads as same-key-reads
 
 abbrev Inv-loop : tie.InvT-loop
 Inv-loop work n key i₀ i = (i ≤ n) × (key-entered work n key ≡ key-entered work i key)
@@ -18,39 +15,30 @@ Inv-loop work n key i₀ i = (i ≤ n) × (key-entered work n key ≡ key-entere
 abbrev μ-loop : tie.MeasureT-loop
 μ-loop work n key i₀ i = i
 
--- src/slots.rt:240:5
 loop-holds : tie.Need-loop-holds Inv-loop μ-loop
 loop-holds c = (search needs, refl)
 
--- src/slots.rt:241:9
 sub-i : tie.Need-sub-i Inv-loop μ-loop
 sub-i c = search needs
 
--- src/slots.rt:242:18
 mul-at : tie.Need-mul-at Inv-loop μ-loop
 mul-at c = search needs
 
--- src/slots.rt:243:31
 add-same-key : tie.Need-add-same-key Inv-loop μ-loop
 add-same-key c = search needs
 
--- src/slots.rt:243:21
 sub-same-key : tie.Need-sub-same-key Inv-loop μ-loop
 sub-same-key c = search needs
 
--- src/slots.rt:243:21
 part-same-key-start : tie.Need-part-same-key-start Inv-loop μ-loop
 part-same-key-start c = search needs
 
--- src/slots.rt:243:21
 part-same-key-end : tie.Need-part-same-key-end Inv-loop μ-loop
 part-same-key-end c = search needs
 
--- src/slots.rt:243:12
 same-key-requires : tie.Need-same-key-requires Inv-loop μ-loop
 same-key-requires c κs = search needs
 
--- src/slots.rt:244:13
 returns : tie.Need-returns Inv-loop μ-loop
 returns c =
     let at = c .before .before .before .before in
@@ -60,11 +48,9 @@ returns c =
     ∙ last-slot (args .work .now) (args .key .now) (at .loop .i) (c .before .same-key .result) (omega arith) (c .before .same-key .ensures)
     ∙ rw (c .if1 .taken))
 
--- src/slots.rt:240:5
 loop-less : tie.Need-loop-less Inv-loop μ-loop
 loop-less c = search needs
 
--- src/slots.rt:240:5
 loop-again : tie.Need-loop-again Inv-loop μ-loop
 loop-again c =
     let at = c .before .before .before .before in
@@ -75,7 +61,6 @@ loop-again c =
           ∙ rw (c .if1 .left),
     )
 
--- src/slots.rt:234:1
 returns-2 : tie.Need-returns-2 Inv-loop μ-loop
 returns-2 c =
     let n : c .before .loop .i ≡ 0 = omega arith in

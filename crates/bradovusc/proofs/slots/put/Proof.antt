@@ -1,16 +1,14 @@
 -- `put` copies. The loop's invariant: so many from the front are copied. Follows from `copied-more`.
 use Prim.Native.Nat.{_≤_, _<_, _-_}
 use native.Mathlib.Omega.{arith}
-use mathlib.Core.Path.{_≡_, refl, ap, _∙_}
+use mathlib.Core.Path.{_≡_}
 use mathlib.Core.List.{_++_, append-nil}
-use lib.ListN.{length, take, drop, getD, set, length-set}
+use lib.ListN.{length, take, drop, length-set}
 use lib.Seq.{take-all, drop-length}
 use borrow.Author.Needs.{needs}
 use Rattle.bradovusc.proofs.slots.Parts.{copied-more}
 use Rattle.bradovusc.proofs.slots.put.Statement.{statement}
 use Rattle.bradovusc.proofs.slots.put.Tie as tie
-use Rattle.bradovusc.proofs.slots.put.Reads as reads
-use Rattle.bradovusc.proofs.slots.put.Lts as lts
 
 abbrev Inv-loop : tie.InvT-loop
 Inv-loop to₀ from i₀ to i = (i ≤ length from) × (length to ≡ length to₀) × (to ≡ take i from ++ drop i to₀)

@@ -3,89 +3,64 @@ use borrow.Author.Needs.{needs}
 use Rattle.bradovusc.proofs.slots.Keys.{key-stored}
 use Rattle.bradovusc.proofs.slots.put_key.Statement.{statement}
 use Rattle.bradovusc.proofs.slots.put_key.Tie as tie
-use Rattle.bradovusc.proofs.slots.put_key.Reads as reads
-use Rattle.bradovusc.proofs.slots.put_key.Lts as lts
-use Rattle.bradovusc.proofs.slots.put.Reads as put-reads
-use Rattle.bradovusc.proofs.slots.put_lengths.Reads as put-lengths-reads
-use Rattle.bradovusc.proofs.slots.put_sets.Reads as put-sets-reads
 
--- src/slots.rt:66:17
 sub-put-lengths : tie.Need-sub-put-lengths
 sub-put-lengths c = search needs
 
--- src/slots.rt:66:17
 part-put-lengths-start : tie.Need-part-put-lengths-start
 part-put-lengths-start c = search needs
 
--- src/slots.rt:66:17
 part-put-lengths-end : tie.Need-part-put-lengths-end
 part-put-lengths-end c = search needs
 
--- src/slots.rt:66:35
 cast-put-lengths : tie.Need-cast-put-lengths
 cast-put-lengths c = search needs
 
--- src/slots.rt:66:53
 cast-put-lengths-2 : tie.Need-cast-put-lengths-2
 cast-put-lengths-2 c = search needs
 
--- src/slots.rt:66:5
 put-lengths-requires : tie.Need-put-lengths-requires
 put-lengths-requires c κs = search needs
 
--- src/slots.rt:67:9
 sub-put : tie.Need-sub-put
 sub-put c = search needs
 
--- src/slots.rt:67:9
 part-put-start : tie.Need-part-put-start
 part-put-start c = search needs
 
--- src/slots.rt:67:9
 part-put-end : tie.Need-part-put-end
 part-put-end c = search needs
 
--- src/slots.rt:67:5
 put-requires : tie.Need-put-requires
 put-requires c κs = search needs
 
--- src/slots.rt:68:9
 sub-put-2 : tie.Need-sub-put-2
 sub-put-2 c = search needs
 
--- src/slots.rt:68:9
 part-put-start-2 : tie.Need-part-put-start-2
 part-put-start-2 c = search needs
 
--- src/slots.rt:68:9
 part-put-end-2 : tie.Need-part-put-end-2
 part-put-end-2 c = search needs
 
--- src/slots.rt:68:5
 put-requires-2 : tie.Need-put-requires-2
 put-requires-2 c κs = search needs
 
--- src/slots.rt:69:14
 sub-put-sets : tie.Need-sub-put-sets
 sub-put-sets c = search needs
 
--- src/slots.rt:69:14
 part-put-sets-start : tie.Need-part-put-sets-start
 part-put-sets-start c = search needs
 
--- src/slots.rt:69:14
 part-put-sets-end : tie.Need-part-put-sets-end
 part-put-sets-end c = search needs
 
--- src/slots.rt:69:5
 put-sets-requires : tie.Need-put-sets-requires
 put-sets-requires c κs = search needs
 
--- src/slots.rt:62:1
 same-length : tie.Need-same-length
 same-length c = search needs
 
--- src/slots.rt:62:1
 returns : tie.Need-returns
 returns c =
     let sets = c .before .before in

@@ -4,22 +4,16 @@ use borrow.Author.Needs.{needs}
 use Rattle.bradovusc.proofs.slots.Parts.{stored-whole}
 use Rattle.bradovusc.proofs.slots.put_lengths.Statement.{statement}
 use Rattle.bradovusc.proofs.slots.put_lengths.Tie as tie
-use Rattle.bradovusc.proofs.slots.put_lengths.Reads as reads
-use Rattle.bradovusc.proofs.slots.put_lengths.Lts as lts
 
--- src/slots.rt:37:5
 slice-write-to : tie.Need-slice-write-to
 slice-write-to c = search needs
 
--- src/slots.rt:38:5
 slice-write-to-2 : tie.Need-slice-write-to-2
 slice-write-to-2 c = search needs
 
--- src/slots.rt:33:1
 same-length : tie.Need-same-length
 same-length c = search needs
 
--- src/slots.rt:33:1
 returns : tie.Need-returns
 returns c = stored-whole (c .args .left ∷ c .args .right ∷ []) (c .args .to .now) (c .pre)
 

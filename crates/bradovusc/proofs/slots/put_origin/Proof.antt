@@ -4,34 +4,25 @@ use Rattle.bradovusc.proofs.slots.Parts.{stored-whole}
 use borrow.Author.Needs.{needs}
 use Rattle.bradovusc.proofs.slots.put_origin.Statement.{statement}
 use Rattle.bradovusc.proofs.slots.put_origin.Tie as tie
-use Rattle.bradovusc.proofs.slots.put_origin.Reads as reads
-use Rattle.bradovusc.proofs.slots.put_origin.Lts as lts
 
--- src/slots.rt:77:13
 cast-to : tie.Need-cast-to
 cast-to c = search needs
 
--- src/slots.rt:77:5
 slice-write-to : tie.Need-slice-write-to
 slice-write-to c = search needs
 
--- src/slots.rt:78:13
 cast-to-2 : tie.Need-cast-to-2
 cast-to-2 c = search needs
 
--- src/slots.rt:78:5
 slice-write-to-2 : tie.Need-slice-write-to-2
 slice-write-to-2 c = search needs
 
--- src/slots.rt:79:5
 slice-write-to-3 : tie.Need-slice-write-to-3
 slice-write-to-3 c = search needs
 
--- src/slots.rt:73:1
 same-length : tie.Need-same-length
 same-length c = search needs
 
--- src/slots.rt:73:1
 returns : tie.Need-returns
 returns c = stored-whole (origin-bytes (c .args .parent) (c .args .step)) (c .args .to .now) (c .pre .0)
 

@@ -5,12 +5,10 @@ use native.Mathlib.Omega.{arith}
 use lib.ListN.{length}
 use borrow.Author.Needs.{needs}
 use borrow.Rule.Slice.PartMut.{same-len-mid}
+use Rattle.bradovusc.specs.Slots.{mask-width}
 use Rattle.bradovusc.proofs.slots.Sets.{sets-over, one-more-set, all-sets}
 use Rattle.bradovusc.proofs.slots.put_sets.Statement.{statement}
 use Rattle.bradovusc.proofs.slots.put_sets.Tie as tie
-use Rattle.bradovusc.proofs.slots.put_sets.Reads as reads
-use Rattle.bradovusc.proofs.slots.put_sets.Lts as lts
-use Rattle.bradovusc.proofs.slots.put_mask.Reads as put-mask-reads
 
 abbrev Inv-loop : tie.InvT-loop
 Inv-loop to₀ sets i₀ to i = (i ≤ length sets) × (length to ≡ length to₀) × (to ≡ sets-over i sets to₀)
@@ -18,70 +16,55 @@ Inv-loop to₀ sets i₀ to i = (i ≤ length sets) × (length to ≡ length to�
 abbrev μ-loop : tie.MeasureT-loop
 μ-loop to₀ sets i₀ to i = length sets - i
 
--- src/slots.rt:56:5
 loop-holds : tie.Need-loop-holds Inv-loop μ-loop
 loop-holds c = search needs
 
--- src/slots.rt:57:26
 mul-put-mask : tie.Need-mul-put-mask Inv-loop μ-loop
 mul-put-mask c = search needs
 
--- src/slots.rt:57:33
 mul-put-mask-2 : tie.Need-mul-put-mask-2 Inv-loop μ-loop
 mul-put-mask-2 c = search needs
 
--- src/slots.rt:57:33
 add-put-mask : tie.Need-add-put-mask Inv-loop μ-loop
 add-put-mask c = search needs
 
--- src/slots.rt:57:18
 sub-put-mask : tie.Need-sub-put-mask Inv-loop μ-loop
 sub-put-mask c = search needs
 
--- src/slots.rt:57:18
 part-put-mask-start : tie.Need-part-put-mask-start Inv-loop μ-loop
 part-put-mask-start c = search needs
 
--- src/slots.rt:57:18
 part-put-mask-end : tie.Need-part-put-mask-end Inv-loop μ-loop
 part-put-mask-end c = search needs
 
--- src/slots.rt:57:45
 mul-put-mask-3 : tie.Need-mul-put-mask-3 Inv-loop μ-loop
 mul-put-mask-3 c = search needs
 
--- src/slots.rt:57:45
 shared-slice-read-put-mask : tie.Need-shared-slice-read-put-mask Inv-loop μ-loop
 shared-slice-read-put-mask c = search needs
 
--- src/slots.rt:57:9
 put-mask-requires : tie.Need-put-mask-requires Inv-loop μ-loop
 put-mask-requires c κs = search needs
 
--- src/slots.rt:58:9
 add-i : tie.Need-add-i Inv-loop μ-loop
 add-i c = search needs
 
--- src/slots.rt:56:5
 loop-less : tie.Need-loop-less Inv-loop μ-loop
 loop-less c = search needs
 
--- src/slots.rt:56:5
 loop-again : tie.Need-loop-again Inv-loop μ-loop
 loop-again c =
     let at = c .before .before .before .before .before .before in
     let start = at .before .before .before in
     let put = c .before .before .put-mask in (
       search needs,
-      same-len-mid (4 * at .loop .i) (4 * at .loop .i + 4 - 4 * at .loop .i) (at .loop .to) (put .last .0) (put .kept .0) ∙ at .loop .inv .1,
+      same-len-mid (mask-width * at .loop .i) (mask-width * at .loop .i + mask-width - mask-width * at .loop .i) (at .loop .to) (put .last .0) (put .kept .0) ∙ at .loop .inv .1,
       one-more-set (at .loop .i) (start .args .sets .now) (start .args .to .now) (at .loop .to) (put .last .0) (omega arith) (at .loop .inv .2) (put .ensures),
     )
 
--- src/slots.rt:51:1
 same-length : tie.Need-same-length Inv-loop μ-loop
 same-length c = search needs
 
--- src/slots.rt:51:1
 returns : tie.Need-returns Inv-loop μ-loop
 returns c =
     let at = c .before in

@@ -8,65 +8,46 @@ use Rattle.bradovusc.proofs.slots.Keys.{slot-stored}
 use borrow.Author.Needs.{needs}
 use Rattle.bradovusc.proofs.slots.put_slot.Statement.{statement}
 use Rattle.bradovusc.proofs.slots.put_slot.Tie as tie
-use Rattle.bradovusc.proofs.slots.put_slot.Reads as reads
-use Rattle.bradovusc.proofs.slots.put_slot.Lts as lts
-use Rattle.bradovusc.proofs.slots.clear.Reads as clear-reads
-use Rattle.bradovusc.proofs.slots.put_key.Reads as put-key-reads
-use Rattle.bradovusc.proofs.slots.put_origin.Reads as put-origin-reads
 
--- src/slots.rt:97:13
 sub-put-key : tie.Need-sub-put-key
 sub-put-key c = search needs
 
--- src/slots.rt:97:13
 part-put-key-start : tie.Need-part-put-key-start
 part-put-key-start c = search needs
 
--- src/slots.rt:97:13
 part-put-key-end : tie.Need-part-put-key-end
 part-put-key-end c = search needs
 
--- src/slots.rt:97:5
 put-key-requires : tie.Need-put-key-requires
 put-key-requires c κs = search needs
 
--- src/slots.rt:98:16
 sub-put-origin : tie.Need-sub-put-origin
 sub-put-origin c = search needs
 
--- src/slots.rt:98:16
 part-put-origin-start : tie.Need-part-put-origin-start
 part-put-origin-start c = search needs
 
--- src/slots.rt:98:16
 part-put-origin-end : tie.Need-part-put-origin-end
 part-put-origin-end c = search needs
 
--- src/slots.rt:98:5
 put-origin-requires : tie.Need-put-origin-requires
 put-origin-requires c κs = search needs
 
--- src/slots.rt:99:11
 sub-clear : tie.Need-sub-clear
 sub-clear c = search needs
 
--- src/slots.rt:99:11
 part-clear-start : tie.Need-part-clear-start
 part-clear-start c = search needs
 
--- src/slots.rt:99:11
 part-clear-end : tie.Need-part-clear-end
 part-clear-end c = search needs
 
--- src/slots.rt:99:5
 clear-requires : tie.Need-clear-requires
 clear-requires c κs = search needs
 
--- src/slots.rt:93:1
 same-length : tie.Need-same-length
 same-length c = search needs
 
--- src/slots.rt:93:1
 returns : tie.Need-returns
 returns c =
     let rest = c .before .before in
@@ -74,7 +55,7 @@ returns c =
     let key = origin .before .before .before .before in
     let start = key .before .before .before in
     let s = start .args .s in
-    let n : length (struct-key s) ≡ key-bytes = rw (← key .put-key .ensures) (key .put-key .kept .0 ∙ length-take-le 130 (start .args .to .now) (omega arith)) in
+    let n : length (struct-key s) ≡ key-bytes = rw (← key .put-key .ensures) (key .put-key .kept .0 ∙ length-take-le key-bytes (start .args .to .now) (omega arith)) in
     slot-stored s n (start .args .parent) (start .args .step) (start .args .to .now) (key .put-key .last .0) (origin .put-origin .last .0) (rest .clear .last .0)
     (start .pre .0) (key .put-key .ensures) (origin .put-origin .ensures) (rest .clear .ensures)
 

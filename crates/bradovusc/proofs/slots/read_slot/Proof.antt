@@ -1,80 +1,58 @@
 -- `read_slot` reads the situation of a slot. Follows from what each part of a slot's bytes is.
-use mathlib.Core.Path.{_≡_, _∙_}
-use Rattle.bradovusc.proofs.slots.Held.{left-length-read, right-length-read, left-read, right-read, sets-read}
+use mathlib.Core.Path.{_∙_}
+use Rattle.bradovusc.proofs.slots.Situations.{left-length-read, right-length-read, left-read, right-read, sets-read}
 use borrow.Author.Needs.{needs}
 use Rattle.bradovusc.proofs.slots.read_slot.Statement.{statement}
 use Rattle.bradovusc.proofs.slots.read_slot.Tie as tie
-use Rattle.bradovusc.proofs.slots.read_slot.Reads as reads
-use Rattle.bradovusc.proofs.slots.read_slot.Lts as lts
-use Rattle.bradovusc.proofs.slots.sets_of.Reads as sets-of-reads
-use Rattle.bradovusc.proofs.slots.side_of.Reads as side-of-reads
-use Rattle.bradovusc.proofs.slots.wide.Reads as wide-reads
 
--- src/slots.rt:158:24
 sub-side-of : tie.Need-sub-side-of
 sub-side-of c = search needs
 
--- src/slots.rt:158:24
 part-side-of-start : tie.Need-part-side-of-start
 part-side-of-start c = search needs
 
--- src/slots.rt:158:24
 part-side-of-end : tie.Need-part-side-of-end
 part-side-of-end c = search needs
 
--- src/slots.rt:158:9
 side-of-requires : tie.Need-side-of-requires
 side-of-requires c κs = search needs
 
--- src/slots.rt:159:25
 sub-side-of-2 : tie.Need-sub-side-of-2
 sub-side-of-2 c = search needs
 
--- src/slots.rt:159:25
 part-side-of-start-2 : tie.Need-part-side-of-start-2
 part-side-of-start-2 c = search needs
 
--- src/slots.rt:159:25
 part-side-of-end-2 : tie.Need-part-side-of-end-2
 part-side-of-end-2 c = search needs
 
--- src/slots.rt:159:9
 side-of-requires-2 : tie.Need-side-of-requires-2
 side-of-requires-2 c κs = search needs
 
--- src/slots.rt:160:24
 sub-sets-of : tie.Need-sub-sets-of
 sub-sets-of c = search needs
 
--- src/slots.rt:160:24
 part-sets-of-start : tie.Need-part-sets-of-start
 part-sets-of-start c = search needs
 
--- src/slots.rt:160:24
 part-sets-of-end : tie.Need-part-sets-of-end
 part-sets-of-end c = search needs
 
--- src/slots.rt:160:9
 sets-of-requires : tie.Need-sets-of-requires
 sets-of-requires c κs = search needs
 
--- src/slots.rt:163:24
 shared-slice-read-wide : tie.Need-shared-slice-read-wide
 shared-slice-read-wide c = search needs
 
--- src/slots.rt:163:19
 wide-requires : tie.Need-wide-requires
 wide-requires c κs = search needs
 
--- src/slots.rt:165:25
 shared-slice-read-wide-2 : tie.Need-shared-slice-read-wide-2
 shared-slice-read-wide-2 c = search needs
 
--- src/slots.rt:165:20
 wide-requires-2 : tie.Need-wide-requires-2
 wide-requires-2 c κs = search needs
 
--- src/slots.rt:154:1
 returns : tie.Need-returns
 returns c s h e =
     let sets = c .before .before .before .before in

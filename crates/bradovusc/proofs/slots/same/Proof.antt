@@ -1,7 +1,7 @@
 -- `same` compares. The loop's invariant: what is left compares as the whole. Follows from `same-next`, `differ-next`, `same-end`.
 use Prim.Native.Nat.{_≤_, _-_}
 use native.Mathlib.Omega.{arith}
-use mathlib.Core.Path.{_≡_, refl, sym, _∙_}
+use mathlib.Core.Path.{_≡_, sym, _∙_}
 use lib.Dec.{eqb}
 use lib.ListN.{length, drop}
 use Rattle.paper.specs.Lists.{same-by}
@@ -9,8 +9,6 @@ use Rattle.bradovusc.proofs.slots.Compared.{same-next, differ-next, sam
 use borrow.Author.Needs.{needs}
 use Rattle.bradovusc.proofs.slots.same.Statement.{statement}
 use Rattle.bradovusc.proofs.slots.same.Tie as tie
-use Rattle.bradovusc.proofs.slots.same.Reads as reads
-use Rattle.bradovusc.proofs.slots.same.Lts as lts
 
 abbrev Inv-loop : tie.InvT-loop
 Inv-loop a b i₀ i = (i ≤ length a) × (same-by eqb a b ≡ same-by eqb (drop i a) (drop i b))
@@ -18,34 +16,27 @@ Inv-loop a b i₀ i = (i ≤ length a) × (same-by eqb a b ≡ same-by eqb (drop
 abbrev μ-loop : tie.MeasureT-loop
 μ-loop a b i₀ i = length a - i
 
--- src/slots.rt:189:5
 loop-holds : tie.Need-loop-holds Inv-loop μ-loop
 loop-holds c = search needs
 
--- src/slots.rt:190:12
 shared-slice-read-if1 : tie.Need-shared-slice-read-if1 Inv-loop μ-loop
 shared-slice-read-if1 c = search needs
 
--- src/slots.rt:190:20
 shared-slice-read-if1-2 : tie.Need-shared-slice-read-if1-2 Inv-loop μ-loop
 shared-slice-read-if1-2 c = search needs
 
--- src/slots.rt:191:13
 returns : tie.Need-returns Inv-loop μ-loop
 returns c =
     let at = c .before .before .before .before in
     let args = at .before .args in
     sym (at .loop .inv .1 ∙ differ-next (at .loop .i) (args .a .now) (args .b .now) (omega arith) (at .before .pre) (c .if1 .taken))
 
--- src/slots.rt:193:9
 add-i : tie.Need-add-i Inv-loop μ-loop
 add-i c = search needs
 
--- src/slots.rt:189:5
 loop-less : tie.Need-loop-less Inv-loop μ-loop
 loop-less c = search needs
 
--- src/slots.rt:189:5
 loop-again : tie.Need-loop-again Inv-loop μ-loop
 loop-again c =
     let at = c .before .before .before .before in
@@ -54,7 +45,6 @@ loop-again c =
       at .loop .inv .1 ∙ same-next (at .loop .i) (args .a .now) (args .b .now) (omega arith) (at .before .pre) (c .if1 .left),
     )
 
--- src/slots.rt:184:1
 returns-2 : tie.Need-returns-2 Inv-loop μ-loop
 returns-2 c =
     let at = c .before in

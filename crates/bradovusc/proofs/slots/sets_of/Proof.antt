@@ -6,88 +6,72 @@ use mathlib.Core.List.{List, _++_, append-nil}
 use lib.ListN.{length, take, drop, getD, replicate}
 use lib.Seq.{take-all}
 use Rattle.paper.specs.Lists.{each}
+use Rattle.paper.specs.Numbers.{fields}
 use Rattle.bradovusc.specs.Slots.{mask-bytes}
 use Rattle.bradovusc.proofs.slots.Parts.{copied-more}
 use Rattle.bradovusc.proofs.slots.Sets.{set-part}
 use borrow.Author.Needs.{needs}
 use Rattle.bradovusc.proofs.slots.sets_of.Statement.{statement}
 use Rattle.bradovusc.proofs.slots.sets_of.Tie as tie
-use Rattle.bradovusc.proofs.slots.sets_of.Reads as reads
-use Rattle.bradovusc.proofs.slots.sets_of.Lts as lts
-use Rattle.bradovusc.proofs.slots.mask_of.Reads as mask-of-reads
 
 abbrev Inv-loop : tie.InvT-loop
 Inv-loop from sets₀ i₀ sets i =
-    (i ≤ 8) × ((ms : List ℕ) → length ms ≡ 8 → from ≡ each mask-bytes ms → sets ≡ take i ms ++ drop i (replicate 8 0))
+    (i ≤ fields) × ((ms : List ℕ) → length ms ≡ fields → from ≡ each mask-bytes ms → sets ≡ take i ms ++ drop i (replicate fields 0))
 
 abbrev μ-loop : tie.MeasureT-loop
-μ-loop from sets₀ i₀ sets i = 8 - i
+μ-loop from sets₀ i₀ sets i = fields - i
 
--- src/slots.rt:134:5
 loop-holds : tie.Need-loop-holds Inv-loop μ-loop
 loop-holds c = (search needs, λ ms n e. refl)
 
--- src/slots.rt:135:33
 mul-mask-of : tie.Need-mul-mask-of Inv-loop μ-loop
 mul-mask-of c = search needs
 
--- src/slots.rt:135:40
 mul-mask-of-2 : tie.Need-mul-mask-of-2 Inv-loop μ-loop
 mul-mask-of-2 c = search needs
 
--- src/slots.rt:135:40
 add-mask-of : tie.Need-add-mask-of Inv-loop μ-loop
 add-mask-of c = search needs
 
--- src/slots.rt:135:27
 sub-mask-of : tie.Need-sub-mask-of Inv-loop μ-loop
 sub-mask-of c = search needs
 
--- src/slots.rt:135:27
 part-mask-of-start : tie.Need-part-mask-of-start Inv-loop μ-loop
 part-mask-of-start c = search needs
 
--- src/slots.rt:135:27
 part-mask-of-end : tie.Need-part-mask-of-end Inv-loop μ-loop
 part-mask-of-end c = search needs
 
--- src/slots.rt:135:19
 mask-of-requires : tie.Need-mask-of-requires Inv-loop μ-loop
 mask-of-requires c κs = search needs
 
--- src/slots.rt:135:9
 mul-sets : tie.Need-mul-sets Inv-loop μ-loop
 mul-sets c = search needs
 
--- src/slots.rt:135:9
 array-write-sets : tie.Need-array-write-sets Inv-loop μ-loop
 array-write-sets c = search needs
 
--- src/slots.rt:136:9
 add-i : tie.Need-add-i Inv-loop μ-loop
 add-i c = search needs
 
--- src/slots.rt:134:5
 loop-less : tie.Need-loop-less Inv-loop μ-loop
 loop-less c = search needs
 
--- src/slots.rt:134:5
 loop-again : tie.Need-loop-again Inv-loop μ-loop
 loop-again c = (
   search needs,
-  λ (ms : List ℕ) (n : length ms ≡ 8) (e : c .before .before .before .before .before .args .from .now ≡ each mask-bytes ms).
+  λ (ms : List ℕ) (n : length ms ≡ fields) (e : c .before .before .before .before .before .args .from .now ≡ each mask-bytes ms).
       let at = c .before .before .before in
       let h : at .loop .i < length ms = omega arith in
       rw (at .loop .inv .1 ms n e, c .mask-of .ensures (getD ms (at .loop .i) 0) (set-part (at .loop .i) ms (at .before .before .args .from .now) h e))
-      (copied-more (at .loop .i) ms (replicate 8 0) 0 h (sym n)),
+      (copied-more (at .loop .i) ms (replicate fields 0) 0 h (sym n)),
 )
 
--- src/slots.rt:128:1
 returns : tie.Need-returns Inv-loop μ-loop
 returns c ms n e =
     let at = c .before in
-    let k : at .loop .i ≡ 8 = omega arith in
-    rw (at .loop .inv .1 ms n e, k, take-all 8 ms (omega arith)) (append-nil ms)
+    let k : at .loop .i ≡ fields = omega arith in
+    rw (at .loop .inv .1 ms n e, k, take-all fields ms (omega arith)) (append-nil ms)
 
 pub sets-of-spec : {M : Type 1} → statement M
 sets-of-spec =

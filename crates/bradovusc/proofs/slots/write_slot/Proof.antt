@@ -6,39 +6,28 @@ use Rattle.bradovusc.proofs.slots.Held.{holds-more}
 use borrow.Author.Needs.{needs}
 use Rattle.bradovusc.proofs.slots.write_slot.Statement.{statement}
 use Rattle.bradovusc.proofs.slots.write_slot.Tie as tie
-use Rattle.bradovusc.proofs.slots.write_slot.Reads as reads
-use Rattle.bradovusc.proofs.slots.write_slot.Lts as lts
-use Rattle.bradovusc.proofs.slots.put_slot.Reads as put-slot-reads
 
--- src/slots.rt:108:14
 mul-at : tie.Need-mul-at
 mul-at c = search needs
 
--- src/slots.rt:109:28
 add-put-slot : tie.Need-add-put-slot
 add-put-slot c = search needs
 
--- src/slots.rt:109:14
 sub-put-slot : tie.Need-sub-put-slot
 sub-put-slot c = search needs
 
--- src/slots.rt:109:14
 part-put-slot-start : tie.Need-part-put-slot-start
 part-put-slot-start c = search needs
 
--- src/slots.rt:109:14
 part-put-slot-end : tie.Need-part-put-slot-end
 part-put-slot-end c = search needs
 
--- src/slots.rt:109:5
 put-slot-requires : tie.Need-put-slot-requires
 put-slot-requires c κs = search needs
 
--- src/slots.rt:103:1
 same-length : tie.Need-same-length
 same-length c = search needs
 
--- src/slots.rt:103:1
 returns : tie.Need-returns
 returns c k ss e s h n =
     let put = c .before .before .put-slot in
