@@ -14,7 +14,8 @@ use Rattle.bradovusc.specs.Struct.{padded}
 use Rattle.bradovusc.specs.Slots.{Slot, Holds-slots, slot-part, part, left-at, right-at}
 use Rattle.bradovusc.specs.Run.{slot-at, no-slot}
 use Rattle.bradovusc.specs.Answer.{front-at}
-use Rattle.bradovusc.proofs.slots.Held.{short-held, slot-held, left-length-read, right-length-read, left-read, right-read}
+use Rattle.bradovusc.proofs.slots.Situations.{left-length-read, right-length-read, left-read, right-read}
+use Rattle.bradovusc.proofs.slots.Held.{short-held, slot-held}
 
 -- the front of a side, by its length and its first byte
 front-byte : (side work : List ℕ) (count tokens : ℕ) → getD work count 0 ≡ length side → getD work tokens 0 ≡ getD (padded side) 0 0
