@@ -1,12 +1,12 @@
 -- The answer of a clash, from the slots: the way to the last slot, the texts that it spells, the records of the fields that stand, and
 -- what becomes of the answer buffer.
-use Prim.Native.Nat.{ℕ, _+_, _/_, _%_, _≤_, _<_}
+use Prim.Native.Nat.{ℕ, suc, _+_, _/_, _%_, _≤_, _<_}
 use mathlib.Core.Path.{_≡_}
 use mathlib.Core.Bool.{Bool, false, cond, not, _&&_, _||_}
-use mathlib.Core.List.{List, [], _∷_, _++_, map}
+use mathlib.Core.List.{List, [], _∷_, _++_}
 use lib.Dec.{leb, ltb, eqb}
 use lib.ListN.{length, getD, drop}
-use Rattle.paper.specs.Lists.{upto, any, only, keep, each, member}
+use Rattle.paper.specs.Lists.{upto, any, only, keep, each}
 use Rattle.paper.specs.Numbers.{characters, fields, field-token, longest-text}
 use Rattle.paper.specs.Outcome.{value-record}
 use Rattle.bradovusc.specs.Coded.{Coded, front}
@@ -17,14 +17,14 @@ use Rattle.bradovusc.specs.declared.records.Given.{Given}
 use Rattle.bradovusc.specs.declared.records.Given.the-variants.{TextTooLong, TooShort, Written}
 
 -- every slot but the first has its parent before it
-abbrev pub Linked : List Slot → Type 0
-Linked ss = (i : ℕ) → 0 < i → i < length ss → slot-at ss i .parent < i
+abbrev pub Earlier : List Slot → Type 0
+Earlier ss = (i : ℕ) → suc i < length ss → slot-at ss (suc i) .parent < suc i
 
 -- the buffer begins with these slots, the one with the number last is among them, and parents lead from it back to the first
 pub record Way-to (work : List ℕ) (last : ℕ) : Type 0 where
   pub slots : List Slot
   pub holds : Holds-slots work slots
-  pub linked : Linked slots
+  pub earlier : Earlier slots
   pub entered : last < length slots
 
 -- the token in front of a side in a slot: its length stands at one place of the buffer, its tokens from another on
@@ -66,22 +66,18 @@ pub record Put-in-front (bytes before after : List ℕ) (n : ℕ) : Type 0 where
   pub many : n ≡ length bytes
   pub put : after ≡ in-front bytes before
 
--- a field stands if its token is among the tokens of the sides
-unfoldable pub standing-among : List ℕ → List Bool
-standing-among tokens = map (λ (f : ℕ). member (field-token + f) tokens) (upto fields)
+-- "for each field standing in the sides, by rising number": those whose first place set is not 0
+unfoldable pub standing-fields : List ℕ → List ℕ
+standing-fields sets = keep (λ (f : ℕ). not (eqb (getD sets f 0) 0)) (upto fields)
 
--- "for each field standing in the sides, by rising number"
-unfoldable pub standing-fields : List Bool → List ℕ
-standing-fields stand = keep (λ (f : ℕ). getD stand f false) (upto fields)
-
-module _ (stand : List Bool) (text : ℕ → List ℕ) where
+module _ (sets : List ℕ) (text : ℕ → List ℕ) where
   -- "each record written directly behind the one before"
   unfoldable pub value-records : List ℕ
-  value-records = each (λ (f : ℕ). value-record f (text f)) (standing-fields stand)
+  value-records = each (λ (f : ℕ). value-record f (text f)) (standing-fields sets)
 
   -- "a text above 65,535 characters"
   unfoldable pub text-above : Bool
-  text-above = any (λ (f : ℕ). not (leb (length (text f)) longest-text)) (standing-fields stand)
+  text-above = any (λ (f : ℕ). not (leb (length (text f)) longest-text)) (standing-fields sets)
 
   -- no text is too long, and the records have room in the buffer
   pub record Records-fit (buffer : List ℕ) : Type 0 where

@@ -1,37 +1,26 @@
 // The answer of a clash: the texts, spelt from the slots of the working buffer, and their records, each directly behind the one before.
 ghost use mathlib.Core.Path.{_≡_};
-ghost use mathlib.Core.Bool.{false};
-ghost use mathlib.Core.List.{_∷_, [], _++_};
-ghost use Prim.Native.Nat.{_+_, _*_, _/_, _%_, _<_, _≤_};
-ghost use lib.ListN.{length, getD, drop};
-ghost use Rattle.paper.specs.Lists.{member};
+ghost use Prim.Native.Nat.{_<_, _≤_};
+ghost use lib.ListN.{length};
 ghost use Rattle.paper.specs.Numbers.{fields, longest-text};
 ghost use Rattle.paper.specs.Outcome.{value-record};
 ghost use Rattle.bradovusc.specs.Run.{slot-at};
 ghost use Rattle.bradovusc.specs.Records.{Way-to, Steps-back, Record-fits, Put-in-front, Records-fit, Answered};
 ghost use Rattle.bradovusc.specs.Records.{front-at, puts-before, text-at, record-head, head-bytes, in-front, text-above, value-records};
+use crate::situation::CHARACTERS;
+use crate::situation::FIELD_TOKEN;
+use crate::situation::FIELDS;
+use crate::situation::NO_TOKEN;
+use crate::slots::LEFT;
+use crate::slots::RIGHT;
+use crate::slots::SLOT;
 use crate::slots::parent_of;
 use crate::slots::step_of;
 
-// Bytes of a slot, and where its sides begin.
-const SLOT: usize = 144;
-
-const LEFT: usize = 2;
-
-const RIGHT: usize = 50;
-
-// "0 to 42 (a character) or 64 to 71 (field 0 to 7)"
-const CHARACTERS: u8 = 43;
-
-const FIELD_TOKEN: u8 = 64;
-
-const FIELDS: usize = 8;
-// the front of an empty side
-const NO_TOKEN: u8 = 255;
-
-// mark, field and length of a record
+// Mark, field and length of a record.
 const HEAD: usize = 5;
 
+// "a text above 65,535 characters"
 const LONGEST_TEXT: usize = 65535;
 
 // What became of the answer: a text above 65,535 characters, an answer buffer too short, or so many bytes written.
@@ -150,13 +139,13 @@ fn write_record(out: &mut [u8], work: &[u8], last: usize, f: u8) -> usize
 }
 
 // Is a text above 65,535 characters?
-fn some_text_above(work: &[u8], last: usize, stand: [bool; FIELDS]) -> bool
+fn some_text_above(work: &[u8], last: usize, sets: [u32; FIELDS]) -> bool
     requires { ⌜ Way-to (now work) last ⌝ }
-    ensures { λ r. ⌜ ((w : Way-to (now (work .entry)) last) → r ≡ text-above stand (text-at (w .slots) last)) ⌝ }
+    ensures { λ r. ⌜ ((w : Way-to (now (work .entry)) last) → r ≡ text-above sets (text-at (w .slots) last)) ⌝ }
 {
     let mut f = 0;
     while f < FIELDS {
-        if stand[f] {
+        if sets[f] != 0 {
             if text_length(work, last, f as u8) > LONGEST_TEXT {
                 return true;
             }
@@ -167,14 +156,14 @@ fn some_text_above(work: &[u8], last: usize, stand: [bool; FIELDS]) -> bool
 }
 
 // How many bytes the records have.
-fn records_length(work: &[u8], last: usize, stand: [bool; FIELDS]) -> usize
+fn records_length(work: &[u8], last: usize, sets: [u32; FIELDS]) -> usize
     requires { ⌜ Way-to (now work) last ⌝ }
-    ensures { λ r. ⌜ ((w : Way-to (now (work .entry)) last) → r ≡ length (value-records stand (text-at (w .slots) last))) ⌝ }
+    ensures { λ r. ⌜ ((w : Way-to (now (work .entry)) last) → r ≡ length (value-records sets (text-at (w .slots) last))) ⌝ }
 {
     let mut total = 0;
     let mut f = 0;
     while f < FIELDS {
-        if stand[f] {
+        if sets[f] != 0 {
             total += HEAD + text_length(work, last, f as u8);
         }
         f += 1;
@@ -183,33 +172,33 @@ fn records_length(work: &[u8], last: usize, stand: [bool; FIELDS]) -> usize
 }
 
 // "each record written directly behind the one before"
-fn write_records(answer: &mut [u8], work: &[u8], last: usize, stand: [bool; FIELDS])
+fn write_records(answer: &mut [u8], work: &[u8], last: usize, sets: [u32; FIELDS])
     requires { ⌜ Way-to (now work) last ⌝ }
-    requires { ⌜ ((w : Way-to (now work) last) → Records-fit stand (text-at (w .slots) last) (now answer)) ⌝ }
-    ensures { λ _. ⌜ ((w : Way-to (now (work .entry)) last) → now (answer .exit) ≡ in-front (value-records stand (text-at (w .slots) last)) (now (answer .entry))) ⌝ }
+    requires { ⌜ ((w : Way-to (now work) last) → Records-fit sets (text-at (w .slots) last) (now answer)) ⌝ }
+    ensures { λ _. ⌜ ((w : Way-to (now (work .entry)) last) → now (answer .exit) ≡ in-front (value-records sets (text-at (w .slots) last)) (now (answer .entry))) ⌝ }
 {
     let mut at = 0;
     let mut f = 0;
     while f < FIELDS {
-        if stand[f] {
+        if sets[f] != 0 {
             at += write_record(&mut answer[at..], work, last, f as u8);
         }
         f += 1;
     }
 }
 
-// The answer of a clash whose finish is in the last slot. "21 comes before 20", and both before any byte is written.
-pub fn answer_clash(answer: &mut [u8], work: &[u8], last: usize, stand: [bool; FIELDS]) -> Given
+// The answer of a clash whose finish is in the last slot. A field stands in the question's sides if its first place set isn't 0. "21 comes before 20", and both before any byte is written.
+pub fn answer_clash(answer: &mut [u8], work: &[u8], last: usize, sets: [u32; FIELDS]) -> Given
     requires { ⌜ Way-to (now work) last ⌝ }
-    ensures { λ r. ⌜ ((w : Way-to (now (work .entry)) last) → Answered stand (text-at (w .slots) last) (now (answer .entry)) (now (answer .exit)) r) ⌝ }
+    ensures { λ r. ⌜ ((w : Way-to (now (work .entry)) last) → Answered sets (text-at (w .slots) last) (now (answer .entry)) (now (answer .exit)) r) ⌝ }
 {
-    if some_text_above(work, last, stand) {
+    if some_text_above(work, last, sets) {
         return Given::TextTooLong;
     }
-    let total = records_length(work, last, stand);
+    let total = records_length(work, last, sets);
     if answer.len() < total {
         return Given::TooShort;
     }
-    write_records(answer, work, last, stand);
+    write_records(answer, work, last, sets);
     Given::Written(total)
 }

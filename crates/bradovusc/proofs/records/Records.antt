@@ -1,9 +1,9 @@
 -- The records of an answer: a record is its head and its text; head and text, stored one behind the other, are the record in front.
 -- Follows from the definitions and the laws of parts.
-use Prim.Native.Nat.{ℕ, suc, _+_, _-_, _≤_, _<_}
+use Prim.Native.Nat.{ℕ, _+_, _-_, _≤_}
 use native.Mathlib.Omega.{arith}
 use mathlib.Core.Path.{_≡_, refl, sym, ap, _∙_}
-use mathlib.Core.List.{List, [], _∷_, _++_, append-assoc, append-nil}
+use mathlib.Core.List.{List, [], _++_, append-assoc, append-nil}
 use lib.ListN.{length, take, drop, length-append, length-drop, take-append-drop, drop-of-length-le}
 use lib.Seq.{take-at, take-all, drop-at, drop-drop, length-take-le}
 use borrow.Rule.Slice.PartMut.{putMid, postOf}

@@ -13,7 +13,7 @@ use Rattle.paper.specs.Lists.{only}
 use Rattle.bradovusc.specs.Coded.{Coded}
 use Rattle.bradovusc.specs.Slots.{Slot}
 use Rattle.bradovusc.specs.Run.{slot-at, given-coded, text-back}
-use Rattle.bradovusc.specs.Records.{Linked, Way-to, Steps-back, puts-before, text-at}
+use Rattle.bradovusc.specs.Records.{Earlier, Way-to, Steps-back, puts-before, text-at}
 use Rattle.bradovusc.specs.declared.records.Back.{Back}
 
 pub given-only : (f : ℕ) (s : Coded) (m : ℕ) → given-coded f s m ≡ only (puts-before f s m) m
@@ -27,7 +27,11 @@ length-only false x = omega arith
 given-one : (f : ℕ) (s : Coded) (m : ℕ) → length (given-coded f s m) ≤ 1
 given-one f s m = rw given-only (length-only (puts-before f s m) m)
 
-module _ (ss : List Slot) (linked : Linked ss) (f : ℕ) where
+parent-earlier : (ss : List Slot) → Earlier ss → (i : ℕ) → 0 < i → i < length ss → slot-at ss i .parent < i
+parent-earlier ss earlier zero h k = absurd (omega arith)
+parent-earlier ss earlier (suc i) h k = earlier i k
+
+module _ (ss : List Slot) (earlier : Earlier ss) (f : ℕ) where
   pub text-fuel : (n m i : ℕ) → i < length ss → i ≤ n → i ≤ m → text-back n ss f i ≡ text-back m ss f i
   text-fuel zero zero i k h g = refl
   text-fuel zero (suc m) zero k h g = refl
@@ -36,7 +40,7 @@ module _ (ss : List Slot) (linked : Linked ss) (f : ℕ) where
   text-fuel (suc n) zero (suc i) k h g = absurd (omega arith)
   text-fuel (suc n) (suc m) zero k h g = refl
   text-fuel (suc n) (suc m) (suc i) k h g =
-      let p : slot-at ss (suc i) .parent < suc i = linked (suc i) (omega arith) k in
+      let p : slot-at ss (suc i) .parent < suc i = earlier i k in
       ap (λ (t : List ℕ). t ++ given-coded f (slot-at ss (slot-at ss (suc i) .parent) .at) (slot-at ss (suc i) .step))
       (text-fuel n m (slot-at ss (suc i) .parent) (omega arith) (omega arith) (omega arith))
 
@@ -47,7 +51,7 @@ module _ (ss : List Slot) (linked : Linked ss) (f : ℕ) where
   pub text-step : (i : ℕ) → 0 < i → i < length ss → text-at ss i f ≡ text-at ss (slot-at ss i .parent) f ++ given-at i
   text-step zero h k = absurd (omega arith)
   text-step (suc i) h k =
-      let p : slot-at ss (suc i) .parent < suc i = linked (suc i) h k in
+      let p : slot-at ss (suc i) .parent < suc i = earlier i k in
       ap (λ (t : List ℕ). t ++ given-at (suc i))
       (text-fuel i (slot-at ss (suc i) .parent) (slot-at ss (suc i) .parent) (omega arith) (omega arith) (omega arith))
 
@@ -55,7 +59,7 @@ module _ (ss : List Slot) (linked : Linked ss) (f : ℕ) where
   text-back-short zero i k = omega arith
   text-back-short (suc n) zero k = omega arith
   text-back-short (suc n) (suc i) k =
-      let p : slot-at ss (suc i) .parent < suc i = linked (suc i) (omega arith) k in
+      let p : slot-at ss (suc i) .parent < suc i = earlier i k in
       rw length-append
       (omega (arith, text-back-short n (slot-at ss (suc i) .parent) (omega arith), given-one f (slot-at ss (slot-at ss (suc i) .parent) .at) (slot-at ss (suc i) .step)))
 
@@ -66,7 +70,7 @@ module _ (ss : List Slot) (linked : Linked ss) (f : ℕ) where
 abbrev pub way-back : {work : List ℕ} {last : ℕ} (i : ℕ) → i ≤ last → Way-to work last → Way-to work i
 way-back {last = last} i h w =
     let k : last < length (w .slots) = w .entered in
-    record { slots = w .slots; holds = w .holds; linked = w .linked; entered = omega arith }
+    record { slots = w .slots; holds = w .holds; earlier = w .earlier; entered = omega arith }
 
 module _ {work : List ℕ} {last : ℕ} (w : Way-to work last) (i : ℕ) (h : 0 < i) (k : i ≤ last) where
   in-slots : i < length (w .slots)
@@ -74,13 +78,13 @@ module _ {work : List ℕ} {last : ℕ} (w : Way-to work last) (i : ℕ) (h : 0 
 
   -- the parent's number, as it was read, falls
   pub parent-below : (p : ℕ) → p ≡ slot-at (w .slots) i .parent → p < i
-  parent-below p e = rw e (w .linked i h in-slots)
+  parent-below p e = rw e (parent-earlier (w .slots) (w .earlier) i h in-slots)
 
   -- one step back: p is the parent, m the step, and b says whether the step put its character before the field
   pub text-back-one : (f p m : ℕ) (b : Bool) → p ≡ slot-at (w .slots) i .parent → m ≡ slot-at (w .slots) i .step
       → b ≡ puts-before f (slot-at (w .slots) p .at) m → text-at (w .slots) i f ≡ text-at (w .slots) p f ++ only b m
   text-back-one f p m b e g t =
-      rw (text-step (w .slots) (w .linked) f i h in-slots, t, e, g, given-only)
+      rw (text-step (w .slots) (w .earlier) f i h in-slots, t, e, g, given-only)
 
 module _ {ss : List Slot} {i f : ℕ} {back : Back} (s : Steps-back ss i f back) where
   -- the step put its character before the field

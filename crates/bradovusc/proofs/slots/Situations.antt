@@ -35,7 +35,7 @@ equal-same-coded a =
 padded-length : (side : List ℕ) → length side ≤ longest-side → length (padded side) ≡ longest-side
 padded-length side h = rw (length-append, length-replicate) (omega arith)
 
-pub short-sized : {k : Coded} → Short k → Sized (as-struct k)
+short-sized : {k : Coded} → Short k → Sized (as-struct k)
 short-sized {k} h =
     record { left = padded-length (k .left) (h .left); right = padded-length (k .right) (h .right); sets = h .sets }
 

@@ -5,11 +5,6 @@ use Rattle.bradovusc.proofs.records.Answers.{text-too-long, too-short, 
 use borrow.Author.Needs.{needs}
 use Rattle.bradovusc.proofs.records.answer_clash.Statement.{statement}
 use Rattle.bradovusc.proofs.records.answer_clash.Tie as tie
-use Rattle.bradovusc.proofs.records.answer_clash.Reads as reads
-use Rattle.bradovusc.proofs.records.answer_clash.Lts as lts
-use Rattle.bradovusc.proofs.records.records_length.Reads as records-length-reads
-use Rattle.bradovusc.proofs.records.some_text_above.Reads as some-text-above-reads
-use Rattle.bradovusc.proofs.records.write_records.Reads as write-records-reads
 
 some-text-above-requires : tie.Need-some-text-above-requires
 some-text-above-requires c κs = search needs
@@ -17,7 +12,7 @@ some-text-above-requires c κs = search needs
 returns : tie.Need-returns
 returns c w =
     let args = c .before .before .before .before .args in
-    text-too-long (args .stand) (text-at (w .slots) (args .last)) (args .answer .now) (sym (c .before .some-text-above .ensures w) ∙ c .if1 .taken)
+    text-too-long (args .sets) (text-at (w .slots) (args .last)) (args .answer .now) (sym (c .before .some-text-above .ensures w) ∙ c .if1 .taken)
 
 records-length-requires : tie.Need-records-length-requires
 records-length-requires c κs = search needs
@@ -26,7 +21,7 @@ returns-2 : tie.Need-returns-2
 returns-2 c w =
     let at = c .before .before in
     let args = at .before .before .before .before .args in
-    too-short (args .stand) (text-at (w .slots) (args .last)) (args .answer .now) (sym (at .before .some-text-above .ensures w) ∙ at .if1 .left)
+    too-short (args .sets) (text-at (w .slots) (args .last)) (args .answer .now) (sym (at .before .some-text-above .ensures w) ∙ at .if1 .left)
     (rw (← c .before .records-length .ensures w) (c .if2 .taken))
 
 write-records-requires : tie.Need-write-records-requires
@@ -48,7 +43,7 @@ returns-3 c w =
     let at = c .before .before .before .before .before .before in
     let args = at .before .before .before .before .args in
     let total = c .before .before .before .before .before .records-length in
-    written (args .stand) (text-at (w .slots) (args .last)) (args .answer .now) (sym (at .before .some-text-above .ensures w) ∙ at .if1 .left)
+    written (args .sets) (text-at (w .slots) (args .last)) (args .answer .now) (sym (at .before .some-text-above .ensures w) ∙ at .if1 .left)
     (c .before .before .write-records .last .0) (total .result) (rw (← total .ensures w) (c .before .before .before .before .if2 .left)) (total .ensures w)
     (c .before .before .write-records .ensures w)
 

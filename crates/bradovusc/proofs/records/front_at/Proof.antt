@@ -4,8 +4,6 @@ use lib.ListN.{getD}
 use borrow.Author.Needs.{needs}
 use Rattle.bradovusc.proofs.records.front_at.Statement.{statement}
 use Rattle.bradovusc.proofs.records.front_at.Tie as tie
-use Rattle.bradovusc.proofs.records.front_at.Reads as reads
-use Rattle.bradovusc.proofs.records.front_at.Lts as lts
 
 shared-slice-read-if1 : tie.Need-shared-slice-read-if1
 shared-slice-read-if1 c = search needs

@@ -1,14 +1,11 @@
 -- `puts_before` tests the step, then the two fronts. Follows from the tests and from the laws of fronts.
-use Prim.Native.Nat.{_+_, _*_}
-use mathlib.Core.Path.{_≡_, _∙_}
+use Prim.Native.Nat.{_+_}
+use mathlib.Core.Path.{_∙_}
 use borrow.Author.Tests.{lt-ltb, le-ltb, eq-eqb, ne-eqb}
 use Rattle.bradovusc.proofs.records.Fronts.{left-front, right-front}
 use borrow.Author.Needs.{needs}
 use Rattle.bradovusc.proofs.records.puts_before.Statement.{statement}
 use Rattle.bradovusc.proofs.records.puts_before.Tie as tie
-use Rattle.bradovusc.proofs.records.puts_before.Reads as reads
-use Rattle.bradovusc.proofs.records.puts_before.Lts as lts
-use Rattle.bradovusc.proofs.records.front_at.Reads as front-at-reads
 
 returns : tie.Need-returns
 returns c w = rw (le-ltb (c .before .before .args .step) 43 (c .if1 .taken))

@@ -1,8 +1,8 @@
 -- `records_length` adds up the bytes of the records. The loop's invariant: those added and those of the fields left make the length.
 -- A text is no longer than its way, which the buffer holds, so the sum fits.
-use Prim.Native.Nat.{_+_, _-_, _*_, _^_, _≤_, _<_}
+use Prim.Native.Nat.{_+_, _-_, _*_, _^_, _≤_}
 use native.Mathlib.Omega.{arith}
-use mathlib.Core.Path.{_≡_, refl, sym, ap, _∙_}
+use mathlib.Core.Path.{_≡_, ap}
 use mathlib.Core.Logic.{⊎-elim}
 use lib.ListN.{length}
 use borrow.Author.Needs.{needs}
@@ -11,19 +11,16 @@ use Rattle.bradovusc.proofs.records.Text.{text-short}
 use Rattle.bradovusc.proofs.records.Standing.{records-from, records-all, length-here, records-passed}
 use Rattle.bradovusc.proofs.records.records_length.Statement.{statement}
 use Rattle.bradovusc.proofs.records.records_length.Tie as tie
-use Rattle.bradovusc.proofs.records.records_length.Reads as reads
-use Rattle.bradovusc.proofs.records.records_length.Lts as lts
-use Rattle.bradovusc.proofs.records.text_length.Reads as text-length-reads
 
 abbrev Inv-loop : tie.InvT-loop
-Inv-loop work last stand total₀ f₀ total f =
+Inv-loop work last sets total₀ f₀ total f =
     (f ≤ 8)
     × (total ≤ 2 ^ 57 * f)
     × ((w : Way-to work last) →
-    total + length (records-from stand (text-at (w .slots) last) f) ≡ length (value-records stand (text-at (w .slots) last)))
+    total + length (records-from sets (text-at (w .slots) last) f) ≡ length (value-records sets (text-at (w .slots) last)))
 
 abbrev μ-loop : tie.MeasureT-loop
-μ-loop work last stand total₀ f₀ total f = 8 - f
+μ-loop work last sets total₀ f₀ total f = 8 - f
 
 loop-holds : tie.Need-loop-holds Inv-loop μ-loop
 loop-holds c =
@@ -33,6 +30,9 @@ loop-holds c =
       λ w.
           omega (arith, ap length (records-all (args .t3) (text-at (w .slots) (args .last)))),
     )
+
+mul-if1 : tie.Need-mul-if1 Inv-loop μ-loop
+mul-if1 c = search needs
 
 array-read-if1 : tie.Need-array-read-if1 Inv-loop μ-loop
 array-read-if1 c = search needs
@@ -47,7 +47,7 @@ text-length-requires c κs = (c .before .before .before .before .pre, search nee
 short : (c : tie.In-loop Inv-loop μ-loop) → length (text-at (c .before .before .before .pre .slots) (c .before .before .before .args .last) (c .before .loop .f)) ≤ c .before .before .before .args .last
 short c =
     let w = c .before .before .before .pre in
-    text-short (w .slots) (w .linked) (c .before .loop .f) (c .before .before .before .args .last) (w .entered)
+    text-short (w .slots) (w .earlier) (c .before .loop .f) (c .before .before .before .args .last) (w .entered)
 
 add-total : tie.Need-add-total Inv-loop μ-loop
 add-total c = omega (arith, short (c .before .before), c .text-length .ensures (c .before .before .before .before .before .pre))
@@ -90,6 +90,7 @@ records-length-spec =
     Inv-loop
     μ-loop
     loop-holds
+    mul-if1
     array-read-if1
     cast-text-length
     text-length-requires

@@ -1,30 +1,29 @@
 -- `some_text_above` measures the texts of the standing fields. The loop's invariant: the test on all is the test on those left.
-use Prim.Native.Nat.{_+_, _-_, _≤_, _<_}
+use Prim.Native.Nat.{_-_, _≤_}
 use native.Mathlib.Omega.{arith}
-use mathlib.Core.Path.{_≡_, refl, sym, _∙_}
+use mathlib.Core.Path.{_≡_, sym, _∙_}
 use mathlib.Core.Logic.{⊎-elim}
-use lib.ListN.{length}
 use borrow.Author.Needs.{needs}
 use Rattle.bradovusc.specs.Records.{Way-to, text-at, text-above}
 use Rattle.bradovusc.proofs.records.Standing.{above-from, above-all, above-here, above-later, above-passed}
 use Rattle.bradovusc.proofs.records.some_text_above.Statement.{statement}
 use Rattle.bradovusc.proofs.records.some_text_above.Tie as tie
-use Rattle.bradovusc.proofs.records.some_text_above.Reads as reads
-use Rattle.bradovusc.proofs.records.some_text_above.Lts as lts
-use Rattle.bradovusc.proofs.records.text_length.Reads as text-length-reads
 
 abbrev Inv-loop : tie.InvT-loop
-Inv-loop work last stand f₀ f =
+Inv-loop work last sets f₀ f =
     (f ≤ 8)
-    × ((w : Way-to work last) → above-from stand (text-at (w .slots) last) f ≡ text-above stand (text-at (w .slots) last))
+    × ((w : Way-to work last) → above-from sets (text-at (w .slots) last) f ≡ text-above sets (text-at (w .slots) last))
 
 abbrev μ-loop : tie.MeasureT-loop
-μ-loop work last stand f₀ f = 8 - f
+μ-loop work last sets f₀ f = 8 - f
 
 loop-holds : tie.Need-loop-holds Inv-loop μ-loop
 loop-holds c =
     let args = c .before .args in
     (omega arith, λ w. above-all (args .t3) (text-at (w .slots) (args .last)))
+
+mul-if1 : tie.Need-mul-if1 Inv-loop μ-loop
+mul-if1 c = search needs
 
 array-read-if1 : tie.Need-array-read-if1 Inv-loop μ-loop
 array-read-if1 c = search needs
@@ -74,6 +73,7 @@ some-text-above-spec =
     Inv-loop
     μ-loop
     loop-holds
+    mul-if1
     array-read-if1
     cast-text-length
     text-length-requires

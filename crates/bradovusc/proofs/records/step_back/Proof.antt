@@ -1,17 +1,12 @@
 -- `step_back` reads the parent, the step and the parent's fronts. Follows from `parent-below` and `text-back-one`.
 use native.Mathlib.Omega.{arith}
-use Prim.Native.Nat.{_≤_, _<_}
+use Prim.Native.Nat.{_<_}
 use Rattle.bradovusc.specs.Run.{no-slot}
 use Rattle.bradovusc.specs.Records.{Way-to}
 use Rattle.bradovusc.proofs.records.Text.{way-back, parent-below, text-back-one}
 use borrow.Author.Needs.{needs}
 use Rattle.bradovusc.proofs.records.step_back.Statement.{statement}
 use Rattle.bradovusc.proofs.records.step_back.Tie as tie
-use Rattle.bradovusc.proofs.records.step_back.Reads as reads
-use Rattle.bradovusc.proofs.records.step_back.Lts as lts
-use Rattle.bradovusc.proofs.slots.parent_of.Reads as parent-of-reads
-use Rattle.bradovusc.proofs.records.puts_before.Reads as puts-before-reads
-use Rattle.bradovusc.proofs.slots.step_of.Reads as step-of-reads
 
 parent-of-requires : tie.Need-parent-of-requires
 parent-of-requires c κs = search needs

@@ -1,17 +1,13 @@
 -- `text_length` counts the characters that the steps of the way put before the field. The loop's invariant: those counted and the
 -- length of the text at the present slot make the length. The slot's number falls.
-use Prim.Native.Nat.{_+_, _≤_, _<_}
+use Prim.Native.Nat.{_+_, _≤_}
 use native.Mathlib.Omega.{arith}
 use mathlib.Core.Path.{_≡_, ap}
 use lib.ListN.{length}
-use borrow.Author.Needs.{needs}
 use Rattle.bradovusc.specs.Records.{Way-to, Steps-back, text-at}
 use Rattle.bradovusc.proofs.records.Text.{way-back, length-put, text-kept}
 use Rattle.bradovusc.proofs.records.text_length.Statement.{statement}
 use Rattle.bradovusc.proofs.records.text_length.Tie as tie
-use Rattle.bradovusc.proofs.records.text_length.Reads as reads
-use Rattle.bradovusc.proofs.records.text_length.Lts as lts
-use Rattle.bradovusc.proofs.records.step_back.Reads as step-back-reads
 
 abbrev Inv-loop : tie.InvT-loop
 Inv-loop work last f n₀ i₀ n i =

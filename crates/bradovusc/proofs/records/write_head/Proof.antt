@@ -6,8 +6,6 @@ use Rattle.bradovusc.proofs.slots.Parts.{stored-whole}
 use borrow.Author.Needs.{needs}
 use Rattle.bradovusc.proofs.records.write_head.Statement.{statement}
 use Rattle.bradovusc.proofs.records.write_head.Tie as tie
-use Rattle.bradovusc.proofs.records.write_head.Reads as reads
-use Rattle.bradovusc.proofs.records.write_head.Lts as lts
 
 slice-write-out : tie.Need-slice-write-out
 slice-write-out c = search needs

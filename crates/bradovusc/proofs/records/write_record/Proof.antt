@@ -1,20 +1,14 @@
 -- `write_record` stores the head and lends what follows to the text's writer. Follows from `text-part` and `record-stored`.
 use Prim.Native.Nat.{_+_, _≤_}
 use native.Mathlib.Omega.{arith}
-use mathlib.Core.Path.{_≡_, _∙_}
+use mathlib.Core.Path.{_∙_}
 use lib.ListN.{length}
 use lib.Seq.{length-take-le}
 use Rattle.paper.specs.Numbers.{longest-text}
-use Rattle.bradovusc.specs.Records.{Way-to, text-at}
 use Rattle.bradovusc.proofs.records.Records.{length-record, text-room, text-part, record-stored}
 use borrow.Author.Needs.{needs}
 use Rattle.bradovusc.proofs.records.write_record.Statement.{statement}
 use Rattle.bradovusc.proofs.records.write_record.Tie as tie
-use Rattle.bradovusc.proofs.records.write_record.Reads as reads
-use Rattle.bradovusc.proofs.records.write_record.Lts as lts
-use Rattle.bradovusc.proofs.records.text_length.Reads as text-length-reads
-use Rattle.bradovusc.proofs.records.write_head.Reads as write-head-reads
-use Rattle.bradovusc.proofs.records.write_text.Reads as write-text-reads
 
 text-length-requires : tie.Need-text-length-requires
 text-length-requires c κs = search needs

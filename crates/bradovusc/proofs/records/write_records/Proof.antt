@@ -1,8 +1,8 @@
 -- `write_records` lends the answer buffer's rest to the record's writer, for each standing field. The loop's invariant: the records so far
--- stand in front, those of the fields left are missing, the rest is unchanged.
-use Prim.Native.Nat.{_+_, _-_, _≤_, _<_}
+-- sets in front, those of the fields left are missing, the rest is unchanged.
+use Prim.Native.Nat.{_+_, _-_, _≤_}
 use native.Mathlib.Omega.{arith}
-use mathlib.Core.Path.{_≡_, refl, sym, ap, _∙_}
+use mathlib.Core.Path.{_≡_, refl, _∙_}
 use mathlib.Core.Logic.{⊎-elim}
 use lib.ListN.{length}
 use borrow.Author.Needs.{needs}
@@ -13,19 +13,16 @@ use Rattle.bradovusc.proofs.records.Records.{Underway, none-written, on
 use Rattle.bradovusc.proofs.records.Standing.{records-from, records-all, records-here, length-here, records-passed, short-text}
 use Rattle.bradovusc.proofs.records.write_records.Statement.{statement}
 use Rattle.bradovusc.proofs.records.write_records.Tie as tie
-use Rattle.bradovusc.proofs.records.write_records.Reads as reads
-use Rattle.bradovusc.proofs.records.write_records.Lts as lts
-use Rattle.bradovusc.proofs.records.write_record.Reads as write-record-reads
 
 abbrev Inv-loop : tie.InvT-loop
-Inv-loop answer₀ work last stand at₀ f₀ answer at f =
+Inv-loop answer₀ work last sets at₀ f₀ answer at f =
     (f ≤ 8)
     × (length answer ≡ length answer₀)
     × ((w : Way-to work last) →
-    Underway (value-records stand (text-at (w .slots) last)) (records-from stand (text-at (w .slots) last) f) answer₀ answer at)
+    Underway (value-records sets (text-at (w .slots) last)) (records-from sets (text-at (w .slots) last) f) answer₀ answer at)
 
 abbrev μ-loop : tie.MeasureT-loop
-μ-loop answer₀ work last stand at₀ f₀ answer at f = 8 - f
+μ-loop answer₀ work last sets at₀ f₀ answer at f = 8 - f
 
 loop-holds : tie.Need-loop-holds Inv-loop μ-loop
 loop-holds c =
@@ -43,6 +40,9 @@ place : (c : tie.At-loop Inv-loop μ-loop) (w : Way-to (c .before .before .befor
 place c w =
     let at = c .before .before .before in
     omega (arith, c .loop .inv .1, c .loop .inv .2 w .place, at .pre .1 w .room)
+
+mul-if1 : tie.Need-mul-if1 Inv-loop μ-loop
+mul-if1 c = search needs
 
 array-read-if1 : tie.Need-array-read-if1 Inv-loop μ-loop
 array-read-if1 c = search needs
@@ -133,6 +133,7 @@ write-records-spec =
     Inv-loop
     μ-loop
     loop-holds
+    mul-if1
     array-read-if1
     sub-write-record
     part-write-record-start

@@ -2,7 +2,7 @@
 -- at the present slot and what is stored already make the text; its length is the place. The slot's number falls.
 use Prim.Native.Nat.{_+_, _-_, _≤_, _<_}
 use native.Mathlib.Omega.{arith}
-use mathlib.Core.Path.{_≡_, sym, ap, _∙_}
+use mathlib.Core.Path.{_≡_, _∙_}
 use mathlib.Core.List.{_++_, append-nil}
 use lib.ListN.{length, drop, length-set}
 use lib.Seq.{drop-length}
@@ -11,9 +11,6 @@ use Rattle.bradovusc.specs.Records.{Way-to, Steps-back, text-at}
 use Rattle.bradovusc.proofs.records.Text.{way-back, length-put, text-kept, stored-before}
 use Rattle.bradovusc.proofs.records.write_text.Statement.{statement}
 use Rattle.bradovusc.proofs.records.write_text.Tie as tie
-use Rattle.bradovusc.proofs.records.write_text.Reads as reads
-use Rattle.bradovusc.proofs.records.write_text.Lts as lts
-use Rattle.bradovusc.proofs.records.step_back.Reads as step-back-reads
 
 abbrev Inv-loop : tie.InvT-loop
 Inv-loop out₀ work last f at₀ i₀ out at i =
