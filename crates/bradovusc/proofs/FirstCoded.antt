@@ -1,5 +1,5 @@
--- The trimmed question as the code holds it: the bytes of the sides without their equal characters in front, the mask 1 for every field that
--- stands in them; and the bytes of a side that was read. Follows from the laws of sides as bytes.
+-- The trimmed question as the code holds it: the bytes of the sides without their equal characters in front, the mask 1 for every
+-- field that stands in them; and the bytes of a side that was read. Follows from the laws of sides as bytes.
 use Prim.Native.Nat.{ℕ, _+_}
 use native.Mathlib.Omega.{arith}
 use mathlib.Core.Path.{_≡_, refl, sym, ap, ap₂, _∙_}

@@ -1,5 +1,5 @@
--- The search over slots is the paper's search of the question, to its end: it ends alike, with as many slots as entries, and the text spelt
--- back from the last slot is the text of the entry found.
+-- The search over slots is the paper's search of the question, to its end: it ends alike, with as many slots as entries, and the text
+-- spelt back from the last slot is the text of the entry found.
 --   status-agrees : run .status ≡ status-of (how-of q (searched q room))
 --   count-agrees  : length (run .slots) ≡ count-of q (searched q room)
 --   text-agrees   : text-back n (run .slots) f last ≡ texts-of (acceptor q) (q .left) (q .right) e f, where e is found
