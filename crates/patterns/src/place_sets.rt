@@ -11,6 +11,9 @@ ghost use Rattle.patterns.specs.Reading.{or-at, link-at, mark-at};
 // "31 leaves and the start make 32 places".
 pub const PLACES: usize = 32;
 
+// "Code 39, by value": 0 to 42.
+pub const CHARACTERS: usize = 43;
+
 // The set that holds the place i alone; no place, where i is none.
 pub fn place(i: usize) -> u32
     ensures { λ r. ⌜ r ≡ mask-of (λ (q : ℕ). eqb i q) ⌝ }

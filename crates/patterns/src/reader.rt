@@ -1,4 +1,6 @@
 // Reading a pattern that is written operator first, and working out its places on the way.
+use crate::place_sets::CHARACTERS;
+use crate::place_sets::PLACES;
 use crate::place_sets::join;
 use crate::place_sets::link;
 use crate::place_sets::mark;
@@ -12,8 +14,8 @@ ghost use Rattle.paper.specs.Pattern.{range, leaf, empty, then, either};
 ghost use Rattle.paper.specs.Written.{read-range};
 ghost use Rattle.patterns.specs.Reading.{Read-as, Reading-of, Single, Joined, Repeated, nothing};
 
-// "Code 39, by value": 0 to 42.
-const CHARACTERS: u8 = 43;
+// "0 to 42: that character".
+const CHARACTER_END: u8 = CHARACTERS as u8;
 
 // "64: the empty text", 65 a range, 66 A then B, 67 A or B, 68 A any number of times.
 const EMPTY_CODE: u8 = 64;
@@ -38,9 +40,9 @@ pub struct Reading {
     pub first: u32,
     pub last: u32,
     // for every place the places that may follow
-    pub follow: [u32; 32],
+    pub follow: [u32; PLACES],
     // for every character the places that take it
-    pub taking: [u32; 43],
+    pub taking: [u32; CHARACTERS],
 }
 
 impl Reading {
@@ -55,8 +57,8 @@ impl Reading {
             empty: false,
             first: 0,
             last: 0,
-            follow: [0; 32],
-            taking: [0; 43],
+            follow: [0; PLACES],
+            taking: [0; CHARACTERS],
         }
     }
 
@@ -150,7 +152,7 @@ fn read_range(s: &[u8], o: usize) -> Reading
     if hi < lo {
         return Reading::none();
     }
-    if CHARACTERS <= hi {
+    if CHARACTER_END <= hi {
         return Reading::none();
     }
     Reading::leaf(s.len() - 2, o, lo, hi)
@@ -162,7 +164,7 @@ fn read_single(s: &[u8], o: usize) -> Reading
     ensures { λ r. ⌜ Reading-of (now (s .entry)) o r ⌝ }
 {
     let b = s[0];
-    if b < CHARACTERS {
+    if b < CHARACTER_END {
         return Reading::leaf(s.len() - 1, o, b, b);
     }
     if b == EMPTY_CODE {
