@@ -6,7 +6,7 @@ use native.Mathlib.Nat.{le-refl}
 use mathlib.Core.Path.{_≡_, refl, sym, ap, ap₂, _∙_}
 use mathlib.Core.Bool.{Bool, true, false, cond, not, _||_}
 use mathlib.Core.List.{List, [], _∷_, _++_, map, List·Memᴰ, List·Memᴰ·head, List·Memᴰ·tail}
-use lib.Dec.{leb}
+use lib.Dec.{leb, eqb}
 use lib.ListN.{length, drop}
 use Rattle.paper.specs.Lists.{upto, any, only, keep, each, member}
 use Rattle.paper.specs.Numbers.{fields, field-token, longest-text}
@@ -20,10 +20,11 @@ use Rattle.paper.specs.Outcome.{Outcome, room-of, searched, standing, value-rec
 use Rattle.paper.proofs.Asked.{GoodQuestion}
 use Rattle.paper.proofs.Lists.{mem-keep, mem-upto, map-append}
 use Rattle.paper.proofs.Standings.{getD-map-upto}
-use Rattle.bradovusc.specs.Records.{text-at, standing-among, standing-fields, value-records, text-above, in-front, answer-given, buffer-after}
+use Rattle.bradovusc.specs.Records.{text-at, standing-fields, value-records, text-above, in-front, answer-given, buffer-after}
 use Rattle.bradovusc.specs.Codes.{code-token, code-side}
 use Rattle.bradovusc.specs.Entry.{told, clash-answer, answer-by, buffer-by, concluded, concluded-buffer}
 use Rattle.bradovusc.specs.declared.records.Given.the-variants.{TextTooLong, TooShort, Written}
+use Rattle.bradovusc.specs.Made.{first-set, first-sets}
 use Rattle.bradovusc.specs.Slots.{Slot}
 use Rattle.bradovusc.proofs.Numbered.{status-of}
 use Rattle.bradovusc.proofs.FirstCoded.{stands-coded, known-append}
@@ -43,6 +44,11 @@ keep-alike : {A : Type 0} (f g : A → Bool) (l : List A) → ((x : A) → List�
 keep-alike f g [] h = refl
 keep-alike f g (x ∷ l) h =
     ap₂ _++_ (ap (λ (b : Bool). only b x) (h x (List·Memᴰ·head refl))) (keep-alike f g l (λ y d. h y (List·Memᴰ·tail d)))
+
+-- a first place set is not 0 exactly if its field stands
+one-or-none : (b : Bool) → not (eqb (cond b 1 0) 0) ≡ b
+one-or-none true = refl
+one-or-none false = refl
 
 -- 21 before 20 before 0, in both
 clash-cases : (above short : Bool) (n : ℕ) (rs work buffer : List ℕ)
@@ -65,11 +71,11 @@ module _ (q : Question) (good : GoodQuestion q) where
       ap (member (field-token + f)) (sym (map-append code-token (q .left) (q .right)))
       ∙ stands-coded f (q .left ++ q .right) (known-append (q .left) (q .right) (known-side (q .left) (good .left .tokens)) (known-side (q .right) (good .right .tokens)))
 
-  standing-alike : standing-fields (standing-among tokens) ≡ standing q
-  unfolding standing-fields standing-among standing
+  standing-alike : standing-fields (first-sets tokens) ≡ standing q
+  unfolding standing-fields first-set first-sets standing
   standing-alike =
       keep-alike _ (λ (f : ℕ). stands-in f (q .left ++ q .right)) (upto fields)
-      (λ f d. getD-map-upto (λ (g : ℕ). member (field-token + g) tokens) false fields f (mem-upto fields d) ∙ stands-alike f)
+      (λ f d. ap (λ (m : ℕ). not (eqb m 0)) (getD-map-upto (first-set tokens) 0 fields f (mem-upto fields d)) ∙ one-or-none (member (field-token + f) tokens) ∙ stands-alike f)
 
   module _ (room : ℕ) (e : Entry (Situation PlaceSet) Move) (h : how-of q (searched q room) ≡ found e) where
     abbrev ss : List Slot
@@ -80,14 +86,14 @@ module _ (q : Question) (good : GoodQuestion q) where
     text-alike f d =
         text-agrees q good room e h f (mem-upto fields (mem-keep (λ (g : ℕ). stands-in g (q .left ++ q .right)) (upto fields) d .0)) (length ss - 1) (le-refl _)
 
-    records-alike : value-records (standing-among tokens) (text-at ss (length ss - 1)) ≡ records q e
+    records-alike : value-records (first-sets tokens) (text-at ss (length ss - 1)) ≡ records q e
     unfolding value-records records
     records-alike =
         rw standing-alike
         (each-alike _ (λ (f : ℕ). value-record f (texts-of (acceptor q) (q .left) (q .right) e f)) (standing q)
         (λ f d. ap (value-record f) (text-alike f d)))
 
-    above-alike : text-above (standing-among tokens) (text-at ss (length ss - 1)) ≡ some-text-too-long q e
+    above-alike : text-above (first-sets tokens) (text-at ss (length ss - 1)) ≡ some-text-too-long q e
     unfolding text-above some-text-too-long
     above-alike =
         rw standing-alike
@@ -95,7 +101,7 @@ module _ (q : Question) (good : GoodQuestion q) where
         (λ f d. ap (λ (w : List ℕ). not (leb (length w) longest-text)) (text-alike f d)))
 
     clash-told : (n : ℕ) (work buffer : List ℕ)
-        → told (clash-answer n (answer-given (standing-among tokens) (text-at ss (length ss - 1)) buffer)) (buffer-after (standing-among tokens) (text-at ss (length ss - 1)) buffer) (cleared work)
+        → told (clash-answer n (answer-given (first-sets tokens) (text-at ss (length ss - 1)) buffer)) (buffer-after (first-sets tokens) (text-at ss (length ss - 1)) buffer) (cleared work)
         ≡ clash q n e work buffer
     unfolding answer-given buffer-after clash
     clash-told n work buffer =
@@ -104,7 +110,7 @@ module _ (q : Question) (good : GoodQuestion q) where
 
   -- The answer by how the search over slots ended, with the buffers that it leaves, is the outcome by how the paper's search ended.
   pub concluded-told : (room : ℕ) (work buffer : List ℕ)
-      → told (concluded (slots q good room) (standing-among tokens) buffer) (concluded-buffer (slots q good room) (standing-among tokens) buffer) (cleared work)
+      → told (concluded (slots q good room) (first-sets tokens) buffer) (concluded-buffer (slots q good room) (first-sets tokens) buffer) (cleared work)
       ≡ answered q (count-of q (searched q room)) (how-of q (searched q room)) work buffer
   unfolding concluded concluded-buffer
   concluded-told room work buffer =
@@ -114,7 +120,7 @@ module _ (q : Question) (good : GoodQuestion q) where
       ss′ = slots q good room .slots
 
       by-end : (x : End (Situation PlaceSet) Move) → how-of q (searched q room) ≡ x
-          → told (answer-by (status-of x) ss′ (standing-among tokens) buffer) (buffer-by (status-of x) ss′ (standing-among tokens) buffer) (cleared work)
+          → told (answer-by (status-of x) ss′ (first-sets tokens) buffer) (buffer-by (status-of x) ss′ (first-sets tokens) buffer) (cleared work)
           ≡ answered q (count-of q (searched q room)) x work buffer
       by-end (found e) h = clash-told room e h (length ss′) work buffer ∙ ap (λ (n : ℕ). clash q n e work buffer) (count-agrees q good room)
       by-end used-up h = ap (λ (n : ℕ). without-bytes 1 n work buffer) (count-agrees q good room)

@@ -1,6 +1,5 @@
 -- What the library's answer says, in document 01's numbers; and what the answer is once the search over slots has ended.
 use Prim.Native.Nat.{ℕ, _-_}
-use mathlib.Core.Bool.{Bool}
 use mathlib.Core.List.{List}
 use lib.ListN.{length}
 use Rattle.paper.specs.Outcome.{Outcome}
@@ -71,25 +70,26 @@ clash-answer n Given-as.TextTooLong = TextTooLong n
 clash-answer n Given-as.TooShort = AnswerTooShort n
 clash-answer n (Given-as.Written bytes) = Clash n bytes
 
--- the answer by how the search over slots ended; where it found a finished situation, that is in the last slot
-abbrev pub answer-by : Status → List Slot → List Bool → List ℕ → Answer
-answer-by Status-as.Found ss stand buffer =
-    clash-answer (length ss) (answer-given stand (text-at ss (length ss - 1)) buffer)
-answer-by Status-as.UsedUp ss stand buffer = NoClash (length ss)
-answer-by Status-as.NoRoom ss stand buffer = NoRoom (length ss)
-answer-by Status-as.TooLong ss stand buffer = SideTooLong (length ss)
-answer-by Status-as.Going ss stand buffer = NoRoom (length ss)
+-- the answer by how the search over slots ended; where it found a finished situation, that is in the last slot. `sets` are the first
+-- situation's: they say which fields stand.
+abbrev pub answer-by : Status → List Slot → List ℕ → List ℕ → Answer
+answer-by Status-as.Found ss sets buffer =
+    clash-answer (length ss) (answer-given sets (text-at ss (length ss - 1)) buffer)
+answer-by Status-as.UsedUp ss sets buffer = NoClash (length ss)
+answer-by Status-as.NoRoom ss sets buffer = NoRoom (length ss)
+answer-by Status-as.TooLong ss sets buffer = SideTooLong (length ss)
+answer-by Status-as.Going ss sets buffer = NoRoom (length ss)
 
 -- and the answer buffer
-abbrev pub buffer-by : Status → List Slot → List Bool → List ℕ → List ℕ
-buffer-by Status-as.Found ss stand buffer = buffer-after stand (text-at ss (length ss - 1)) buffer
-buffer-by Status-as.UsedUp ss stand buffer = buffer
-buffer-by Status-as.NoRoom ss stand buffer = buffer
-buffer-by Status-as.TooLong ss stand buffer = buffer
-buffer-by Status-as.Going ss stand buffer = buffer
+abbrev pub buffer-by : Status → List Slot → List ℕ → List ℕ → List ℕ
+buffer-by Status-as.Found ss sets buffer = buffer-after sets (text-at ss (length ss - 1)) buffer
+buffer-by Status-as.UsedUp ss sets buffer = buffer
+buffer-by Status-as.NoRoom ss sets buffer = buffer
+buffer-by Status-as.TooLong ss sets buffer = buffer
+buffer-by Status-as.Going ss sets buffer = buffer
 
-unfoldable pub concluded : Running → List Bool → List ℕ → Answer
-concluded R stand buffer = answer-by (R .status) (R .slots) stand buffer
+unfoldable pub concluded : Running → List ℕ → List ℕ → Answer
+concluded R sets buffer = answer-by (R .status) (R .slots) sets buffer
 
-unfoldable pub concluded-buffer : Running → List Bool → List ℕ → List ℕ
-concluded-buffer R stand buffer = buffer-by (R .status) (R .slots) stand buffer
+unfoldable pub concluded-buffer : Running → List ℕ → List ℕ → List ℕ
+concluded-buffer R sets buffer = buffer-by (R .status) (R .slots) sets buffer
