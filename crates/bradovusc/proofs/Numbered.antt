@@ -18,10 +18,10 @@ use Rattle.paper.proofs.Lists.{map-append}
 use Rattle.paper.proofs.Room.{ended-turns}
 use Rattle.paper.proofs.Searched.{settled}
 use Rattle.bradovusc.specs.Coded.{Coded, Tables, finished-coded, same-coded, children-coded}
+use Rattle.bradovusc.specs.Codes.{status-of}
 use Rattle.bradovusc.specs.Slots.{Slot}
 use Rattle.bradovusc.specs.Run.{Running, is-going, enter-slot, offer-slot, offer-slots, nowhere, no-slot, slot-at, take-slot, slot-turns, slot-search}
-use Rattle.bradovusc.specs.declared.search.Status.{Status}
-use Rattle.bradovusc.specs.declared.search.Status.the-variants.{Going, Found, UsedUp, NoRoom, TooLong}
+use Rattle.bradovusc.specs.declared.search.Status.the-variants.{Going}
 use Rattle.bradovusc.proofs.slots.Situations.{same-coded-equal, equal-same-coded}
 
 abbrev Entries : Type 0
@@ -37,13 +37,6 @@ entry-at l i = getD l i no-entry
 -- the situations in slots, in their order
 abbrev pub situations-in : List Slot → List Coded
 situations-in ss = map (λ (x : Slot). x .at) ss
-
--- how a search over slots ends
-abbrev pub status-of : {S M : Type 0} → End S M → Status
-status-of (found e) = Found
-status-of used-up = UsedUp
-status-of no-room = NoRoom
-status-of too-long = TooLong
 
 -- The slots hold the entries: the same situations, the first with no moves, each other one with the way of an earlier one and its own
 -- step.
