@@ -26,10 +26,10 @@ use Rattle.bradovusc.specs.Entry.{told, clash-answer, answer-by, buffer-
 use Rattle.bradovusc.specs.declared.records.Given.the-variants.{TextTooLong, TooShort, Written}
 use Rattle.bradovusc.specs.Made.{first-set, first-sets}
 use Rattle.bradovusc.specs.Slots.{Slot}
-use Rattle.bradovusc.proofs.Numbered.{status-of}
+use Rattle.bradovusc.specs.Codes.{status-of}
 use Rattle.bradovusc.proofs.FirstCoded.{stands-coded, known-append}
 use Rattle.bradovusc.proofs.CodedSides.{known-side}
-use Rattle.bradovusc.proofs.Simulated.{slots, status-agrees, count-agrees, text-agrees}
+use Rattle.bradovusc.proofs.Simulated.{run, status-agrees, count-agrees, text-agrees}
 
 -- lists made by functions that agree on the members
 each-alike : {A B : Type 0} (f g : A → List B) (l : List A) → ((x : A) → List·Memᴰ x l → f x ≡ g x) → each f l ≡ each g l
@@ -79,7 +79,7 @@ module _ (q : Question) (good : GoodQuestion q) where
 
   module _ (room : ℕ) (e : Entry (Situation PlaceSet) Move) (h : how-of q (searched q room) ≡ found e) where
     abbrev ss : List Slot
-    ss = slots q good room .slots
+    ss = run q good room .slots
 
     text-alike : (f : ℕ) → List·Memᴰ f (standing q) → text-at ss (length ss - 1) f ≡ texts-of (acceptor q) (q .left) (q .right) e f
     unfolding standing
@@ -110,14 +110,14 @@ module _ (q : Question) (good : GoodQuestion q) where
 
   -- The answer by how the search over slots ended, with the buffers that it leaves, is the outcome by how the paper's search ended.
   pub concluded-told : (room : ℕ) (work buffer : List ℕ)
-      → told (concluded (slots q good room) (first-sets tokens) buffer) (concluded-buffer (slots q good room) (first-sets tokens) buffer) (cleared work)
+      → told (concluded (run q good room) (first-sets tokens) buffer) (concluded-buffer (run q good room) (first-sets tokens) buffer) (cleared work)
       ≡ answered q (count-of q (searched q room)) (how-of q (searched q room)) work buffer
   unfolding concluded concluded-buffer
   concluded-told room work buffer =
       rw (status-agrees q good room) (by-end (how-of q (searched q room)) refl)
     where
       ss′ : List Slot
-      ss′ = slots q good room .slots
+      ss′ = run q good room .slots
 
       by-end : (x : End (Situation PlaceSet) Move) → how-of q (searched q room) ≡ x
           → told (answer-by (status-of x) ss′ (first-sets tokens) buffer) (buffer-by (status-of x) ss′ (first-sets tokens) buffer) (cleared work)
