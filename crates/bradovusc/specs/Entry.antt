@@ -1,17 +1,23 @@
 -- What the library's answer says, in document 01's numbers; and what the answer is once the search over slots has ended.
-use Prim.Native.Nat.{ℕ, _-_}
+use Prim.Native.Nat.{ℕ, _-_, _<_}
+use mathlib.Core.Path.{_≡_}
 use mathlib.Core.List.{List}
 use lib.ListN.{length}
 use Rattle.paper.specs.Outcome.{Outcome}
-use Rattle.paper.specs.Sheet.{fault-number}
+use Rattle.paper.specs.Question.{Question}
+use Rattle.paper.specs.Sheet.{fault-number, asked, read-sheet}
 use Rattle.sheets.specs.Faults.{fault-of}
-use Rattle.bradovusc.specs.Records.{text-at, answer-given, buffer-after}
+use Rattle.sheets.specs.Read.{sheet-of}
+use Rattle.sheets.specs.declared.Sheet.{Sheet}
+use Rattle.bradovusc.specs.Lent.{Lent}
+use Rattle.bradovusc.specs.Records.{Earlier, text-at, answer-given, buffer-after}
 use Rattle.bradovusc.specs.Run.{Running}
 use Rattle.bradovusc.specs.Slots.{Slot}
 use Rattle.bradovusc.specs.declared.Answer.{Answer}
 use Rattle.bradovusc.specs.declared.Answer.the-variants.{Clash, NoClash, Refused, NoRoom, SideTooLong, AnswerTooShort, TextTooLong}
 use Rattle.bradovusc.specs.declared.records.Given.{Given}
 use Rattle.bradovusc.specs.declared.records.Given.the-variants as Given-as
+use Rattle.bradovusc.specs.declared.search.Run.{Run}
 use Rattle.bradovusc.specs.declared.search.Status.{Status}
 use Rattle.bradovusc.specs.declared.search.Status.the-variants as Status-as
 
@@ -93,3 +99,26 @@ concluded R sets buffer = answer-by (R .status) (R .slots) sets buffer
 
 unfoldable pub concluded-buffer : Running → List ℕ → List ℕ → List ℕ
 concluded-buffer R sets buffer = buffer-by (R .status) (R .slots) sets buffer
+
+-- what `found` promises: the answer of a clash from these slots, and the answer buffer
+pub record Clash-told (ss : List Slot) (n : ℕ) (sets before after : List ℕ) (r : Answer) : Type 0 where
+  pub answer : r ≡ clash-answer n (answer-given sets (text-at ss (n - 1)) before)
+  pub buffer : after ≡ buffer-after sets (text-at ss (n - 1)) before
+
+-- the search in the buffer is over, and its slots lead back to the first
+pub record Over (work : List ℕ) (run : Run) : Type 0 where
+  pub search : Running
+  pub lent : Lent work run search
+  pub earlier : Earlier (search .slots)
+  pub some : search .status ≡ Status-as.Found → 0 < length (search .slots)
+
+-- what `conclude` promises
+pub record Concluded (R : Running) (sets before after : List ℕ) (r : Answer) : Type 0 where
+  pub answer : r ≡ concluded R sets before
+  pub buffer : after ≡ concluded-buffer R sets before
+
+-- the struct says what the sheet asks
+pub record Asks (sheet : List ℕ) (read : Sheet) : Type 0 where
+  pub question : Question
+  pub good : read-sheet sheet ≡ asked question
+  pub is : read ≡ sheet-of (asked question)

@@ -2,6 +2,7 @@ pub mod Records
 pub mod Coded
 pub mod Codes
 pub mod Entry
+pub mod Lent
 pub mod Made
 pub mod Run
 pub mod Slots
