@@ -16,7 +16,7 @@ use Rattle.paper.specs.Search.{Child}
 use Rattle.paper.specs.Equation.{chr, fld, Side}
 use Rattle.paper.specs.Situation.{Acceptor, Situation, Kind, is-finished, is-dead, is-open, Move, strike-left, strike-right, put, trim, kind-of, front-field, front-fields, trimmed, kind, strike, strike-all, put-before, put-before-all, front-may-end, front-takes, open-moves, moves-of, side-above, kept, child-by, children}
 use Rattle.paper.specs.Question.{Question, held-by, acceptor}
-use Rattle.paper.proofs.Tests.{by-bool, true-false, not-true, and-left, and-right, eq-eqb, eqb-true, eqb-false}
+use Rattle.paper.proofs.Tests.{by-bool, true-false, not-true, and-left, and-right, eqb-true, eqb-same, eqb-false}
 use Rattle.paper.proofs.Lists.{map-append, mem-upto}
 use Rattle.paper.proofs.Moves.{other-front}
 use Rattle.paper.proofs.Mapped.{code-child}
@@ -37,15 +37,11 @@ module _ {A B : Type 0} (f : A → List B) where
   each-only true x = append-nil (f x)
   each-only false x = refl
 
-  each-map-keep : {C : Type 0} (g : C → A) (p : C → Bool) (l : List C)
-      → each f (map g (keep p l)) ≡ each (λ (c : C). cond (p c) (f (g c)) []) l
+  each-map-keep : {C : Type 0} (g : C → A) (p : C → Bool) (l : List C) → each f (map g (keep p l)) ≡ each (λ (c : C). cond (p c) (f (g c)) []) l
   each-map-keep g p [] = refl
-  each-map-keep g p (c ∷ l) =
-      by-bool (p c)
-      (λ e. rw e (ap (λ (r : List B). f (g c) ++ r) (each-map-keep g p l)))
-      (λ e. rw e (each-map-keep g p l))
+  each-map-keep g p (c ∷ l) = by-bool (p c) (λ e. rw e (ap (λ (r : List B). f (g c) ++ r) (each-map-keep g p l))) (λ e. rw e (each-map-keep g p l))
 
-  each-same : (g : A → List B) (l : List A) → ((x : A) → List·Memᴰ x l → f x ≡ g x) → each f l ≡ each g l
+  pub each-same : (g : A → List B) (l : List A) → ((x : A) → List·Memᴰ x l → f x ≡ g x) → each f l ≡ each g l
   each-same g [] h = refl
   each-same g (x ∷ l) h = ap₂ _++_ (h x (List·Memᴰ·head refl)) (each-same g l (λ y d. h y (List·Memᴰ·tail d)))
 
@@ -62,10 +58,7 @@ module _ {P : Type 0} (A : Acceptor P) where
   two-characters : (a b c : ℕ) → eqb a b ≡ false → (eqb a c && eqb b c) ≡ false
   two-characters a b c n =
       not-true (eqb a c && eqb b c)
-      (λ e.
-      let p = eqb-true a c (and-left (eqb a c) (eqb b c) e) in
-      let r = eqb-true b c (and-right (eqb a c) (eqb b c) e) in
-      true-false (eq-eqb a b (p ∙ sym r)) n)
+      (λ e. true-false (rw (eqb-true a c (and-left (eqb a c) (eqb b c) e), ← eqb-true b c (and-right (eqb a c) (eqb b c) e)) (eqb-same b)) n)
 
   moves-open : (l r : Side) (sets : List P)
       → moves-of A (kind-of l r) (record { left = l; right = r; sets = sets }) ≡ open-moves A (record { left = l; right = r; sets = sets })
@@ -124,12 +117,10 @@ module _ (q : Question) where
   -- what becomes of a situation that a move made
   abbrev made-by : Move → Situation PlaceSet → List (Child (Situation PlaceSet) Move)
   made-by m t =
-      let u = trimmed (acceptor q) t in
-      kept (acceptor q) (kind (acceptor q) u) (side-above (acceptor q) longest-side u) m u
+      kept (acceptor q) (kind (acceptor q) (trimmed (acceptor q) t)) (side-above (acceptor q) longest-side (trimmed (acceptor q) t)) m (trimmed (acceptor q) t)
 
   fate-coded : (k : Kind) (b : Bool) (m : Move) (t : Situation PlaceSet)
-      → as-child (code-move m) (cond (kind-dead k) dropped (cond b above (made (code-situation t))))
-      ≡ map code-child-of (kept (acceptor q) k b m t)
+      → as-child (code-move m) (cond (kind-dead k) dropped (cond b above (made (code-situation t)))) ≡ map code-child-of (kept (acceptor q) k b m t)
   fate-coded is-finished true m t = refl
   fate-coded is-finished false m t = refl
   fate-coded is-dead b m t = refl
@@ -161,8 +152,7 @@ module _ {P : Type 0} (A : Acceptor P) (c : ℕ) where
 module _ (q : Question) (few : (f : ℕ) → Few (held-by q f)) (s : Situation PlaceSet) (good : Good s) where
   -- a strike of the field in front of a side
   strike-child : (m : Move) (side : Side) → front-may-end (acceptor q) s (front-field side) ≡ true
-      → as-child (code-move m) (struck (code-situation s) (front (code-side side)))
-      ≡ map code-child-of (made-by q m (strike-all (acceptor q) (front-field side) s))
+      → as-child (code-move m) (struck (code-situation s) (front (code-side side))) ≡ map code-child-of (made-by q m (strike-all (acceptor q) (front-field side) s))
   unfolding struck strike acceptor
   strike-child m [] e = absurd (true-false e refl)
   strike-child m (chr a ∷ side) e = absurd (true-false e refl)
@@ -171,7 +161,7 @@ module _ (q : Question) (few : (f : ℕ) → Few (held-by q f)) (s : Situation P
       (settle-coded q m (strike (acceptor q) f s) (known-strike f (s .left) (good .left)) (known-strike f (s .right) (good .right)))
 
   left-coded : left-child (tables-of q) (code-situation s)
-      ≡ map code-child-of (left-group (acceptor q) longest-side s)
+      ≡ map code-child-of (cond (front-may-end (acceptor q) s (front-field (s .left))) (child-by (acceptor q) longest-side s strike-left) [])
   unfolding left-child child-by
   left-coded =
       rw (may-strike-coded q few s good (s .left) (good .left))
@@ -181,8 +171,7 @@ module _ (q : Question) (few : (f : ℕ) → Few (held-by q f)) (s : Situation P
 
   -- the right front is a field whose set may end, and not the left front
   right-ends : (r : Side) → Known-side r
-      → (may-strike (tables-of q) (code-situation s) (front (code-side r))
-      && not (eqb (front (code-side r)) (front (code-side (s .left)))))
+      → (may-strike (tables-of q) (code-situation s) (front (code-side r)) && not (eqb (front (code-side r)) (front (code-side (s .left)))))
       ≡ front-may-end (acceptor q) s (other-front (s .left) r)
   right-ends [] k = rw (may-strike-coded q few s good [] k)
   right-ends (chr b ∷ r) k = rw (may-strike-coded q few s good (chr b ∷ r) k)
@@ -193,52 +182,42 @@ module _ (q : Question) (few : (f : ℕ) → Few (held-by q f)) (s : Situation P
       (λ e. rw e (and-true (front-may-end (acceptor q) s (g ∷ [])))))
 
   right-coded : right-child (tables-of q) (code-situation s)
-      ≡ map code-child-of (right-group (acceptor q) longest-side s)
+      ≡ map code-child-of (cond (front-may-end (acceptor q) s (other-front (s .left) (s .right))) (child-by (acceptor q) longest-side s strike-right) [])
   unfolding right-child child-by
   right-coded =
       let ends = right-ends (s .right) (good .right) in
-      let strikes = may-strike-coded q few s good (s .right) (good .right) in
       rw ends
       (by-bool (front-may-end (acceptor q) s (other-front (s .left) (s .right)))
-      (λ e. rw e (strike-child strike-right (s .right) (sym strikes ∙ and-left _ _ (ends ∙ e))))
+      (λ e. rw e (strike-child strike-right (s .right) (sym (may-strike-coded q few s good (s .right) (good .right)) ∙ and-left _ _ (ends ∙ e))))
       (λ e. rw e))
 
-  -- the followers of the token in front of a side, and its set after c, as the code works them out
-  abbrev gathered-at : Side → ℕ
-  gathered-at side = gathered (tables-of q) (code-situation s) (front (code-side side))
-
+  -- the set of the token in front after c, as the code works it out
   abbrev next-at : ℕ → ℕ → ℕ
   next-at b c = next-set (tables-of q) b (gathered (tables-of q) (code-situation s) b) c
 
   -- the sets after puts: one front field
   sets-one : (c : ℕ) (side : Side) → c < characters → Known-side side
-      → with-set (front (code-side side)) (next-at (front (code-side side)) c) (map mask (s .sets))
-      ≡ map mask (put-before-all (acceptor q) c (front-field side) s .sets)
+      → with-set (front (code-side side)) (next-at (front (code-side side)) c) (map mask (s .sets)) ≡ map mask (put-before-all (acceptor q) c (front-field side) s .sets)
   unfolding put-before
   sets-one c [] h k = refl
   sets-one c (chr a ∷ side) h k = rw (char-not-standing a (k .0))
-  sets-one c (fld f ∷ side) h k =
-      rw (field-standing f (k .0), next-set-coded q few s good f c (k .0) h, field-of-token f) (set-mask (s .sets) f _)
+  sets-one c (fld f ∷ side) h k = rw (field-standing f (k .0), next-set-coded q few s good f c (k .0) h, field-of-token f) (set-mask (s .sets) f _)
 
   -- two, which are put before one after the other; the same one once
   sets-two : (c f g : ℕ) (l r : Side) → c < characters → f < fields → g < fields
-      → with-set (field-token + g) (next-at (field-token + g) c)
-      (with-set (field-token + f) (next-at (field-token + f) c) (map mask (s .sets)))
+      → with-set (field-token + g) (next-at (field-token + g) c) (with-set (field-token + f) (next-at (field-token + f) c) (map mask (s .sets)))
       ≡ map mask (put-before-all (acceptor q) c (front-fields (fld f ∷ l) (fld g ∷ r)) s .sets)
   unfolding put-before acceptor
   sets-two c f g l r h kf kg =
-      let x = set-after (held-by q f) (getD (s .sets) f []) c in
-      let y = set-after (held-by q g) (getD (s .sets) g []) c in
-      rw (field-standing f kf, field-standing g kg, field-of-token f, field-of-token g)
-      (rw (next-set-coded q few s good f c kf h, next-set-coded q few s good g c kg h)
+      rw (field-standing f kf, field-standing g kg, next-set-coded q few s good f c kf h, next-set-coded q few s good g c kg h, field-of-token f, field-of-token g)
       (by-bool (eqb g f)
-      (λ e. rw (e, eqb-true g f e, set-set (map mask (s .sets)) f (mask x)) (set-mask (s .sets) f x))
+      (λ e. rw (e, eqb-true g f e, set-set (map mask (s .sets)) f (mask (set-after (held-by q f) (getD (s .sets) f []) c))) (set-mask (s .sets) f _))
       (λ e.
-      rw (e, getD-set-other (s .sets) f g x [] (eqb-false g f e), set-mask (s .sets) f x) (set-mask (set (s .sets) f x) g y))))
+      rw (e, getD-set-other (s .sets) f g (set-after (held-by q f) (getD (s .sets) f []) c) [] (eqb-false g f e), set-mask (s .sets) f (set-after (held-by q f) (getD (s .sets) f []) c))
+      (set-mask (set (s .sets) f (set-after (held-by q f) (getD (s .sets) f []) c)) g (set-after (held-by q g) (getD (s .sets) g []) c))))
 
   sets-coded : (c : ℕ) (l r : Side) → c < characters → Known-side l → Known-side r
-      → with-set (front (code-side r)) (next-at (front (code-side r)) c)
-      (with-set (front (code-side l)) (next-at (front (code-side l)) c) (map mask (s .sets)))
+      → with-set (front (code-side r)) (next-at (front (code-side r)) c) (with-set (front (code-side l)) (next-at (front (code-side l)) c) (map mask (s .sets)))
       ≡ map mask (put-before-all (acceptor q) c (front-fields l r) s .sets)
   sets-coded c l [] h k m = rw (append-nil (front-field l)) (sets-one c l h k)
   sets-coded c l (chr b ∷ r) h k m = rw (char-not-standing b (m .0), append-nil (front-field l)) (sets-one c l h k)
@@ -255,15 +234,12 @@ module _ (q : Question) (few : (f : ℕ) → Few (held-by q f)) (s : Situation P
       let t = put-before-all (acceptor q) c fs s in
       let l : put-in-all c fs (s .left) ≡ t .left = sym (put-all-left (acceptor q) c fs s) in
       let r : put-in-all c fs (s .right) ≡ t .right = sym (put-all-right (acceptor q) c fs s) in
-      let pl = put-coded c (s .left) (s .right) (s .left) (good .left) (good .right) (good .left) in
-      let pr = put-coded c (s .left) (s .right) (s .right) (good .left) (good .right) (good .right) in
-      rw (pl, pr, sets-coded c (s .left) (s .right) h (good .left) (good .right), l, r)
-      (settle-coded q (put c) t
-      (rw l at (known-put-all c fs (s .left) h (good .left))) (rw r at (known-put-all c fs (s .right) h (good .right))))
+      rw (put-coded c (s .left) (s .right) (s .left) (good .left) (good .right) (good .left), put-coded c (s .left) (s .right) (s .right) (good .left) (good .right) (good .right), sets-coded c (s .left) (s .right) h (good .left) (good .right), l, r)
+      (settle-coded q (put c) t (rw l at (known-put-all c fs (s .left) h (good .left))) (rw r at (known-put-all c fs (s .right) h (good .right))))
 
   character-coded : (c : ℕ) → c < characters
-      → child-by-character (tables-of q) (code-situation s) (gathered-at (s .left)) (gathered-at (s .right)) c
-      ≡ map code-child-of (put-group (acceptor q) longest-side s c)
+      → child-by-character (tables-of q) (code-situation s) (gathered (tables-of q) (code-situation s) (front (code-side (s .left)))) (gathered (tables-of q) (code-situation s) (front (code-side (s .right)))) c
+      ≡ map code-child-of (cond (front-takes (acceptor q) s c (s .left) && front-takes (acceptor q) s c (s .right)) (child-by (acceptor q) longest-side s (put c)) [])
   unfolding child-by-character
   character-coded c h =
       rw (takes-front-coded q few s good (s .left) c h (good .left), takes-front-coded q few s good (s .right) c h (good .right))
@@ -277,6 +253,5 @@ module _ (q : Question) (few : (f : ℕ) → Few (held-by q f)) (s : Situation P
   children-agree =
       ap₂ _++_ left-coded
       (ap₂ _++_ right-coded
-      (each-same _ (λ (c : ℕ). map code-child-of (put-group (acceptor q) longest-side s c)) (upto characters)
-      (λ c d. character-coded c (mem-upto characters d))))
+      (each-same _ (λ (c : ℕ). map code-child-of (put-group (acceptor q) longest-side s c)) (upto characters) (λ c d. character-coded c (mem-upto characters d))))
       ∙ sym (grouped-mapped (acceptor q) code-child-of longest-side s)

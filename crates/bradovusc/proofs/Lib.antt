@@ -13,3 +13,4 @@ pub mod Ways
 pub mod Simulated
 pub mod FirstCoded
 pub mod Told
+pub mod Concluding

@@ -28,22 +28,10 @@ use Rattle.bradovusc.specs.Made.{first-set, first-sets}
 use Rattle.bradovusc.specs.Slots.{Slot}
 use Rattle.bradovusc.specs.Codes.{status-of}
 use Rattle.bradovusc.proofs.FirstCoded.{stands-coded, known-append}
+use Rattle.patterns.proofs.Masks.{any-same, keep-same}
 use Rattle.bradovusc.proofs.CodedSides.{known-side}
+use Rattle.bradovusc.proofs.CodedChildren.{each-same}
 use Rattle.bradovusc.proofs.Simulated.{run, status-agrees, count-agrees, text-agrees}
-
--- lists made by functions that agree on the members
-each-alike : {A B : Type 0} (f g : A → List B) (l : List A) → ((x : A) → List·Memᴰ x l → f x ≡ g x) → each f l ≡ each g l
-each-alike f g [] h = refl
-each-alike f g (x ∷ l) h = ap₂ _++_ (h x (List·Memᴰ·head refl)) (each-alike f g l (λ y d. h y (List·Memᴰ·tail d)))
-
-any-alike : {A : Type 0} (f g : A → Bool) (l : List A) → ((x : A) → List·Memᴰ x l → f x ≡ g x) → any f l ≡ any g l
-any-alike f g [] h = refl
-any-alike f g (x ∷ l) h = ap₂ _||_ (h x (List·Memᴰ·head refl)) (any-alike f g l (λ y d. h y (List·Memᴰ·tail d)))
-
-keep-alike : {A : Type 0} (f g : A → Bool) (l : List A) → ((x : A) → List·Memᴰ x l → f x ≡ g x) → keep f l ≡ keep g l
-keep-alike f g [] h = refl
-keep-alike f g (x ∷ l) h =
-    ap₂ _++_ (ap (λ (b : Bool). only b x) (h x (List·Memᴰ·head refl))) (keep-alike f g l (λ y d. h y (List·Memᴰ·tail d)))
 
 -- a first place set is not 0 exactly if its field stands
 one-or-none : (b : Bool) → not (eqb (cond b 1 0) 0) ≡ b
@@ -74,7 +62,7 @@ module _ (q : Question) (good : GoodQuestion q) where
   standing-alike : standing-fields (first-sets tokens) ≡ standing q
   unfolding standing-fields first-set first-sets standing
   standing-alike =
-      keep-alike _ (λ (f : ℕ). stands-in f (q .left ++ q .right)) (upto fields)
+      keep-same _ (λ (f : ℕ). stands-in f (q .left ++ q .right)) (upto fields)
       (λ f d. ap (λ (m : ℕ). not (eqb m 0)) (getD-map-upto (first-set tokens) 0 fields f (mem-upto fields d)) ∙ one-or-none (member (field-token + f) tokens) ∙ stands-alike f)
 
   module _ (room : ℕ) (e : Entry (Situation PlaceSet) Move) (h : how-of q (searched q room) ≡ found e) where
@@ -90,14 +78,14 @@ module _ (q : Question) (good : GoodQuestion q) where
     unfolding value-records records
     records-alike =
         rw standing-alike
-        (each-alike _ (λ (f : ℕ). value-record f (texts-of (acceptor q) (q .left) (q .right) e f)) (standing q)
+        (each-same _ (λ (f : ℕ). value-record f (texts-of (acceptor q) (q .left) (q .right) e f)) (standing q)
         (λ f d. ap (value-record f) (text-alike f d)))
 
     above-alike : text-above (first-sets tokens) (text-at ss (length ss - 1)) ≡ some-text-too-long q e
     unfolding text-above some-text-too-long
     above-alike =
         rw standing-alike
-        (any-alike _ (λ (f : ℕ). not (leb (length (texts-of (acceptor q) (q .left) (q .right) e f)) longest-text)) (standing q)
+        (any-same _ (λ (f : ℕ). not (leb (length (texts-of (acceptor q) (q .left) (q .right) e f)) longest-text)) (standing q)
         (λ f d. ap (λ (w : List ℕ). not (leb (length w) longest-text)) (text-alike f d)))
 
     clash-told : (n : ℕ) (work buffer : List ℕ)

@@ -17,19 +17,14 @@ ghost use Rattle.bradovusc.specs.Struct.{as-struct, Short};
 ghost use Rattle.bradovusc.specs.declared.situation.Fate.the-variants.{Made};
 use crate::situation;
 use crate::situation::Child;
+use crate::situation::FIELD_TOKEN;
+use crate::situation::FIELDS;
 use crate::situation::Fate;
+use crate::situation::NO_TOKEN;
 use crate::situation::Situation;
 use crate::slots;
-
-const FIELD_TOKEN: u8 = 64;
-
-const NO_TOKEN: u8 = 255;
-
-const FIELDS: usize = 8;
-
-const PLACES: usize = 32;
-
-const CHARACTERS: usize = 43;
+use patterns::CHARACTERS;
+use patterns::PLACES;
 
 // the steps that are no character
 const LEFT_STRUCK: u8 = 43;

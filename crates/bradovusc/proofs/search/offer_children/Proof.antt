@@ -1,6 +1,6 @@
 use borrow.Author.Needs.{needs}
 use native.Mathlib.Omega.{arith}
-use mathlib.Core.Path.{_≡_, ap, subst}
+use mathlib.Core.Path.{ap, subst}
 use Rattle.bradovusc.specs.Coded.{left-struck, right-struck}
 use Rattle.bradovusc.specs.Lent.{Lent, struck-by}
 use Rattle.bradovusc.specs.Run.{offer-slots}
@@ -8,39 +8,25 @@ use Rattle.bradovusc.specs.declared.situation.Situation.{Situation}
 use Rattle.bradovusc.proofs.search.Children.{may-end-field, other-may-end-field, children-offered}
 use Rattle.bradovusc.proofs.search.offer_children.Statement.{statement}
 use Rattle.bradovusc.proofs.search.offer_children.Tie as tie
-use Rattle.bradovusc.proofs.search.offer_children.Reads as reads
-use Rattle.bradovusc.proofs.search.offer_children.Lts as lts
-use Rattle.bradovusc.proofs.search.front_with.Reads as front-with-reads
-use Rattle.bradovusc.proofs.search.may_end.Reads as may-end-reads
-use Rattle.bradovusc.proofs.search.offer_puts.Reads as offer-puts-reads
-use Rattle.bradovusc.proofs.search.offer_struck.Reads as offer-struck-reads
-use Rattle.bradovusc.proofs.search.other_may_end.Reads as other-may-end-reads
-use Rattle.bradovusc.proofs.situation.front_in.Reads as front-in-reads
 
--- src/search.rt:260:9
 front-in-requires : tie.Need-front-in-requires
 front-in-requires c κs = search needs
 
--- src/search.rt:261:9
 front-in-requires-2 : tie.Need-front-in-requires-2
 front-in-requires-2 c κs = search needs
 
--- src/search.rt:262:9
 may-end-requires : tie.Need-may-end-requires
 may-end-requires c κs = search needs
 
--- src/search.rt:263:9
 other-may-end-requires : tie.Need-other-may-end-requires
 other-may-end-requires c κs = search needs
 
--- src/search.rt:264:9
 offer-struck-requires : tie.Need-offer-struck-requires
 offer-struck-requires c κs =
     let p = c .before .before .before .before .before .before .before .before .before in
     let m = c .before .before .may-end in
     (p .pre .0, (p .pre .1, may-end-field (p .args .s .sets) (p .args .last) (c .before .before .before .before .front-in .result) (m .result) (m .ensures)))
 
--- src/search.rt:265:9
 offer-struck-requires-2 : tie.Need-offer-struck-requires-2
 offer-struck-requires-2 c κs =
     let o = c .before .before .before .offer-struck in
@@ -51,26 +37,21 @@ offer-struck-requires-2 c κs =
       (p .pre .1, other-may-end-field (p .args .s .sets) (p .args .last) b (m .result) (c .before .before .before .before .before .before .before .before .front-in .result) (m .ensures)),
     )
 
--- src/search.rt:266:9
 front-with-requires : tie.Need-front-with-requires
 front-with-requires c κs = search needs
 
--- src/search.rt:267:9
 front-with-requires-2 : tie.Need-front-with-requires-2
 front-with-requires-2 c κs = search needs
 
--- src/search.rt:268:5
 offer-puts-requires : tie.Need-offer-puts-requires
 offer-puts-requires c κs =
     let o = c .before .before .before .before .before .offer-struck2 in
     let p = c .before .before .before .before .before .before .before .before .before .before .before .before .before .before .before .before .before .before .before in
     (record { fits = omega (arith, o .kept .0, c .before .before .before .before .before .before .before .before .before .offer-struck .kept .0); most = p .pre .0 .most; within = o .ensures .0; numbered = p .pre .0 .numbered }, p .pre .1)
 
--- src/search.rt:251:1
 same-length : tie.Need-same-length
 same-length c = search needs
 
--- src/search.rt:251:1
 returns : tie.Need-returns
 returns c =
     let q = c .before .before in

@@ -1,12 +1,12 @@
 use Prim.Native.Nat.{_-_, _≤_}
 use native.Mathlib.Omega.{arith}
-use mathlib.Core.Path.{_≡_, refl, sym, ap, _∙_}
+use mathlib.Core.Path.{_≡_, refl, _∙_}
 use lib.ListN.{length}
 use borrow.Author.Needs.{needs}
 use Rattle.paper.specs.Lists.{each, upto}
 use Rattle.paper.specs.Numbers.{characters}
 use Rattle.bradovusc.specs.Coded.{Coded, put-child}
-use Rattle.bradovusc.specs.Lent.{Lent, Roomy, set-by, put-by}
+use Rattle.bradovusc.specs.Lent.{Lent, set-by, put-by}
 use Rattle.bradovusc.specs.Run.{Running, offer-slots}
 use Rattle.bradovusc.specs.Struct.{as-struct, Short}
 use mathlib.Core.Logic.{⊎-elim}
@@ -15,11 +15,6 @@ use Rattle.bradovusc.proofs.search.Children.{made-sized, put-taken, put
 use Rattle.bradovusc.proofs.search.Offers.{lent-more}
 use Rattle.bradovusc.proofs.search.offer_puts.Statement.{statement}
 use Rattle.bradovusc.proofs.search.offer_puts.Tie as tie
-use Rattle.bradovusc.proofs.search.offer_puts.Reads as reads
-use Rattle.bradovusc.proofs.search.offer_puts.Lts as lts
-use Rattle.bradovusc.proofs.search.both_take.Reads as both-take-reads
-use Rattle.bradovusc.proofs.search.offer.Reads as offer-reads
-use Rattle.bradovusc.proofs.situation.put.Reads as put-reads
 
 abbrev Inv-loop : tie.InvT-loop
 Inv-loop work₀ room parent s left right run₀ c₀ work run c =
@@ -31,49 +26,38 @@ Inv-loop work₀ room parent s left right run₀ c₀ work run c =
 abbrev μ-loop : tie.MeasureT-loop
 μ-loop work₀ room parent s left right run₀ c₀ work run c = characters - c
 
--- src/search.rt:238:5
 loop-holds : tie.Need-loop-holds Inv-loop μ-loop
 loop-holds c = (omega arith, c .before .pre .0 .within, refl, λ R k l e h. l)
 
--- src/search.rt:239:34
 mul-m : tie.Need-mul-m Inv-loop μ-loop
 mul-m c = search needs
 
--- src/search.rt:239:34
 element-copy-out-m : tie.Need-element-copy-out-m Inv-loop μ-loop
 element-copy-out-m c = search needs
 
--- src/search.rt:240:35
 mul-n : tie.Need-mul-n Inv-loop μ-loop
 mul-n c = search needs
 
--- src/search.rt:240:35
 element-copy-out-n : tie.Need-element-copy-out-n Inv-loop μ-loop
 element-copy-out-n c = search needs
 
--- src/search.rt:241:53
 cast-both-take : tie.Need-cast-both-take Inv-loop μ-loop
 cast-both-take c = search needs
 
--- src/search.rt:241:12
 both-take-requires : tie.Need-both-take-requires Inv-loop μ-loop
 both-take-requires c κs = search needs
 
--- src/search.rt:242:43
 cast-put : tie.Need-cast-put Inv-loop μ-loop
 cast-put c = search needs
 
--- src/search.rt:242:17
 put-requires : tie.Need-put-requires Inv-loop μ-loop
 put-requires c κs =
     let k = c .before .before .before .before .before .before .before .pre .1 in
     short-sized (k .is) (k .short)
 
--- src/search.rt:243:50
 cast-offer : tie.Need-cast-offer Inv-loop μ-loop
 cast-offer c = search needs
 
--- src/search.rt:243:13
 offer-requires : tie.Need-offer-requires Inv-loop μ-loop
 offer-requires c κs =
     let l = c .before .before .before .before .before .before .before in
@@ -86,15 +70,12 @@ offer-requires c κs =
       made-sized (put-child (k .at) (l .loop .c) m n) (c .before .put .result) (c .before .put .ensures (k .at) (k .is) (k .short)) (λ t f. put-child-short (l .loop .c) m n (omega arith) (k .short) f),
     )
 
--- src/search.rt:245:9
 add-c : tie.Need-add-c Inv-loop μ-loop
 add-c c = search needs
 
--- src/search.rt:238:5
 loop-less : tie.Need-loop-less Inv-loop μ-loop
 loop-less c = search needs
 
--- src/search.rt:238:5
 loop-again : tie.Need-loop-again Inv-loop μ-loop
 loop-again c =
     let j = c .before .before .before .before .before in
@@ -126,11 +107,9 @@ loop-again c =
     ))
     (c .if1 .came)
 
--- src/search.rt:230:1
 same-length : tie.Need-same-length Inv-loop μ-loop
 same-length c = c .before .loop .inv .2
 
--- src/search.rt:230:1
 returns : tie.Need-returns Inv-loop μ-loop
 returns c =
     let l = c .before .loop in

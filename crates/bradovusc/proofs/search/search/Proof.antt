@@ -7,7 +7,7 @@ use Rattle.paper.proofs.Tests.{not-is-true, not-is-false}
 use lib.ListN.{length}
 use borrow.Author.Needs.{needs}
 use Rattle.bradovusc.specs.Coded.{Coded, Tables}
-use Rattle.bradovusc.specs.Lent.{Lent, Roomy}
+use Rattle.bradovusc.specs.Lent.{Lent}
 use Rattle.bradovusc.specs.Run.{Running, is-going, enter-slot, slot-search}
 use Rattle.bradovusc.specs.Struct.{as-struct, Short}
 use Rattle.bradovusc.proofs.Short.{short-sized}
@@ -15,11 +15,6 @@ use Rattle.bradovusc.proofs.slots.Held.{holds-none}
 use Rattle.bradovusc.proofs.search.Turns.{Standing, begun, ended, used-up, taken}
 use Rattle.bradovusc.proofs.search.search.Statement.{statement}
 use Rattle.bradovusc.proofs.search.search.Tie as tie
-use Rattle.bradovusc.proofs.search.search.Reads as reads
-use Rattle.bradovusc.proofs.search.search.Lts as lts
-use Rattle.bradovusc.proofs.search.enter.Reads as enter-reads
-use Rattle.bradovusc.proofs.search.is_going.Reads as is-going-reads
-use Rattle.bradovusc.proofs.search.take.Reads as take-reads
 
 abbrev Inv-loop : tie.InvT-loop
 Inv-loop work₀ room follow taking last run₀ k₀ work run k =

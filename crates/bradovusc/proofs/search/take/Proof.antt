@@ -7,16 +7,10 @@ use Rattle.bradovusc.specs.Run.{no-slot, slot-at, take-slot}
 use Rattle.bradovusc.proofs.slots.Held.{short-held}
 use Rattle.bradovusc.proofs.search.take.Statement.{statement}
 use Rattle.bradovusc.proofs.search.take.Tie as tie
-use Rattle.bradovusc.proofs.search.take.Reads as reads
-use Rattle.bradovusc.proofs.search.take.Lts as lts
-use Rattle.bradovusc.proofs.search.offer_children.Reads as offer-children-reads
-use Rattle.bradovusc.proofs.slots.read_situation.Reads as read-situation-reads
 
--- src/search.rt:279:9
 read-situation-requires : tie.Need-read-situation-requires
 read-situation-requires c κs = search needs
 
--- src/search.rt:280:5
 offer-children-requires : tie.Need-offer-children-requires
 offer-children-requires c κs =
     let p = c .before .before .before .before in
@@ -26,11 +20,9 @@ offer-children-requires c κs =
     let b : k < length (R .slots) = omega arith in
     (p .pre .0, record { at = slot-at (R .slots) k .at; is = c .before .read-situation .ensures (R .slots) no-slot (l .holds) b; short = short-held (l .holds) k no-slot b })
 
--- src/search.rt:272:1
 same-length : tie.Need-same-length
 same-length c = search needs
 
--- src/search.rt:272:1
 returns : tie.Need-returns
 unfolding take-slot
 returns c =
