@@ -1,7 +1,25 @@
 // The search: breadth first over the slots of the working buffer, in document 01's order.
 ghost use mathlib.Core.Path.{_≡_};
-ghost use Rattle.bradovusc.specs.Coded.{takes-next, may-end-at, row-at};
-ghost use Rattle.bradovusc.specs.Run.{is-going};
+ghost use mathlib.Core.Bool.{true, false, not, _&&_};
+ghost use mathlib.Core.List.{List, []};
+ghost use Prim.Native.Nat.{ℕ, _*_, _<_, _≤_};
+ghost use lib.Dec.{eqb};
+ghost use lib.ListN.{length, getD};
+ghost use Rattle.paper.specs.Lists.{each, upto};
+ghost use Rattle.paper.specs.Numbers.{situation-bytes, most-room, characters, field-token};
+ghost use Rattle.patterns.specs.Masks.{followers-of};
+ghost use Rattle.bradovusc.specs.Coded.{Coded, Settled, front, field-of, as-child, takes-next, may-end-at, row-at, children-coded};
+ghost use Rattle.bradovusc.specs.Lent.{Lent, Roomy, Held, Short-child, struck-by, front-from, put-by};
+ghost use Rattle.bradovusc.specs.Made.{Sized, Becomes};
+ghost use Rattle.bradovusc.specs.Run.{is-going, Running, enter-slot, offer-slots, take-slot, slot-search};
+ghost use Rattle.bradovusc.specs.Slots.{Slot, Holds-slots};
+ghost use Rattle.bradovusc.specs.Struct.{as-struct, Short};
+ghost use Rattle.bradovusc.specs.declared.situation.Fate.the-variants.{Made};
+
+use crate::situation;
+use crate::situation::{Child, Fate, Situation};
+use crate::slots;
+use crate::stub;
 
 const FIELD_TOKEN: u8 = 64;
 
@@ -9,7 +27,14 @@ const NO_TOKEN: u8 = 255;
 
 const FIELDS: usize = 8;
 
+const PLACES: usize = 32;
+
 const CHARACTERS: usize = 43;
+
+// the steps that are no character
+const LEFT_STRUCK: u8 = 43;
+
+const RIGHT_STRUCK: u8 = 44;
 
 // How the search stands, or how it ended.
 pub enum Status {
@@ -26,6 +51,14 @@ pub struct Run {
     pub status: Status,
 }
 
+// A front with what is worked out once of it for all characters: the places that may follow those of its field's set, and what each
+// character lets through.
+struct Front {
+    token: u8,
+    followers: u32,
+    row: [u32; CHARACTERS],
+}
+
 fn is_going(status: Status) -> bool
     ensures { λ r. ⌜ r ≡ is-going status ⌝ }
 {
@@ -38,6 +71,71 @@ fn is_going(status: Status) -> bool
     }
 }
 
+// "no room gives 18; otherwise it is entered, and a finished one ends the search at once"
+fn enter(work: &mut [u8], room: usize, n: usize, parent: usize, step: u8, s: Situation) -> Run
+    requires { ⌜ Roomy (now work) room n parent ⌝ }
+    requires { ⌜ Sized s ⌝ }
+    ensures { λ r. ⌜ r .entered ≤ room ⌝ }
+    ensures { λ r. ⌜ ((k : Coded) (ss : List Slot) → s ≡ as-struct k → Short k → Holds-slots (now (work .entry)) ss → length ss ≡ n → Lent (now (work .exit)) r (enter-slot room ss (record { at = k; parent = parent; step = step }))) ⌝ }
+{
+    if room <= n {
+        return Run {
+            entered: n,
+            status: Status::NoRoom,
+        };
+    }
+    slots::write_slot(work, n, s, parent, step);
+    if situation::is_finished(s) {
+        return Run {
+            entered: n + 1,
+            status: Status::Found,
+        };
+    }
+    Run {
+        entered: n + 1,
+        status: Status::Going,
+    }
+}
+
+// "a side above 48 tokens gives 19; one already entered is dropped"
+fn offer(work: &mut [u8], room: usize, run: Run, parent: usize, step: u8, child: Child) -> Run
+    requires { ⌜ Roomy (now work) room (run .entered) parent ⌝ }
+    requires { ⌜ (child .fate ≡ Made → Sized (child .at)) ⌝ }
+    ensures { λ r. ⌜ r .entered ≤ room ⌝ }
+    ensures { λ r. ⌜ ((R : Running) (x : Settled) → Lent (now (work .entry)) run R → Becomes x child → Short-child x → Lent (now (work .exit)) r (offer-slots room parent R (as-child step x))) ⌝ }
+{
+    let status = run.status;
+    if !is_going(status) {
+        return run;
+    }
+    let n = run.entered;
+    let fate = child.fate;
+    match fate {
+        Fate::Dropped => run,
+        Fate::Above => Run {
+            entered: n,
+            status: Status::TooLong,
+        },
+        Fate::Made => {
+            let s = child.at;
+            if slots::look_up(work, n, s) {
+                return run;
+            }
+            enter(work, room, n, parent, step, s)
+        }
+    }
+}
+
+// The number of the field with the token b.
+fn field_of(b: u8) -> usize
+    ensures { λ r. ⌜ r ≡ field-of b ⌝ }
+{
+    if b < FIELD_TOKEN {
+        return 0;
+    }
+    (b - FIELD_TOKEN) as usize
+}
+
 // "a field whose set may end"
 fn may_end(sets: [u32; FIELDS], b: u8, last: [u32; FIELDS]) -> bool
     ensures { λ r. ⌜ r ≡ may-end-at sets last b ⌝ }
@@ -45,7 +143,7 @@ fn may_end(sets: [u32; FIELDS], b: u8, last: [u32; FIELDS]) -> bool
     if b < FIELD_TOKEN {
         return false;
     }
-    let f = (b - FIELD_TOKEN) as usize;
+    let f = field_of(b);
     if f < FIELDS {
         sets[f] & last[f] != 0
     } else {
@@ -53,15 +151,61 @@ fn may_end(sets: [u32; FIELDS], b: u8, last: [u32; FIELDS]) -> bool
     }
 }
 
+// "a field, not the same as the left front, whose set may end"
+fn other_may_end(sets: [u32; FIELDS], a: u8, b: u8, last: [u32; FIELDS]) -> bool
+    ensures { λ r. ⌜ r ≡ (may-end-at sets last b && not (eqb b a)) ⌝ }
+{
+    if b == a {
+        return false;
+    }
+    may_end(sets, b, last)
+}
+
+// Children 1 and 2: the field with the token b is struck everywhere, if it may be.
+fn offer_struck(work: &mut [u8], room: usize, run: Run, parent: usize, s: Situation, b: u8, step: u8, may: bool) -> Run
+    requires { ⌜ Roomy (now work) room (run .entered) parent ⌝ }
+    requires { ⌜ Held s ⌝ }
+    requires { ⌜ (may ≡ true → field-token ≤ b) ⌝ }
+    ensures { λ r. ⌜ r .entered ≤ room ⌝ }
+    ensures { λ r. ⌜ ((R : Running) (k : Coded) → Lent (now (work .entry)) run R → s ≡ as-struct k → Short k → Lent (now (work .exit)) r (offer-slots room parent R (struck-by k may step b))) ⌝ }
+{
+    if may {
+        let child = situation::strike(s, b);
+        return offer(work, room, run, parent, step, child);
+    }
+    run
+}
+
+// The places that may follow those of the set of the field with the token b.
+fn gather(sets: [u32; FIELDS], b: u8, follow: [[u32; PLACES]; FIELDS]) -> u32
+    ensures { λ r. ⌜ r ≡ followers-of (getD follow (field-of b) []) (getD sets (field-of b) 0) ⌝ }
+{
+    let f = field_of(b);
+    if f < FIELDS {
+        let masks = follow[f];
+        return stub::followers(masks, sets[f]);
+    }
+    0
+}
+
 // What each character lets through in the field with the token b.
 fn row(b: u8, taking: [[u32; CHARACTERS]; FIELDS]) -> [u32; CHARACTERS]
     ensures { λ r. ⌜ r ≡ row-at taking b ⌝ }
 {
-    if b < FIELD_TOKEN {
-        return taking[0];
-    }
-    let f = (b - FIELD_TOKEN) as usize;
+    let f = field_of(b);
     if f < FIELDS { taking[f] } else { taking[0] }
+}
+
+fn front_with(b: u8, sets: [u32; FIELDS], follow: [[u32; PLACES]; FIELDS], taking: [[u32; CHARACTERS]; FIELDS]) -> Front
+    ensures { λ r. ⌜ r ≡ front-from follow taking sets b ⌝ }
+{
+    let followers = gather(sets, b, follow);
+    let row = row(b, taking);
+    Front {
+        token: b,
+        followers,
+        row,
+    }
 }
 
 // "a character in front must be c, and each front field's set after c must not be empty"
@@ -75,4 +219,94 @@ fn takes(b: u8, next: u32, c: u8) -> bool
         return b == c;
     }
     next != 0
+}
+
+fn both_take(a: u8, m: u32, b: u8, n: u32, c: u8) -> bool
+    ensures { λ r. ⌜ r ≡ (takes-next a m c && takes-next b n c) ⌝ }
+{
+    if takes(a, m, c) {
+        return takes(b, n, c);
+    }
+    false
+}
+
+// Child 3: "for each character c from 0 to 42"
+fn offer_puts(work: &mut [u8], room: usize, run: Run, parent: usize, s: Situation, left: Front, right: Front) -> Run
+    requires { ⌜ Roomy (now work) room (run .entered) parent ⌝ }
+    requires { ⌜ Held s ⌝ }
+    ensures { λ r. ⌜ r .entered ≤ room ⌝ }
+    ensures { λ r. ⌜ ((R : Running) (k : Coded) → Lent (now (work .entry)) run R → s ≡ as-struct k → Short k → Lent (now (work .exit)) r (offer-slots room parent R (each (put-by k left right) (upto characters)))) ⌝ }
+{
+    let mut now = run;
+    let mut c: usize = 0;
+    while c < CHARACTERS {
+        let m = left.followers & left.row[c];
+        let n = right.followers & right.row[c];
+        if both_take(left.token, m, right.token, n, c as u8) {
+            let child = situation::put(s, c as u8, m, n);
+            now = offer(work, room, now, parent, c as u8, child);
+        }
+        c += 1;
+    }
+    now
+}
+
+// The children of a situation, in 01's order.
+fn offer_children(work: &mut [u8], room: usize, run: Run, parent: usize, s: Situation, follow: [[u32; PLACES]; FIELDS], taking: [[u32; CHARACTERS]; FIELDS], last: [u32; FIELDS]) -> Run
+    requires { ⌜ Roomy (now work) room (run .entered) parent ⌝ }
+    requires { ⌜ Held s ⌝ }
+    ensures { λ r. ⌜ r .entered ≤ room ⌝ }
+    ensures { λ r. ⌜ ((R : Running) (k : Coded) → Lent (now (work .entry)) run R → s ≡ as-struct k → Short k → Lent (now (work .exit)) r (offer-slots room parent R (children-coded (record { follow = follow; taking = taking; last = last }) k))) ⌝ }
+{
+    let left = s.left;
+    let right = s.right;
+    let sets = s.sets;
+    let a = situation::front_in(left, s.left_len);
+    let b = situation::front_in(right, s.right_len);
+    let may_left = may_end(sets, a, last);
+    let may_right = other_may_end(sets, a, b, last);
+    let one = offer_struck(work, room, run, parent, s, a, LEFT_STRUCK, may_left);
+    let two = offer_struck(work, room, one, parent, s, b, RIGHT_STRUCK, may_right);
+    let left_front = front_with(a, sets, follow, taking);
+    let right_front = front_with(b, sets, follow, taking);
+    offer_puts(work, room, two, parent, s, left_front, right_front)
+}
+
+// "Situations are taken in the order of entry": slot k is taken.
+fn take(work: &mut [u8], room: usize, run: Run, k: usize, follow: [[u32; PLACES]; FIELDS], taking: [[u32; CHARACTERS]; FIELDS], last: [u32; FIELDS]) -> Run
+    requires { ⌜ Roomy (now work) room (run .entered) k ⌝ }
+    requires { ⌜ k < run .entered ⌝ }
+    requires { ⌜ ((R : Running) × Lent (now work) run R) ⌝ }
+    ensures { λ r. ⌜ r .entered ≤ room ⌝ }
+    ensures { λ r. ⌜ ((R : Running) → Lent (now (work .entry)) run R → Lent (now (work .exit)) r (take-slot (record { follow = follow; taking = taking; last = last }) room k R)) ⌝ }
+{
+    let s = slots::read_situation(work, k);
+    offer_children(work, room, run, k, s, follow, taking, last)
+}
+
+// "The trimmed question is entered first, dead or not. .. When all are used up the answer is 1"
+pub fn search(work: &mut [u8], room: usize, first: Situation, follow: [[u32; PLACES]; FIELDS], taking: [[u32; CHARACTERS]; FIELDS], last: [u32; FIELDS]) -> Run
+    requires { ⌜ (situation-bytes * room ≤ length (now work)) × (room ≤ most-room) ⌝ }
+    requires { ⌜ Held first ⌝ }
+    ensures { λ r. ⌜ r .entered ≤ room ⌝ }
+    ensures { λ r. ⌜ is-going (r .status) ≡ false ⌝ }
+    ensures { λ r. ⌜ ((k : Coded) → first ≡ as-struct k → Short k → Lent (now (work .exit)) r (slot-search (record { follow = follow; taking = taking; last = last }) room k)) ⌝ }
+{
+    let mut run = enter(work, room, 0, 0, 0, first);
+    let mut k: usize = 0;
+    loop {
+        let status = run.status;
+        if !is_going(status) {
+            return run;
+        }
+        let n = run.entered;
+        if n <= k {
+            return Run {
+                entered: n,
+                status: Status::UsedUp,
+            };
+        }
+        run = take(work, room, run, k, follow, taking, last);
+        k += 1;
+    }
 }

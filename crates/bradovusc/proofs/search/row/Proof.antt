@@ -1,51 +1,48 @@
--- `search::row` meets its contract. Follows from the tests on the token: below 64 the field's number is 0.
 use borrow.Author.Needs.{needs}
-use Prim.Native.Nat.{_-_}
 use native.Mathlib.Omega.{arith}
-use mathlib.Core.Path.{_≡_}
 use Rattle.paper.proofs.Tests.{lt-ltb, le-ltb}
-use Rattle.bradovusc.specs.Coded.{row-at}
+use Rattle.bradovusc.specs.Coded.{field-of, row-at}
 use Rattle.bradovusc.proofs.search.row.Statement.{statement}
 use Rattle.bradovusc.proofs.search.row.Tie as tie
+use Rattle.bradovusc.proofs.search.row.Reads as reads
+use Rattle.bradovusc.proofs.search.row.Lts as lts
+use Rattle.bradovusc.proofs.search.field_of.Reads as field-of-reads
 
-array-copy-out-result : tie.Need-array-copy-out-result
-array-copy-out-result c = search needs
+-- src/search.rt:195:9
+field-of-requires : tie.Need-field-of-requires
+field-of-requires c κs = search needs
 
-returns : tie.Need-returns
-unfolding row-at
-returns c =
-    let z : c .before .before .args .b - 64 ≡ 0 = omega arith in
-    rw z
-
-cast-f : tie.Need-cast-f
-cast-f c = search needs
-
+-- src/search.rt:196:21
 mul-result : tie.Need-mul-result
 mul-result c = search needs
 
+-- src/search.rt:196:21
+array-copy-out-result : tie.Need-array-copy-out-result
+array-copy-out-result c = search needs
+
+-- src/search.rt:196:40
 array-copy-out-result-2 : tie.Need-array-copy-out-result-2
 array-copy-out-result-2 c = search needs
 
-array-copy-out-result-3 : tie.Need-array-copy-out-result-3
-array-copy-out-result-3 c = search needs
+-- src/search.rt:192:1
+returns : tie.Need-returns
+unfolding row-at
+returns c =
+    let f = c .before .before .field-of .ensures in
+    rw (f, lt-ltb (field-of (c .before .before .before .args .b)) 8 (omega arith))
 
+-- src/search.rt:192:1
 returns-2 : tie.Need-returns-2
 unfolding row-at
-returns-2 c = rw (lt-ltb (c .before .before .before .args .b - 64) 8 (omega arith))
-
-returns-3 : tie.Need-returns-3
-unfolding row-at
-returns-3 c = rw (le-ltb (c .before .before .before .args .b - 64) 8 (omega arith))
+returns-2 c = rw (le-ltb (field-of (c .before .before .before .args .b)) 8 (omega arith))
 
 pub row-spec : {M : Type 1} → statement M
 row-spec =
     tie.close
     (tie.spec
-    array-copy-out-result
-    returns
-    cast-f
+    field-of-requires
     mul-result
+    array-copy-out-result
     array-copy-out-result-2
-    array-copy-out-result-3
-    returns-2
-    returns-3)
+    returns
+    returns-2)

@@ -1,0 +1,66 @@
+-- The search in the lent buffer: what the code holds, by the search over slots (`Run`) that it stands for.
+use Prim.Native.Nat.{ℕ, _*_, _≤_}
+use mathlib.Core.Path.{_≡_}
+use mathlib.Core.Bool.{Bool, _&&_, cond}
+use mathlib.Core.List.{List, []}
+use lib.Bits.{bitAnd}
+use lib.ListN.{length, getD}
+use Rattle.paper.specs.Numbers.{situation-bytes, most-room}
+use Rattle.paper.specs.Search.{Child}
+use Rattle.patterns.specs.Masks.{followers-of}
+use Rattle.bradovusc.specs.Coded.{Coded, Settled, dropped, above, made, field-of, as-child, struck, put-child, row-at, takes-next}
+use Rattle.bradovusc.specs.Run.{Running}
+use Rattle.bradovusc.specs.Slots.{Holds-slots}
+use Rattle.bradovusc.specs.Struct.{as-struct, Short}
+use Rattle.bradovusc.specs.declared.search.Front.{Front}
+use Rattle.bradovusc.specs.declared.search.Run.{Run}
+use Rattle.bradovusc.specs.declared.situation.Situation.{Situation}
+
+-- the buffer and the run stand for a search over slots
+pub record Lent (work : List ℕ) (run : Run) (R : Running) : Type 0 where
+  pub holds : Holds-slots work (R .slots)
+  pub entered : run .entered ≡ length (R .slots)
+  pub status : run .status ≡ R .status
+
+-- the buffer has room for so many slots, n of them are entered, and a parent's number is one that two bytes hold
+pub record Roomy (work : List ℕ) (room n parent : ℕ) : Type 0 where
+  pub fits : situation-bytes * room ≤ length work
+  pub most : room ≤ most-room
+  pub within : n ≤ room
+  pub numbered : parent ≤ most-room
+
+-- the struct holds a situation
+pub record Held (s : Situation) : Type 0 where
+  pub at : Coded
+  pub is : s ≡ as-struct at
+  pub short : Short at
+
+-- a child that is made is a situation that the struct can hold
+abbrev pub Short-child : Settled → Type 0
+Short-child dropped = Unit {0}
+Short-child above = Unit {0}
+Short-child (made t) = Short t
+
+-- the child by striking the field with the token b, if it may be struck
+abbrev pub struck-by : Coded → Bool → ℕ → ℕ → List (Child Coded ℕ)
+struck-by k may step b = cond may (as-child step (struck k b)) []
+
+-- a front with what is worked out once of it for all characters
+unfoldable pub front-from : List (List ℕ) → List (List ℕ) → List ℕ → ℕ → Front
+front-from follow taking sets b =
+    record {
+      token = b;
+      followers = followers-of (getD follow (field-of b) []) (getD sets (field-of b) 0);
+      row = row-at taking b;
+    }
+
+-- the set of the front's field after c
+abbrev pub set-by : Front → ℕ → ℕ
+set-by f c = bitAnd (f .followers) (getD (f .row) c 0)
+
+-- the child by the character c, if both fronts take it
+unfoldable pub put-by : Coded → Front → Front → ℕ → List (Child Coded ℕ)
+put-by k l r c =
+    cond (takes-next (l .token) (set-by l c) c && takes-next (r .token) (set-by r c) c)
+    (as-child c (put-child k c (set-by l c) (set-by r c)))
+    []
