@@ -1,3 +1,4 @@
 // The library.
 mod search;
 mod situation;
+mod slots;

@@ -7,6 +7,7 @@ pub mod Ended
 pub mod Ends
 pub mod Room
 pub mod Searched
+pub mod Mapped
 -- places
 pub mod Parts
 pub mod After
@@ -37,3 +38,10 @@ pub mod Tails
 pub mod Standings
 pub mod Reached
 pub mod Plain
+-- from bytes to bytes
+pub mod Asked
+pub mod Children
+pub mod Rows
+pub mod QuestionSearched
+pub mod Demand2
+pub mod Demand3

@@ -21,7 +21,7 @@ module _ {S M : Type 0} (same : S → S → Bool) (finished : S → Bool) (child
   ended-offer-all room way x l [] = refl
   ended-offer-all room way x l (k ∷ ks) = ended-offer-all room way x l ks
 
-  ended-turns : (room n : ℕ) (x : End S M) (l : List (Entry S M)) → turns same finished children room n (ended x l) ≡ ended x l
+  pub ended-turns : (room n : ℕ) (x : End S M) (l : List (Entry S M)) → turns same finished children room n (ended x l) ≡ ended x l
   unfolding take-next
   ended-turns room zero x l = refl
   ended-turns room (suc n) x l = ended-turns room n x l

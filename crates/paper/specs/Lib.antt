@@ -19,3 +19,5 @@ pub mod Written
 pub mod Sheet
 pub mod Outcome
 pub mod Printed
+-- what is promised of the whole
+pub mod Demands
