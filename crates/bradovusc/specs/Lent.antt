@@ -8,7 +8,7 @@ use lib.ListN.{length, getD}
 use Rattle.paper.specs.Numbers.{situation-bytes, most-room}
 use Rattle.paper.specs.Search.{Child}
 use Rattle.patterns.specs.Masks.{followers-of}
-use Rattle.bradovusc.specs.Coded.{Coded, Settled, dropped, above, made, field-of, as-child, struck, put-child, row-at, takes-next}
+use Rattle.bradovusc.specs.Coded.{Coded, field-of, as-child, struck, put-child, row-at, takes-next}
 use Rattle.bradovusc.specs.Run.{Running}
 use Rattle.bradovusc.specs.Slots.{Holds-slots}
 use Rattle.bradovusc.specs.Struct.{as-struct, Short}
@@ -34,12 +34,6 @@ pub record Held (s : Situation) : Type 0 where
   pub at : Coded
   pub is : s ≡ as-struct at
   pub short : Short at
-
--- a child that is made is a situation that the struct can hold
-abbrev pub Short-child : Settled → Type 0
-Short-child dropped = Unit {0}
-Short-child above = Unit {0}
-Short-child (made t) = Short t
 
 -- the child by striking the field with the token b, if it may be struck
 abbrev pub struck-by : Coded → Bool → ℕ → ℕ → List (Child Coded ℕ)

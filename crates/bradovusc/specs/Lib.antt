@@ -1,5 +1,6 @@
 pub mod Coded
 pub mod Codes
+pub mod Lent
 pub mod Made
 pub mod Run
 pub mod Slots

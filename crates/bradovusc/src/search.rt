@@ -8,8 +8,8 @@ ghost use lib.ListN.{length, getD};
 ghost use Rattle.paper.specs.Lists.{each, upto};
 ghost use Rattle.paper.specs.Numbers.{situation-bytes, most-room, characters, field-token};
 ghost use Rattle.patterns.specs.Masks.{followers-of};
-ghost use Rattle.bradovusc.specs.Coded.{Coded, Settled, front, field-of, as-child, takes-next, may-end-at, row-at, children-coded};
-ghost use Rattle.bradovusc.specs.Lent.{Lent, Roomy, Held, Short-child, struck-by, front-from, put-by};
+ghost use Rattle.bradovusc.specs.Coded.{Coded, Settled, made, field-of, as-child, takes-next, may-end-at, row-at, children-coded};
+ghost use Rattle.bradovusc.specs.Lent.{Lent, Roomy, Held, struck-by, front-from, put-by};
 ghost use Rattle.bradovusc.specs.Made.{Sized, Becomes};
 ghost use Rattle.bradovusc.specs.Run.{is-going, Running, enter-slot, offer-slots, take-slot, slot-search};
 ghost use Rattle.bradovusc.specs.Slots.{Slot, Holds-slots};
@@ -19,7 +19,6 @@ ghost use Rattle.bradovusc.specs.declared.situation.Fate.the-variants.{M
 use crate::situation;
 use crate::situation::{Child, Fate, Situation};
 use crate::slots;
-use crate::stub;
 
 const FIELD_TOKEN: u8 = 64;
 
@@ -102,7 +101,7 @@ fn offer(work: &mut [u8], room: usize, run: Run, parent: usize, step: u8, child:
     requires { ⌜ Roomy (now work) room (run .entered) parent ⌝ }
     requires { ⌜ (child .fate ≡ Made → Sized (child .at)) ⌝ }
     ensures { λ r. ⌜ r .entered ≤ room ⌝ }
-    ensures { λ r. ⌜ ((R : Running) (x : Settled) → Lent (now (work .entry)) run R → Becomes x child → Short-child x → Lent (now (work .exit)) r (offer-slots room parent R (as-child step x))) ⌝ }
+    ensures { λ r. ⌜ ((R : Running) (x : Settled) → Lent (now (work .entry)) run R → Becomes x child → ((t : Coded) → x ≡ made t → Short t) → Lent (now (work .exit)) r (offer-slots room parent R (as-child step x))) ⌝ }
 {
     let status = run.status;
     if !is_going(status) {
@@ -183,7 +182,7 @@ fn gather(sets: [u32; FIELDS], b: u8, follow: [[u32; PLACES]; FIELDS]) -> u32
     let f = field_of(b);
     if f < FIELDS {
         let masks = follow[f];
-        return stub::followers(masks, sets[f]);
+        return patterns::followers(masks, sets[f]);
     }
     0
 }

@@ -1,5 +1,5 @@
--- Laws of the children: a child of a situation that the struct can hold is one too; what is worked out once of the fronts gives the
--- same children; a child's fate says what became of it. Follows from the definitions, by cases on their tests.
+-- Laws of the children: a child that is made has its sides within their bytes; what is worked out once of the fronts gives the same
+-- children, in the same order. Follows from the definitions, by cases on their tests.
 use Prim.Native.Nat.{ℕ, zero, suc, _<_, _≤_}
 use native.Mathlib.Omega.{arith}
 use mathlib.Core.Path.{_≡_, refl, sym, ap, _∙_}
@@ -17,105 +17,22 @@ use Rattle.paper.proofs.Tests.{by-bool, cond-by, both-true, and-left, and-right
 use Rattle.patterns.specs.Masks.{followers-of, mask-of, in-mask}
 use Rattle.bradovusc.specs.Coded.{Coded, Tables, Settled, dropped, above, made, front, field-of, is-field, is-standing, set-at, strike-bytes, put-bytes, equal-fronts, dead-sides, judged-sides, settle, struck, with-set, put-child, as-child, left-struck, right-struck, may-end-at, row-at, takes-next}
 use Rattle.bradovusc.specs.Coded.{may-strike, gathered, next-set, takes-front, child-by-character, left-child, right-child, children-coded}
-use Rattle.bradovusc.specs.Lent.{Held, Short-child, struck-by, front-from, set-by, put-by}
+use Rattle.bradovusc.specs.Lent.{struck-by, front-from, set-by, put-by}
 use Rattle.bradovusc.specs.Made.{Sized, Becomes}
 use Rattle.bradovusc.specs.Run.{Running, offer-slots}
 use Rattle.bradovusc.specs.Struct.{as-struct, Short}
+use Rattle.bradovusc.proofs.Short.{short-sized, fate-made}
 use Rattle.bradovusc.proofs.search.Offers.{offers-append}
 use Rattle.bradovusc.specs.declared.search.Front.{Front}
 use Rattle.bradovusc.specs.declared.situation.Situation.{Situation}
 use Rattle.bradovusc.specs.declared.situation.Child.{Child as Made-child}
 use Rattle.bradovusc.specs.declared.situation.Fate.the-variants.{Dropped, Above, Made}
 
--- tokens stay tokens
-all-drop : (n : ℕ) (l : List ℕ) → all is-token l ≡ true → all is-token (drop n l) ≡ true
-all-drop zero l h = h
-all-drop (suc n) [] h = refl
-all-drop (suc n) (x ∷ l) h = all-drop n l (and-right (is-token x) (all is-token l) h)
-
-all-struck : (b : ℕ) (l : List ℕ) → all is-token l ≡ true → all is-token (strike-bytes b l) ≡ true
-all-struck b l h =
-    every-all is-token (strike-bytes b l) (λ x d. all-true is-token l h (mem-keep (λ (y : ℕ). not (eqb y b)) l d .0))
-
-all-only : (t : Bool) (c : ℕ) → is-token c ≡ true → all is-token (only t c) ≡ true
-all-only true c h = rw h
-all-only false c h = refl
-
-char-token : (c : ℕ) → c < characters → is-token c ≡ true
-char-token c h = rw (lt-ltb c characters h)
-
-all-put : (c a b : ℕ) (l : List ℕ) → c < characters → all is-token l ≡ true → all is-token (put-bytes c a b l) ≡ true
-all-put c a b [] k h = refl
-all-put c a b (x ∷ l) k h =
-    let t = is-field x && (eqb x a || eqb x b) in
-    all-append is-token (only t c) (x ∷ put-bytes c a b l)
-    ∙ both-true (all-only t c (char-token c k)) (both-true (and-left (is-token x) _ h) (all-put c a b l k (and-right (is-token x) _ h)))
-
-judged-short : (l r sets : List ℕ) → all is-token l ≡ true → all is-token r ≡ true → length sets ≡ fields → Short-child (judged-sides l r sets)
-unfolding judged-sides
-judged-short l r sets p q n =
-    let long-left = not (leb (length l) longest-side) in
-    let long-right = not (leb (length r) longest-side) in
-    cond-by Short-child (dead-sides l r) (λ h. tt)
-    (λ h. cond-by Short-child (long-left || long-right) (λ g. tt)
-    (λ (g : long-left || long-right ≡ false).
-    record {
-      left = leb-true (length l) longest-side (not-is-false (or-left-false long-left long-right g));
-      right = leb-true (length r) longest-side (not-is-false (or-right-false long-left long-right g));
-      sets = n;
-      left-tokens = p;
-      right-tokens = q;
-    }))
-
-settle-short : (l r sets : List ℕ) → all is-token l ≡ true → all is-token r ≡ true → length sets ≡ fields → Short-child (settle l r sets)
-unfolding settle
-settle-short l r sets p q n =
-    judged-short (drop (equal-fronts l r) l) (drop (equal-fronts l r) r) sets (all-drop (equal-fronts l r) l p) (all-drop (equal-fronts l r) r q) n
-
-pub struck-short : (k : Coded) (b : ℕ) → Short k → Short-child (struck k b)
-unfolding struck
-struck-short k b h =
-    settle-short _ _ _ (all-struck b (k .left) (h .left-tokens)) (all-struck b (k .right) (h .right-tokens)) (length-set (k .sets) (field-of b) 0 ∙ h .sets)
-
-length-with-set : (b m : ℕ) (sets : List ℕ) → length (with-set b m sets) ≡ length sets
-length-with-set b m sets =
-    cond-by (λ (l : List ℕ). length l ≡ length sets) (is-standing b) (λ h. length-set sets (field-of b) m) (λ h. refl)
-
-pub put-short : (k : Coded) (c m n : ℕ) → c < characters → Short k → Short-child (put-child k c m n)
-unfolding put-child
-put-short k c m n g h =
-    let a = front (k .left) in
-    let b = front (k .right) in
-    settle-short _ _ _ (all-put c a b (k .left) g (h .left-tokens)) (all-put c a b (k .right) g (h .right-tokens))
-    (length-with-set b n (with-set a m (k .sets)) ∙ length-with-set a m (k .sets) ∙ h .sets)
-
--- a child's fate says what became of it
-never : _≡_ {A = ℕ} 0 1 → ⊥
-never e = omega arith
-
-module _ (child : Made-child) where
-  pub dropped-by-fate : (x : Settled) → Becomes x child → child .fate ≡ Dropped → x ≡ dropped
-  dropped-by-fate dropped b e = refl
-  dropped-by-fate above b e = absurd (never (cc))
-  dropped-by-fate (made t) b e = absurd (never (cc (b .0)))
-
-  pub above-by-fate : (x : Settled) → Becomes x child → child .fate ≡ Above → x ≡ above
-  above-by-fate dropped b e = absurd (never (cc))
-  above-by-fate above b e = refl
-  above-by-fate (made t) b e = absurd (never (cc (b .0)))
-
-  pub made-by-fate : (x : Settled) → Becomes x child → child .fate ≡ Made → Short-child x → (t : Coded) × (x ≡ made t) × (child .at ≡ as-struct t) × Short t
-  made-by-fate dropped b e h = absurd (never (cc))
-  made-by-fate above b e h = absurd (never (cc))
-  made-by-fate (made t) b e h = (t, refl, b .1, h)
-
-  pub made-sized : (x : Settled) → Becomes x child → Short-child x → child .fate ≡ Made → Sized (child .at)
-  made-sized x b h e =
-      let m = made-by-fate x b e h in
-      rw (m .2) (record { left = m .3 .left; right = m .3 .right })
-
-pub held-sized : {s : Situation} → Held s → Sized s
-held-sized h = rw (h .is) (record { left = h .short .left; right = h .short .right })
+-- a child that is made is in its bytes
+pub made-sized : (x : Settled) (child : Made-child) → Becomes x child → ((t : Coded) → x ≡ made t → Short t) → child .fate ≡ Made → Sized (child .at)
+made-sized x child b h e =
+    let m = fate-made x child b e in
+    short-sized (m .2) (h (m .0) (m .1))
 
 -- the child by a character that both fronts take, and none by another
 module _ (k : Coded) (l r : Front) (c : ℕ) where

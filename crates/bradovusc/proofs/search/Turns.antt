@@ -1,23 +1,18 @@
--- Laws of the turns of the search in the lent buffer: it begins with no slot, it goes on with one more slot taken, and it ends.
+-- Laws of the turns of the search in the lent buffer: it begins, it goes on with one more slot taken, and it ends.
 -- Follows from the definitions by cases on the number of turns left.
-use Prim.Native.Nat.{ℕ, zero, suc, _+_, _-_, _≤_, _<_, zero-le}
+use Prim.Native.Nat.{ℕ, zero, suc, _+_, _-_, _≤_, _<_}
 use native.Mathlib.Numerals.{add-one}
 use native.Mathlib.Omega.{arith}
 use mathlib.Core.Path.{_≡_, refl, sym, ap, _∙_, subst}
 use mathlib.Core.Bool.{Bool, true, false}
-use mathlib.Core.List.{List, [], List·Memᴰ·not-nil}
+use mathlib.Core.List.{List}
 use lib.ListN.{length}
 use Rattle.paper.proofs.Tests.{le-ltb}
 use Rattle.bradovusc.specs.Coded.{Tables}
 use Rattle.bradovusc.specs.Lent.{Lent}
 use Rattle.bradovusc.specs.Run.{is-going, Running, take-slot, slot-turns}
-use Rattle.bradovusc.specs.Slots.{Holds-slots}
 use Rattle.bradovusc.specs.declared.search.Run.{Run}
 use Rattle.bradovusc.specs.declared.search.Status.the-variants.{UsedUp}
-
--- no slot yet
-pub holds-none : (work : List ℕ) → Holds-slots work []
-holds-none work = record { fits = zero-le; holds = refl; short = λ x d. absurd (List·Memᴰ·not-nil d) }
 
 module _ (T : Tables) (room : ℕ) where
   -- a search that has ended rests

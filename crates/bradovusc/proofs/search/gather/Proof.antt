@@ -10,7 +10,6 @@ use Rattle.bradovusc.proofs.search.gather.Tie as tie
 use Rattle.bradovusc.proofs.search.gather.Reads as reads
 use Rattle.bradovusc.proofs.search.gather.Lts as lts
 use Rattle.bradovusc.proofs.search.field_of.Reads as field-of-reads
-use Rattle.bradovusc.proofs.stub.followers.Reads as followers-reads
 
 -- src/search.rt:183:9
 field-of-requires : tie.Need-field-of-requires

@@ -4,7 +4,7 @@ use mathlib.Core.Path.{_≡_, refl, sym, ap, _∙_}
 use Rattle.bradovusc.specs.Run.{is-going}
 use mathlib.Core.Bool.{true, false}
 use Rattle.paper.proofs.Tests.{not-is-true, not-is-false}
-use Rattle.bradovusc.proofs.search.Children.{dropped-by-fate, above-by-fate, made-by-fate}
+use Rattle.bradovusc.proofs.Short.{fate-dropped, fate-above, fate-made}
 use Rattle.bradovusc.proofs.search.Offers.{offered-ended, offered-above, offered-seen, offered-new}
 use Rattle.bradovusc.proofs.search.offer.Statement.{statement}
 use Rattle.bradovusc.proofs.search.offer.Tie as tie
@@ -54,9 +54,10 @@ returns-2 c =
     let p = e .before .before .before .args in
     let h : is-going (p .run .status) ≡ true = sym (e .before .is-going .ensures) ∙ not-is-false (e .if1 .left) in
     (search needs, λ R x l b s. 
-    let m = made-by-fate (p .child) x b (c .before .before .before .before .enum-told3 .given .1) s in
+    let m = fate-made x (p .child) b (c .before .before .before .before .enum-told3 .given .1) in
+    let h′ = s (m .0) (m .1) in
     rw (m .1) (offered-seen l (p .room) (p .parent) (p .step) (m .0) h
-    (sym (c .before .look-up .ensures (m .0) (R .slots) (m .2) (m .3) (l .holds) (sym (l .entered))) ∙ c .if2 .taken)))
+    (sym (c .before .look-up .ensures (m .0) (R .slots) (m .2) h′ (l .holds) (sym (l .entered))) ∙ c .if2 .taken)))
 
 -- src/search.rt:124:13
 enter-requires : tie.Need-enter-requires
@@ -65,7 +66,7 @@ enter-requires c κs = (search needs, c .before .before .before .before .before 
 -- src/search.rt:101:1
 returns-3 : tie.Need-returns-3
 returns-3 c =
-    (search needs, λ R x l b s. rw (dropped-by-fate (c .before .before .before .before .before .args .child) x b (c .enum-told .given .1)) l)
+    (search needs, λ R x l b s. rw (fate-dropped x (c .before .before .before .before .before .args .child) b (c .enum-told .given .1)) l)
 
 -- src/search.rt:101:1
 returns-4 : tie.Need-returns-4
@@ -73,7 +74,7 @@ returns-4 c =
     let e = c .before .before in
     let p = e .before .before .before .args in
     let h : is-going (p .run .status) ≡ true = sym (e .before .is-going .ensures) ∙ not-is-false (e .if1 .left) in
-    (search needs, λ R x l b s. rw (above-by-fate (p .child) x b (c .enum-told2 .given .1)) (offered-above l (p .room) (p .parent) (p .step) h))
+    (search needs, λ R x l b s. rw (fate-above x (p .child) b (c .enum-told2 .given .1)) (offered-above l (p .room) (p .parent) (p .step) h))
 
 -- src/search.rt:101:1
 same-length-2 : tie.Need-same-length-2
@@ -88,10 +89,11 @@ returns-5 c =
     let p = e .before .before .before .args in
     let h : is-going (p .run .status) ≡ true = sym (e .before .is-going .ensures) ∙ not-is-false (e .if1 .left) in
     (search needs, λ R x l b s.
-    let m = made-by-fate (p .child) x b (u .before .before .before .before .enum-told3 .given .1) s in
+    let m = fate-made x (p .child) b (u .before .before .before .before .enum-told3 .given .1) in
+    let h′ = s (m .0) (m .1) in
     rw (m .1) (offered-new l (p .room) (p .parent) (p .step) (m .0) h
-    (sym (u .before .look-up .ensures (m .0) (R .slots) (m .2) (m .3) (l .holds) (sym (l .entered))) ∙ u .if2 .left)
-    (n .enter .ensures .1 (m .0) (R .slots) (m .2) (m .3) (l .holds) (sym (l .entered)))))
+    (sym (u .before .look-up .ensures (m .0) (R .slots) (m .2) h′ (l .holds) (sym (l .entered))) ∙ u .if2 .left)
+    (n .enter .ensures .1 (m .0) (R .slots) (m .2) h′ (l .holds) (sym (l .entered)))))
 
 pub offer-spec : {M : Type 1} → statement M
 offer-spec =

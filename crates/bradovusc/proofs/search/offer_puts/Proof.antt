@@ -10,7 +10,8 @@ use Rattle.bradovusc.specs.Lent.{Lent, Roomy, set-by, put-by}
 use Rattle.bradovusc.specs.Run.{Running, offer-slots}
 use Rattle.bradovusc.specs.Struct.{as-struct, Short}
 use mathlib.Core.Logic.{⊎-elim}
-use Rattle.bradovusc.proofs.search.Children.{held-sized, made-sized, put-short, put-taken, put-left}
+use Rattle.bradovusc.proofs.Short.{short-sized, put-child-short}
+use Rattle.bradovusc.proofs.search.Children.{made-sized, put-taken, put-left}
 use Rattle.bradovusc.proofs.search.Offers.{lent-more}
 use Rattle.bradovusc.proofs.search.offer_puts.Statement.{statement}
 use Rattle.bradovusc.proofs.search.offer_puts.Tie as tie
@@ -64,7 +65,9 @@ cast-put c = search needs
 
 -- src/search.rt:242:17
 put-requires : tie.Need-put-requires Inv-loop μ-loop
-put-requires c κs = held-sized (c .before .before .before .before .before .before .before .pre .1)
+put-requires c κs =
+    let k = c .before .before .before .before .before .before .before .pre .1 in
+    short-sized (k .is) (k .short)
 
 -- src/search.rt:243:50
 cast-offer : tie.Need-cast-offer Inv-loop μ-loop
@@ -80,7 +83,7 @@ offer-requires c κs =
     let n = set-by (p .args .t7) (l .loop .c) in
     let r = p .pre .0 in
     (record { fits = omega arith; most = r .most; within = l .loop .inv .1; numbered = r .numbered },
-    made-sized (c .before .put .result) (put-child (k .at) (l .loop .c) m n) (c .before .put .ensures (k .at) (k .is) (k .short)) (put-short (k .at) (l .loop .c) m n (omega arith) (k .short)))
+    made-sized (put-child (k .at) (l .loop .c) m n) (c .before .put .result) (c .before .put .ensures (k .at) (k .is) (k .short)) (λ t f. put-child-short (l .loop .c) m n (omega arith) (k .short) f))
 
 -- src/search.rt:245:9
 add-c : tie.Need-add-c Inv-loop μ-loop
@@ -106,7 +109,7 @@ loop-again c =
     (λ w. (omega arith, rw (w .7) (w .3 .ensures .0), rw (w .6) (w .3 .kept .0 ∙ v .2), λ R k l e h.
     lent-more (a .room) (a .parent) R (put-by k (a .t6) (a .t7)) i
     (rw (w .6, w .7, put-taken k (a .t6) (a .t7) i t b (w .0 .taken))
-    (w .3 .ensures .1 (done R k) (put-child k i m n) (v .3 R k l e h) (w .1 .ensures k e h) (put-short k i m n (omega arith) h)))))
+    (w .3 .ensures .1 (done R k) (put-child k i m n) (v .3 R k l e h) (w .1 .ensures k e h) (λ t f. put-child-short i m n (omega arith) h f)))))
     (λ w. (omega arith, rw (w .2) (v .1), rw (w .1) (v .2), λ R k l e h.
     lent-more (a .room) (a .parent) R (put-by k (a .t6) (a .t7)) i
     (rw (w .1, w .2, put-left k (a .t6) (a .t7) i t b (w .0 .left)) (v .3 R k l e h))))

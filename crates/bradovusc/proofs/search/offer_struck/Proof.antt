@@ -1,6 +1,7 @@
 use borrow.Author.Needs.{needs}
 use Rattle.bradovusc.specs.Coded.{struck}
-use Rattle.bradovusc.proofs.search.Children.{held-sized, made-sized, struck-short}
+use Rattle.bradovusc.proofs.Short.{short-sized, struck-short}
+use Rattle.bradovusc.proofs.search.Children.{made-sized}
 use Rattle.bradovusc.proofs.search.offer_struck.Statement.{statement}
 use Rattle.bradovusc.proofs.search.offer_struck.Tie as tie
 use Rattle.bradovusc.proofs.search.offer_struck.Reads as reads
@@ -12,14 +13,14 @@ use Rattle.bradovusc.proofs.situation.strike.Reads as strike-reads
 strike-requires : tie.Need-strike-requires
 strike-requires c κs =
     let p = c .before .before .pre in
-    (held-sized (p .1 .0), p .1 .1 (c .if1 .taken))
+    (short-sized (p .1 .0 .is) (p .1 .0 .short), p .1 .1 (c .if1 .taken))
 
 -- src/search.rt:164:9
 offer-requires : tie.Need-offer-requires
 offer-requires c κs =
     let p = c .before .before .before .before in
     let k = p .pre .1 .0 in
-    (p .pre .0, made-sized (c .before .strike .result) (struck (k .at) (p .args .b)) (c .before .strike .ensures (k .at) (k .is) (k .short)) (struck-short (k .at) (p .args .b) (k .short)))
+    (p .pre .0, made-sized (struck (k .at) (p .args .b)) (c .before .strike .result) (c .before .strike .ensures (k .at) (k .is) (k .short)) (λ t f. struck-short (p .args .b) (k .short) f))
 
 -- src/search.rt:164:9
 same-length : tie.Need-same-length
@@ -31,7 +32,7 @@ returns c =
     let o = c .before .before in
     let t = o .before .before in
     let b = t .before .before .before .args .b in
-    (o .offer .ensures .0, λ R k l e h. rw (t .before .if1 .taken) (o .offer .ensures .1 R (struck k b) l (t .strike .ensures k e h) (struck-short k b h)))
+    (o .offer .ensures .0, λ R k l e h. rw (t .before .if1 .taken) (o .offer .ensures .1 R (struck k b) l (t .strike .ensures k e h) (λ t f. struck-short b h f)))
 
 -- src/search.rt:155:1
 returns-2 : tie.Need-returns-2

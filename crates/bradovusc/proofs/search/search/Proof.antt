@@ -10,8 +10,9 @@ use Rattle.bradovusc.specs.Coded.{Coded, Tables}
 use Rattle.bradovusc.specs.Lent.{Lent, Roomy}
 use Rattle.bradovusc.specs.Run.{Running, is-going, enter-slot, slot-search}
 use Rattle.bradovusc.specs.Struct.{as-struct, Short}
-use Rattle.bradovusc.proofs.search.Children.{held-sized}
-use Rattle.bradovusc.proofs.search.Turns.{holds-none, Standing, begun, ended, used-up, taken}
+use Rattle.bradovusc.proofs.Short.{short-sized}
+use Rattle.bradovusc.proofs.slots.Held.{holds-none}
+use Rattle.bradovusc.proofs.search.Turns.{Standing, begun, ended, used-up, taken}
 use Rattle.bradovusc.proofs.search.search.Statement.{statement}
 use Rattle.bradovusc.proofs.search.search.Tie as tie
 use Rattle.bradovusc.proofs.search.search.Reads as reads
@@ -44,7 +45,7 @@ standing c k e h =
 enter-requires : tie.Need-enter-requires Inv-loop μ-loop
 enter-requires c κs =
     let p = c .before .before .pre in
-    (record { fits = p .0 .0; most = p .0 .1; within = zero-le; numbered = zero-le }, held-sized (p .1))
+    (record { fits = p .0 .0; most = p .0 .1; within = zero-le; numbered = zero-le }, short-sized (p .1 .is) (p .1 .short))
 
 loop-holds : tie.Need-loop-holds Inv-loop μ-loop
 loop-holds c =
