@@ -1,8 +1,8 @@
 -- From a reading of the bytes to how they are judged, and from a good pattern's reading to its masks: what the public functions
 -- give, by cases on `judge`.
-use Prim.Native.Nat.{ℕ, zero, suc, _+_, _≤_, _<_}
+use Prim.Native.Nat.{ℕ, zero, suc, _≤_, _<_}
 use native.Mathlib.Omega.{arith}
-use mathlib.Core.Path.{_≡_, refl, sym, ap, ap₂, _∙_}
+use mathlib.Core.Path.{_≡_, refl, ap, ap₂, _∙_}
 use mathlib.Core.Bool.{Bool, true, false, cond, _&&_, _||_, or-false, and-true, and-false}
 use mathlib.Core.List.{List, [], _∷_}
 use lib.Dec.{leb, eqb, eqb·zero-suc}
@@ -14,8 +14,9 @@ use Rattle.paper.proofs.Parts.{last-within}
 use Rattle.paper.specs.Pattern.{Pattern, pattern}
 use Rattle.paper.specs.Places.{leaves, takes-empty, may-be-last, ends-at}
 use Rattle.paper.specs.Written.{Part, no-pattern, part, read-part, Judged, not-one-pattern, too-many-leaves, judged, judge-part, judge}
-use Rattle.patterns.specs.Masks.{places, mask-of, table, follow-masks, taking-mask, taking-masks, last-mask, verdict, follow-sets-of, taking-sets-of, last-set-of}
-use Rattle.patterns.specs.Reading.{Reads, Read-as, nothing, Whole-as, Good-as}
+use Rattle.patterns.specs.Masks.{places, mask-of, table, follow-masks, taking-mask, taking-masks, last-mask}
+use Rattle.patterns.specs.Masks.{verdict, follow-sets-of, taking-sets-of, last-set-of}
+use Rattle.patterns.specs.Reading.{Read-as, nothing, Whole-as, Good-as}
 use Rattle.patterns.specs.declared.reader.Reading.{Reading}
 use Rattle.patterns.specs.declared.Verdict.the-variants.{NotOnePattern, TooManyLeaves, Good}
 use Rattle.patterns.proofs.MaskOf.{mask-of-same, mask-of-or, mask-of-cond}

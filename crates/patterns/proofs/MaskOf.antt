@@ -5,11 +5,11 @@ use Prim.Native.Nat.{ℕ, zero, suc, _+_, _*_, _/_, _%_, _^_, _≤_, _<_, min, m
 use native.Mathlib.Nat.{div-div-eq-div-mul, pow-succ'}
 use native.Mathlib.Omega.{arith}
 use mathlib.Core.Path.{_≡_, refl, sym, ap, ap₂, _∙_}
-use mathlib.Core.Bool.{Bool, true, false, cond, not, _&&_, _||_}
-use mathlib.Core.List.{[], _∷_, _++_}
+use mathlib.Core.Bool.{Bool, true, false, cond, _&&_, _||_}
+use mathlib.Core.List.{_++_}
 use lib.Dec.{eqb, eqb·zero-suc, eqb·suc-zero, eqb·suc-suc}
 use lib.Bits.{bitAnd, bitOr, and-step, or-step}
-use Rattle.paper.specs.Lists.{from, upto, any, only, keep}
+use Rattle.paper.specs.Lists.{from, upto, only, keep}
 use Rattle.paper.proofs.Tests.{eq-eqb, neq-eqb}
 use Rattle.paper.specs.Places.{PlaceSet}
 use Rattle.patterns.specs.Masks.{places, mask, mask-of, in-mask}

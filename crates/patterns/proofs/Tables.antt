@@ -12,8 +12,10 @@ use lib.Bits.{bitOr}
 use lib.ListN.{length, getD, set, drop, replicate, length-map, length-set, drop-of-length-le}
 use lib.Seq.{drop-cons, set-at, getD-at}
 use Rattle.paper.specs.Lists.{from, upto}
+use Rattle.paper.specs.Pattern.{takes, range}
 use Rattle.paper.proofs.Lists.{cons-eq, length-from, map-append}
 use Rattle.patterns.specs.Masks.{places, mask-of, in-mask, table}
+use Rattle.patterns.specs.Reading.{or-at, link-at, mark-at}
 use Rattle.patterns.proofs.MaskOf.{mask-of-same, mask-of-or, mask-of-cond, mask-of-none, in-mask-of}
 
 -- the last number of a row
@@ -101,9 +103,9 @@ module _ (t : ℕ → ℕ → Bool) where
   masks n = table (λ (i : ℕ). mask-of (λ (q : ℕ). t i q)) n
 
   pub masks-joined : (u : ℕ → ℕ → Bool) (n : ℕ) (l m : List ℕ) → l ≡ masks n → m ≡ table (λ (i : ℕ). mask-of (λ (q : ℕ). u i q)) n
-      → table (λ (i : ℕ). bitOr (getD l i 0) (getD m i 0)) n ≡ table (λ (i : ℕ). mask-of (λ (q : ℕ). t i q || u i q)) n
+      → table (or-at l m) n ≡ table (λ (i : ℕ). mask-of (λ (q : ℕ). t i q || u i q)) n
   masks-joined u n l m e f =
-      table-same (λ (i : ℕ). bitOr (getD l i 0) (getD m i 0)) (λ (i : ℕ). mask-of (λ (q : ℕ). t i q || u i q)) n
+      table-same (or-at l m) (λ (i : ℕ). mask-of (λ (q : ℕ). t i q || u i q)) n
       (λ i h.
       ap₂ bitOr
       (ap (λ (d : List ℕ). getD d i 0) e ∙ getD-table (λ (i : ℕ). mask-of (λ (q : ℕ). t i q)) n i h)
@@ -111,10 +113,9 @@ module _ (t : ℕ → ℕ → Bool) where
       ∙ mask-of-or (λ (q : ℕ). t i q) (λ (q : ℕ). u i q))
 
   pub masks-linked : (l f : ℕ → Bool) (d : List ℕ) (last first : ℕ) → d ≡ masks places → last ≡ mask-of l → first ≡ mask-of f
-      → table (λ (i : ℕ). bitOr (getD d i 0) (cond (in-mask last i) first 0)) places
-      ≡ table (λ (i : ℕ). mask-of (λ (q : ℕ). t i q || (l i && f q))) places
+      → table (link-at d last first) places ≡ table (λ (i : ℕ). mask-of (λ (q : ℕ). t i q || (l i && f q))) places
   masks-linked l f d last first e el ef =
-      table-same (λ (i : ℕ). bitOr (getD d i 0) (cond (in-mask last i) first 0)) (λ (i : ℕ). mask-of (λ (q : ℕ). t i q || (l i && f q))) places
+      table-same (link-at d last first) (λ (i : ℕ). mask-of (λ (q : ℕ). t i q || (l i && f q))) places
       (λ i h.
       ap₂ bitOr
       (ap (λ (d : List ℕ). getD d i 0) e ∙ getD-table (λ (i : ℕ). mask-of (λ (q : ℕ). t i q)) places i h)
@@ -124,11 +125,12 @@ module _ (t : ℕ → ℕ → Bool) where
 pub masks-none : (n : ℕ) → replicate n 0 ≡ masks (λ (i q : ℕ). false) n
 masks-none n = sym (table-same (λ (i : ℕ). mask-of (λ (q : ℕ). false)) (λ (i : ℕ). 0) n (λ i h. mask-of-none) ∙ table-none n)
 
--- one place, where a test passes
-pub masks-one : (o : ℕ) (t : ℕ → Bool) (set n : ℕ) → set ≡ mask-of (λ (q : ℕ). eqb o q)
-    → table (λ (c : ℕ). cond (t c) set 0) n ≡ masks (λ (c q : ℕ). eqb o q && t c) n
-masks-one o t set n e =
-    table-same (λ (c : ℕ). cond (t c) set 0) (λ (c : ℕ). mask-of (λ (q : ℕ). eqb o q && t c)) n
+-- one place, for the characters from lo to hi
+pub masks-marked : (o lo hi set n : ℕ) → set ≡ mask-of (λ (q : ℕ). eqb o q)
+    → table (mark-at lo hi set) n ≡ masks (λ (c q : ℕ). eqb o q && takes (range lo hi) c) n
+masks-marked o lo hi set n e =
+    table-same (mark-at lo hi set) (λ (c : ℕ). mask-of (λ (q : ℕ). eqb o q && takes (range lo hi) c)) n
     (λ c h.
-    ap (λ (m : ℕ). cond (t c) m 0) e ∙ mask-of-cond (λ (q : ℕ). eqb o q) (t c)
-    ∙ mask-of-same (λ (q : ℕ). t c && eqb o q) (λ (q : ℕ). eqb o q && t c) (λ q l. and-comm (t c) (eqb o q)))
+    let t = takes (range lo hi) c in
+    ap (λ (m : ℕ). cond t m 0) e ∙ mask-of-cond (λ (q : ℕ). eqb o q) t
+    ∙ mask-of-same (λ (q : ℕ). t && eqb o q) (λ (q : ℕ). eqb o q && t) (λ q l. and-comm t (eqb o q)))

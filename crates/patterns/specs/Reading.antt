@@ -2,15 +2,28 @@
 -- `Reads p rest o r`: r tells of the pattern p, whose first leaf is the place o and behind which the bytes `rest` are left.
 use Prim.Native.Nat.{ℕ, _+_, _<_, _≤_}
 use mathlib.Core.Path.{_≡_}
-use mathlib.Core.Bool.{true, false}
+use mathlib.Core.Bool.{true, false, cond}
 use mathlib.Core.List.{List, []}
-use lib.ListN.{length, replicate}
+use lib.Bits.{bitOr}
+use lib.ListN.{length, getD, replicate}
 use Rattle.paper.specs.Numbers.{characters}
-use Rattle.paper.specs.Pattern.{Pattern}
+use Rattle.paper.specs.Pattern.{takes, range, Pattern, many}
 use Rattle.paper.specs.Places.{leaves, takes-empty, may-be-first, may-be-last, may-follow, leaf-takes}
-use Rattle.paper.specs.Written.{Part, no-pattern, part, Judged, not-one-pattern, too-many-leaves, judged}
-use Rattle.patterns.specs.Masks.{places, mask-of, table}
+use Rattle.paper.specs.Written.{Part, no-pattern, part, read-part, Judged, not-one-pattern, too-many-leaves, judged}
+use Rattle.patterns.specs.Masks.{places, mask-of, in-mask, table}
 use Rattle.patterns.specs.declared.reader.Reading.{Reading}
+
+-- the sets of two tables together, at i
+abbrev pub or-at : List ℕ → List ℕ → ℕ → ℕ
+or-at sets more i = bitOr (getD sets i 0) (getD more i 0)
+
+-- the followers of i, where every place of `first` may follow every place of `last` besides
+abbrev pub link-at : List ℕ → ℕ → ℕ → ℕ → ℕ
+link-at follow last first i = bitOr (getD follow i 0) (cond (in-mask last i) first 0)
+
+-- the set, where the character c is one from lo to hi
+abbrev pub mark-at : ℕ → ℕ → ℕ → ℕ → ℕ
+mark-at lo hi set c = cond (takes (range lo hi) c) set 0
 
 pub record Reads (p : Pattern) (rest : List ℕ) (o : ℕ) (r : Reading) : Type 0 where
   pub ok : r .ok ≡ true
@@ -26,6 +39,23 @@ pub record Reads (p : Pattern) (rest : List ℕ) (o : ℕ) (r : Reading) : Type 
 abbrev pub Read-as : Part → ℕ → Reading → Type 0
 Read-as no-pattern o r = r .ok ≡ false
 Read-as (part p rest) o r = Reads p rest o r
+
+-- r is the reading of the bytes s, whatever more than enough turns are taken
+abbrev pub Reading-of : List ℕ → ℕ → Reading → Type 0
+Reading-of s o r = (n : ℕ) → length s ≤ n → Read-as (read-part n s) o r
+
+-- r is the reading of a pattern that has no part, with so many bytes left behind it
+abbrev pub Single : Pattern → ℕ → ℕ → Reading → Type 0
+Single p left o r = (rest : List ℕ) → length rest ≡ left → Reads p rest o r
+
+-- r is the reading of two patterns under an operator, of which a and b are the readings
+abbrev pub Joined : (Pattern → Pattern → Pattern) → Reading → Reading → Reading → Type 0
+Joined op a b r =
+    (p q : Pattern) (s rest : List ℕ) (o : ℕ) → Reads p s o a → Reads q rest (o + leaves p) b → Reads (op p q) rest o r
+
+-- r is the reading of a pattern any number of times, of which a is the reading
+abbrev pub Repeated : Reading → Reading → Type 0
+Repeated a r = (p : Pattern) (rest : List ℕ) (o : ℕ) → Reads p rest o a → Reads (many p) rest o r
 
 -- reading where there is no pattern
 unfoldable pub nothing : Reading

@@ -3,7 +3,8 @@
 mod place_sets;
 mod reader;
 
-use place_sets::PLACES;
+pub use place_sets::CHARACTERS;
+pub use place_sets::PLACES;
 use place_sets::holds;
 use place_sets::place;
 use place_sets::stay;
@@ -13,7 +14,8 @@ use reader::read;
 ghost use mathlib.Core.Path.{_≡_};
 ghost use Rattle.paper.specs.Pattern.{any-text};
 ghost use Rattle.paper.specs.Written.{judge};
-ghost use Rattle.patterns.specs.Masks.{follow-masks, taking-masks, last-mask, followers-of, verdict, follow-sets-of, taking-sets-of, last-set-of};
+ghost use Rattle.patterns.specs.Masks.{follow-masks, taking-masks, last-mask, followers-of};
+ghost use Rattle.patterns.specs.Masks.{verdict, follow-sets-of, taking-sets-of, last-set-of};
 ghost use Rattle.patterns.specs.Reading.{Whole-as, Good-as};
 
 // "15 bytes are not one pattern", "16 more than 31 leaves", or neither.
@@ -59,14 +61,14 @@ fn good(s: &[u8]) -> Reading
     ensures { λ r. ⌜ Good-as (judge (now (s .entry))) r ⌝ }
 {
     let r = whole(s);
-    if PLACES < r.next {
-        return Reading::none();
+    if r.next <= PLACES {
+        return r;
     }
-    r
+    Reading::none()
 }
 
 // For every place of a good pattern the places that may follow; zeros where the bytes are none.
-pub fn follow_sets(s: &[u8]) -> [u32; 32]
+pub fn follow_sets(s: &[u8]) -> [u32; PLACES]
     ensures { λ r. ⌜ r ≡ follow-sets-of (judge (now (s .entry))) ⌝ }
 {
     let r = good(s);
@@ -76,7 +78,7 @@ pub fn follow_sets(s: &[u8]) -> [u32; 32]
 }
 
 // For every character the places of a good pattern that take it.
-pub fn taking_sets(s: &[u8]) -> [u32; 43]
+pub fn taking_sets(s: &[u8]) -> [u32; CHARACTERS]
     ensures { λ r. ⌜ r ≡ taking-sets-of (judge (now (s .entry))) ⌝ }
 {
     let r = good(s);
@@ -92,18 +94,18 @@ pub fn last_set(s: &[u8]) -> u32
 }
 
 // "An open field has one place set that never changes and may always end."
-pub fn open_follow_sets() -> [u32; 32]
+pub fn open_follow_sets() -> [u32; PLACES]
     ensures { λ r. ⌜ r ≡ follow-masks any-text ⌝ }
 {
-    let mut follow = [0; 32];
+    let mut follow = [0; PLACES];
     stay(&mut follow);
     follow
 }
 
-pub fn open_taking_sets() -> [u32; 43]
+pub fn open_taking_sets() -> [u32; CHARACTERS]
     ensures { λ r. ⌜ r ≡ taking-masks any-text ⌝ }
 {
-    [ALL; 43]
+    [ALL; CHARACTERS]
 }
 
 pub fn open_last_set() -> u32
@@ -113,7 +115,7 @@ pub fn open_last_set() -> u32
 }
 
 // All places that may follow some place of the set. The set after a character is what of these takes it.
-pub fn followers(follow: [u32; 32], set: u32) -> u32
+pub fn followers(follow: [u32; PLACES], set: u32) -> u32
     ensures { λ r. ⌜ r ≡ followers-of follow set ⌝ }
 {
     let mut r = 0;

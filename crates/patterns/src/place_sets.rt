@@ -3,13 +3,16 @@ ghost use mathlib.Core.Path.{_≡_};
 ghost use mathlib.Core.Bool.{cond};
 ghost use Prim.Native.Nat.{ℕ, _<_};
 ghost use lib.Dec.{eqb};
-ghost use lib.ListN.{length, getD};
-ghost use lib.Bits.{bitOr};
+ghost use lib.ListN.{length};
 ghost use Rattle.paper.specs.Pattern.{takes, range};
 ghost use Rattle.patterns.specs.Masks.{places, mask-of, in-mask, table};
+ghost use Rattle.patterns.specs.Reading.{or-at, link-at, mark-at};
 
 // "31 leaves and the start make 32 places".
 pub const PLACES: usize = 32;
+
+// "Code 39, by value": 0 to 42.
+pub const CHARACTERS: usize = 43;
 
 // The set that holds the place i alone; no place, where i is none.
 pub fn place(i: usize) -> u32
@@ -36,7 +39,7 @@ pub fn when(b: bool, set: u32) -> u32
 // Joins the sets of `more` to those of `sets`, one by one.
 pub fn join(sets: &mut [u32], more: &[u32])
     requires { ⌜ length (now sets) ≡ length (now more) ⌝ }
-    ensures { λ _. ⌜ now (sets .exit) ≡ table (λ (i : ℕ). bitOr (getD (now (sets .entry)) i 0) (getD (now (more .entry)) i 0)) (length (now (sets .entry))) ⌝ }
+    ensures { λ _. ⌜ now (sets .exit) ≡ table (or-at (now (sets .entry)) (now (more .entry))) (length (now (sets .entry))) ⌝ }
 {
     let mut i = 0;
     while i < sets.len() {
@@ -48,7 +51,7 @@ pub fn join(sets: &mut [u32], more: &[u32])
 // Lets every place of `first` follow every place of `last`.
 pub fn link(follow: &mut [u32], last: u32, first: u32)
     requires { ⌜ length (now follow) ≡ places ⌝ }
-    ensures { λ _. ⌜ now (follow .exit) ≡ table (λ (i : ℕ). bitOr (getD (now (follow .entry)) i 0) (cond (in-mask last i) first 0)) places ⌝ }
+    ensures { λ _. ⌜ now (follow .exit) ≡ table (link-at (now (follow .entry)) last first) places ⌝ }
 {
     let mut i = 0;
     while i < PLACES {
@@ -82,7 +85,7 @@ fn between(lo: u8, c: usize, hi: u8) -> bool
 
 // Lets the set, and no other place, take the characters from lo to hi.
 pub fn mark(taking: &mut [u32], lo: u8, hi: u8, set: u32)
-    ensures { λ _. ⌜ now (taking .exit) ≡ table (λ (c : ℕ). cond (takes (range lo hi) c) set 0) (length (now (taking .entry))) ⌝ }
+    ensures { λ _. ⌜ now (taking .exit) ≡ table (mark-at lo hi set) (length (now (taking .entry))) ⌝ }
 {
     let mut c = 0;
     while c < taking.len() {

@@ -1,21 +1,21 @@
 // Reading a pattern that is written operator first, and working out its places on the way.
+use crate::place_sets::CHARACTERS;
+use crate::place_sets::PLACES;
 use crate::place_sets::join;
 use crate::place_sets::link;
 use crate::place_sets::mark;
 use crate::place_sets::place;
 use crate::place_sets::when;
 ghost use mathlib.Core.Path.{_≡_};
-ghost use mathlib.Core.List.{List};
-ghost use Prim.Native.Nat.{ℕ, _+_, _^_, _<_, _≤_};
+ghost use Prim.Native.Nat.{_+_, _^_, _<_};
 ghost use lib.ListN.{length, getD};
 ghost use Rattle.paper.specs.Numbers.{then-code};
-ghost use Rattle.paper.specs.Pattern.{Pattern, range, leaf, empty, then, either, many};
-ghost use Rattle.paper.specs.Places.{leaves};
-ghost use Rattle.paper.specs.Written.{read-part, read-range};
-ghost use Rattle.patterns.specs.Reading.{Reads, Read-as, nothing};
+ghost use Rattle.paper.specs.Pattern.{range, leaf, empty, then, either};
+ghost use Rattle.paper.specs.Written.{read-range};
+ghost use Rattle.patterns.specs.Reading.{Read-as, Reading-of, Single, Joined, Repeated, nothing};
 
-// "Code 39, by value": 0 to 42.
-const CHARACTERS: u8 = 43;
+// "0 to 42: that character".
+const CHARACTER_END: u8 = CHARACTERS as u8;
 
 // "64: the empty text", 65 a range, 66 A then B, 67 A or B, 68 A any number of times.
 const EMPTY_CODE: u8 = 64;
@@ -40,9 +40,9 @@ pub struct Reading {
     pub first: u32,
     pub last: u32,
     // for every place the places that may follow
-    pub follow: [u32; 32],
+    pub follow: [u32; PLACES],
     // for every character the places that take it
-    pub taking: [u32; 43],
+    pub taking: [u32; CHARACTERS],
 }
 
 impl Reading {
@@ -57,14 +57,14 @@ impl Reading {
             empty: false,
             first: 0,
             last: 0,
-            follow: [0; 32],
-            taking: [0; 43],
+            follow: [0; PLACES],
+            taking: [0; CHARACTERS],
         }
     }
 
     // "64: the empty text"
     fn empty(left: usize, o: usize) -> Self
-        ensures { λ r. ⌜ ((rest : List ℕ) → length rest ≡ left → Reads empty rest o r) ⌝ }
+        ensures { λ r. ⌜ Single empty left o r ⌝ }
     {
         let mut r = Reading::none();
         r.ok = true;
@@ -77,7 +77,7 @@ impl Reading {
     // "one character with lo ≤ value ≤ hi (a leaf)"
     fn leaf(left: usize, o: usize, lo: u8, hi: u8) -> Self
         requires { ⌜ o + 1 < 2 ^ 64 ⌝ }
-        ensures { λ r. ⌜ ((rest : List ℕ) → length rest ≡ left → Reads (leaf (range lo hi)) rest o r) ⌝ }
+        ensures { λ r. ⌜ Single (leaf (range lo hi)) left o r ⌝ }
     {
         let mut r = Reading::none();
         let set = place(o);
@@ -94,7 +94,7 @@ impl Reading {
 
     // "67 A B: A or B"
     fn or(self, b: Reading) -> Self
-        ensures { λ r. ⌜ ((p q : Pattern) (s rest : List ℕ) (o : ℕ) → Reads p s o self → Reads q rest (o + leaves p) b → Reads (either p q) rest o r) ⌝ }
+        ensures { λ r. ⌜ Joined either self b r ⌝ }
     {
         let mut follow = self.follow;
         let mut taking = self.taking;
@@ -114,7 +114,7 @@ impl Reading {
     // "66 A B: A then B": as A or B, but B may not be first unless A may be empty, A may not be last unless B may be,
     // and what is first in B may follow what is last in A.
     fn then(self, b: Reading) -> Self
-        ensures { λ r. ⌜ ((p q : Pattern) (s rest : List ℕ) (o : ℕ) → Reads p s o self → Reads q rest (o + leaves p) b → Reads (then p q) rest o r) ⌝ }
+        ensures { λ r. ⌜ Joined then self b r ⌝ }
     {
         let mut r = self.or(b);
         let mut follow = r.follow;
@@ -128,7 +128,7 @@ impl Reading {
 
     // "68 A: A any number of times, none included": what is first in A may follow what is last in A.
     fn many(self) -> Self
-        ensures { λ r. ⌜ ((p : Pattern) (rest : List ℕ) (o : ℕ) → Reads p rest o self → Reads (many p) rest o r) ⌝ }
+        ensures { λ r. ⌜ Repeated self r ⌝ }
     {
         let mut r = self;
         let mut follow = self.follow;
@@ -152,7 +152,7 @@ fn read_range(s: &[u8], o: usize) -> Reading
     if hi < lo {
         return Reading::none();
     }
-    if CHARACTERS <= hi {
+    if CHARACTER_END <= hi {
         return Reading::none();
     }
     Reading::leaf(s.len() - 2, o, lo, hi)
@@ -161,10 +161,10 @@ fn read_range(s: &[u8], o: usize) -> Reading
 // A pattern that has no part: a leaf or the empty text.
 fn read_single(s: &[u8], o: usize) -> Reading
     requires { ⌜ (o + length (now s) < 2 ^ 64) × (0 < length (now s)) × (getD (now s) 0 0 < then-code) ⌝ }
-    ensures { λ r. ⌜ ((n : ℕ) → length (now (s .entry)) ≤ n → Read-as (read-part n (now (s .entry))) o r) ⌝ }
+    ensures { λ r. ⌜ Reading-of (now (s .entry)) o r ⌝ }
 {
     let b = s[0];
-    if b < CHARACTERS {
+    if b < CHARACTER_END {
         return Reading::leaf(s.len() - 1, o, b, b);
     }
     if b == EMPTY_CODE {
@@ -180,7 +180,7 @@ fn read_single(s: &[u8], o: usize) -> Reading
 // and follow sets go down the pattern together, and the bytes left fall at each call.
 pub fn read(s: &[u8], o: usize) -> Reading
     requires { ⌜ o + length (now s) < 2 ^ 64 ⌝ }
-    ensures { λ r. ⌜ ((n : ℕ) → length (now (s .entry)) ≤ n → Read-as (read-part n (now (s .entry))) o r) ⌝ }
+    ensures { λ r. ⌜ Reading-of (now (s .entry)) o r ⌝ }
 {
     if s.len() == 0 {
         return Reading::none();

@@ -1,3 +1,4 @@
+-- `followers` meets its contract. The loop's invariant: r holds what may follow some place below i of the set (`gathered`).
 use borrow.Author.Needs.{needs}
 use Prim.Native.Nat.{_≤_, _-_, zero-le}
 use native.Mathlib.Omega.{arith}
@@ -11,10 +12,6 @@ use Rattle.patterns.specs.Masks.{places}
 use Rattle.patterns.proofs.Gathered.{gathered, gathered-none, gathered-more, gathered-all}
 use Rattle.patterns.proofs.followers.Statement.{statement}
 use Rattle.patterns.proofs.followers.Tie as tie
-use Rattle.patterns.proofs.followers.Reads as reads
-use Rattle.patterns.proofs.followers.Lts as lts
-use Rattle.patterns.proofs.place_sets.holds.Reads as holds-reads
-use Rattle.patterns.proofs.place_sets.when.Reads as when-reads
 
 abbrev Inv-loop : tie.InvT-loop
 Inv-loop set follow r₀ i₀ r i = (i ≤ places) × (r ≡ gathered follow set i)
@@ -22,35 +19,27 @@ Inv-loop set follow r₀ i₀ r i = (i ≤ places) × (r ≡ gathered follow set
 abbrev μ-loop : tie.MeasureT-loop
 μ-loop set follow r₀ i₀ r i = places - i
 
--- src/lib.rt:117:5
 loop-holds : tie.Need-loop-holds Inv-loop μ-loop
 loop-holds c = (zero-le, gathered-none (c .args .t1) (c .args .set))
 
--- src/lib.rt:118:22
 holds-requires : tie.Need-holds-requires Inv-loop μ-loop
 holds-requires c κs = search needs
 
--- src/lib.rt:118:37
 mul-when : tie.Need-mul-when Inv-loop μ-loop
 mul-when c = search needs
 
--- src/lib.rt:118:37
 array-read-when : tie.Need-array-read-when Inv-loop μ-loop
 array-read-when c = search needs
 
--- src/lib.rt:118:17
 when-requires : tie.Need-when-requires Inv-loop μ-loop
 when-requires c κs = search needs
 
--- src/lib.rt:119:9
 add-i : tie.Need-add-i Inv-loop μ-loop
 add-i c = search needs
 
--- src/lib.rt:117:5
 loop-less : tie.Need-loop-less Inv-loop μ-loop
 loop-less c = search needs
 
--- src/lib.rt:117:5
 loop-again : tie.Need-loop-again Inv-loop μ-loop
 loop-again c =
     let l = c .before .before .before .loop in
@@ -61,7 +50,6 @@ loop-again c =
           ∙ gathered-more (a .t1) (a .set) (l .i) (fits .fits),
     )
 
--- src/lib.rt:112:1
 returns : tie.Need-returns Inv-loop μ-loop
 returns c =
     let l = c .before .loop in

@@ -1,20 +1,15 @@
-use Rattle.patterns.specs.Masks.{follow-masks}
+-- `open_follow_sets` meets its contract: what `stay` ensures is the definition.
 use borrow.Author.Needs.{needs}
+use Rattle.patterns.specs.Masks.{follow-masks}
 use Rattle.patterns.proofs.open_follow_sets.Statement.{statement}
 use Rattle.patterns.proofs.open_follow_sets.Tie as tie
-use Rattle.patterns.proofs.open_follow_sets.Reads as reads
-use Rattle.patterns.proofs.open_follow_sets.Lts as lts
-use Rattle.patterns.proofs.place_sets.stay.Reads as stay-reads
 
--- src/lib.rt:95:10
 slice-aggregate-stay : tie.Need-slice-aggregate-stay
 slice-aggregate-stay c = search needs
 
--- src/lib.rt:95:5
 stay-requires : tie.Need-stay-requires
 stay-requires c κs = search needs
 
--- src/lib.rt:91:1
 returns : tie.Need-returns
 unfolding follow-masks
 returns c = c .before .stay .ensures

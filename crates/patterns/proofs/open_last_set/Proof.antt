@@ -1,11 +1,9 @@
+-- `open_last_set` meets its contract by computation.
 use mathlib.Core.Path.{refl}
 use Rattle.patterns.specs.Masks.{mask-of, last-mask}
 use Rattle.patterns.proofs.open_last_set.Statement.{statement}
 use Rattle.patterns.proofs.open_last_set.Tie as tie
-use Rattle.patterns.proofs.open_last_set.Reads as reads
-use Rattle.patterns.proofs.open_last_set.Lts as lts
 
--- src/lib.rt:105:1
 returns : tie.Need-returns
 unfolding mask-of last-mask
 returns c = refl

@@ -1,11 +1,9 @@
+-- `open_taking_sets` meets its contract by computation.
 use mathlib.Core.Path.{refl}
 use Rattle.patterns.specs.Masks.{mask-of, table, taking-mask, taking-masks}
 use Rattle.patterns.proofs.open_taking_sets.Statement.{statement}
 use Rattle.patterns.proofs.open_taking_sets.Tie as tie
-use Rattle.patterns.proofs.open_taking_sets.Reads as reads
-use Rattle.patterns.proofs.open_taking_sets.Lts as lts
 
--- src/lib.rt:99:1
 returns : tie.Need-returns
 unfolding mask-of table taking-mask taking-masks
 returns c = refl

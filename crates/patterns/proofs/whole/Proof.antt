@@ -1,43 +1,34 @@
+-- `whole` meets its contract: no pattern, or bytes left over, is not one pattern; else the leaves decide (`Judged`).
+use borrow.Author.Needs.{needs}
 use native.Mathlib.Nat.{le-refl}
 use native.Mathlib.Omega.{arith}
 use lib.ListN.{length}
 use Rattle.paper.proofs.Tests.{not-is-true, not-is-false}
 use Rattle.patterns.proofs.Judged.{judge-bad, judge-left, judge-whole}
-use borrow.Author.Needs.{needs}
 use Rattle.patterns.proofs.whole.Statement.{statement}
 use Rattle.patterns.proofs.whole.Tie as tie
-use Rattle.patterns.proofs.whole.Reads as reads
-use Rattle.patterns.proofs.whole.Lts as lts
-use Rattle.patterns.proofs.reader.Reading.none.Reads as none-reads
-use Rattle.patterns.proofs.reader.read.Reads as read-reads
 
--- src/lib.rt:29:9
 read-requires : tie.Need-read-requires
 read-requires c κs = search needs
 
--- src/lib.rt:31:9
 none-requires : tie.Need-none-requires
 none-requires c κs = search needs
 
--- src/lib.rt:31:9
 returns : tie.Need-returns
 returns c =
     let g = c .before .before .before .read in
     let s = c .before .before .before .before .before .args .s .now in
     rw (judge-bad (g .result) s (g .ensures (length s) (le-refl (length s))) (not-is-true (c .before .if1 .taken))) (c .none .ensures)
 
--- src/lib.rt:34:9
 none-requires-2 : tie.Need-none-requires-2
 none-requires-2 c κs = search needs
 
--- src/lib.rt:34:9
 returns-2 : tie.Need-returns-2
 returns-2 c =
     let g = c .before .before .before .before .before .read in
     let s = c .before .before .before .before .before .before .before .args .s .now in
     rw (judge-left (g .result) s (g .ensures (length s) (le-refl (length s))) (c .before .if2 .taken)) (c .none2 .ensures)
 
--- src/lib.rt:26:1
 returns-3 : tie.Need-returns-3
 returns-3 c =
     let g = c .before .before .before .before .read in

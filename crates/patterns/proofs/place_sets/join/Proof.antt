@@ -1,82 +1,66 @@
+-- `place_sets::join` meets its contract. The loop fills the list with the joined sets, place by place (`Filling`).
 use borrow.Author.Needs.{needs}
 use Prim.Native.Nat.{ℕ, _-_, _<_}
-use mathlib.Core.Path.{ap}
-use mathlib.Core.List.{List}
 use native.Mathlib.Omega.{arith}
+use mathlib.Core.Path.{ap}
 use lib.Bits.{bitOr}
 use lib.ListN.{length, getD}
+use Rattle.patterns.specs.Reading.{or-at}
 use Rattle.patterns.proofs.Tables.{Filling, filling-none, filling-read, filling-more, filling-all}
 use Rattle.patterns.proofs.place_sets.join.Statement.{statement}
 use Rattle.patterns.proofs.place_sets.join.Tie as tie
-use Rattle.patterns.proofs.place_sets.join.Reads as reads
-use Rattle.patterns.proofs.place_sets.join.Lts as lts
-
-abbrev joined : List ℕ → List ℕ → ℕ → ℕ
-joined a b i = bitOr (getD a i 0) (getD b i 0)
 
 abbrev Inv-loop : tie.InvT-loop
-Inv-loop sets₀ more i₀ sets i = Filling (joined sets₀ more) sets₀ sets i
+Inv-loop sets₀ more i₀ sets i = Filling (or-at sets₀ more) sets₀ sets i
 
 abbrev μ-loop : tie.MeasureT-loop
 μ-loop sets₀ more i₀ sets i = length sets₀ - i
 
--- src/place_sets.rt:42:5
 loop-holds : tie.Need-loop-holds Inv-loop μ-loop
-loop-holds c = filling-none (joined (c .args .sets .now) (c .args .more .now)) (c .args .sets .now)
+loop-holds c = filling-none (or-at (c .args .sets .now) (c .args .more .now)) (c .args .sets .now)
 
--- src/place_sets.rt:43:19
 mul-sets : tie.Need-mul-sets Inv-loop μ-loop
 mul-sets c = search needs
 
--- src/place_sets.rt:43:19
 slice-read-sets : tie.Need-slice-read-sets Inv-loop μ-loop
 slice-read-sets c = search needs
 
--- src/place_sets.rt:43:29
 mul-sets-2 : tie.Need-mul-sets-2 Inv-loop μ-loop
 mul-sets-2 c = search needs
 
--- src/place_sets.rt:43:29
 shared-slice-read-sets : tie.Need-shared-slice-read-sets Inv-loop μ-loop
 shared-slice-read-sets c = omega arith
 
--- src/place_sets.rt:43:9
 mul-sets-3 : tie.Need-mul-sets-3 Inv-loop μ-loop
 mul-sets-3 c = search needs
 
--- src/place_sets.rt:43:9
 slice-write-sets : tie.Need-slice-write-sets Inv-loop μ-loop
 slice-write-sets c = search needs
 
--- src/place_sets.rt:44:9
 add-i : tie.Need-add-i Inv-loop μ-loop
 add-i c = search needs
 
--- src/place_sets.rt:42:5
 loop-less : tie.Need-loop-less Inv-loop μ-loop
 loop-less c = omega arith
 
--- src/place_sets.rt:42:5
 loop-again : tie.Need-loop-again Inv-loop μ-loop
 loop-again c =
     let l = c .before .before .before .loop in
     let a = c .before .before .before .before .args in
     let h : l .i < length (a .sets .now) = omega arith in
-    filling-more (joined (a .sets .now) (a .more .now)) (a .sets .now) (l .sets) (l .i) (l .inv) h
+    filling-more (or-at (a .sets .now) (a .more .now)) (a .sets .now) (l .sets) (l .i) (l .inv) h
     (bitOr (getD (l .sets) (l .i) 0) (getD (a .more .now) (l .i) 0))
     (ap (λ (x : ℕ). bitOr x (getD (a .more .now) (l .i) 0))
-    (filling-read (joined (a .sets .now) (a .more .now)) (a .sets .now) (l .sets) (l .i) (l .inv) h))
+    (filling-read (or-at (a .sets .now) (a .more .now)) (a .sets .now) (l .sets) (l .i) (l .inv) h))
 
--- src/place_sets.rt:37:1
 same-length : tie.Need-same-length Inv-loop μ-loop
 same-length c = c .before .loop .inv .long
 
--- src/place_sets.rt:37:1
 returns : tie.Need-returns Inv-loop μ-loop
 returns c =
     let l = c .before .loop in
     let a = c .before .before .args in
-    filling-all (joined (a .sets .now) (a .more .now)) (a .sets .now) (l .sets) (l .i) (l .inv) (omega arith)
+    filling-all (or-at (a .sets .now) (a .more .now)) (a .sets .now) (l .sets) (l .i) (l .inv) (omega arith)
 
 pub join-spec : {M : Type 1} → statement M
 join-spec =

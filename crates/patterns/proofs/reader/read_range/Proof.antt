@@ -1,68 +1,54 @@
+-- `reader::read_range` meets its contract: each way out is a case of `read-range` (`Readings`).
+use borrow.Author.Needs.{needs}
 use Prim.Native.Nat.{_≤_}
 use native.Mathlib.Omega.{arith}
 use mathlib.Core.Path.{ap}
 use lib.ListN.{length, drop, length-drop}
 use Rattle.patterns.specs.Reading.{nothing}
 use Rattle.patterns.specs.declared.reader.Reading.{Reading}
-use Rattle.patterns.proofs.Written.{range-short, range-falls, range-above, range-good}
-use borrow.Author.Needs.{needs}
+use Rattle.patterns.proofs.Readings.{range-short, range-falls, range-above, range-good}
 use Rattle.patterns.proofs.reader.read_range.Statement.{statement}
 use Rattle.patterns.proofs.reader.read_range.Tie as tie
-use Rattle.patterns.proofs.reader.read_range.Reads as reads
-use Rattle.patterns.proofs.reader.read_range.Lts as lts
-use Rattle.patterns.proofs.reader.Reading.leaf.Reads as leaf-reads
-use Rattle.patterns.proofs.reader.Reading.none.Reads as none-reads
 
--- src/reader.rt:144:9
 none-requires : tie.Need-none-requires
 none-requires c κs = search needs
 
--- src/reader.rt:144:9
 returns : tie.Need-returns
 unfolding nothing
 returns c =
     let a = c .before .before .before .args in
     rw (range-short (a .s .now) (c .before .if1 .taken)) (ap (λ (r : Reading). r .ok) (c .none .ensures))
 
--- src/reader.rt:146:14
 shared-slice-read-lo : tie.Need-shared-slice-read-lo
 shared-slice-read-lo c = search needs
 
--- src/reader.rt:147:14
 shared-slice-read-hi : tie.Need-shared-slice-read-hi
 shared-slice-read-hi c = search needs
 
--- src/reader.rt:149:9
 none-requires-2 : tie.Need-none-requires-2
 none-requires-2 c κs = search needs
 
--- src/reader.rt:149:9
 returns-2 : tie.Need-returns-2
 unfolding nothing
 returns-2 c =
     let a = c .before .before .before .before .before .before .args in
     rw (range-falls (a .s .now) (c .before .if2 .taken)) (ap (λ (r : Reading). r .ok) (c .none2 .ensures))
 
--- src/reader.rt:152:9
 none-requires-3 : tie.Need-none-requires-3
 none-requires-3 c κs = search needs
 
--- src/reader.rt:152:9
 returns-3 : tie.Need-returns-3
 unfolding nothing
 returns-3 c =
     let a = c .before .before .before .before .before .before .before .args in
     rw (range-above (a .s .now) (c .before .if3 .taken)) (ap (λ (r : Reading). r .ok) (c .none3 .ensures))
 
--- src/reader.rt:154:19
 sub-leaf : tie.Need-sub-leaf
 sub-leaf c = search needs
 
--- src/reader.rt:154:5
 leaf-requires : tie.Need-leaf-requires
 leaf-requires c κs = search needs
 
--- src/reader.rt:139:1
 returns-4 : tie.Need-returns-4
 returns-4 c =
     let a = c .before .before .before .before .before .before .before .args in

@@ -1,69 +1,52 @@
+-- `reader::read_single` meets its contract: each way out is a case of the first byte (`Readings`).
+use borrow.Author.Needs.{needs}
 use native.Mathlib.Omega.{arith}
 use mathlib.Core.Path.{ap}
 use Rattle.patterns.specs.Reading.{nothing}
 use Rattle.patterns.specs.declared.reader.Reading.{Reading}
-use Rattle.patterns.proofs.Written.{to-end, as-char, as-empty, as-range, as-none}
-use borrow.Author.Needs.{needs}
+use Rattle.patterns.proofs.Readings.{to-end, as-char, as-empty, as-range, as-none}
 use Rattle.patterns.proofs.reader.read_single.Statement.{statement}
 use Rattle.patterns.proofs.reader.read_single.Tie as tie
-use Rattle.patterns.proofs.reader.read_single.Reads as reads
-use Rattle.patterns.proofs.reader.read_single.Lts as lts
-use Rattle.patterns.proofs.reader.Reading.empty.Reads as empty-reads
-use Rattle.patterns.proofs.reader.Reading.leaf.Reads as leaf-reads
-use Rattle.patterns.proofs.reader.Reading.none.Reads as none-reads
-use Rattle.patterns.proofs.reader.read_range.Reads as read-range-reads
 
--- src/reader.rt:163:13
 shared-slice-read-b : tie.Need-shared-slice-read-b
 shared-slice-read-b c = search needs
 
--- src/reader.rt:165:30
 sub-leaf : tie.Need-sub-leaf
 sub-leaf c = search needs
 
--- src/reader.rt:165:9
 leaf-requires : tie.Need-leaf-requires
 leaf-requires c κs = search needs
 
--- src/reader.rt:165:9
 returns : tie.Need-returns
 returns c =
     let s = c .before .before .before .before in
     let a = s .args in
     as-char (a .s .now) (a .o) (c .leaf .result) (s .pre .1) (c .before .if1 .taken) (c .leaf .ensures)
 
--- src/reader.rt:168:31
 sub-empty : tie.Need-sub-empty
 sub-empty c = search needs
 
--- src/reader.rt:168:9
 empty-requires : tie.Need-empty-requires
 empty-requires c κs = search needs
 
--- src/reader.rt:168:9
 returns-2 : tie.Need-returns-2
 returns-2 c =
     let s = c .before .before .before .before .before in
     let a = s .args in
     as-empty (a .s .now) (a .o) (c .empty .result) (s .pre .1) (c .before .if2 .taken) (c .empty .ensures)
 
--- src/reader.rt:171:27
 sub-read-range : tie.Need-sub-read-range
 sub-read-range c = search needs
 
--- src/reader.rt:171:27
 part-read-range-start : tie.Need-part-read-range-start
 part-read-range-start c = search needs
 
--- src/reader.rt:171:27
 part-read-range-end : tie.Need-part-read-range-end
 part-read-range-end c = search needs
 
--- src/reader.rt:171:9
 read-range-requires : tie.Need-read-range-requires
 read-range-requires c κs = search needs
 
--- src/reader.rt:171:9
 returns-3 : tie.Need-returns-3
 returns-3 c =
     let s = c .before .before .before .before .before .before .before in
@@ -71,17 +54,16 @@ returns-3 c =
     as-range (a .s .now) (a .o) (c .read-range .result) (s .pre .1) (c .before .before .if3 .taken)
     (rw (to-end 1 (a .s .now)) at (c .read-range .ensures))
 
--- src/reader.rt:173:5
 none-requires : tie.Need-none-requires
 none-requires c κs = search needs
 
--- src/reader.rt:159:1
 returns-4 : tie.Need-returns-4
 unfolding nothing
 returns-4 c =
     let s = c .before .before .before .before .before .before in
     let a = s .args in
-    as-none (a .s .now) (a .o) (c .none .result) (s .pre .1) (c .before .before .before .if1 .left) (c .before .before .if2 .left) (c .before .if3 .left)
+    as-none (a .s .now) (a .o) (c .none .result) (s .pre .1)
+    (c .before .before .before .if1 .left) (c .before .before .if2 .left) (c .before .if3 .left)
     (omega arith) (omega arith) (omega arith) (ap (λ (r : Reading). r .ok) (c .none .ensures))
 
 pub read-single-spec : {M : Type 1} → statement M

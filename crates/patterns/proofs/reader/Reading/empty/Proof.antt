@@ -1,3 +1,5 @@
+-- `Reading::empty` meets its contract: the empty text has no leaf, so every mask is 0.
+use borrow.Author.Needs.{needs}
 use native.Mathlib.Omega.{arith}
 use mathlib.Core.Path.{refl, sym, ap, _∙_}
 use Rattle.paper.specs.Numbers.{characters}
@@ -6,18 +8,12 @@ use Rattle.patterns.specs.Reading.{nothing}
 use Rattle.patterns.specs.declared.reader.Reading.{Reading}
 use Rattle.patterns.proofs.MaskOf.{mask-of-none}
 use Rattle.patterns.proofs.Tables.{masks-none}
-use borrow.Author.Needs.{needs}
 use Rattle.patterns.proofs.reader.Reading.empty.Statement.{statement}
 use Rattle.patterns.proofs.reader.Reading.empty.Tie as tie
-use Rattle.patterns.proofs.reader.Reading.empty.Reads as reads
-use Rattle.patterns.proofs.reader.Reading.empty.Lts as lts
-use Rattle.patterns.proofs.reader.Reading.none.Reads as none-reads
 
--- src/reader.rt:53:13
 none-requires : tie.Need-none-requires
 none-requires c κs = search needs
 
--- src/reader.rt:50:5
 returns : tie.Need-returns
 unfolding nothing
 returns c rest e =

@@ -1,11 +1,9 @@
+-- `Reading::none` meets its contract by computation.
 use mathlib.Core.Path.{refl}
 use Rattle.patterns.specs.Reading.{nothing}
 use Rattle.patterns.proofs.reader.Reading.none.Statement.{statement}
 use Rattle.patterns.proofs.reader.Reading.none.Tie as tie
-use Rattle.patterns.proofs.reader.Reading.none.Reads as reads
-use Rattle.patterns.proofs.reader.Reading.none.Lts as lts
 
--- src/reader.rt:34:5
 returns : tie.Need-returns
 unfolding nothing
 returns c = refl

@@ -1,30 +1,26 @@
+-- `Reading::or` meets its contract: every mask is the `or` of the parts' masks, as every test is the `||` of theirs.
+use borrow.Author.Needs.{needs}
 use Prim.Native.Nat.{ℕ, _+_}
 use native.Mathlib.Omega.{arith}
-use mathlib.Core.Path.{_≡_, refl, sym, ap, ap₂, _∙_}
-use mathlib.Core.Bool.{Bool, cond, _&&_, _||_}
+use mathlib.Core.Path.{_≡_, sym, ap, ap₂, _∙_}
+use mathlib.Core.Bool.{_||_}
 use lib.Bits.{bitOr}
-use lib.ListN.{length, getD}
+use lib.ListN.{length}
 use Rattle.paper.specs.Numbers.{characters}
-use Rattle.paper.specs.Places.{leaves, takes-empty, may-be-first, may-be-last, may-follow, leaf-takes}
+use Rattle.paper.specs.Places.{leaves, may-be-first, may-be-last, may-follow, leaf-takes}
 use Rattle.patterns.specs.Masks.{places, table}
-use Rattle.patterns.proofs.MaskOf.{mask-of-or, mask-of-cond}
-use Rattle.patterns.proofs.Tables.{masks-joined, masks-linked}
-use borrow.Author.Needs.{needs}
+use Rattle.patterns.specs.Reading.{or-at}
+use Rattle.patterns.proofs.MaskOf.{mask-of-or}
+use Rattle.patterns.proofs.Tables.{masks-joined}
 use Rattle.patterns.proofs.reader.Reading.or.Statement.{statement}
 use Rattle.patterns.proofs.reader.Reading.or.Tie as tie
-use Rattle.patterns.proofs.reader.Reading.or.Reads as reads
-use Rattle.patterns.proofs.reader.Reading.or.Lts as lts
-use Rattle.patterns.proofs.place_sets.join.Reads as join-reads
 
--- src/reader.rt:87:14
 slice-aggregate-join : tie.Need-slice-aggregate-join
 slice-aggregate-join c = search needs
 
--- src/reader.rt:87:27
 slice-aggregate-join-2 : tie.Need-slice-aggregate-join-2
 slice-aggregate-join-2 c = search needs
 
--- src/reader.rt:87:9
 join-requires : tie.Need-join-requires
 join-requires c κs =
     let a = c .before .before .before .before .before .before .args in
@@ -32,15 +28,12 @@ join-requires c κs =
     let g : length (a .b .follow) ≡ places = search needs in
     f ∙ sym g
 
--- src/reader.rt:88:14
 slice-aggregate-join-3 : tie.Need-slice-aggregate-join-3
 slice-aggregate-join-3 c = search needs
 
--- src/reader.rt:88:27
 slice-aggregate-join-4 : tie.Need-slice-aggregate-join-4
 slice-aggregate-join-4 c = search needs
 
--- src/reader.rt:88:9
 join-requires-2 : tie.Need-join-requires-2
 join-requires-2 c κs =
     let a = c .before .before .before .before .before .before .before .before .before .before .args in
@@ -48,7 +41,6 @@ join-requires-2 c κs =
     let g : length (a .b .taking) ≡ characters = search needs in
     f ∙ sym g
 
--- src/reader.rt:80:5
 returns : tie.Need-returns
 returns c p q s rest o x y =
     let taken = c .before .before .before .before .before .before .before in
@@ -65,12 +57,12 @@ returns c p q s rest o x y =
       last = ap₂ bitOr (x .last) (y .last) ∙ mask-of-or (λ (i : ℕ). may-be-last p o i) (λ (i : ℕ). may-be-last q (o + leaves p) i);
       follow =
           followed .join .ensures
-          ∙ ap (table (λ (i : ℕ). bitOr (getD (a .self .follow) i 0) (getD (a .b .follow) i 0))) f
+          ∙ ap (table (or-at (a .self .follow) (a .b .follow))) f
           ∙ masks-joined (λ (i j : ℕ). may-follow p o i j) (λ (i j : ℕ). may-follow q (o + leaves p) i j) places
           (a .self .follow) (a .b .follow) (x .follow) (y .follow);
       taking =
           taken .join2 .ensures
-          ∙ ap (table (λ (i : ℕ). bitOr (getD (a .self .taking) i 0) (getD (a .b .taking) i 0))) t
+          ∙ ap (table (or-at (a .self .taking) (a .b .taking))) t
           ∙ masks-joined (λ (c i : ℕ). leaf-takes p o i c) (λ (c i : ℕ). leaf-takes q (o + leaves p) i c) characters
           (a .self .taking) (a .b .taking) (x .taking) (y .taking);
     }

@@ -1,44 +1,30 @@
+-- `Reading::then` meets its contract: as `Reading::or`, and what is first in the second part follows what is last in the first.
+use borrow.Author.Needs.{needs}
 use Prim.Native.Nat.{ℕ, _+_}
-use native.Mathlib.Omega.{arith}
-use mathlib.Core.Path.{_≡_, refl, sym, ap, ap₂, _∙_}
+use mathlib.Core.Path.{ap₂, _∙_}
 use mathlib.Core.Bool.{Bool, cond, _&&_, _||_}
 use lib.Bits.{bitOr}
-use lib.ListN.{length, getD}
-use Rattle.paper.specs.Numbers.{characters}
-use Rattle.paper.specs.Places.{leaves, takes-empty, may-be-first, may-be-last, may-follow, leaf-takes}
-use Rattle.patterns.specs.Masks.{places, table}
+use Rattle.paper.specs.Places.{leaves, takes-empty, may-be-first, may-be-last, may-follow}
 use Rattle.patterns.proofs.MaskOf.{mask-of-or, mask-of-cond}
-use Rattle.patterns.proofs.Tables.{masks-joined, masks-linked}
-use borrow.Author.Needs.{needs}
+use Rattle.patterns.proofs.Tables.{masks-linked}
 use Rattle.patterns.proofs.reader.Reading.then.Statement.{statement}
 use Rattle.patterns.proofs.reader.Reading.then.Tie as tie
-use Rattle.patterns.proofs.reader.Reading.then.Reads as reads
-use Rattle.patterns.proofs.reader.Reading.then.Lts as lts
-use Rattle.patterns.proofs.place_sets.link.Reads as link-reads
-use Rattle.patterns.proofs.place_sets.when.Reads as when-reads
-use Rattle.patterns.proofs.reader.Reading.or.Reads as or-reads
 
--- src/reader.rt:103:13
 or-requires : tie.Need-or-requires
 or-requires c κs = search needs
 
--- src/reader.rt:105:14
 slice-aggregate-link : tie.Need-slice-aggregate-link
 slice-aggregate-link c = search needs
 
--- src/reader.rt:105:9
 link-requires : tie.Need-link-requires
 link-requires c κs = search needs
 
--- src/reader.rt:107:32
 when-requires : tie.Need-when-requires
 when-requires c κs = search needs
 
--- src/reader.rt:108:27
 when-requires-2 : tie.Need-when-requires-2
 when-requires-2 c κs = search needs
 
--- src/reader.rt:100:5
 returns : tie.Need-returns
 returns c p q s rest o x y =
     let either = c .before .before .before .before .before .before .before .before .before .before in
