@@ -1,21 +1,18 @@
 -- Laws of the children: a child that is made has its sides within their bytes; what is worked out once of the fronts gives the same
 -- children, in the same order. Follows from the definitions, by cases on their tests.
-use Prim.Native.Nat.{ℕ, zero, suc, _<_, _≤_}
+use Prim.Native.Nat.{ℕ, _≤_}
 use native.Mathlib.Omega.{arith}
 use mathlib.Core.Path.{_≡_, refl, sym, ap, _∙_}
-use mathlib.Core.Bool.{Bool, true, false, not, _&&_, _||_, cond}
-use mathlib.Core.List.{List, [], _∷_, _++_}
-use lib.Bits.{bitAnd}
+use mathlib.Core.Bool.{Bool, true, false, not, _&&_, cond}
+use mathlib.Core.List.{List, [], _++_}
 use lib.Dec.{ltb, leb, eqb}
-use lib.ListN.{length, getD, drop, length-set, List·getD-eq-default}
-use Rattle.paper.specs.Lists.{all, only, keep, each, upto}
-use Rattle.paper.specs.Numbers.{characters, fields, field-token, longest-side}
+use lib.ListN.{length, getD, List·getD-eq-default}
+use Rattle.paper.specs.Lists.{each, upto}
+use Rattle.paper.specs.Numbers.{characters, fields, field-token}
 use Rattle.paper.specs.Search.{Child}
-use Rattle.paper.specs.Sheet.{is-token}
-use Rattle.paper.proofs.Lists.{all-true, every-all, all-append, mem-keep}
-use Rattle.paper.proofs.Tests.{by-bool, cond-by, both-true, and-left, and-right, or-left-false, or-right-false, not-is-false, leb-true, ltb-false, lt-ltb, left-true}
+use Rattle.paper.proofs.Tests.{by-bool, and-left, leb-true, ltb-false}
 use Rattle.patterns.specs.Masks.{followers-of, mask-of, in-mask}
-use Rattle.bradovusc.specs.Coded.{Coded, Tables, Settled, dropped, above, made, front, field-of, is-field, is-standing, set-at, strike-bytes, put-bytes, equal-fronts, dead-sides, judged-sides, settle, struck, with-set, put-child, as-child, left-struck, right-struck, may-end-at, row-at, takes-next}
+use Rattle.bradovusc.specs.Coded.{Coded, Tables, Settled, made, front, field-of, is-standing, put-child, as-child, left-struck, right-struck, may-end-at, row-at, takes-next}
 use Rattle.bradovusc.specs.Coded.{may-strike, gathered, next-set, takes-front, child-by-character, left-child, right-child, children-coded}
 use Rattle.bradovusc.specs.Lent.{struck-by, front-from, set-by, put-by}
 use Rattle.bradovusc.specs.Made.{Sized, Becomes}
@@ -26,7 +23,7 @@ use Rattle.bradovusc.proofs.search.Offers.{offers-append}
 use Rattle.bradovusc.specs.declared.search.Front.{Front}
 use Rattle.bradovusc.specs.declared.situation.Situation.{Situation}
 use Rattle.bradovusc.specs.declared.situation.Child.{Child as Made-child}
-use Rattle.bradovusc.specs.declared.situation.Fate.the-variants.{Dropped, Above, Made}
+use Rattle.bradovusc.specs.declared.situation.Fate.the-variants.{Made}
 
 -- a child that is made is in its bytes
 pub made-sized : (x : Settled) (child : Made-child) → Becomes x child → ((t : Coded) → x ≡ made t → Short t) → child .fate ≡ Made → Sized (child .at)

@@ -1,26 +1,26 @@
-use borrow.Author.Needs.{needs}
+-- `search::both_take` meets its contract. Follows from what `takes` ensures of each front.
 use mathlib.Core.Path.{sym, _∙_}
+use borrow.Author.Needs.{needs}
 use Rattle.bradovusc.proofs.search.both_take.Statement.{statement}
 use Rattle.bradovusc.proofs.search.both_take.Tie as tie
-use Rattle.bradovusc.proofs.search.both_take.Reads as reads
-use Rattle.bradovusc.proofs.search.both_take.Lts as lts
-use Rattle.bradovusc.proofs.search.takes.Reads as takes-reads
 
--- src/search.rt:223:8
 takes-requires : tie.Need-takes-requires
 takes-requires c κs = search needs
 
--- src/search.rt:224:9
 takes-requires-2 : tie.Need-takes-requires-2
 takes-requires-2 c κs = search needs
 
--- src/search.rt:224:9
 returns : tie.Need-returns
 returns c = rw (sym (c .before .before .takes .ensures) ∙ c .before .if1 .taken) (c .takes2 .ensures)
 
--- src/search.rt:220:1
 returns-2 : tie.Need-returns-2
 returns-2 c = rw (sym (c .before .takes .ensures) ∙ c .if1 .left)
 
 pub both-take-spec : {M : Type 1} → statement M
-both-take-spec = tie.close (tie.spec takes-requires takes-requires-2 returns returns-2)
+both-take-spec =
+    tie.close
+    (tie.spec
+    takes-requires
+    takes-requires-2
+    returns
+    returns-2)
