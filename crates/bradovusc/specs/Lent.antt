@@ -1,19 +1,21 @@
--- The search in the lent buffer: what the code holds, by the search over slots (`Run`) that it stands for.
+-- The search in the lent buffer: what the code of the module `search` holds and does, by the search over slots (`Run`) that it stands for.
 use Prim.Native.Nat.{ℕ, _*_, _≤_}
 use mathlib.Core.Path.{_≡_}
-use mathlib.Core.Bool.{Bool, _&&_, cond}
+use mathlib.Core.Bool.{Bool, false, _&&_, cond}
 use mathlib.Core.List.{List, []}
 use lib.Bits.{bitAnd}
 use lib.ListN.{length, getD}
 use Rattle.paper.specs.Numbers.{situation-bytes, most-room}
 use Rattle.paper.specs.Search.{Child}
 use Rattle.patterns.specs.Masks.{followers-of}
-use Rattle.bradovusc.specs.Coded.{Coded, field-of, as-child, struck, put-child, row-at, takes-next}
-use Rattle.bradovusc.specs.Run.{Running}
-use Rattle.bradovusc.specs.Slots.{Holds-slots}
+use Rattle.bradovusc.specs.Coded.{Coded, Tables, Settled, made, field-of, as-child, struck, put-child, row-at, takes-next}
+use Rattle.bradovusc.specs.Made.{Becomes}
+use Rattle.bradovusc.specs.Run.{is-going, Running, enter-slot, offer-slots, take-slot, slot-search}
+use Rattle.bradovusc.specs.Slots.{Slot, Holds-slots}
 use Rattle.bradovusc.specs.Struct.{as-struct, Short}
 use Rattle.bradovusc.specs.declared.search.Front.{Front}
 use Rattle.bradovusc.specs.declared.search.Run.{Run}
+use Rattle.bradovusc.specs.declared.situation.Child.{Child as Made-child}
 use Rattle.bradovusc.specs.declared.situation.Situation.{Situation}
 
 -- the buffer and the run stand for a search over slots
@@ -58,3 +60,34 @@ put-by k l r c =
     cond (takes-next (l .token) (set-by l c) c && takes-next (r .token) (set-by r c) c)
     (as-child c (put-child k c (set-by l c) (set-by r c)))
     []
+
+-- What each function does to the buffer and the run, here before and after it: the slots stay within the room, and whatever search
+-- they stood for before, they stand after it for the one that the definition makes of that.
+module _ (room : ℕ) where
+  -- s is entered as slot n
+  pub record Enters (n parent step : ℕ) (s : Situation) (work work′ : List ℕ) (run′ : Run) : Type 0 where
+    pub within : run′ .entered ≤ room
+    pub lent : (k : Coded) (ss : List Slot) → s ≡ as-struct k → Short k → Holds-slots work ss → length ss ≡ n
+        → Lent work′ run′ (enter-slot room ss (record { at = k; parent = parent; step = step }))
+
+  -- a child is offered
+  pub record Offers-child (parent step : ℕ) (child : Made-child) (work : List ℕ) (run : Run) (work′ : List ℕ) (run′ : Run) : Type 0 where
+    pub within : run′ .entered ≤ room
+    pub lent : (R : Running) (x : Settled) → Lent work run R → Becomes x child → ((t : Coded) → x ≡ made t → Short t)
+        → Lent work′ run′ (offer-slots room parent R (as-child step x))
+
+  -- children of s are offered
+  pub record Offers (parent : ℕ) (s : Situation) (work : List ℕ) (run : Run) (work′ : List ℕ) (run′ : Run) (children : Coded → List (Child Coded ℕ)) : Type 0 where
+    pub within : run′ .entered ≤ room
+    pub lent : (R : Running) (k : Coded) → Lent work run R → s ≡ as-struct k → Short k → Lent work′ run′ (offer-slots room parent R (children k))
+
+  -- slot k is taken
+  pub record Takes (T : Tables) (k : ℕ) (work : List ℕ) (run : Run) (work′ : List ℕ) (run′ : Run) : Type 0 where
+    pub within : run′ .entered ≤ room
+    pub lent : (R : Running) → Lent work run R → Lent work′ run′ (take-slot T room k R)
+
+  -- the whole search, which begins with s: it is over
+  pub record Searches (T : Tables) (s : Situation) (work′ : List ℕ) (run′ : Run) : Type 0 where
+    pub within : run′ .entered ≤ room
+    pub over : is-going (run′ .status) ≡ false
+    pub lent : (k : Coded) → s ≡ as-struct k → Short k → Lent work′ run′ (slot-search T room k)

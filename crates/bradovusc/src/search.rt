@@ -1,19 +1,17 @@
 // The search: breadth first over the slots of the working buffer, in document 01's order.
 ghost use mathlib.Core.Path.{_≡_};
-ghost use mathlib.Core.Bool.{true, false, not, _&&_};
-ghost use mathlib.Core.List.{List, []};
-ghost use Prim.Native.Nat.{ℕ, _*_, _<_, _≤_};
+ghost use mathlib.Core.Bool.{true, not, _&&_};
+ghost use mathlib.Core.List.{[]};
+ghost use Prim.Native.Nat.{_*_, _<_, _≤_};
 ghost use lib.Dec.{eqb};
 ghost use lib.ListN.{length, getD};
 ghost use Rattle.paper.specs.Lists.{each, upto};
 ghost use Rattle.paper.specs.Numbers.{situation-bytes, most-room, characters, field-token};
 ghost use Rattle.patterns.specs.Masks.{followers-of};
-ghost use Rattle.bradovusc.specs.Coded.{Coded, Settled, made, field-of, as-child, takes-next, may-end-at, row-at, children-coded};
-ghost use Rattle.bradovusc.specs.Lent.{Lent, Roomy, Held, struck-by, front-from, put-by};
-ghost use Rattle.bradovusc.specs.Made.{Sized, Becomes};
-ghost use Rattle.bradovusc.specs.Run.{is-going, Running, enter-slot, offer-slots, take-slot, slot-search};
-ghost use Rattle.bradovusc.specs.Slots.{Slot, Holds-slots};
-ghost use Rattle.bradovusc.specs.Struct.{as-struct, Short};
+ghost use Rattle.bradovusc.specs.Coded.{Coded, field-of, takes-next, may-end-at, row-at, children-coded};
+ghost use Rattle.bradovusc.specs.Lent.{Lent, Roomy, Held, struck-by, front-from, put-by, Enters, Offers-child, Offers, Takes, Searches};
+ghost use Rattle.bradovusc.specs.Made.{Sized};
+ghost use Rattle.bradovusc.specs.Run.{is-going, Running};
 ghost use Rattle.bradovusc.specs.declared.situation.Fate.the-variants.{Made};
 use crate::situation;
 use crate::situation::Child;
@@ -70,8 +68,7 @@ fn is_going(status: Status) -> bool
 fn enter(work: &mut [u8], room: usize, n: usize, parent: usize, step: u8, s: Situation) -> Run
     requires { ⌜ Roomy (now work) room n parent ⌝ }
     requires { ⌜ Sized s ⌝ }
-    ensures { λ r. ⌜ r .entered ≤ room ⌝ }
-    ensures { λ r. ⌜ ((k : Coded) (ss : List Slot) → s ≡ as-struct k → Short k → Holds-slots (now (work .entry)) ss → length ss ≡ n → Lent (now (work .exit)) r (enter-slot room ss (record { at = k; parent = parent; step = step }))) ⌝ }
+    ensures { λ r. ⌜ Enters room n parent step s (now (work .entry)) (now (work .exit)) r ⌝ }
 {
     if room <= n {
         return Run {
@@ -96,8 +93,7 @@ fn enter(work: &mut [u8], room: usize, n: usize, parent: usize, step: u8, s: Sit
 fn offer(work: &mut [u8], room: usize, run: Run, parent: usize, step: u8, child: Child) -> Run
     requires { ⌜ Roomy (now work) room (run .entered) parent ⌝ }
     requires { ⌜ (child .fate ≡ Made → Sized (child .at)) ⌝ }
-    ensures { λ r. ⌜ r .entered ≤ room ⌝ }
-    ensures { λ r. ⌜ ((R : Running) (x : Settled) → Lent (now (work .entry)) run R → Becomes x child → ((t : Coded) → x ≡ made t → Short t) → Lent (now (work .exit)) r (offer-slots room parent R (as-child step x))) ⌝ }
+    ensures { λ r. ⌜ Offers-child room parent step child (now (work .entry)) run (now (work .exit)) r ⌝ }
 {
     let status = run.status;
     if !is_going(status) {
@@ -170,8 +166,7 @@ fn offer_struck(
     requires { ⌜ Roomy (now work) room (run .entered) parent ⌝ }
     requires { ⌜ Held s ⌝ }
     requires { ⌜ (may ≡ true → field-token ≤ b) ⌝ }
-    ensures { λ r. ⌜ r .entered ≤ room ⌝ }
-    ensures { λ r. ⌜ ((R : Running) (k : Coded) → Lent (now (work .entry)) run R → s ≡ as-struct k → Short k → Lent (now (work .exit)) r (offer-slots room parent R (struck-by k may step b))) ⌝ }
+    ensures { λ r. ⌜ Offers room parent s (now (work .entry)) run (now (work .exit)) r (λ (k : Coded). struck-by k may step b) ⌝ }
 {
     if may {
         let child = situation::strike(s, b);
@@ -251,8 +246,7 @@ fn offer_puts(
 ) -> Run
     requires { ⌜ Roomy (now work) room (run .entered) parent ⌝ }
     requires { ⌜ Held s ⌝ }
-    ensures { λ r. ⌜ r .entered ≤ room ⌝ }
-    ensures { λ r. ⌜ ((R : Running) (k : Coded) → Lent (now (work .entry)) run R → s ≡ as-struct k → Short k → Lent (now (work .exit)) r (offer-slots room parent R (each (put-by k left right) (upto characters)))) ⌝ }
+    ensures { λ r. ⌜ Offers room parent s (now (work .entry)) run (now (work .exit)) r (λ (k : Coded). each (put-by k left right) (upto characters)) ⌝ }
 {
     let mut now = run;
     let mut c: usize = 0;
@@ -281,8 +275,7 @@ fn offer_children(
 ) -> Run
     requires { ⌜ Roomy (now work) room (run .entered) parent ⌝ }
     requires { ⌜ Held s ⌝ }
-    ensures { λ r. ⌜ r .entered ≤ room ⌝ }
-    ensures { λ r. ⌜ ((R : Running) (k : Coded) → Lent (now (work .entry)) run R → s ≡ as-struct k → Short k → Lent (now (work .exit)) r (offer-slots room parent R (children-coded (record { follow = follow; taking = taking; last = last }) k))) ⌝ }
+    ensures { λ r. ⌜ Offers room parent s (now (work .entry)) run (now (work .exit)) r (children-coded (record { follow = follow; taking = taking; last = last })) ⌝ }
 {
     let left = s.left;
     let right = s.right;
@@ -311,8 +304,7 @@ fn take(
     requires { ⌜ Roomy (now work) room (run .entered) k ⌝ }
     requires { ⌜ k < run .entered ⌝ }
     requires { ⌜ ((R : Running) × Lent (now work) run R) ⌝ }
-    ensures { λ r. ⌜ r .entered ≤ room ⌝ }
-    ensures { λ r. ⌜ ((R : Running) → Lent (now (work .entry)) run R → Lent (now (work .exit)) r (take-slot (record { follow = follow; taking = taking; last = last }) room k R)) ⌝ }
+    ensures { λ r. ⌜ Takes room (record { follow = follow; taking = taking; last = last }) k (now (work .entry)) run (now (work .exit)) r ⌝ }
 {
     let s = slots::read_situation(work, k);
     offer_children(work, room, run, k, s, follow, taking, last)
@@ -329,9 +321,7 @@ pub fn search(
 ) -> Run
     requires { ⌜ (situation-bytes * room ≤ length (now work)) × (room ≤ most-room) ⌝ }
     requires { ⌜ Held first ⌝ }
-    ensures { λ r. ⌜ r .entered ≤ room ⌝ }
-    ensures { λ r. ⌜ is-going (r .status) ≡ false ⌝ }
-    ensures { λ r. ⌜ ((k : Coded) → first ≡ as-struct k → Short k → Lent (now (work .exit)) r (slot-search (record { follow = follow; taking = taking; last = last }) room k)) ⌝ }
+    ensures { λ r. ⌜ Searches room (record { follow = follow; taking = taking; last = last }) first (now (work .exit)) r ⌝ }
 {
     let mut run = enter(work, room, 0, 0, 0, first);
     let mut k: usize = 0;

@@ -1,5 +1,6 @@
-use borrow.Author.Needs.{needs}
+-- `search::both_take` meets its contract. Follows from what `takes` ensures of each front.
 use mathlib.Core.Path.{sym, _∙_}
+use borrow.Author.Needs.{needs}
 use Rattle.bradovusc.proofs.search.both_take.Statement.{statement}
 use Rattle.bradovusc.proofs.search.both_take.Tie as tie
 
@@ -16,4 +17,10 @@ returns-2 : tie.Need-returns-2
 returns-2 c = rw (sym (c .before .takes .ensures) ∙ c .if1 .left)
 
 pub both-take-spec : {M : Type 1} → statement M
-both-take-spec = tie.close (tie.spec takes-requires takes-requires-2 returns returns-2)
+both-take-spec =
+    tie.close
+    (tie.spec
+    takes-requires
+    takes-requires-2
+    returns
+    returns-2)

@@ -1,3 +1,4 @@
+-- `search::front_with` meets its contract. Follows from what `gather` and `row` ensure.
 use borrow.Author.Needs.{needs}
 use Rattle.bradovusc.specs.Lent.{front-from}
 use Rattle.bradovusc.proofs.search.front_with.Statement.{statement}
@@ -14,4 +15,9 @@ unfolding front-from
 returns c = cc
 
 pub front-with-spec : {M : Type 1} → statement M
-front-with-spec = tie.close (tie.spec gather-requires row-requires returns)
+front-with-spec =
+    tie.close
+    (tie.spec
+    gather-requires
+    row-requires
+    returns)

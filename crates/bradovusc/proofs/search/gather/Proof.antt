@@ -1,8 +1,10 @@
-use borrow.Author.Needs.{needs}
+-- `search::gather` meets its contract. Where there is no such field there is no set, and so no follower.
 use native.Mathlib.Omega.{arith}
 use mathlib.Core.Path.{_≡_, sym}
 use mathlib.Core.List.{[]}
 use lib.ListN.{length, getD, List·getD-eq-default}
+use borrow.Author.Needs.{needs}
+use Rattle.paper.specs.Numbers.{fields}
 use Rattle.bradovusc.specs.Coded.{field-of}
 use Rattle.bradovusc.proofs.search.Children.{no-followers}
 use Rattle.bradovusc.proofs.search.gather.Statement.{statement}
@@ -32,7 +34,7 @@ returns c = rw (c .before .before .before .field-of .ensures) at (c .followers .
 returns-2 : tie.Need-returns-2
 returns-2 c =
     let a = c .before .before .args in
-    let l : length (a .t1) ≡ 8 = search needs in
+    let l : length (a .t1) ≡ fields = search needs in
     rw (List·getD-eq-default (a .t1) 0 {n = field-of (a .b)} (omega arith)) (sym (no-followers (getD (a .t3) (field-of (a .b)) [])))
 
 pub gather-spec : {M : Type 1} → statement M

@@ -1,17 +1,18 @@
-use borrow.Author.Needs.{needs}
-use Prim.Native.Nat.{_-_}
+-- `search::may_end` meets its contract. A token above the fields' has no set, and 0 has no place in common with any.
 use native.Mathlib.Omega.{arith}
-use mathlib.Core.Bool.{false}
 use mathlib.Core.Path.{_≡_, refl, sym}
+use mathlib.Core.Bool.{false}
 use lib.ListN.{length, List·getD-eq-default}
+use borrow.Author.Needs.{needs}
+use Rattle.paper.specs.Numbers.{fields, field-token}
 use Rattle.paper.proofs.Tests.{lt-leb, le-leb, lt-ltb, right-false}
-use Rattle.bradovusc.specs.Coded.{is-standing, may-end-at}
+use Rattle.bradovusc.specs.Coded.{field-of, is-standing, may-end-at}
 use Rattle.bradovusc.proofs.search.may_end.Statement.{statement}
 use Rattle.bradovusc.proofs.search.may_end.Tie as tie
 
 returns : tie.Need-returns
 unfolding may-end-at
-returns c = rw (lt-leb 64 (c .before .args .b) (c .if1 .taken))
+returns c = rw (lt-leb field-token (c .before .args .b) (c .if1 .taken))
 
 field-of-requires : tie.Need-field-of-requires
 field-of-requires c κs = search needs
@@ -32,14 +33,14 @@ returns-2 : tie.Need-returns-2
 unfolding may-end-at
 returns-2 c =
     let b = c .before .before .before .args .b in
-    rw (c .before .field-of .ensures, le-leb 64 b (omega arith), lt-ltb b 255 (omega arith))
+    rw (c .before .field-of .ensures, le-leb field-token b (omega arith), lt-ltb b 255 (omega arith))
 
 returns-3 : tie.Need-returns-3
 unfolding may-end-at
 returns-3 c =
     let a = c .before .before .before .args in
-    let l : length (a .t1) ≡ 8 = search needs in
-    rw (List·getD-eq-default (a .t1) 0 {n = a .b - 64} (omega arith)) (sym (right-false (is-standing (a .b)) false refl))
+    let l : length (a .t1) ≡ fields = search needs in
+    rw (List·getD-eq-default (a .t1) 0 {n = field-of (a .b)} (omega arith)) (sym (right-false (is-standing (a .b)) false refl))
 
 pub may-end-spec : {M : Type 1} → statement M
 may-end-spec =

@@ -1,8 +1,10 @@
-use borrow.Author.Needs.{needs}
+-- `search::offer` meets its contract: a search that has ended rests, and a child goes by its fate and by what `look_up` finds.
+-- Follows from the laws of a child offered.
 use mathlib.Core.Path.{_≡_, sym, _∙_}
-use Rattle.bradovusc.specs.Run.{is-going}
 use mathlib.Core.Bool.{true, false}
+use borrow.Author.Needs.{needs}
 use Rattle.paper.proofs.Tests.{not-is-true, not-is-false}
+use Rattle.bradovusc.specs.Run.{is-going}
 use Rattle.bradovusc.proofs.Short.{fate-dropped, fate-above, fate-made}
 use Rattle.bradovusc.proofs.search.Offers.{offered-ended, offered-above, offered-seen, offered-new}
 use Rattle.bradovusc.proofs.search.offer.Statement.{statement}
@@ -15,7 +17,7 @@ returns : tie.Need-returns
 returns c =
     let a = c .before .before .before .args in
     let h : is-going (a .run .status) ≡ false = sym (c .before .is-going .ensures) ∙ not-is-true (c .if1 .taken) in
-    (search needs, λ R x l b s. offered-ended l (a .room) (a .parent) (a .step) x h)
+    record { within = search needs; lent = λ R x l b s. offered-ended l (a .room) (a .parent) (a .step) x h }
 
 enum-told : tie.Need-enum-told
 enum-told c = search needs
@@ -25,6 +27,10 @@ enum-told-2 c = search needs
 
 enum-told-3 : tie.Need-enum-told-3
 enum-told-3 c = search needs
+
+-- the child is made, and the search goes on
+going : (c : tie.Else1) → is-going (c .before .before .before .args .run .status) ≡ true
+going c = sym (c .before .is-going .ensures) ∙ not-is-false (c .if1 .left)
 
 look-up-requires : tie.Need-look-up-requires
 look-up-requires c κs =
@@ -37,29 +43,32 @@ same-length c = search needs
 returns-2 : tie.Need-returns-2
 returns-2 c =
     let e = c .before .before .before .before .before .before in
-    let p = e .before .before .before .args in
-    let h : is-going (p .run .status) ≡ true = sym (e .before .is-going .ensures) ∙ not-is-false (e .if1 .left) in (
-      search needs,
-      λ R x l b s.
-          let m = fate-made x (p .child) b (c .before .before .before .before .enum-told3 .given .1) in
-          let h′ = s (m .0) (m .1) in
-          rw (m .1) (offered-seen l (p .room) (p .parent) (p .step) (m .0) h
-          (sym (c .before .look-up .ensures (m .0) (R .slots) (m .2) h′ (l .holds) (sym (l .entered))) ∙ c .if2 .taken)),
-    )
+    let a = e .before .before .before .args in
+    record {
+      within = search needs;
+      lent = λ R x l b s.
+          let m = fate-made x (a .child) b (c .before .before .before .before .enum-told3 .given .1) in
+          let found = c .before .look-up .ensures (m .0) (R .slots) (m .2) (s (m .0) (m .1)) (l .holds) (sym (l .entered)) in
+          rw (m .1) (offered-seen l (a .room) (a .parent) (a .step) (m .0) (going e) (sym found ∙ c .if2 .taken));
+    }
 
 enter-requires : tie.Need-enter-requires
 enter-requires c κs = (search needs, c .before .before .before .before .before .before .before .before .before .before .pre .1 (c .before .before .before .before .before .enum-told3 .given .1))
 
 returns-3 : tie.Need-returns-3
 returns-3 c =
-    (search needs, λ R x l b s. rw (fate-dropped x (c .before .before .before .before .before .args .child) b (c .enum-told .given .1)) l)
+    let child = c .before .before .before .before .before .args .child in
+    record { within = search needs; lent = λ R x l b s. rw (fate-dropped x child b (c .enum-told .given .1)) l }
 
 returns-4 : tie.Need-returns-4
 returns-4 c =
     let e = c .before .before in
-    let p = e .before .before .before .args in
-    let h : is-going (p .run .status) ≡ true = sym (e .before .is-going .ensures) ∙ not-is-false (e .if1 .left) in
-    (search needs, λ R x l b s. rw (fate-above x (p .child) b (c .enum-told2 .given .1)) (offered-above l (p .room) (p .parent) (p .step) h))
+    let a = e .before .before .before .args in
+    record {
+      within = search needs;
+      lent = λ R x l b s.
+          rw (fate-above x (a .child) b (c .enum-told2 .given .1)) (offered-above l (a .room) (a .parent) (a .step) (going e));
+    }
 
 same-length-2 : tie.Need-same-length-2
 same-length-2 c = search needs
@@ -69,16 +78,17 @@ returns-5 c =
     let n = c .before .before in
     let u = n .before .before in
     let e = u .before .before .before .before .before .before in
-    let p = e .before .before .before .args in
-    let h : is-going (p .run .status) ≡ true = sym (e .before .is-going .ensures) ∙ not-is-false (e .if1 .left) in (
-      search needs,
-      λ R x l b s.
-          let m = fate-made x (p .child) b (u .before .before .before .before .enum-told3 .given .1) in
-          let h′ = s (m .0) (m .1) in
-          rw (m .1) (offered-new l (p .room) (p .parent) (p .step) (m .0) h
-          (sym (u .before .look-up .ensures (m .0) (R .slots) (m .2) h′ (l .holds) (sym (l .entered))) ∙ u .if2 .left)
-          (n .enter .ensures .1 (m .0) (R .slots) (m .2) h′ (l .holds) (sym (l .entered)))),
-    )
+    let a = e .before .before .before .args in
+    record {
+      within = search needs;
+      lent = λ R x l b s.
+          let m = fate-made x (a .child) b (u .before .before .before .before .enum-told3 .given .1) in
+          let short = s (m .0) (m .1) in
+          let found = u .before .look-up .ensures (m .0) (R .slots) (m .2) short (l .holds) (sym (l .entered)) in
+          rw (m .1)
+          (offered-new l (a .room) (a .parent) (a .step) (m .0) (going e) (sym found ∙ u .if2 .left)
+          (n .enter .ensures .lent (m .0) (R .slots) (m .2) short (l .holds) (sym (l .entered))));
+    }
 
 pub offer-spec : {M : Type 1} → statement M
 offer-spec =

@@ -1,6 +1,8 @@
-use borrow.Author.Needs.{needs}
+-- `search::offer_children` meets its contract. Follows from what is ensured of each step, and from the law that what is offered so are
+-- the children.
 use native.Mathlib.Omega.{arith}
 use mathlib.Core.Path.{ap, subst}
+use borrow.Author.Needs.{needs}
 use Rattle.bradovusc.specs.Coded.{left-struck, right-struck}
 use Rattle.bradovusc.specs.Lent.{Lent, struck-by}
 use Rattle.bradovusc.specs.Run.{offer-slots}
@@ -23,18 +25,21 @@ other-may-end-requires c κs = search needs
 
 offer-struck-requires : tie.Need-offer-struck-requires
 offer-struck-requires c κs =
-    let p = c .before .before .before .before .before .before .before .before .before in
     let m = c .before .before .may-end in
-    (p .pre .0, (p .pre .1, may-end-field (p .args .s .sets) (p .args .last) (c .before .before .before .before .front-in .result) (m .result) (m .ensures)))
+    let a = c .before .before .before .before .front-in .result in
+    let p = c .before .before .before .before .before .before .before .before .before in
+    (p .pre .0, (p .pre .1, may-end-field (p .args .s .sets) (p .args .last) a (m .result) (m .ensures)))
 
 offer-struck-requires-2 : tie.Need-offer-struck-requires-2
 offer-struck-requires-2 c κs =
     let o = c .before .before .before .offer-struck in
-    let p = c .before .before .before .before .before .before .before .before .before .before .before .before .before in
+    let m = c .before .before .before .before .before .other-may-end in
+    let a = c .before .before .before .before .before .before .before .before .front-in .result in
     let b = c .before .before .before .before .before .before .before .front-in2 .result in
-    let m = c .before .before .before .before .before .other-may-end in (
-      record { fits = omega (arith, o .kept .0); most = p .pre .0 .most; within = o .ensures .0; numbered = p .pre .0 .numbered },
-      (p .pre .1, other-may-end-field (p .args .s .sets) (p .args .last) b (m .result) (c .before .before .before .before .before .before .before .before .front-in .result) (m .ensures)),
+    let p = c .before .before .before .before .before .before .before .before .before .before .before .before .before in
+    let r = p .pre .0 in (
+      record { fits = omega (arith, o .kept .0); most = r .most; within = o .ensures .within; numbered = r .numbered },
+      (p .pre .1, other-may-end-field (p .args .s .sets) (p .args .last) b (m .result) a (m .ensures)),
     )
 
 front-with-requires : tie.Need-front-with-requires
@@ -46,8 +51,12 @@ front-with-requires-2 c κs = search needs
 offer-puts-requires : tie.Need-offer-puts-requires
 offer-puts-requires c κs =
     let o = c .before .before .before .before .before .offer-struck2 in
+    let n = c .before .before .before .before .before .before .before .before .before .offer-struck in
     let p = c .before .before .before .before .before .before .before .before .before .before .before .before .before .before .before .before .before .before .before in
-    (record { fits = omega (arith, o .kept .0, c .before .before .before .before .before .before .before .before .before .offer-struck .kept .0); most = p .pre .0 .most; within = o .ensures .0; numbered = p .pre .0 .numbered }, p .pre .1)
+    let r = p .pre .0 in (
+      record { fits = omega (arith, o .kept .0, n .kept .0); most = r .most; within = o .ensures .within; numbered = r .numbered },
+      p .pre .1,
+    )
 
 same-length : tie.Need-same-length
 same-length c = search needs
@@ -60,24 +69,26 @@ returns c =
     let n = o .before .before .before .before in
     let m = n .before .before in
     let f = m .before .before in
-    let a = c .before .before .before .before .before .before .before .before .before .before .before .before .before .before .before .before .before .before .before .before .before .before .args in
+    let p = f .before .before .before .before .before .before .args in
+    let a = f .before .front-in in
+    let b = f .front-in2 in
     let x = m .before .may-end in
     let y = m .other-may-end in
-    let u = f .before .front-in in
-    let v = f .front-in2 in
-    let w = g .before .front-with in
-    let z = g .front-with2 in (
-      q .offer-puts .ensures .0,
-      λ R k l e h.
-          let one = offer-slots (a .room) (a .parent) R (struck-by k (x .result) left-struck (u .result)) in
-          let two = offer-slots (a .room) (a .parent) one (struck-by k (y .result) right-struck (v .result)) in
+    let l = g .before .front-with in
+    let r = g .front-with2 in
+    record {
+      within = q .offer-puts .ensures .within;
+      lent = λ R k t e h.
+          let one = offer-slots (p .room) (p .parent) R (struck-by k (x .result) left-struck (a .result)) in
+          let two = offer-slots (p .room) (p .parent) one (struck-by k (y .result) right-struck (b .result)) in
+          let front-a = a .ensures (k .left) (ap (λ (s : Situation). s .left) e) (ap (λ (s : Situation). s .«left_len») e) in
+          let front-b = b .ensures (k .right) (ap (λ (s : Situation). s .right) e) (ap (λ (s : Situation). s .«right_len») e) in
           subst (Lent (q .offer-puts .last .0) (q .offer-puts .result))
-          (children-offered (record { follow = a .follow; taking = a .taking; last = a .last }) k h (a .s) e (a .room) (a .parent) R
-          (u .result) (v .result) (u .ensures (k .left) (ap (λ (t : Situation). t .left) e) (ap (λ (t : Situation). t .«left_len») e))
-          (v .ensures (k .right) (ap (λ (t : Situation). t .right) e) (ap (λ (t : Situation). t .«right_len») e))
-          (x .result) (y .result) (x .ensures) (y .ensures) (w .result) (z .result) (w .ensures) (z .ensures))
-          (q .offer-puts .ensures .1 two k (o .offer-struck2 .ensures .1 one k (n .offer-struck .ensures .1 R k l e h) e h) e h),
-    )
+          (children-offered (record { follow = p .follow; taking = p .taking; last = p .last }) k h (p .s) e (p .room) (p .parent) R
+          (a .result) (b .result) front-a front-b (x .result) (y .result) (x .ensures) (y .ensures)
+          (l .result) (r .result) (l .ensures) (r .ensures))
+          (q .offer-puts .ensures .lent two k (o .offer-struck2 .ensures .lent one k (n .offer-struck .ensures .lent R k t e h) e h) e h);
+    }
 
 pub offer-children-spec : {M : Type 1} → statement M
 offer-children-spec =

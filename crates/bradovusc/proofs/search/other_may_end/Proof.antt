@@ -1,6 +1,7 @@
-use borrow.Author.Needs.{needs}
-use mathlib.Core.Bool.{false, and-true}
+-- `search::other_may_end` meets its contract. Follows from the test of the two tokens and from what `may_end` ensures.
 use mathlib.Core.Path.{refl, sym}
+use mathlib.Core.Bool.{false, and-true}
+use borrow.Author.Needs.{needs}
 use Rattle.paper.proofs.Tests.{eq-eqb, neq-eqb, right-false}
 use Rattle.bradovusc.specs.Coded.{may-end-at}
 use Rattle.bradovusc.proofs.search.other_may_end.Statement.{statement}
@@ -20,4 +21,9 @@ returns-2 c =
     rw (neq-eqb (a .b) (a .a) (c .before .if1 .left), and-true) (c .may-end .ensures)
 
 pub other-may-end-spec : {M : Type 1} → statement M
-other-may-end-spec = tie.close (tie.spec returns may-end-requires returns-2)
+other-may-end-spec =
+    tie.close
+    (tie.spec
+    returns
+    may-end-requires
+    returns-2)

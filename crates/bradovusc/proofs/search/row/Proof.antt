@@ -1,5 +1,7 @@
-use borrow.Author.Needs.{needs}
+-- `search::row` meets its contract. Follows from the test of the field's number, as the definition makes it.
 use native.Mathlib.Omega.{arith}
+use borrow.Author.Needs.{needs}
+use Rattle.paper.specs.Numbers.{fields}
 use Rattle.paper.proofs.Tests.{lt-ltb, le-ltb}
 use Rattle.bradovusc.specs.Coded.{field-of, row-at}
 use Rattle.bradovusc.proofs.search.row.Statement.{statement}
@@ -20,12 +22,11 @@ array-copy-out-result-2 c = search needs
 returns : tie.Need-returns
 unfolding row-at
 returns c =
-    let f = c .before .before .field-of .ensures in
-    rw (f, lt-ltb (field-of (c .before .before .before .args .b)) 8 (omega arith))
+    rw (c .before .before .field-of .ensures, lt-ltb (field-of (c .before .before .before .args .b)) fields (omega arith))
 
 returns-2 : tie.Need-returns-2
 unfolding row-at
-returns-2 c = rw (le-ltb (field-of (c .before .before .before .args .b)) 8 (omega arith))
+returns-2 c = rw (le-ltb (field-of (c .before .before .before .args .b)) fields (omega arith))
 
 pub row-spec : {M : Type 1} → statement M
 row-spec =

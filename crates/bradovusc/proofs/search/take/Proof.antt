@@ -1,7 +1,8 @@
-use borrow.Author.Needs.{needs}
+-- `search::take` meets its contract. Follows from what `read_situation` and `offer_children` ensure.
 use Prim.Native.Nat.{_<_}
 use native.Mathlib.Omega.{arith}
 use lib.ListN.{length}
+use borrow.Author.Needs.{needs}
 use Rattle.paper.proofs.Tests.{lt-ltb}
 use Rattle.bradovusc.specs.Run.{no-slot, slot-at, take-slot}
 use Rattle.bradovusc.proofs.slots.Held.{short-held}
@@ -13,12 +14,19 @@ read-situation-requires c κs = search needs
 
 offer-children-requires : tie.Need-offer-children-requires
 offer-children-requires c κs =
+    let s = c .before .read-situation in
     let p = c .before .before .before .before in
     let k = p .args .k in
     let R = p .pre .1 .1 .0 in
     let l = p .pre .1 .1 .1 in
-    let b : k < length (R .slots) = omega arith in
-    (p .pre .0, record { at = slot-at (R .slots) k .at; is = c .before .read-situation .ensures (R .slots) no-slot (l .holds) b; short = short-held (l .holds) k no-slot b })
+    let b : k < length (R .slots) = omega arith in (
+      p .pre .0,
+      record {
+        at = slot-at (R .slots) k .at;
+        is = s .ensures (R .slots) no-slot (l .holds) b;
+        short = short-held (l .holds) k no-slot b;
+      },
+    )
 
 same-length : tie.Need-same-length
 same-length c = search needs
@@ -28,15 +36,22 @@ unfolding take-slot
 returns c =
     let o = c .before .before in
     let s = o .before .before .read-situation in
-    let k = c .before .before .before .before .before .before .before .args .k in
-    let m = c .before .before .before .before .before .before .before .pre .1 .0 in (
-      o .offer-children .ensures .0,
-      λ R l.
-          let b : k < length (R .slots) = omega (arith, m, l .entered) in
+    let p = o .before .before .before .before .before in
+    let k = p .args .k in
+    record {
+      within = o .offer-children .ensures .within;
+      lent = λ R l.
+          let b : k < length (R .slots) = omega (arith, p .pre .1 .0, l .entered) in
           rw (lt-ltb k (length (R .slots)) b)
-          (o .offer-children .ensures .1 R (slot-at (R .slots) k .at) l (s .ensures (R .slots) no-slot (l .holds) b) (short-held (l .holds) k no-slot b)),
-    )
+          (o .offer-children .ensures .lent R (slot-at (R .slots) k .at) l (s .ensures (R .slots) no-slot (l .holds) b)
+          (short-held (l .holds) k no-slot b));
+    }
 
 pub take-spec : {M : Type 1} → statement M
 take-spec =
-    tie.close (tie.spec read-situation-requires offer-children-requires same-length returns)
+    tie.close
+    (tie.spec
+    read-situation-requires
+    offer-children-requires
+    same-length
+    returns)
