@@ -14,3 +14,5 @@ pub mod Simulated
 pub mod FirstCoded
 pub mod Told
 pub mod Concluding
+pub mod Searching
+pub mod Answering

@@ -10,6 +10,7 @@ use Rattle.paper.specs.Search.{End, found, used-up, no-room, too-long}
 use Rattle.paper.specs.Equation.{Token, chr, fld, Side}
 use Rattle.paper.specs.Situation.{Situation, Move, strike-left, strike-right, put}
 use Rattle.paper.specs.Question.{Question, held-by}
+use Rattle.sheets.specs.Read.{token-byte}
 use Rattle.patterns.specs.Masks.{mask, follow-masks, taking-masks, last-mask}
 use Rattle.bradovusc.specs.Coded.{Coded, Tables, left-struck, right-struck}
 use Rattle.bradovusc.specs.declared.search.Status.{Status}
@@ -17,8 +18,7 @@ use Rattle.bradovusc.specs.declared.search.Status.the-variants.{Found, U
 
 -- "A token is 0 to 42 (a character) or 64 to 71 (field 0 to 7)."
 abbrev pub code-token : Token → ℕ
-code-token (chr c) = c
-code-token (fld f) = field-token + f
+code-token = token-byte
 
 abbrev pub code-side : Side → List ℕ
 code-side side = map code-token side

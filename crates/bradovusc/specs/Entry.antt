@@ -15,6 +15,7 @@ use Rattle.bradovusc.specs.Run.{Running}
 use Rattle.bradovusc.specs.Slots.{Slot}
 use Rattle.bradovusc.specs.declared.Answer.{Answer}
 use Rattle.bradovusc.specs.declared.Answer.the-variants.{Clash, NoClash, Refused, NoRoom, SideTooLong, AnswerTooShort, TextTooLong}
+use Rattle.bradovusc.specs.declared.Numbers.{Numbers}
 use Rattle.bradovusc.specs.declared.records.Given.{Given}
 use Rattle.bradovusc.specs.declared.records.Given.the-variants as Given-as
 use Rattle.bradovusc.specs.declared.search.Run.{Run}
@@ -57,6 +58,10 @@ written-of (NoRoom n) = 0
 written-of (SideTooLong n) = 0
 written-of (AnswerTooShort n) = 0
 written-of (TextTooLong n) = 0
+
+-- the same as a struct
+abbrev pub as-numbers : Answer → Numbers
+as-numbers a = record { number = number-of a; count = count-of a; place = place-of a; written = written-of a }
 
 -- the outcome that an answer tells, with both buffers as they are afterwards
 abbrev pub told : Answer → List ℕ → List ℕ → Outcome

@@ -16,7 +16,7 @@ ghost use lib.ListN.{length};
 ghost use Rattle.paper.specs.Numbers.{situation-bytes, most-room};
 ghost use Rattle.paper.specs.Outcome.{outcome};
 ghost use Rattle.paper.specs.Demands.{Demand2, Demand3};
-ghost use Rattle.bradovusc.specs.Entry.{told, number-of, count-of, place-of, written-of, Asks, Clash-told, Over, Concluded};
+ghost use Rattle.bradovusc.specs.Entry.{told, as-numbers, Asks, Clash-told, Over, Concluded};
 ghost use Rattle.bradovusc.specs.Records.{Way-to};
 
 // "Room is one situation for each whole 144 bytes of working buffer, and at most 65,535."
@@ -137,7 +137,7 @@ fn numbers_of(number: usize, count: usize, place: usize, written: usize) -> Numb
 }
 
 pub fn in_numbers(a: Answer) -> Numbers
-    ensures { λ r. ⌜ r ≡ record { number = number-of a; count = count-of a; place = place-of a; written = written-of a } ⌝ }
+    ensures { λ r. ⌜ r ≡ as-numbers a ⌝ }
 {
     match a {
         Answer::Clash { count, written } => numbers_of(0, count, 0, written),

@@ -25,19 +25,22 @@ same-length : tie.Need-same-length
 same-length c = search needs
 
 returns : tie.Need-returns
-returns c w = ?a
+returns c w =
+    told-by (w .slots) _ (c .before .before .before .before .answer-clash .ensures w) (ap (clash-answer _) (sym (c .enum-told .given .1)))
 
 same-length-2 : tie.Need-same-length-2
 same-length-2 c = search needs
 
 returns-2 : tie.Need-returns-2
-returns-2 c w = ?b
+returns-2 c w =
+    told-by (w .slots) _ (c .before .before .before .before .answer-clash .ensures w) (ap (clash-answer _) (sym (c .enum-told2 .given .1)))
 
 same-length-3 : tie.Need-same-length-3
 same-length-3 c = search needs
 
 returns-3 : tie.Need-returns-3
-returns-3 c w = ?d
+returns-3 c w =
+    told-by (w .slots) _ (c .before .before .before .before .before .answer-clash .ensures w) (ap (clash-answer _) (sym (c .before .given .given .1)))
 
 pub found-spec : {M : Type 1} → statement M
 found-spec =
