@@ -6,7 +6,7 @@ use mathlib.Core.List.{List, [], _∷_, _++_}
 use lib.Bits.{bitAnd}
 use lib.Dec.{leb, ltb, eqb}
 use lib.ListN.{length, getD, set, drop}
-use Rattle.paper.specs.Lists.{upto, any, only, keep, each, same-by}
+use Rattle.paper.specs.Lists.{upto, only, keep, each, same-by}
 use Rattle.paper.specs.Numbers.{characters, fields, field-token, longest-side}
 use Rattle.paper.specs.Search.{Child, child, long}
 use Rattle.patterns.specs.Masks.{followers-of}
@@ -117,6 +117,18 @@ unfoldable pub put-child : Coded → ℕ → ℕ → ℕ → Settled
 put-child s c m n =
     settle (put-bytes c (front (s .left)) (front (s .right)) (s .left)) (put-bytes c (front (s .left)) (front (s .right)) (s .right))
     (with-set (front (s .right)) n (with-set (front (s .left)) m (s .sets)))
+
+-- "a field whose set may end": of the field with the token b
+unfoldable pub may-end-at : List ℕ → List ℕ → ℕ → Bool
+may-end-at sets last b = is-standing b && not (eqb (bitAnd (getD sets (field-of b) 0) (getD last (field-of b) 0)) 0)
+
+-- what each character lets through in that field; that of field 0 where there is no such field
+unfoldable pub row-at : List (List ℕ) → ℕ → List ℕ
+row-at taking b = cond (ltb (field-of b) fields) (getD taking (field-of b) []) (getD taking 0 [])
+
+-- does the front take c, where its field's set after c is this one?
+unfoldable pub takes-next : ℕ → ℕ → ℕ → Bool
+takes-next b next c = cond (is-standing b) (not (eqb next 0)) (eqb b c)
 
 module _ (T : Tables) where
   -- "a field whose set may end"

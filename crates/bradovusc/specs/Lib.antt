@@ -1,3 +1,6 @@
 pub mod Coded
+pub mod Codes
+pub mod Made
+pub mod Run
 pub mod Slots
 pub mod Struct

@@ -1,27 +1,64 @@
 -- The working buffer: one slot of 144 bytes for each situation entered. A slot's key is what makes two situations the same; behind it
 -- stand the number of the parent's slot and the step that made it.
-use Prim.Native.Nat.{ℕ, zero, suc, _*_, _/_, _%_, _≤_}
+use Prim.Native.Nat.{ℕ, zero, suc, _+_, _-_, _*_, _/_, _%_, _≤_}
 use mathlib.Core.Path.{_≡_}
-use mathlib.Core.Bool.{Bool, true, false, _||_}
-use mathlib.Core.List.{List, [], _∷_, _++_}
+use mathlib.Core.Bool.{Bool, false, _&&_, _||_}
+use mathlib.Core.List.{List, [], _∷_, _++_, List·Memᴰ}
 use lib.Dec.{eqb}
-use lib.ListN.{length, take, drop, replicate}
+use lib.ListN.{length, getD, take, drop, replicate}
 use Rattle.paper.specs.Lists.{each, same-by}
-use Rattle.paper.specs.Numbers.{situation-bytes}
+use Rattle.paper.specs.Numbers.{fields, longest-side, situation-bytes}
 use Rattle.bradovusc.specs.Coded.{Coded}
-use Rattle.bradovusc.specs.Struct.{padded}
+use Rattle.bradovusc.specs.Struct.{as-struct, Short}
+use Rattle.bradovusc.specs.declared.situation.Situation.{Situation}
 
 -- a mask in four bytes, low first
+abbrev pub mask-width : ℕ
+mask-width = 4
+
 abbrev pub mask-bytes : ℕ → List ℕ
 mask-bytes m = m % 256 ∷ m / 256 % 256 ∷ m / 65536 % 256 ∷ m / 16777216 ∷ []
 
--- the two lengths, the sides, the sets: 130 bytes
-abbrev pub key-bytes : ℕ
-key-bytes = 130
+-- where the parts of a slot begin: behind the two lengths the sides, each in 48 bytes, and the sets
+abbrev pub left-at : ℕ
+left-at = 2
 
-unfoldable pub key : Coded → List ℕ
-key s =
-    (length (s .left) ∷ length (s .right) ∷ []) ++ padded (s .left) ++ padded (s .right) ++ each mask-bytes (s .sets)
+abbrev pub right-at : ℕ
+right-at = left-at + longest-side
+
+abbrev pub sets-at : ℕ
+sets-at = right-at + longest-side
+
+abbrev pub sets-bytes : ℕ
+sets-bytes = mask-width * fields
+
+abbrev pub key-bytes : ℕ
+key-bytes = sets-at + sets-bytes
+
+-- the two lengths, the sides, the sets
+unfoldable pub struct-key : Situation → List ℕ
+struct-key s = (s .«left_len» ∷ s .«right_len» ∷ []) ++ s .left ++ s .right ++ each mask-bytes (s .sets)
+
+abbrev pub key : Coded → List ℕ
+key s = struct-key (as-struct s)
+
+-- behind the key: parent in two bytes (low first), step
+abbrev pub origin-width : ℕ
+origin-width = 3
+
+abbrev pub origin-bytes : ℕ → ℕ → List ℕ
+origin-bytes parent step = parent % 256 ∷ parent / 256 ∷ step ∷ []
+
+-- where what is left of a slot begins, and how much that is
+abbrev pub rest-at : ℕ
+rest-at = key-bytes + origin-width
+
+abbrev pub rest-bytes : ℕ
+rest-bytes = situation-bytes - rest-at
+
+-- key, origin, zeros
+unfoldable pub struct-slot : Situation → ℕ → ℕ → List ℕ
+struct-slot s parent step = struct-key s ++ origin-bytes parent step ++ replicate rest-bytes 0
 
 -- a situation entered: its parent's number and the step from there (both 0 for the first)
 pub record Slot : Type 0 where
@@ -29,21 +66,39 @@ pub record Slot : Type 0 where
   pub parent : ℕ
   pub step : ℕ
 
--- key, parent in two bytes (low first), step, zeros
-unfoldable pub slot-bytes : Slot → List ℕ
-slot-bytes s = key (s .at) ++ (s .parent % 256 ∷ s .parent / 256 ∷ s .step ∷ []) ++ replicate 11 0
+abbrev pub slot-bytes : Slot → List ℕ
+slot-bytes s = struct-slot (as-struct (s .at)) (s .parent) (s .step)
 
 -- the slots one behind the other
 abbrev pub slots-bytes : List Slot → List ℕ
 slots-bytes ss = each slot-bytes ss
 
--- the buffer begins with these slots
+-- the buffer begins with these slots, and each holds a situation that the struct can hold
 pub record Holds-slots (work : List ℕ) (ss : List Slot) : Type 0 where
   pub fits : situation-bytes * length ss ≤ length work
   pub holds : take (situation-bytes * length ss) work ≡ slots-bytes ss
+  pub short : (s : Slot) → List·Memᴰ s ss → Short (s .at)
+
+-- the n bytes from the place a on
+abbrev pub part : ℕ → ℕ → List ℕ → List ℕ
+part a n bytes = take n (drop a bytes)
+
+-- the bytes of the slot with the number i
+abbrev pub slot-part : List ℕ → ℕ → List ℕ
+slot-part work i = part (situation-bytes * i) situation-bytes work
+
+-- Is the side of the slot that of the key? Where the lengths, which stand at n, are the same, only the tokens, from a on, are compared.
+abbrev pub same-side : ℕ → ℕ → List ℕ → List ℕ → Bool
+same-side n a slot k =
+    eqb (getD slot n 0) (getD k n 0) && same-by eqb (part a (getD k n 0) slot) (part a (getD k n 0) k)
+
+-- does the slot have this key?
+unfoldable pub has-key : List ℕ → List ℕ → Bool
+has-key slot k =
+    same-side 0 left-at slot k
+    && (same-side 1 right-at slot k && same-by eqb (part sets-at sets-bytes slot) (part sets-at sets-bytes k))
 
 -- is the key that of one of the first n slots?
 abbrev pub key-entered : List ℕ → ℕ → List ℕ → Bool
 key-entered work zero k = false
-key-entered work (suc n) k =
-    key-entered work n k || same-by eqb (take key-bytes (drop (situation-bytes * n) work)) k
+key-entered work (suc n) k = has-key (slot-part work n) k || key-entered work n k

@@ -1,2 +1,4 @@
 // The library.
+mod search;
 mod situation;
+mod slots;

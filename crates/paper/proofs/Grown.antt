@@ -1,11 +1,12 @@
 -- How the entries of a search grow, as a relation without a test, and what that alone says of them: the count, that they are
 -- different, the first one, ways and parents, and that what holds of the first and goes over to children holds of all.
 -- Follows by induction on the growth.
-use Prim.Native.Nat.{ℕ, zero, suc, _≤_, _<_}
+use Prim.Native.Nat.{ℕ, _≤_, _<_}
 use native.Mathlib.Omega.{arith}
 use mathlib.Core.Path.{_≡_, refl, sym, ap, _∙_, subst}
 use mathlib.Core.Logic.{_⊎_, inl, inr, ⊎-elim}
-use mathlib.Core.List.{List, [], _∷_, _++_, List·Memᴰ, List·Memᴰ·head, List·Memᴰ·append-cases, List·Memᴰ·not-nil, List·Memᴰ·eq-of-singleton, append-assoc}
+use mathlib.Core.List.{List, [], _∷_, _++_, append-assoc}
+use mathlib.Core.List.{List·Memᴰ, List·Memᴰ·append-cases, List·Memᴰ·not-nil, List·Memᴰ·eq-of-singleton}
 use lib.ListN.{length, length-append}
 use Rattle.paper.proofs.Lists.{NoDup, none, more, nodup-snoc, map-append}
 use Rattle.paper.specs.Search.{Child, child, Entry}
@@ -23,38 +24,51 @@ module _ {S M : Type 0} (children : S → List (Child S M)) (room : ℕ) (s₀ :
   -- how the entries grow: the first one, then a new child of some entry, while there is room
   pub data Grown : List (Entry S M) → Type 0 where
     first : 0 < room → Grown (first-entry s₀ ∷ [])
-    grow : {l : List (Entry S M)} {p : Entry S M} {m : M} {s : S} → Grown l → List·Memᴰ p l → List·Memᴰ (child m s) (children (p .at)) → (List·Memᴰ s (situations l) → ⊥) → length l < room → Grown (l ++ (child-entry p m s ∷ []))
+    grow : {l : List (Entry S M)} {p : Entry S M} {m : M} {s : S} → Grown l
+        → List·Memᴰ p l → List·Memᴰ (child m s) (children (p .at)) → (List·Memᴰ s (situations l) → ⊥) → length l < room
+        → Grown (l ++ (child-entry p m s ∷ []))
 
-  -- the count never passes the room
   pub grown-count : {l : List (Entry S M)} → Grown l → length l ≤ room
   grown-count (first h) = h
   grown-count (grow {l = l} {p = p} {m = m} {s = s} g d c n h) = omega (arith, length-append l (child-entry p m s ∷ []), h)
 
-  -- what holds of the first entry, and of each new one, holds of all, over the entries that are there
-  grown-every {κ} : (P : List (Entry S M) → Entry S M → Type κ) → P (first-entry s₀ ∷ []) (first-entry s₀) → ((l : List (Entry S M)) (e x : Entry S M) → P l e → P (l ++ (x ∷ [])) e) → ((l : List (Entry S M)) (p : Entry S M) (m : M) (s : S) → List·Memᴰ p l → P l p → List·Memᴰ (child m s) (children (p .at)) → P (l ++ (child-entry p m s ∷ [])) (child-entry p m s)) → {l : List (Entry S M)} → Grown l → (e : Entry S M) → List·Memᴰ e l → P l e
-  grown-every P one still new (first h) e d = subst (P (first-entry s₀ ∷ [])) (sym (List·Memᴰ·eq-of-singleton d)) one
-  grown-every P one still new (grow {l = l} {p = p} {m = m} {s = s} g h c n r) e d =
-      ⊎-elim
-      (λ (i : List·Memᴰ e l). still l e (child-entry p m s) (grown-every P one still new g e i))
-      (λ (i : List·Memᴰ e (child-entry p m s ∷ [])). subst (P (l ++ (child-entry p m s ∷ []))) (sym (List·Memᴰ·eq-of-singleton i)) (new l p m s h (grown-every P one still new g p h) c))
-      (List·Memᴰ·append-cases l d)
-
   pub grown-first : {l : List (Entry S M)} → Grown l → (m : List (Entry S M)) × (l ≡ first-entry s₀ ∷ m)
   grown-first (first h) = ([], refl)
   grown-first (grow {p = p} {m = m} {s = s} g d c n h) =
-      let r = grown-first g in (r .0 ++ (child-entry p m s ∷ []), ap (λ (l : List (Entry S M)). l ++ (child-entry p m s ∷ [])) (r .1))
+      let r = grown-first g in
+      let x : List (Entry S M) = child-entry p m s ∷ [] in
+      (r .0 ++ x, ap (λ (l : List (Entry S M)). l ++ x) (r .1))
 
   pub grown-different : {l : List (Entry S M)} → Grown l → NoDup (situations l)
   grown-different (first h) = more List·Memᴰ·not-nil none
   grown-different (grow {l = l} {p = p} {m = m} {s = s} g d c n h) =
       rw (map-append (λ (e : Entry S M). e .at) l (child-entry p m s ∷ [])) (nodup-snoc (grown-different g) n)
 
+  -- what holds of the first entry, of a child of an entry of which it holds, and among more entries, holds of all
+  grown-every {κ} : (P : List (Entry S M) → Entry S M → Type κ)
+      → P (first-entry s₀ ∷ []) (first-entry s₀)
+      → ((l : List (Entry S M)) (e x : Entry S M) → P l e → P (l ++ (x ∷ [])) e)
+      → ((l : List (Entry S M)) (p : Entry S M) (m : M) (s : S)
+      → List·Memᴰ p l → P l p → List·Memᴰ (child m s) (children (p .at)) → P (l ++ (child-entry p m s ∷ [])) (child-entry p m s))
+      → {l : List (Entry S M)} → Grown l → (e : Entry S M) → List·Memᴰ e l → P l e
+  grown-every P one still new (first h) e d = subst (P (first-entry s₀ ∷ [])) (sym (List·Memᴰ·eq-of-singleton d)) one
+  grown-every P one still new (grow {l = l} {p = p} {m = m} {s = s} g h c n r) e d =
+      let x : Entry S M = child-entry p m s in
+      let new-one : P (l ++ (x ∷ [])) x = new l p m s h (grown-every P one still new g p h) c in
+      ⊎-elim
+      (λ (i : List·Memᴰ e l). still l e x (grown-every P one still new g e i))
+      (λ (i : List·Memᴰ e (x ∷ [])). subst (P (l ++ (x ∷ []))) (sym (List·Memᴰ·eq-of-singleton i)) new-one)
+      (List·Memᴰ·append-cases l d)
+
   -- what holds of s₀ and goes over to children
-  pub grown-by {κ} : (P : S → Type κ) → P s₀ → ((s : S) (m : M) (t : S) → P s → List·Memᴰ (child m t) (children s) → P t) → {l : List (Entry S M)} → Grown l → (e : Entry S M) → List·Memᴰ e l → P (e .at)
+  pub grown-by {κ} : (P : S → Type κ) → P s₀
+      → ((s : S) (m : M) (t : S) → P s → List·Memᴰ (child m t) (children s) → P t)
+      → {l : List (Entry S M)} → Grown l → (e : Entry S M) → List·Memᴰ e l → P (e .at)
   grown-by P one on g = grown-every (λ l e. P (e .at)) one (λ l e x h. h) (λ l p m s d h c. on (p .at) m s h c) g
 
   pub grown-leads : {l : List (Entry S M)} → Grown l → (e : Entry S M) → List·Memᴰ e l → Leads children s₀ (e .way) (e .at)
-  grown-leads g = grown-every (λ l e. Leads children s₀ (e .way) (e .at)) start (λ l e x h. h) (λ l p m s d h c. step h c) g
+  grown-leads g =
+      grown-every (λ l e. Leads children s₀ (e .way) (e .at)) start (λ l e x h. h) (λ l p m s d h c. step h c) g
 
   -- a way has fewer moves than there are entries
   pub grown-way : {l : List (Entry S M)} → Grown l → (e : Entry S M) → List·Memᴰ e l → length (e .way) < length l
@@ -64,11 +78,12 @@ module _ {S M : Type 0} (children : S → List (Child S M)) (room : ℕ) (s₀ :
       (λ l p m s d h c. omega (arith, length-append l (child-entry p m s ∷ [])))
       g
 
-  pub grown-parent : {l : List (Entry S M)} → Grown l → (e : Entry S M) → List·Memᴰ e l → (e ≡ first-entry s₀) ⊎ Parent children l e
+  pub grown-parent : {l : List (Entry S M)} → Grown l → (e : Entry S M) → List·Memᴰ e l
+      → (e ≡ first-entry s₀) ⊎ Parent children l e
   grown-parent g =
       grown-every (λ l e. (e ≡ first-entry s₀) ⊎ Parent children l e) (inl refl)
       (λ l e x h. ⊎-elim inl (λ (r : Parent children l e). inr (later-more l e x r)) h)
-      (λ l p m s d h c. inr (record { earlier = l; later = []; parent = p; move = m; in-order = refl; is-earlier = d; is-child = c; is-way = refl }))
+      (λ l p m s d h c. inr (newest l p m s d c))
       g
     where
       later-more : (l : List (Entry S M)) (e x : Entry S M) → Parent children l e → Parent children (l ++ (x ∷ [])) e
@@ -78,8 +93,23 @@ module _ {S M : Type 0} (children : S → List (Child S M)) (room : ℕ) (s₀ :
             later = r .later ++ (x ∷ []);
             parent = r .parent;
             move = r .move;
-            in-order = ap (λ (k : List (Entry S M)). k ++ (x ∷ [])) (r .in-order) ∙ append-assoc (r .earlier) (e ∷ r .later) (x ∷ []);
+            in-order =
+                ap (λ (k : List (Entry S M)). k ++ (x ∷ [])) (r .in-order) ∙ append-assoc (r .earlier) (e ∷ r .later) (x ∷ []);
             is-earlier = r .is-earlier;
             is-child = r .is-child;
             is-way = r .is-way;
+          }
+
+      newest : (l : List (Entry S M)) (p : Entry S M) (m : M) (s : S) → List·Memᴰ p l
+          → List·Memᴰ (child m s) (children (p .at)) → Parent children (l ++ (child-entry p m s ∷ [])) (child-entry p m s)
+      newest l p m s d c =
+          record {
+            earlier = l;
+            later = [];
+            parent = p;
+            move = m;
+            in-order = refl;
+            is-earlier = d;
+            is-child = c;
+            is-way = refl;
           }

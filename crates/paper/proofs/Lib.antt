@@ -4,5 +4,44 @@ pub mod Known
 -- the search over any situations
 pub mod Grown
 pub mod Ended
+pub mod Ends
 pub mod Room
 pub mod Searched
+pub mod Mapped
+-- places
+pub mod Parts
+pub mod After
+pub mod PlacesDecide
+pub mod PlaceSets
+pub mod Rising
+pub mod Reachable
+pub mod NotStuck
+pub mod Judged
+pub mod Accepts
+-- situations and their solutions
+pub mod Same
+pub mod Trimming
+pub mod Standing
+pub mod Labels
+pub mod Weight
+pub mod Solution
+pub mod Steps
+pub mod Moves
+pub mod Question
+pub mod Progress
+pub mod Spelled
+pub mod Answered
+pub mod Sound
+pub mod Complete
+-- plain questions
+pub mod Tails
+pub mod Standings
+pub mod Reached
+pub mod Plain
+-- from bytes to bytes
+pub mod Asked
+pub mod Children
+pub mod Rows
+pub mod QuestionSearched
+pub mod Demand2
+pub mod Demand3

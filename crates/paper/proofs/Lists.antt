@@ -1,23 +1,27 @@
--- Laws of lists by tests: what it says of the members that a test over a list passes or fails, the members of the lists that
--- `only`, `keep`, `each`, `map`, `from`, `upto` make, equality of lists by `same-by`, lists without repetition, and the pigeonhole.
+-- Laws of lists by tests: what it says of the members that a test over a list passes or fails; the members of the lists that
+-- `only`, `keep`, `each`, `map`, `from`, `upto` make; equality of lists by `same-by`; lists without repetition; the pigeonhole.
 -- Membership is `List·Memᴰ` of mathlib, length the native one of `lib.ListN`. Follows from the definitions by induction on lists.
 use Prim.Native.Nat.{ℕ, zero, suc, _+_, _≤_, _<_, zero-le, suc-le-suc}
 use native.Mathlib.Omega.{arith}
 use mathlib.Core.Path.{_≡_, refl, sym, ap, _∙_, subst}
 use mathlib.Core.Logic.{_⊎_, inl, inr, ⊎-elim, ⊎-map}
 use mathlib.Core.Bool.{Bool, true, false, _&&_, _||_, or-assoc, and-assoc}
-use mathlib.Core.List.{List, [], _∷_, _++_, map, List·Memᴰ, List·Memᴰ·head, List·Memᴰ·tail, List·Memᴰ·not-nil, Memᴰ·cast, Memᴰ·append-left, Memᴰ·append-right, List·Memᴰ·append-cases}
+use mathlib.Core.List.{List, [], _∷_, _++_, map}
+use mathlib.Core.List.{List·Memᴰ, List·Memᴰ·head, List·Memᴰ·tail, List·Memᴰ·not-nil, List·Memᴰ·append-cases}
+use mathlib.Core.List.{Memᴰ·cast, Memᴰ·append-left, Memᴰ·append-right}
 use lib.Dec.{eqb}
 use lib.ListN.{length}
 use Rattle.paper.specs.Lists.{from, upto, any, all, only, keep, same-by, each, member}
-use Rattle.paper.proofs.Tests.{by-bool, true-false, and-left, and-right, both-true, and-is-false, or-is-true, left-true, right-true, or-left-false, or-right-false, both-false, eqb-true, eq-eqb}
+use Rattle.paper.proofs.Tests.{by-bool, true-false, eqb-true, eqb-false, eq-eqb, and-left, and-right, both-true, and-is-false}
+use Rattle.paper.proofs.Tests.{or-is-true, left-true, right-true, or-left-false, or-right-false, both-false}
 
 pub cons-eq {ℓ} : {A : Type ℓ} {x y : A} {l m : List A} → x ≡ y → l ≡ m → x ∷ l ≡ y ∷ m
 cons-eq p q = λ i. p i ∷ q i
 
 module _ {ℓ} {A : Type ℓ} where
   -- what holds of the head and of each member of the rest holds of each member
-  pub mem-cons-by {κ} : (P : A → Type κ) {y : A} {l : List A} → P y → ((x : A) → List·Memᴰ x l → P x) → (x : A) → List·Memᴰ x (y ∷ l) → P x
+  pub mem-cons-by {κ} : (P : A → Type κ) {y : A} {l : List A} → P y → ((x : A) → List·Memᴰ x l → P x)
+      → (x : A) → List·Memᴰ x (y ∷ l) → P x
   mem-cons-by P h t x (List·Memᴰ·head e) = subst P (sym e) h
   mem-cons-by P h t x (List·Memᴰ·tail d) = t x d
 
@@ -132,7 +136,9 @@ from-mem {c} a zero h k = absurd (omega arith)
 from-mem {c} a (suc n) h k =
     by-bool (eqb c a)
     (λ e. List·Memᴰ·head (eqb-true c a e))
-    (λ (e : eqb c a ≡ false). let d : c ≡ a → ⊥ = λ q. true-false (eq-eqb c a q) e in List·Memᴰ·tail (from-mem (suc a) n (omega arith) (omega arith)))
+    (λ (e : eqb c a ≡ false).
+    let other : c ≡ a → ⊥ = eqb-false c a e in
+    List·Memᴰ·tail (from-mem (suc a) n (omega arith) (omega arith)))
 
 pub mem-upto : {c : ℕ} (n : ℕ) → List·Memᴰ c (upto n) → c < n
 mem-upto n d = let r = mem-from 0 n d in omega (arith, r)
@@ -168,7 +174,9 @@ module _ {ℓ} {A : Type ℓ} where
   pub nodup-append : {l m : List A} → NoDup l → NoDup m → ((x : A) → List·Memᴰ x l → List·Memᴰ x m → ⊥) → NoDup (l ++ m)
   nodup-append none nm h = nm
   nodup-append (more {x = x} {l = l} n nl) nm h =
-      more (λ d. ⊎-elim n (h x (List·Memᴰ·head refl)) (List·Memᴰ·append-cases l d)) (nodup-append nl nm (λ y d. h y (List·Memᴰ·tail d)))
+      more
+      (λ d. ⊎-elim n (h x (List·Memᴰ·head refl)) (List·Memᴰ·append-cases l d))
+      (nodup-append nl nm (λ y d. h y (List·Memᴰ·tail d)))
 
   pub nodup-snoc : {l : List A} {x : A} → NoDup l → (List·Memᴰ x l → ⊥) → NoDup (l ++ (x ∷ []))
   nodup-snoc {l} {x} nl n = nodup-append nl (more List·Memᴰ·not-nil none) (λ y d e. n (last y d e))
@@ -227,17 +235,20 @@ module _ {ℓ} {A : Type ℓ} where
       omega (arith, k, length-without m d)
 
   -- where one of the other is not among them, it is shorter
-  pub pigeonhole-lt : {l : List A} (m : List A) {x : A} → NoDup l → ((y : A) → List·Memᴰ y l → List·Memᴰ y m) → List·Memᴰ x m → (List·Memᴰ x l → ⊥) → length l < length m
+  pub pigeonhole-lt : {l : List A} (m : List A) {x : A} → NoDup l → ((y : A) → List·Memᴰ y l → List·Memᴰ y m)
+      → List·Memᴰ x m → (List·Memᴰ x l → ⊥) → length l < length m
   pigeonhole-lt {l} m {x} nl h k n = pigeonhole m (more n nl) (mem-cons-by (λ (z : A). List·Memᴰ z m) k h)
 
-pub nodup-map {ℓ κ} : {A : Type ℓ} {B : Type κ} (f : A → B) {l : List A} → ((x y : A) → f x ≡ f y → x ≡ y) → NoDup l → NoDup (map f l)
+pub nodup-map {ℓ κ} : {A : Type ℓ} {B : Type κ} (f : A → B) {l : List A}
+    → ((x y : A) → f x ≡ f y → x ≡ y) → NoDup l → NoDup (map f l)
 nodup-map f inj none = none
 nodup-map f inj (more {x = x} {l = l} n nl) =
     more (λ d. let r = mem-map f l d in n (Memᴰ·cast (inj x (r .0) (r .2)) (r .1))) (nodup-map f inj nl)
 
 pub nodup-from : (a n : ℕ) → NoDup (from a n)
 nodup-from a zero = none
-nodup-from a (suc n) = more (λ (d : List·Memᴰ a (from (suc a) n)). let r = mem-from (suc a) n d in omega (arith, r)) (nodup-from (suc a) n)
+nodup-from a (suc n) =
+    more (λ (d : List·Memᴰ a (from (suc a) n)). let r = mem-from (suc a) n d in omega (arith, r)) (nodup-from (suc a) n)
 
 pub nodup-upto : (n : ℕ) → NoDup (upto n)
 nodup-upto n = nodup-from 0 n

@@ -5,12 +5,13 @@ use native.Mathlib.Nat.{zero-add, suc-add}
 use native.Mathlib.Omega.{arith}
 use mathlib.Core.Path.{_≡_, refl, sym, ap, _∙_}
 use mathlib.Core.Logic.{_⊎_, inl, inr, ⊎-elim}
-use mathlib.Core.Bool.{Bool, true, false, cond}
+use mathlib.Core.Bool.{Bool}
 use mathlib.Core.List.{List, [], _∷_, _++_}
 use lib.Dec.{leb}
 use lib.ListN.{length}
 use Rattle.paper.proofs.Tests.{by-bool, leb-false, lt-leb}
-use Rattle.paper.specs.Search.{Child, long, child, Entry, End, no-room, State, going, ended, entered, enter, offer, offer-all, take-next, turns, search, how}
+use Rattle.paper.specs.Search.{Child, long, child, Entry, End, no-room, State, going, ended}
+use Rattle.paper.specs.Search.{entered, enter, offer, offer-all, take-next, turns, search, how}
 
 module _ {S M : Type 0} (same : S → S → Bool) (finished : S → Bool) (children : S → List (Child S M)) where
   -- a search that has ended stays as it is
@@ -20,13 +21,14 @@ module _ {S M : Type 0} (same : S → S → Bool) (finished : S → Bool) (child
   ended-offer-all room way x l [] = refl
   ended-offer-all room way x l (k ∷ ks) = ended-offer-all room way x l ks
 
-  ended-turns : (room n : ℕ) (x : End S M) (l : List (Entry S M)) → turns same finished children room n (ended x l) ≡ ended x l
+  pub ended-turns : (room n : ℕ) (x : End S M) (l : List (Entry S M)) → turns same finished children room n (ended x l) ≡ ended x l
   unfolding take-next
   ended-turns room zero x l = refl
   ended-turns room (suc n) x l = ended-turns room n x l
 
   turns-add : (room k n : ℕ) (st : State S M)
-      → turns same finished children room (k + n) st ≡ turns same finished children room n (turns same finished children room k st)
+      → turns same finished children room (k + n) st
+      ≡ turns same finished children room n (turns same finished children room k st)
   turns-add room zero n st = rw (zero-add n)
   turns-add room (suc k) n st = rw (suc-add k n) (turns-add room k n (take-next same finished children room st))
 
@@ -62,7 +64,8 @@ module _ {S M : Type 0} (same : S → S → Bool) (finished : S → Bool) (child
         (λ h. rw h (offer-all-alike way ks (offer same finished children room′ way st k)))
         (offer-alike way st k)
 
-    take-next-alike : (st : State S M) → Alike (take-next same finished children room st) (take-next same finished children room′ st)
+    take-next-alike : (st : State S M)
+        → Alike (take-next same finished children room st) (take-next same finished children room′ st)
     unfolding take-next
     take-next-alike (ended x l) = inr refl
     take-next-alike (going t []) = inr refl
@@ -76,6 +79,13 @@ module _ {S M : Type 0} (same : S → S → Bool) (finished : S → Bool) (child
         turns-alike n (take-next same finished children room st) (take-next same finished children room′ st′)
         (⊎-elim (λ h. inl (h .0, rw (h .1))) (λ h. rw h (take-next-alike st′)) a)
 
+    turns-of-larger : (st : State S M)
+        → turns same finished children room′ (suc room′) st
+        ≡ turns same finished children room′ (room′ - room) (turns same finished children room′ (suc room) st)
+    turns-of-larger st =
+        let sum : suc room′ ≡ suc room + (room′ - room) = omega arith in
+        ap (λ (k : ℕ). turns same finished children room′ k st) sum ∙ turns-add room′ (suc room) (room′ - room) st
+
     -- what the smaller room settles, if it does not give out, the larger one settles in as many turns, and then rests
     pub search-alike : (s : S) (x : End S M) (l : List (Entry S M)) → (x ≡ no-room → ⊥)
         → search same finished children room s ≡ ended x l
@@ -83,17 +93,9 @@ module _ {S M : Type 0} (same : S → S → Bool) (finished : S → Bool) (child
     unfolding search
     search-alike s x l n e =
         let e₀ : Entry S M = record { at = s; way = [] } in
+        let st : State S M = enter same finished children room [] [] e₀ in
+        let st′ : State S M = enter same finished children room′ [] [] e₀ in
         ⊎-elim
         (λ h. absurd (n (ap (how same finished children) (sym e ∙ h .1))))
-        (λ h.
-        rw (turns-of-larger (enter same finished children room′ [] [] e₀), ← h, e) (ended-turns room′ (room′ - room) x l))
-        (turns-alike (suc room) (enter same finished children room [] [] e₀) (enter same finished children room′ [] [] e₀) (enter-alike [] [] e₀))
-      where
-        turns-of-larger : (st : State S M)
-            → turns same finished children room′ (suc room′) st
-            ≡ turns same finished children room′ (room′ - room) (turns same finished children room′ (suc room) st)
-        turns-of-larger st =
-            ap (λ (k : ℕ). turns same finished children room′ k st) (suc-sum) ∙ turns-add room′ (suc room) (room′ - room) st
-          where
-            suc-sum : suc room′ ≡ suc room + (room′ - room)
-            suc-sum = omega arith
+        (λ h. rw (turns-of-larger st′, ← h, e) (ended-turns room′ (room′ - room) x l))
+        (turns-alike (suc room) st st′ (enter-alike [] [] e₀))

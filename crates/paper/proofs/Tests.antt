@@ -3,7 +3,7 @@
 -- Follows from the tables of the Boolean operations and from `lib.Dec`.
 use Prim.Native.Nat.{ℕ, suc, _≤_, _<_}
 use native.Mathlib.Omega.{arith}
-use mathlib.Core.Path.{_≡_, refl, sym, subst}
+use mathlib.Core.Path.{_≡_, refl, sym}
 use mathlib.Core.Logic.{_⊎_, inl, inr}
 use mathlib.Core.Bool.{Bool, true, false, cond, not, _&&_, _||_, true≢false}
 use lib.Dec.{T, leb, ltb, eqb, leb→le, le→leb, nleb→lt, nltb→le, eqb→eq, eqb-refl}

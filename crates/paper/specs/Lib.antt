@@ -4,15 +4,20 @@ pub mod Numbers
 -- the meaning
 pub mod Equation
 pub mod Pattern
+pub mod Taken
 pub mod Places
+pub mod Reachable
 pub mod Search
 pub mod Leads
 pub mod Situation
 pub mod Decides
 pub mod Way
+pub mod Plain
 pub mod Question
 -- the bytes
 pub mod Written
 pub mod Sheet
 pub mod Outcome
 pub mod Printed
+-- what is promised of the whole
+pub mod Demands

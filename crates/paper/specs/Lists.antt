@@ -2,7 +2,7 @@
 -- `from a n` and `upto n` count; `any`, `all`, `keep` go by a test; `each` joins what every element gives;
 -- `only b x` is x alone or nothing; `same-by` is equality of lists by a test of their elements.
 use Prim.Native.Nat.{ℕ, zero, suc}
-use mathlib.Core.Bool.{Bool, true, false, cond, _&&_, _||_}
+use mathlib.Core.Bool.{Bool, true, false, _&&_, _||_}
 use mathlib.Core.List.{List, [], _∷_, _++_}
 use lib.Dec.{eqb}
 

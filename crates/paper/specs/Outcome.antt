@@ -1,8 +1,8 @@
 -- The whole outcome (document 01): from a sheet, a working buffer and an answer buffer, any lists of bytes, to the number, the
 -- count, the place, the bytes written and both buffers afterwards. One definition, for all lists.
-use Prim.Native.Nat.{ℕ, _+_, _/_, _%_, min}
-use mathlib.Core.Bool.{Bool, true, false, cond, not}
-use mathlib.Core.List.{List, [], _∷_, _++_}
+use Prim.Native.Nat.{ℕ, _/_, _%_, min}
+use mathlib.Core.Bool.{Bool, cond, not}
+use mathlib.Core.List.{List, _∷_, _++_}
 use lib.Dec.{leb}
 use lib.ListN.{length, drop, replicate}
 use Rattle.paper.specs.Lists.{upto, any, keep, each}
@@ -13,7 +13,7 @@ use Rattle.paper.specs.Equation.{stands-in}
 use Rattle.paper.specs.Situation.{Situation, Move, same-situation, finished, children}
 use Rattle.paper.specs.Way.{search-from, texts-of}
 use Rattle.paper.specs.Question.{Question, acceptor}
-use Rattle.paper.specs.Sheet.{Fault, fault-number, Reading, refused, asked, read-sheet}
+use Rattle.paper.specs.Sheet.{fault-number, Reading, refused, asked, read-sheet}
 
 pub record Outcome : Type 0 where
   pub number : ℕ

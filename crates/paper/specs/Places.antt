@@ -4,13 +4,12 @@
 -- The start is place 0. The leaves are 1, 2, .. in the order of reading. A part of a pattern has its leaves from `o` on:
 -- the place of its first leaf. A place set is the list of its places, rising.
 use Prim.Native.Nat.{ℕ, zero, suc, _+_, _^_}
-use mathlib.Core.Bool.{Bool, true, false, cond, _&&_, _||_, not}
-use mathlib.Core.List.{List, [], _∷_, _++_, map}
+use mathlib.Core.Bool.{Bool, true, false, _&&_, _||_, not}
+use mathlib.Core.List.{List, [], _∷_, map}
 use lib.Dec.{eqb}
-use lib.ListN.{length}
 use Rattle.paper.specs.Lists.{from, upto, any, keep, each, only, same-by}
-use Rattle.paper.specs.Pattern.{Leaf, takes, Pattern, leaf, empty, then, either, many, Held, any-text, pattern}
-use Rattle.paper.specs.Search.{Child, child, Entry, State, search, entries}
+use Rattle.paper.specs.Pattern.{takes, Pattern, leaf, empty, then, either, many, Held, any-text, pattern}
+use Rattle.paper.specs.Search.{Child, child, Entry, search, entries}
 
 -- the number of leaves
 abbrev pub leaves : Pattern → ℕ

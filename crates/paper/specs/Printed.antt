@@ -1,9 +1,9 @@
 -- What the program `clash` prints (document 01, "The program"), as bytes.
 use Prim.Native.Nat.{ℕ, zero, suc, _+_, _*_, _/_, _%_}
-use mathlib.Core.Bool.{Bool, true, false, cond}
+use mathlib.Core.Bool.{cond}
 use mathlib.Core.List.{List, [], _∷_, _++_, map}
-use lib.Dec.{eqb, ltb}
-use lib.ListN.{length, getD, take, drop, replicate}
+use lib.Dec.{ltb}
+use lib.ListN.{getD, take, drop, replicate}
 use Rattle.paper.specs.Numbers.{program-input, program-work, program-answer}
 use Rattle.paper.specs.Outcome.{Outcome, outcome}
 

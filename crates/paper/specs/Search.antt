@@ -5,7 +5,7 @@
 -- that is too long. Children are trimmed already and none is dead: what they are is not the search's business.
 -- The state is two lists in the order of entry: those taken, and those that wait to be taken. All that was entered is both.
 use Prim.Native.Nat.{ℕ, zero, suc}
-use mathlib.Core.Bool.{Bool, true, false, cond}
+use mathlib.Core.Bool.{Bool, cond}
 use mathlib.Core.List.{List, [], _∷_, _++_}
 use lib.Dec.{leb}
 use lib.ListN.{length}

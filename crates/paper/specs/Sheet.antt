@@ -1,8 +1,8 @@
 -- The question sheet (document 01, "The question sheet" and "Checks on the sheet"): every fault in 01's order with its place,
 -- and the question of a good sheet. A sheet is any list of bytes.
 use Prim.Native.Nat.{ℕ, zero, suc, _+_, _-_}
-use mathlib.Core.Bool.{Bool, true, false, cond, _&&_, _||_, not}
-use mathlib.Core.List.{List, [], _∷_, map}
+use mathlib.Core.Bool.{Bool, cond, _&&_, _||_}
+use mathlib.Core.List.{List, map}
 use lib.Dec.{leb, ltb, eqb}
 use lib.ListN.{length, getD, take, drop, set, replicate}
 use Rattle.paper.specs.Lists.{all}

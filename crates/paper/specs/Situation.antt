@@ -1,6 +1,6 @@
 -- Situations (document 01, "The search"): trimming, finished / dead / open, the children in 01's order.
 -- Over any number of characters and fields, and any acceptor of the fields' texts: 01's place sets are one.
-use Prim.Native.Nat.{ℕ, zero, suc}
+use Prim.Native.Nat.{ℕ}
 use mathlib.Core.Bool.{Bool, true, false, cond, _&&_, _||_, not}
 use mathlib.Core.List.{List, [], _∷_, _++_, map}
 use lib.Dec.{leb, eqb}

@@ -1,6 +1,5 @@
 -- The search of document 01 on a question, and the texts that a way spells.
 use Prim.Native.Nat.{ℕ}
-use mathlib.Core.Bool.{Bool, true, false}
 use mathlib.Core.List.{List, [], _∷_, _++_, reverse}
 use Rattle.paper.specs.Lists.{member, only}
 use Rattle.paper.specs.Search.{Entry, State, search}

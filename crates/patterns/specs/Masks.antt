@@ -10,7 +10,7 @@ use lib.Dec.{eqb}
 use lib.ListN.{getD, replicate}
 use Rattle.paper.specs.Lists.{upto, any, keep}
 use Rattle.paper.specs.Numbers.{characters, most-leaves}
-use Rattle.paper.specs.Pattern.{Pattern, Held, any-text, pattern}
+use Rattle.paper.specs.Pattern.{Held, any-text, pattern}
 use Rattle.paper.specs.Places.{leaf-takes, follows, ends-at, PlaceSet}
 use Rattle.paper.specs.Written.{Judged, not-one-pattern, too-many-leaves, judged}
 use Rattle.patterns.specs.declared.Verdict.{Verdict}

@@ -1,0 +1,177 @@
+-- The search over slots is the paper's search of the question, to its end: it ends alike, with as many slots as entries, and the text spelt
+-- back from the last slot is the text of the entry found.
+--   status-agrees : slots .status ≡ status-of (how-of q (searched q room))
+--   count-agrees  : length (slots .slots) ≡ count-of q (searched q room)
+--   text-agrees   : text-back n (slots .slots) f last ≡ texts-of (acceptor q) (q .left) (q .right) e f, where e is found
+-- Holds of good questions. Follows from the children and tests agreeing (`CodedChildren`), from the law of two searches side by
+-- side (`Mapped`), and from the slots standing for entries (`Numbered`).
+use Prim.Native.Nat.{ℕ, zero, suc, _-_, _≤_, _<_}
+use native.Mathlib.Omega.{arith}
+use mathlib.Core.Path.{_≡_, refl, sym, ap, ap₂, _∙_}
+use mathlib.Core.Bool.{true, _&&_}
+use mathlib.Core.List.{List, [], _∷_, _++_, map, reverse, List·Memᴰ, List·Memᴰ·head, List·Memᴰ·tail}
+use lib.ListN.{length, getD, length-append, List·getD-map}
+use lib.Seq.{getD-at}
+use Rattle.paper.specs.Numbers.{fields, longest-side}
+use Rattle.paper.specs.Pattern.{Held, any-text, pattern}
+use Rattle.paper.specs.Places.{PlaceSet}
+use Rattle.paper.specs.Search.{Entry, End, found, used-up, no-room, too-long, search, entries}
+use Rattle.paper.specs.Leads.{Leads}
+use Rattle.paper.specs.Situation.{Situation, Move, same-situation, finished, children, question}
+use Rattle.paper.specs.Way.{text-along, texts-of, search-from}
+use Rattle.paper.specs.Question.{Question, held-by, acceptor}
+use Rattle.paper.specs.Outcome.{searched, count-of, how-of}
+use Rattle.paper.proofs.Asked.{GoodHeld, GoodQuestion}
+use Rattle.paper.proofs.Same.{situation-equal, situation-same}
+use Rattle.paper.proofs.PlaceSets.{same-equal, equal-same}
+use Rattle.paper.proofs.Searched as Searched
+use Rattle.paper.proofs.Mapped.{code-entry, code-entries, code-end, Simulates, search-how, search-entries, search-count}
+use Rattle.patterns.proofs.Masks.{Few}
+use Rattle.bradovusc.specs.Coded.{Coded, finished-coded, same-coded, children-coded}
+use Rattle.bradovusc.specs.Codes.{code-situation, code-move, tables-of}
+use Rattle.bradovusc.specs.Run.{Running, slot-at, slot-search, given-coded, text-back}
+use Rattle.bradovusc.proofs.Numbered.{entry-at, status-of, Linked, linked-length, linked-at, slots-status, slots-linked}
+use Rattle.bradovusc.proofs.TextBack.{text-back-is}
+use Rattle.bradovusc.proofs.CodedSides.{known-side, same-sides, finished-sides}
+use Rattle.bradovusc.proofs.CodedSets.{Good, same-sets}
+use Rattle.bradovusc.proofs.CodedChildren.{children-agree}
+use Rattle.bradovusc.proofs.KeptGood.{child-good, question-good}
+use Rattle.bradovusc.proofs.Ways.{way-last, way-known, text-last, given-agrees}
+
+abbrev Paper-entries : Type 0
+Paper-entries = List (Entry (Situation PlaceSet) Move)
+
+status-coded : (x : End (Situation PlaceSet) Move) → status-of (code-end code-situation code-move x) ≡ status-of x
+status-coded (found e) = refl
+status-coded used-up = refl
+status-coded no-room = refl
+status-coded too-long = refl
+
+no-moves : (way : List Move) → map code-move way ≡ [] → way ≡ []
+no-moves [] e = refl
+no-moves (m ∷ way) e = absurd (let z : _≡_ {A = ℕ} 0 1 = cc in omega arith)
+
+getD-mem {ℓ} : {A : Type ℓ} (l : List A) (d : A) (i : ℕ) → i < length l → List·Memᴰ (getD l i d) l
+getD-mem [] d i h = absurd (omega arith)
+getD-mem (x ∷ l) d zero h = List·Memᴰ·head refl
+getD-mem (x ∷ l) d (suc i) h = List·Memᴰ·tail (getD-mem l d i (omega arith))
+
+few-leaves : (h : Held) → GoodHeld h → Few h
+few-leaves any-text g = tt
+few-leaves (pattern p) g = g .1
+
+module _ (q : Question) (good : GoodQuestion q) where
+  few : (f : ℕ) → Few (held-by q f)
+  few f = few-leaves (held-by q f) (good .held .good f)
+
+  same-agrees : (s t : Situation PlaceSet) → Good s → Good t → same-coded (code-situation s) (code-situation t) ≡ same-situation (acceptor q) s t
+  unfolding acceptor
+  same-agrees s t g h =
+      ap₂ _&&_ (same-sides (s .left) (t .left) (g .left) (h .left))
+      (ap₂ _&&_ (same-sides (s .right) (t .right) (g .right) (h .right)) (same-sets (s .sets) (t .sets) (g .masked) (h .masked)))
+
+  simulates : Simulates code-situation code-move (same-situation (acceptor q)) (finished (acceptor q)) (children (acceptor q) longest-side) same-coded finished-coded (children-coded (tables-of q)) Good
+  simulates =
+      record {
+        same-alike = same-agrees;
+        finished-alike = λ s g. finished-sides (acceptor q) (s .left) (s .right);
+        children-alike = children-agree q few;
+        child-good = child-good q few;
+      }
+
+  -- the trimmed question
+  abbrev first : Situation PlaceSet
+  first = question (acceptor q) (q .left) (q .right)
+
+  first-good : Good first
+  first-good = question-good q few (q .left) (q .right) (known-side (q .left) (good .left .tokens)) (known-side (q .right) (good .right .tokens))
+
+  situations-equal : (s t : Situation PlaceSet) → same-situation (acceptor q) s t ≡ true → s ≡ t
+  unfolding acceptor
+  situations-equal = situation-equal (acceptor q) same-equal
+
+  situations-same : (s : Situation PlaceSet) → same-situation (acceptor q) s s ≡ true
+  unfolding acceptor
+  situations-same = situation-same (acceptor q) equal-same
+
+  module _ (room : ℕ) where
+    abbrev the-entries : Paper-entries
+    the-entries = entries (same-situation (acceptor q)) (finished (acceptor q)) (children (acceptor q) longest-side) (search (same-situation (acceptor q)) (finished (acceptor q)) (children (acceptor q) longest-side) room first)
+
+    -- the search over slots, from the first situation as the code holds it
+    abbrev pub slots : Running
+    slots = slot-search (tables-of q) room (code-situation first)
+
+    pub status-agrees : slots .status ≡ status-of (how-of q (searched q room))
+    unfolding how-of searched search-from
+    status-agrees =
+        slots-status (tables-of q) room (code-situation first)
+        ∙ ap status-of (search-how code-situation code-move _ _ _ _ _ _ Good simulates room first first-good)
+        ∙ status-coded (how-of q (searched q room))
+
+    entries-linked : Linked (slots .slots) (code-entries code-situation code-move the-entries)
+    entries-linked = rw (search-entries code-situation code-move _ _ _ _ _ _ Good simulates room first first-good) at (slots-linked (tables-of q) room (code-situation first))
+
+    as-many : length (slots .slots) ≡ length the-entries
+    as-many =
+        linked-length (slots-linked (tables-of q) room (code-situation first))
+        ∙ search-count code-situation code-move _ _ _ _ _ _ Good simulates room first first-good
+
+    pub count-agrees : length (slots .slots) ≡ count-of q (searched q room)
+    unfolding count-of searched search-from
+    count-agrees = as-many
+
+    -- the paper's entry with the number i
+    abbrev paper-at : ℕ → Entry (Situation PlaceSet) Move
+    paper-at i = getD the-entries i (record { at = record { left = []; right = []; sets = [] }; way = [] })
+
+    coded-at : (i : ℕ) → entry-at (code-entries code-situation code-move the-entries) i ≡ code-entry code-situation code-move (paper-at i)
+    coded-at i = List·getD-map (code-entry code-situation code-move) the-entries i (record { at = record { left = []; right = []; sets = [] }; way = [] })
+
+    module _ (i : ℕ) (h : i < length (slots .slots)) where
+      at-mem : List·Memᴰ (paper-at i) the-entries
+      at-mem = getD-mem the-entries _ i (omega (arith, as-many))
+
+      at-leads : Leads (children (acceptor q) longest-side) first (paper-at i .way) (paper-at i .at)
+      at-leads = Searched.way-leads _ _ _ situations-equal situations-same room first (paper-at i) at-mem
+
+      at-good : Good (paper-at i .at)
+      at-good = Searched.every-entry _ _ _ situations-equal situations-same room first Good first-good (λ s m t g d. child-good q few s m t g d) (paper-at i) at-mem
+
+    module _ (f : ℕ) (b : f < fields) where
+      abbrev text : ℕ → List ℕ
+      text i = text-along (acceptor q) f first (reverse (paper-at i .way))
+
+      text-first : text 0 ≡ []
+      text-first = rw (no-moves (paper-at 0 .way) (ap (λ (e : Entry Coded ℕ). e .way) (sym (coded-at 0)) ∙ entries-linked .first-way))
+
+      text-grows : (i : ℕ) → suc i < length (slots .slots)
+          → text (suc i) ≡ text (slot-at (slots .slots) (suc i) .parent) ++ given-coded f (slot-at (slots .slots) (slot-at (slots .slots) (suc i) .parent) .at) (slot-at (slots .slots) (suc i) .step)
+      text-grows i h =
+          let parent = slot-at (slots .slots) (suc i) .parent in
+          let below : parent < length (slots .slots) = omega (arith, entries-linked .earlier i h) in
+          let last = way-last (paper-at (suc i) .way) (slot-at (slots .slots) (suc i) .step) (paper-at parent .way) (way-known q (at-leads (suc i) h)) (way-known q (at-leads parent below))
+          (rw (coded-at (suc i), coded-at parent) at (entries-linked .its-way i h)) in
+          let at-parent : slot-at (slots .slots) parent .at ≡ code-situation (paper-at parent .at) = linked-at entries-linked parent ∙ ap (λ (e : Entry Coded ℕ). e .at) (coded-at parent) in
+          ap (λ (w : List Move). text-along (acceptor q) f first (reverse w)) (last .is)
+          ∙ text-last (acceptor q) f longest-side (last .move) (at-leads parent below)
+          ∙ ap (λ (w : List ℕ). text parent ++ w)
+          (sym (given-agrees q f (paper-at parent .at) (last .move) b (at-good parent below) (last .known)) ∙ ap₂ (given-coded f) (sym at-parent) (last .number))
+
+    -- The entry found is in the last slot.
+    pub found-last : (e : Entry (Situation PlaceSet) Move) → how-of q (searched q room) ≡ found e
+        → (0 < length (slots .slots)) × (paper-at (length (slots .slots) - 1) ≡ e)
+    unfolding how-of searched search-from
+    found-last e h =
+        let r = Searched.found-is-last _ _ _ situations-equal situations-same room first e h in
+        let n : length (slots .slots) ≡ suc (length (r .0)) = as-many ∙ omega (arith, ap length (r .1), length-append (r .0) (e ∷ [])) in
+        (omega arith, rw (r .1) (getD-at (r .0) e [] _ (length (slots .slots) - 1) (omega arith)))
+
+    -- The text spelt back from there is the text of the entry found.
+    pub text-agrees : (e : Entry (Situation PlaceSet) Move) → how-of q (searched q room) ≡ found e → (f : ℕ) → f < fields → (n : ℕ) → length (slots .slots) - 1 ≤ n
+        → text-back n (slots .slots) f (length (slots .slots) - 1) ≡ texts-of (acceptor q) (q .left) (q .right) e f
+    unfolding texts-of
+    text-agrees e h f b n m =
+        let last = found-last e h in
+        text-back-is (slots .slots) f (text f b) (entries-linked .earlier) (text-first f b) (text-grows f b) n (length (slots .slots) - 1) m (omega arith)
+        ∙ ap (λ (x : Entry (Situation PlaceSet) Move). text-along (acceptor q) f first (reverse (x .way))) (last .1)

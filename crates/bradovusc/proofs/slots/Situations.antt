@@ -1,0 +1,102 @@
+-- The slot of a situation that the struct can hold: its length, its parts, and that its key tells the situation.
+-- Follows from the laws of keys and of comparing.
+use Prim.Native.Nat.{ℕ, _≤_}
+use native.Mathlib.Omega.{arith}
+use mathlib.Core.Path.{_≡_, refl, sym, _∙_}
+use mathlib.Core.Bool.{true, _&&_}
+use mathlib.Core.List.{List, [], _++_, append-nil}
+use lib.Dec.{eqb}
+use lib.ListN.{length, getD, take, drop, length-append, length-replicate}
+use lib.Seq.{take-at, take-take}
+use Rattle.paper.specs.Lists.{each, same-by}
+use Rattle.paper.specs.Numbers.{longest-side, situation-bytes}
+use Rattle.paper.proofs.Tests.{and-left, and-right, both-true}
+use Rattle.bradovusc.specs.Coded.{Coded, same-coded}
+use Rattle.bradovusc.specs.Struct.{padded, as-struct, Short}
+use Rattle.bradovusc.specs.Slots.{mask-bytes, Slot, slot-bytes, part, key, key-bytes, left-at, right-at, sets-at, sets-bytes, struct-key, has-key}
+use Rattle.bradovusc.proofs.slots.Sets.{sets-compared}
+use Rattle.bradovusc.proofs.slots.Compared.{bytes-equal, equal-bytes, side-compared}
+use Rattle.bradovusc.proofs.slots.Keys.{Sized, length-key, left-part, right-part, sets-part, behind-key, slot-split, length-slot}
+
+-- The test of situations is equality.
+pub same-coded-equal : (a b : Coded) → same-coded a b ≡ true → a ≡ b
+same-coded-equal a b t =
+    let l = bytes-equal (a .left) (b .left) (and-left _ _ t) in
+    let u = and-right (same-by eqb (a .left) (b .left)) _ t in
+    let r = bytes-equal (a .right) (b .right) (and-left _ _ u) in
+    let s = bytes-equal (a .sets) (b .sets) (and-right (same-by eqb (a .right) (b .right)) _ u) in
+    λ i. record { left = l i; right = r i; sets = s i }
+
+pub equal-same-coded : (a : Coded) → same-coded a a ≡ true
+equal-same-coded a =
+    both-true (equal-bytes (a .left) (a .left) refl)
+    (both-true (equal-bytes (a .right) (a .right) refl) (equal-bytes (a .sets) (a .sets) refl))
+
+padded-length : (side : List ℕ) → length side ≤ longest-side → length (padded side) ≡ longest-side
+padded-length side h = rw (length-append, length-replicate) (omega arith)
+
+short-sized : {k : Coded} → Short k → Sized (as-struct k)
+short-sized {k} h =
+    record { left = padded-length (k .left) (h .left); right = padded-length (k .right) (h .right); sets = h .sets }
+
+pub short-key : {k : Coded} → Short k → length (key k) ≡ key-bytes
+short-key {k} h = length-key (as-struct k) (short-sized h)
+
+-- The bytes of a slot are 144.
+pub length-slot-bytes : (x : Slot) → Short (x .at) → length (slot-bytes x) ≡ situation-bytes
+length-slot-bytes x h = length-slot (as-struct (x .at)) (short-key h) (x .parent) (x .step)
+
+-- the parts of a slot's bytes
+module _ (x : Slot) (h : Short (x .at)) (l : List ℕ) (e : l ≡ slot-bytes x) where
+  whole : l ≡ key (x .at) ++ behind-key (x .parent) (x .step)
+  whole = e ∙ slot-split (as-struct (x .at)) (short-key h) (x .parent) (x .step)
+
+  pub left-length-read : getD l 0 0 ≡ length (x .at .left)
+  unfolding struct-key
+  left-length-read = rw whole
+
+  pub right-length-read : getD l 1 0 ≡ length (x .at .right)
+  unfolding struct-key
+  right-length-read = rw whole
+
+  pub left-read : part left-at longest-side l ≡ padded (x .at .left)
+  left-read = rw whole (left-part (as-struct (x .at)) (short-sized h) (behind-key (x .parent) (x .step)))
+
+  pub right-read : part right-at longest-side l ≡ padded (x .at .right)
+  right-read = rw whole (right-part (as-struct (x .at)) (short-sized h) (behind-key (x .parent) (x .step)))
+
+  pub sets-read : part sets-at sets-bytes l ≡ each mask-bytes (x .at .sets)
+  sets-read = rw whole (sets-part (as-struct (x .at)) (short-sized h) (behind-key (x .parent) (x .step)))
+
+-- the tokens of a side are the front of its 48 bytes
+tokens : (side x : List ℕ) → length side ≤ longest-side → take longest-side x ≡ padded side → take (length side) x ≡ side
+tokens side x h e = sym (take-take (length side) longest-side x h) ∙ rw e (take-at side _ (length side) refl)
+
+module _ (k : Coded) (h : Short k) (t : List ℕ) where
+  left-tokens : take (length (k .left)) (drop left-at (key k ++ t)) ≡ k .left
+  left-tokens = tokens (k .left) (drop left-at (key k ++ t)) (h .left) (left-part (as-struct k) (short-sized h) t)
+
+  right-tokens : take (length (k .right)) (drop right-at (key k ++ t)) ≡ k .right
+  right-tokens = tokens (k .right) (drop right-at (key k ++ t)) (h .right) (right-part (as-struct k) (short-sized h) t)
+
+-- Comparing the keys of two situations is comparing the situations, whatever stands behind the keys.
+keys-compared : (a b : Coded) (t u : List ℕ) → Short a → Short b → has-key (key a ++ t) (key b ++ u) ≡ same-coded a b
+unfolding has-key struct-key
+keys-compared a b t u h k =
+    let l = side-compared (a .left) (b .left) (drop left-at (key a ++ t)) (drop left-at (key b ++ u)) (left-tokens a h t) (left-tokens b k u) in
+    let r = side-compared (a .right) (b .right) (drop right-at (key a ++ t)) (drop right-at (key b ++ u)) (right-tokens a h t) (right-tokens b k u) in
+    let x = sets-part (as-struct a) (short-sized h) t in
+    let y = sets-part (as-struct b) (short-sized k) u in
+    let s = (λ i. same-by eqb (x i) (y i)) ∙ sets-compared (a .sets) (b .sets) in
+    λ i. l i && (r i && s i)
+
+pub slot-compared : (x : Slot) (k : Coded) → Short (x .at) → Short k → has-key (slot-bytes x) (key k) ≡ same-coded (x .at) k
+slot-compared x k h s =
+    let e = slot-split (as-struct (x .at)) (short-key h) (x .parent) (x .step) in
+    let n = sym (append-nil (key k)) in
+    (λ i. has-key (e i) (n i)) ∙ keys-compared (x .at) k (behind-key (x .parent) (x .step)) [] h s
+
+-- A key tells its situation.
+pub key-tells : (a b : Coded) → Short a → Short b → key a ≡ key b → a ≡ b
+key-tells a b h k e =
+    same-coded-equal a b (sym (keys-compared a b [] [] h k) ∙ rw e (keys-compared b b [] [] k k ∙ equal-same-coded b))

@@ -1,0 +1,118 @@
+-- The search of a question in the room of a working buffer: the laws of the search, of the clash and of no clash, at 01's place sets.
+-- Follows from `Searched`, `Sound` and `Complete`, since the place sets decide what the fields may hold, and from the children being 01's.
+use Prim.Native.Nat.{ℕ, _≤_, _<_}
+use mathlib.Core.Path.{_≡_, ap}
+use mathlib.Core.Logic.{_⊎_, ⊎-map}
+use mathlib.Core.Bool.{true, false}
+use mathlib.Core.List.{List, _∷_, _++_, List·Memᴰ}
+use lib.ListN.{length, length-map}
+use Rattle.paper.specs.Numbers.{fields, longest-side}
+use Rattle.paper.proofs.Lists.{mem-map, map-mem}
+use Rattle.paper.specs.Places.{PlaceSet}
+use Rattle.paper.specs.Search.{Entry, found, used-up, no-room, too-long, entries}
+use Rattle.paper.specs.Leads.{situations}
+use Rattle.paper.proofs.Searched
+use Rattle.paper.proofs.Ended.{Left-out}
+use Rattle.paper.specs.Equation.{Texts, stands-in}
+use Rattle.paper.specs.Pattern.{Holds}
+use Rattle.paper.specs.Situation.{Situation, Move, moved, same-situation, finished, children, question}
+use Rattle.paper.specs.Decides.{Decides}
+use Rattle.paper.specs.Way.{search-from, texts-of}
+use Rattle.paper.specs.Question.{Question, held-by, Solution, acceptor}
+use Rattle.paper.specs.Outcome.{room-of, searched, count-of, how-of}
+use Rattle.paper.specs.Demands.{entered, equal-fronts, ChildOf, LeftOut}
+use Rattle.paper.proofs.Accepts.{question-decides}
+use Rattle.paper.proofs.Same.{situation-equal, situation-same}
+use Rattle.paper.proofs.Sound.{sound}
+use Rattle.paper.proofs.Complete.{complete}
+use Rattle.paper.proofs.Children.{trimmed-fronts, child-of, long-of}
+
+module _ (q : Question) where
+  decides : Decides (acceptor q) (λ (f : ℕ). Holds (held-by q f))
+  decides = question-decides q
+
+  equal : (s t : Situation PlaceSet) → same-situation (acceptor q) s t ≡ true → s ≡ t
+  equal = situation-equal (acceptor q) (decides .same-equal)
+
+  same : (s : Situation PlaceSet) → same-situation (acceptor q) s s ≡ true
+  same = situation-same (acceptor q) (decides .equal-same)
+
+  -- the trimmed question
+  abbrev first : Situation PlaceSet
+  first = question (acceptor q) (q .left) (q .right)
+
+  -- The texts of the entry found solve the question.
+  pub found-solves : (room : ℕ) (e : Entry (Situation PlaceSet) Move) → how-of q (searched q room) ≡ found e
+      → Solution q (texts-of (acceptor q) (q .left) (q .right) e)
+  unfolding how-of searched acceptor
+  found-solves room e h = sound (acceptor q) decides longest-side room (q .left) (q .right) e h
+
+  -- Where all are used up, no texts solve the question, if its fields are 01's.
+  pub used-up-unsolved : (room : ℕ) → ((f : ℕ) → stands-in f (q .left ++ q .right) ≡ true → f < fields)
+      → how-of q (searched q room) ≡ used-up → (texts : Texts) → Solution q texts → ⊥
+  unfolding how-of searched acceptor
+  used-up-unsolved room known h = complete (acceptor q) decides longest-side room (q .left) (q .right) known h
+
+  module _ (work : List ℕ) where
+    -- the entries, of which `entered` has the situations
+    abbrev all : List (Entry (Situation PlaceSet) Move)
+    all =
+        entries (same-situation (acceptor q)) (finished (acceptor q)) (children (acceptor q) longest-side) (searched q (room-of work))
+
+    abbrev at : Entry (Situation PlaceSet) Move → Situation PlaceSet
+    at e = e .at
+
+    -- "The count equals the number of situations entered", and is never above the room.
+    pub count-entered : count-of q (searched q (room-of work)) ≡ length (entered q work)
+    unfolding count-of
+    count-entered = rw (length-map all at)
+
+    pub count-in-room : count-of q (searched q (room-of work)) ≤ room-of work
+    unfolding count-of searched search-from
+    count-in-room = Searched.count-at-most-room _ _ _ equal same (room-of work) first
+
+    -- "The trimmed question is entered first, dead or not."
+    pub first-entered : 0 < room-of work → (later : List (Situation PlaceSet)) × (entered q work ≡ first ∷ later)
+    unfolding searched search-from
+    first-entered h =
+        let (l, e) = Searched.first-entered _ _ _ equal same (room-of work) first h in (situations l, ap situations e)
+
+    -- "Trimming drops equal characters from both fronts while there are any."
+    pub entered-trimmed : (s : Situation PlaceSet) → List·Memᴰ s (entered q work) → equal-fronts (s .left) (s .right) ≡ false
+    unfolding searched search-from question
+    entered-trimmed s d =
+        let (e, i, p) = mem-map at all d in
+        rw p
+        (Searched.every-entry _ _ _ equal same (room-of work) first (λ (t : Situation PlaceSet). equal-fronts (t .left) (t .right) ≡ false)
+        (trimmed-fronts (acceptor q) _)
+        (λ t m u h k. let c = child-of (acceptor q) longest-side t k in rw (c .makes) (trimmed-fronts (acceptor q) (moved (acceptor q) t (c .move))))
+        e i)
+
+    -- "no room gives 18"
+    pub no-room-left : how-of q (searched q (room-of work)) ≡ no-room
+        → (count-of q (searched q (room-of work)) ≡ room-of work) × ((room-of work ≡ 0) ⊎ LeftOut q work)
+    unfolding how-of count-of searched search-from
+    no-room-left h =
+        let (full, out) = Searched.no-room-full _ _ _ equal same (room-of work) first h in (full, ⊎-map (λ z. z) left-out out)
+      where
+        left-out : Left-out (children (acceptor q) longest-side) all → LeftOut q work
+        left-out (p, m, s, i, c, n) =
+            record {
+              parent = p .at;
+              left-out = s;
+              parent-entered = map-mem at i;
+              is-child = child-of (acceptor q) longest-side (p .at) c;
+              not-entered = n;
+            }
+
+    -- "a side above 48 tokens gives 19"
+    pub too-long-left : how-of q (searched q (room-of work)) ≡ too-long
+        → (s t : Situation PlaceSet)
+        × List·Memᴰ s (entered q work)
+        × ChildOf (acceptor q) s t
+        × ((longest-side < length (t .left)) ⊎ (longest-side < length (t .right)))
+    unfolding how-of searched search-from
+    too-long-left h =
+        let (p, i, c) = Searched.too-long-child _ _ _ equal same (room-of work) first h in
+        let (t, k, above) = long-of (acceptor q) longest-side (p .at) c in
+        (p .at, t, map-mem at i, k, above)

@@ -1,0 +1,11 @@
+-- masks of tests, tables of them
+pub mod MaskOf
+pub mod Tables
+-- from masks back to place sets
+pub mod Masks
+-- reading a pattern's bytes
+pub mod Behind
+pub mod Readings
+pub mod Judged
+-- the followers of a set
+pub mod Gathered

@@ -1,0 +1,134 @@
+-- Tables: f 0, f 1, .. . What stands at a place, equal tables, and filling a list place by place: after i stores it is the table's
+-- first i numbers and the rest of what it was.
+use Prim.Native.Nat.{ℕ, zero, suc, _+_, _≤_, _<_, zero-le}
+use native.Mathlib.Nat.{zero-add}
+use native.Mathlib.Numerals.{add-one}
+use native.Mathlib.Omega.{arith}
+use mathlib.Core.Path.{_≡_, refl, sym, ap, ap₂, _∙_}
+use mathlib.Core.List.{List, [], _∷_, _++_, map, append-nil, append-assoc}
+use mathlib.Core.Bool.{Bool, false, cond, _&&_, _||_, and-comm}
+use lib.Dec.{eqb}
+use lib.Bits.{bitOr}
+use lib.ListN.{length, getD, set, drop, replicate, length-map, length-set, drop-of-length-le}
+use lib.Seq.{drop-cons, set-at, getD-at}
+use Rattle.paper.specs.Lists.{from, upto}
+use Rattle.paper.proofs.Lists.{cons-eq, length-from, map-append}
+use Rattle.patterns.specs.Masks.{places, mask-of, in-mask, table}
+use Rattle.patterns.proofs.MaskOf.{mask-of-same, mask-of-or, mask-of-cond, mask-of-none, in-mask-of}
+
+-- the last number of a row
+pub from-snoc : (a n : ℕ) → from a (suc n) ≡ from a n ++ ((a + n) ∷ [])
+from-snoc a zero = cons-eq (omega arith) refl
+from-snoc a (suc n) = cons-eq refl (from-snoc (suc a) n ∙ ap (λ (x : ℕ). from (suc a) n ++ (x ∷ [])) (omega arith))
+
+pub upto-snoc : (n : ℕ) → upto (suc n) ≡ upto n ++ (n ∷ [])
+upto-snoc n = from-snoc 0 n ∙ ap (λ (x : ℕ). upto n ++ (x ∷ [])) (zero-add n)
+
+pub length-table : (f : ℕ → ℕ) (n : ℕ) → length (table f n) ≡ n
+unfolding table
+length-table f n = length-map (upto n) f ∙ length-from 0 n
+
+table-suc : (f : ℕ → ℕ) (n : ℕ) → table f (suc n) ≡ table f n ++ (f n ∷ [])
+unfolding table
+table-suc f n = ap (map f) (upto-snoc n) ∙ map-append f (upto n) (n ∷ [])
+
+getD-from : (f : ℕ → ℕ) (a n i : ℕ) → i < n → getD (map f (from a n)) i 0 ≡ f (a + i)
+getD-from f a zero i h = absurd (omega arith)
+getD-from f a (suc n) zero h = ap f (omega arith)
+getD-from f a (suc n) (suc i) h = getD-from f (suc a) n i (omega arith) ∙ ap f (omega arith)
+
+pub getD-table : (f : ℕ → ℕ) (n i : ℕ) → i < n → getD (table f n) i 0 ≡ f i
+unfolding table
+getD-table f n i h = getD-from f 0 n i h ∙ ap f (zero-add i)
+
+pub table-same : (f g : ℕ → ℕ) (n : ℕ) → ((i : ℕ) → i < n → f i ≡ g i) → table f n ≡ table g n
+unfolding table
+table-same f g zero h = refl
+table-same f g (suc n) h =
+    table-suc f n
+    ∙ ap₂ (λ (l : List ℕ) (x : ℕ). l ++ (x ∷ [])) (table-same f g n (λ i l. h i (omega arith))) (h n (omega arith))
+    ∙ sym (table-suc g n)
+
+pub table-none : (n : ℕ) → table (λ (i : ℕ). 0) n ≡ replicate n 0
+unfolding table
+table-none n = none-from 0 n
+  where
+    none-from : (a n : ℕ) → map {B = ℕ} (λ (i : ℕ). 0) (from a n) ≡ replicate n 0
+    none-from a zero = refl
+    none-from a (suc n) = cons-eq refl (none-from (suc a) n)
+
+-- Filling d₀ with the table's numbers, place by place: the list d after i stores.
+pub record Filling (f : ℕ → ℕ) (d₀ d : List ℕ) (i : ℕ) : Type 0 where
+  pub at : i ≤ length d₀
+  pub long : length d ≡ length d₀
+  pub is : d ≡ table f i ++ drop i d₀
+
+module _ (f : ℕ → ℕ) (d₀ : List ℕ) where
+  pub filling-none : Filling f d₀ d₀ 0
+  unfolding table
+  filling-none = record { at = zero-le; long = refl; is = refl }
+
+  module _ (d : List ℕ) (i : ℕ) (l : Filling f d₀ d i) where
+    pub filling-all : length d₀ ≤ i → d ≡ table f (length d₀)
+    filling-all h =
+        let e : i ≡ length d₀ = omega arith in
+        l .is
+        ∙ ap (λ (r : List ℕ). table f i ++ r) (drop-of-length-le d₀ h)
+        ∙ append-nil (table f i)
+        ∙ ap (table f) e
+
+    module _ (h : i < length d₀) where
+      split : d ≡ table f i ++ getD d₀ i 0 ∷ drop (suc i) d₀
+      split = l .is ∙ ap (λ (r : List ℕ). table f i ++ r) (drop-cons d₀ i 0 h)
+
+      -- what is still to be replaced
+      pub filling-read : getD d i 0 ≡ getD d₀ i 0
+      filling-read = rw split (getD-at (table f i) (getD d₀ i 0) (drop (suc i) d₀) 0 i (length-table f i))
+
+      pub filling-more : (x : ℕ) → x ≡ f i → Filling f d₀ (set d i x) (i + 1)
+      filling-more x e =
+          record {
+            at = omega arith;
+            long = length-set d i x ∙ l .long;
+            is =
+                rw (split, set-at (table f i) (getD d₀ i 0) (drop (suc i) d₀) x i (length-table f i), e, add-one i, table-suc f i)
+                (sym (append-assoc (table f i) (f i ∷ []) (drop (suc i) d₀)));
+          }
+
+-- Tables of masks of tests.
+module _ (t : ℕ → ℕ → Bool) where
+  abbrev pub masks : ℕ → List ℕ
+  masks n = table (λ (i : ℕ). mask-of (λ (q : ℕ). t i q)) n
+
+  pub masks-joined : (u : ℕ → ℕ → Bool) (n : ℕ) (l m : List ℕ) → l ≡ masks n → m ≡ table (λ (i : ℕ). mask-of (λ (q : ℕ). u i q)) n
+      → table (λ (i : ℕ). bitOr (getD l i 0) (getD m i 0)) n ≡ table (λ (i : ℕ). mask-of (λ (q : ℕ). t i q || u i q)) n
+  masks-joined u n l m e f =
+      table-same (λ (i : ℕ). bitOr (getD l i 0) (getD m i 0)) (λ (i : ℕ). mask-of (λ (q : ℕ). t i q || u i q)) n
+      (λ i h.
+      ap₂ bitOr
+      (ap (λ (d : List ℕ). getD d i 0) e ∙ getD-table (λ (i : ℕ). mask-of (λ (q : ℕ). t i q)) n i h)
+      (ap (λ (d : List ℕ). getD d i 0) f ∙ getD-table (λ (i : ℕ). mask-of (λ (q : ℕ). u i q)) n i h)
+      ∙ mask-of-or (λ (q : ℕ). t i q) (λ (q : ℕ). u i q))
+
+  pub masks-linked : (l f : ℕ → Bool) (d : List ℕ) (last first : ℕ) → d ≡ masks places → last ≡ mask-of l → first ≡ mask-of f
+      → table (λ (i : ℕ). bitOr (getD d i 0) (cond (in-mask last i) first 0)) places
+      ≡ table (λ (i : ℕ). mask-of (λ (q : ℕ). t i q || (l i && f q))) places
+  masks-linked l f d last first e el ef =
+      table-same (λ (i : ℕ). bitOr (getD d i 0) (cond (in-mask last i) first 0)) (λ (i : ℕ). mask-of (λ (q : ℕ). t i q || (l i && f q))) places
+      (λ i h.
+      ap₂ bitOr
+      (ap (λ (d : List ℕ). getD d i 0) e ∙ getD-table (λ (i : ℕ). mask-of (λ (q : ℕ). t i q)) places i h)
+      (ap₂ (λ (b : Bool) (m : ℕ). cond b m 0) (ap (λ (m : ℕ). in-mask m i) el ∙ in-mask-of l i h) ef ∙ mask-of-cond f (l i))
+      ∙ mask-of-or (λ (q : ℕ). t i q) (λ (q : ℕ). l i && f q))
+
+pub masks-none : (n : ℕ) → replicate n 0 ≡ masks (λ (i q : ℕ). false) n
+masks-none n = sym (table-same (λ (i : ℕ). mask-of (λ (q : ℕ). false)) (λ (i : ℕ). 0) n (λ i h. mask-of-none) ∙ table-none n)
+
+-- one place, where a test passes
+pub masks-one : (o : ℕ) (t : ℕ → Bool) (set n : ℕ) → set ≡ mask-of (λ (q : ℕ). eqb o q)
+    → table (λ (c : ℕ). cond (t c) set 0) n ≡ masks (λ (c q : ℕ). eqb o q && t c) n
+masks-one o t set n e =
+    table-same (λ (c : ℕ). cond (t c) set 0) (λ (c : ℕ). mask-of (λ (q : ℕ). eqb o q && t c)) n
+    (λ c h.
+    ap (λ (m : ℕ). cond (t c) m 0) e ∙ mask-of-cond (λ (q : ℕ). eqb o q) (t c)
+    ∙ mask-of-same (λ (q : ℕ). t c && eqb o q) (λ (q : ℕ). eqb o q && t c) (λ q l. and-comm (t c) (eqb o q)))

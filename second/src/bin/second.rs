@@ -1,0 +1,70 @@
+//! `second`: like the program `clash` of document 01.
+//!
+//! - `second`: 65,520 bytes of work and 4,096 of answer
+//! - `second WORK ANSWER`: with these lengths of the two buffers
+//! - `second --many [--scan]`: a stream of cases, a line for each
+
+use std::io::{self, BufWriter, Read, Write};
+use std::process::ExitCode;
+
+use second::cases::{Answerer, Case};
+
+/// "`clash` reads the first 1,024 bytes of standard input, lends 65,520 bytes
+/// of work (455 situations) and 4,096 of answer."
+const SHEET_BYTES: u64 = 1_024;
+const WORK_BYTES: usize = 65_520;
+const ANSWER_BYTES: usize = 4_096;
+
+fn main() -> ExitCode {
+    let arguments: Vec<String> = std::env::args().skip(1).collect();
+    let arguments: Vec<&str> = arguments.iter().map(String::as_str).collect();
+    let done = match arguments[..] {
+        [] => one(WORK_BYTES, ANSWER_BYTES),
+        ["--many"] => many(second::answer),
+        ["--many", "--scan"] => many(second::scan::answer),
+        [work, answer] => match (work.parse(), answer.parse()) {
+            (Ok(work), Ok(answer)) => one(work, answer),
+            _ => return usage(),
+        },
+        _ => return usage(),
+    };
+    match done {
+        Ok(()) => ExitCode::SUCCESS,
+        Err(error) => {
+            eprintln!("second: {error}");
+            ExitCode::FAILURE
+        }
+    }
+}
+
+fn usage() -> ExitCode {
+    eprintln!("usage: second | second WORK ANSWER | second --many [--scan]");
+    ExitCode::from(2)
+}
+
+/// One sheet.
+fn one(work_length: usize, answer_length: usize) -> io::Result<()> {
+    let mut sheet = Vec::new();
+    io::stdin().lock().take(SHEET_BYTES).read_to_end(&mut sheet)?;
+    let mut work = vec![0; work_length];
+    let mut answer = vec![0; answer_length];
+    let outcome = second::answer(&sheet, &mut work, &mut answer);
+    io::stdout().lock().write_all(second::lines(&outcome, &answer).as_bytes())
+}
+
+/// A stream of cases.
+fn many(answerer: Answerer) -> io::Result<()> {
+    let mut stream = Vec::new();
+    io::stdin().lock().read_to_end(&mut stream)?;
+    let mut out = BufWriter::new(io::stdout().lock());
+    let mut rest = &stream[..];
+    while !rest.is_empty() {
+        let Some((case, behind)) = Case::read(rest) else {
+            out.flush()?;
+            return Err(io::Error::other("the stream stops inside a case"));
+        };
+        writeln!(out, "{}", case.run(answerer).line())?;
+        rest = behind;
+    }
+    out.flush()
+}

@@ -1,0 +1,77 @@
+//! Streams of cases, for comparing programs on many sheets.
+//!
+//! A case is four bytes length of the working buffer, four bytes length of the
+//! answer buffer, two bytes length of the sheet (all low byte first), and the
+//! sheet.
+
+use crate::Outcome;
+
+/// The bytes with which the buffers are filled before each case.
+pub const WORK_FILL: u8 = 90;
+pub const ANSWER_FILL: u8 = 165;
+
+const HEAD: usize = 10;
+
+/// A sheet and the lengths of the two lent buffers.
+#[derive(Clone, Debug, PartialEq, Eq)]
+pub struct Case {
+    pub work: u32,
+    pub answer: u32,
+    pub sheet: Vec<u8>,
+}
+
+/// A function like `crate::answer`.
+pub type Answerer = fn(&[u8], &mut [u8], &mut [u8]) -> Outcome;
+
+/// An outcome and what the two buffers hold afterwards.
+#[derive(Clone, Debug, PartialEq, Eq)]
+pub struct After {
+    pub outcome: Outcome,
+    pub answer: Vec<u8>,
+    pub work: Vec<u8>,
+}
+
+impl Case {
+    /// Runs the case on two freshly filled buffers.
+    pub fn run(&self, answerer: Answerer) -> After {
+        let mut work = vec![WORK_FILL; self.work as usize];
+        let mut answer = vec![ANSWER_FILL; self.answer as usize];
+        let outcome = answerer(&self.sheet, &mut work, &mut answer);
+        After { outcome, answer, work }
+    }
+
+    /// Writes the case behind the stream. A sheet has at most 65,535 bytes.
+    pub fn write(&self, stream: &mut Vec<u8>) {
+        stream.extend_from_slice(&self.work.to_le_bytes());
+        stream.extend_from_slice(&self.answer.to_le_bytes());
+        stream.extend_from_slice(&(self.sheet.len() as u16).to_le_bytes());
+        stream.extend_from_slice(&self.sheet);
+    }
+
+    /// Reads a case from the front of a stream and hands back the rest; none
+    /// where the stream stops inside the case.
+    pub fn read(stream: &[u8]) -> Option<(Case, &[u8])> {
+        let head = stream.get(..HEAD)?;
+        let work = u32::from_le_bytes([head[0], head[1], head[2], head[3]]);
+        let answer = u32::from_le_bytes([head[4], head[5], head[6], head[7]]);
+        let length = usize::from(u16::from_le_bytes([head[8], head[9]]));
+        let sheet = stream.get(HEAD..HEAD + length)?.to_vec();
+        Some((Case { work, answer, sheet }, &stream[HEAD + length..]))
+    }
+}
+
+impl After {
+    /// Six decimal numbers: number, count, place, written, sum of the answer
+    /// buffer, sum of the working buffer.
+    pub fn line(&self) -> String {
+        let Outcome { number, count, place, written } = self.outcome;
+        format!("{number} {count} {place} {written} {} {}", sum(&self.answer), sum(&self.work))
+    }
+}
+
+/// Starts at 7; for each byte, times 31 plus the byte plus 1, modulo 2^32.
+pub fn sum(bytes: &[u8]) -> u32 {
+    bytes
+        .iter()
+        .fold(7, |h: u32, &byte| h.wrapping_mul(31).wrapping_add(u32::from(byte)).wrapping_add(1))
+}

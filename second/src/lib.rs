@@ -1,0 +1,139 @@
+//! Can two label rules make the same label?
+//!
+//! `answer` takes a question sheet and two lent buffers, one for work and one
+//! for the answer, as document 01 ("What is wanted and its exact rules") says.
+//! It keeps the situations in storage of its own and looks them up by hash.
+//! `scan::answer` does the same with the situations in the lent working buffer
+//! and a plain scan over them.
+//!
+//! Sentences in quotation marks in the comments are those of document 01.
+
+pub mod cases;
+pub mod make;
+pub mod pattern;
+pub mod scan;
+pub mod search;
+pub mod sheet;
+pub mod situation;
+
+use search::Ending;
+use sheet::Fault;
+
+/// The answers of the search, by the table's "No.".
+pub const CLASH: u8 = 0;
+pub const NO_CLASH: u8 = 1;
+pub const NO_ROOM: u8 = 18;
+pub const SIDE_TOO_LONG: u8 = 19;
+pub const ANSWER_BUFFER_TOO_SHORT: u8 = 20;
+pub const TEXT_TOO_LONG: u8 = 21;
+
+/// "Room is one situation for each whole 144 bytes of working buffer ..."
+pub const SITUATION_BYTES: usize = 144;
+/// "... and at most 65,535."
+pub const MOST_ROOM: usize = 65_535;
+/// "a side above 48 tokens gives 19"
+pub const MOST_TOKENS: usize = 48;
+/// "a text above 65,535 characters"
+pub const MOST_TEXT: usize = 65_535;
+/// A record of the answer without its values: "`VA`, field byte, length in two
+/// bytes (low first), the values".
+pub const ANSWER_RECORD_HEAD: usize = 5;
+
+/// The characters of Code 39, by value.
+pub const CODE_39: &[u8; 43] = b"0123456789ABCDEFGHIJKLMNOPQRSTUVWXYZ-. $/+%";
+
+/// What is handed back beside the two buffers.
+#[derive(Clone, Copy, Debug, PartialEq, Eq)]
+pub struct Outcome {
+    /// The answer's number.
+    pub number: u8,
+    /// "The count equals the number of situations entered."
+    pub count: usize,
+    /// The offset of the record with the fault, 0 for the search's answers.
+    pub place: usize,
+    /// "The number of bytes written is also returned; it is 0 for all but
+    /// answer 0."
+    pub written: usize,
+}
+
+impl Outcome {
+    fn of_fault(fault: Fault) -> Outcome {
+        Outcome { number: fault.number, count: 0, place: fault.place, written: 0 }
+    }
+
+    fn of_search(number: u8, count: usize, written: usize) -> Outcome {
+        Outcome { number, count, place: 0, written }
+    }
+}
+
+/// "Room is one situation for each whole 144 bytes of working buffer, and at
+/// most 65,535."
+pub fn room(work_length: usize) -> usize {
+    (work_length / SITUATION_BYTES).min(MOST_ROOM)
+}
+
+/// Judges the sheet, searches, and writes the answer.
+pub fn answer(sheet: &[u8], work: &mut [u8], answer: &mut [u8]) -> Outcome {
+    // A faulty sheet leaves both buffers unchanged.
+    let question = match sheet::read(sheet) {
+        Ok(question) => question,
+        Err(fault) => return Outcome::of_fault(fault),
+    };
+    let found = search::search(&question, room(work.len()));
+    // "a working buffer which a search has used ends all zero after every
+    // answer"
+    work.fill(0);
+    let (number, written) = match found.ending {
+        Ending::NoClash => (NO_CLASH, 0),
+        Ending::NoRoom => (NO_ROOM, 0),
+        Ending::SideTooLong => (SIDE_TOO_LONG, 0),
+        Ending::Clash(texts) => {
+            // "21 comes before 20."
+            if texts.iter().any(|(_, text)| text.len() > MOST_TEXT) {
+                (TEXT_TOO_LONG, 0)
+            } else {
+                let records = records(&texts);
+                if records.len() > answer.len() {
+                    (ANSWER_BUFFER_TOO_SHORT, 0)
+                } else {
+                    // "records, the rest unchanged"
+                    answer[..records.len()].copy_from_slice(&records);
+                    (CLASH, records.len())
+                }
+            }
+        }
+    };
+    Outcome::of_search(number, found.count, written)
+}
+
+/// "Answer records, for each field standing in the sides, by rising number,
+/// each record written directly behind the one before: `VA`, field byte,
+/// length in two bytes (low first), the values."
+fn records(texts: &[(u8, Vec<u8>)]) -> Vec<u8> {
+    let mut bytes = Vec::new();
+    for (field, text) in texts {
+        bytes.extend_from_slice(b"VA");
+        bytes.push(*field);
+        bytes.extend_from_slice(&(text.len() as u16).to_le_bytes());
+        bytes.extend_from_slice(text);
+    }
+    bytes
+}
+
+/// What the program `clash` prints: "Its first line is answer, count and place
+/// in decimal, one space between; after answer 0 comes a line for each `VA`:
+/// field number, a space, the text as characters."
+pub fn lines(outcome: &Outcome, answer: &[u8]) -> String {
+    let mut lines = format!("{} {} {}\n", outcome.number, outcome.count, outcome.place);
+    let mut rest = &answer[..outcome.written];
+    while rest.len() >= ANSWER_RECORD_HEAD {
+        let field = rest[2];
+        let length = usize::from(u16::from_le_bytes([rest[3], rest[4]]));
+        let (text, behind) = rest[ANSWER_RECORD_HEAD..].split_at(length);
+        lines.push_str(&format!("{field} "));
+        lines.extend(text.iter().map(|&value| char::from(CODE_39[usize::from(value)])));
+        lines.push('\n');
+        rest = behind;
+    }
+    lines
+}

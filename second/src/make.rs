@@ -1,0 +1,613 @@
+//! Makes cases from a seed: good sheets of all kinds, damaged sheets, rooms
+//! and answer buffers near their bounds.
+
+use crate::cases::Case;
+use crate::pattern::CHARACTERS;
+use crate::{ANSWER_BUFFER_TOO_SHORT, CLASH, SITUATION_BYTES};
+
+/// A small deterministic generator (xorshift with a multiplication).
+pub struct Dice(u64);
+
+impl Dice {
+    pub fn new(seed: u64) -> Dice {
+        let mut dice = Dice(seed.wrapping_mul(0x9E37_79B9_7F4A_7C15) ^ 0x2545_F491_4F6C_DD1D);
+        if dice.0 == 0 {
+            dice.0 = 1;
+        }
+        for _ in 0..4 {
+            dice.next();
+        }
+        dice
+    }
+
+    fn next(&mut self) -> u64 {
+        self.0 ^= self.0 >> 12;
+        self.0 ^= self.0 << 25;
+        self.0 ^= self.0 >> 27;
+        self.0.wrapping_mul(0x2545_F491_4F6C_DD1D) >> 16
+    }
+
+    /// A number below n.
+    fn below(&mut self, n: usize) -> usize {
+        (self.next() % n as u64) as usize
+    }
+
+    /// A number from lo to hi, both included.
+    fn between(&mut self, lo: usize, hi: usize) -> usize {
+        lo + self.below(hi - lo + 1)
+    }
+
+    fn one_in(&mut self, n: usize) -> bool {
+        self.below(n) == 0
+    }
+
+    fn byte(&mut self) -> u8 {
+        self.below(256) as u8
+    }
+
+    fn pick<T: Copy>(&mut self, list: &[T]) -> T {
+        list[self.below(list.len())]
+    }
+
+    fn shuffle<T>(&mut self, list: &mut [T]) {
+        for last in (1..list.len()).rev() {
+            list.swap(last, self.below(last + 1));
+        }
+    }
+}
+
+/// A record before it is written out. The length byte is kept apart from the
+/// body, so that it can be damaged.
+#[derive(Clone)]
+struct Record {
+    mark: [u8; 2],
+    field: Option<u8>,
+    length: u8,
+    body: Vec<u8>,
+}
+
+impl Record {
+    fn pattern(field: u8, body: Vec<u8>) -> Record {
+        Record { mark: *b"PA", field: Some(field), length: body.len() as u8, body }
+    }
+
+    fn side(mark: &[u8; 2], body: Vec<u8>) -> Record {
+        Record { mark: *mark, field: None, length: body.len() as u8, body }
+    }
+}
+
+fn write_out(records: &[Record]) -> Vec<u8> {
+    let mut sheet = Vec::new();
+    for record in records {
+        sheet.extend_from_slice(&record.mark);
+        sheet.extend(record.field);
+        sheet.push(record.length);
+        sheet.extend_from_slice(&record.body);
+    }
+    sheet
+}
+
+/// One case.
+pub fn case(dice: &mut Dice) -> Case {
+    if dice.one_in(30) {
+        let sheet = random_bytes(dice);
+        return with_any_buffers(dice, sheet);
+    }
+    let records = good(dice);
+    if dice.below(10) < 3 {
+        let sheet = damaged(dice, records);
+        return with_any_buffers(dice, sheet);
+    }
+    with_chosen_buffers(dice, write_out(&records))
+}
+
+// ---------------------------------------------------------------- buffers
+
+/// A length of the working buffer for so many situations: mostly exact, else
+/// one byte less, one more, or just below the next.
+fn work_length(dice: &mut Dice, room: usize) -> u32 {
+    let exact = room * SITUATION_BYTES;
+    let length = match dice.below(8) {
+        0 => exact.saturating_sub(1),
+        1 => exact + 1,
+        2 => exact + SITUATION_BYTES - 1,
+        _ => exact,
+    };
+    length as u32
+}
+
+fn any_room(dice: &mut Dice) -> usize {
+    match dice.below(40) {
+        0 | 1 => 455,
+        2..=5 => dice.below(4),
+        6..=8 => dice.between(41, 100),
+        _ => dice.between(1, 40),
+    }
+}
+
+fn any_answer_length(dice: &mut Dice) -> u32 {
+    if dice.one_in(40) {
+        4096
+    } else {
+        dice.below(65) as u32
+    }
+}
+
+fn with_any_buffers(dice: &mut Dice, sheet: Vec<u8>) -> Case {
+    let room = if dice.one_in(2) { dice.below(3) } else { any_room(dice) };
+    Case { work: work_length(dice, room), answer: any_answer_length(dice), sheet }
+}
+
+/// Buffers for a good sheet: often exactly what is needed, or one less.
+fn with_chosen_buffers(dice: &mut Dice, sheet: Vec<u8>) -> Case {
+    let mut room = any_room(dice);
+    let run = |room: usize, answer: u32| {
+        let case = Case { work: (room * SITUATION_BYTES) as u32, answer, sheet: sheet.clone() };
+        case.run(crate::answer).outcome
+    };
+    let found = run(room, 4096);
+    if dice.one_in(3) {
+        room = found.count.saturating_sub(dice.below(2));
+    }
+    let answer = match dice.below(4) {
+        0 if found.number == CLASH => found.written as u32,
+        1 if found.number == CLASH => found.written.saturating_sub(1) as u32,
+        2 if found.number == ANSWER_BUFFER_TOO_SHORT => 4096,
+        _ => any_answer_length(dice),
+    };
+    Case { work: work_length(dice, room), answer, sheet }
+}
+
+// ------------------------------------------------------------ good sheets
+
+/// A good sheet.
+fn good(dice: &mut Dice) -> Vec<Record> {
+    let alphabet = alphabet(dice);
+    let mut fields: Vec<u8> = (0..8).collect();
+    dice.shuffle(&mut fields);
+    let number = if dice.one_in(20) { 0 } else { dice.pick(&[1, 1, 2, 2, 2, 2, 3, 3, 4, 8]) };
+    fields.truncate(number);
+
+    let (mut left, mut right, texts) = match dice.below(10) {
+        0 | 1 => plain(dice, &alphabet, &fields),
+        2..=4 => mixed(dice, &alphabet, &fields),
+        5..=8 => planted(dice, &alphabet, &fields),
+        _ => many_times(dice, &alphabet, &fields),
+    };
+    // Often a field comes to the front, so that there is something to search.
+    for side in [&mut left, &mut right] {
+        if texts.is_empty() && dice.one_in(3) {
+            if let Some(at) = side.iter().position(|&token| token >= 64) {
+                side.swap(0, at);
+            }
+        }
+    }
+
+    // Patterns for no, for some or for all fields; sometimes for fields that
+    // do not stand.
+    let some = dice.pick(if texts.is_empty() { &[0, 0, 1, 1, 2, 2] } else { &[0, 1, 2, 2, 2] });
+    let mut patterns = Vec::new();
+    for field in 0..8 {
+        let stands = left.contains(&(64 + field)) || right.contains(&(64 + field));
+        let wanted = match some {
+            0 => false,
+            1 => dice.one_in(2),
+            _ => true,
+        };
+        let wanted = if stands { wanted } else { dice.one_in(60) };
+        if wanted {
+            let text = texts.iter().find(|(of, _)| *of == field).map(|(_, text)| &text[..]);
+            patterns.push(Record::pattern(field, field_pattern(dice, &alphabet, text)));
+        }
+    }
+    let mut records = patterns;
+    records.push(Record::side(b"LE", left));
+    records.push(Record::side(b"RI", right));
+    records
+}
+
+/// A few characters, so that clashes and no clashes both come up; now and then
+/// all of them.
+fn alphabet(dice: &mut Dice) -> Vec<u8> {
+    if dice.one_in(12) {
+        return (0..CHARACTERS).collect();
+    }
+    let first = dice.below(43) as u8;
+    (0..dice.pick(&[1, 2, 2, 2, 3, 3])).map(|step| (first + step) % CHARACTERS).collect()
+}
+
+fn side_length(dice: &mut Dice) -> usize {
+    match dice.below(12) {
+        0 => dice.between(5, 24),
+        1..=4 => dice.between(3, 8),
+        5 => dice.below(2),
+        _ => dice.between(1, 5),
+    }
+}
+
+/// Left tokens, right tokens, and texts that make a clash where they are
+/// known.
+type Sides = (Vec<u8>, Vec<u8>, Vec<(u8, Vec<u8>)>);
+
+/// No field stands twice.
+fn plain(dice: &mut Dice, alphabet: &[u8], fields: &[u8]) -> Sides {
+    let mut sides = [Vec::new(), Vec::new()];
+    for side in &mut sides {
+        for _ in 0..side_length(dice) {
+            side.push(dice.pick(alphabet));
+        }
+    }
+    for &field in fields {
+        let side = &mut sides[dice.below(2)];
+        let at = if dice.one_in(3) { 0 } else { dice.below(side.len() + 1) };
+        side.insert(at, 64 + field);
+        side.truncate(24);
+    }
+    let [left, right] = sides;
+    (left, right, Vec::new())
+}
+
+/// Characters and fields mixed, a field standing as often as it comes.
+fn mixed(dice: &mut Dice, alphabet: &[u8], fields: &[u8]) -> Sides {
+    let mut sides = [Vec::new(), Vec::new()];
+    for side in &mut sides {
+        for _ in 0..side_length(dice) {
+            let field = !fields.is_empty() && dice.one_in(2);
+            side.push(if field { 64 + dice.pick(fields) } else { dice.pick(alphabet) });
+        }
+    }
+    let [left, right] = sides;
+    (left, right, Vec::new())
+}
+
+/// Both sides made from one label, so that there is a clash.
+fn planted(dice: &mut Dice, alphabet: &[u8], fields: &[u8]) -> Sides {
+    let texts: Vec<(u8, Vec<u8>)> = fields
+        .iter()
+        .map(|&field| {
+            let length = dice.pick(&[0, 1, 1, 2, 2, 3]);
+            (field, (0..length).map(|_| dice.pick(alphabet)).collect())
+        })
+        .collect();
+    let (mut left, _, _) = mixed(dice, alphabet, fields);
+    if !fields.is_empty() && left.len() < 24 {
+        left.insert(dice.below(left.len().min(2) + 1), 64 + dice.pick(fields));
+    }
+    // The label has at most 24 characters, so that the right side has no more.
+    let label = loop {
+        let mut label = Vec::new();
+        for &token in &left {
+            match texts.iter().find(|(field, _)| 64 + field == token) {
+                Some((_, text)) => label.extend_from_slice(text),
+                None => label.push(token),
+            }
+        }
+        if label.len() <= 24 {
+            break label;
+        }
+        left.pop();
+    };
+    // The right side: walk along the label, taking a field wherever its text
+    // stands and the dice say so.
+    let mut right = Vec::new();
+    let mut at = 0;
+    while at < label.len() {
+        let (field, text) = match texts.len() {
+            0 => (0, &[][..]),
+            n => {
+                let (field, text) = &texts[dice.below(n)];
+                (*field, &text[..])
+            }
+        };
+        if !text.is_empty() && label[at..].starts_with(text) && !dice.one_in(4) {
+            right.push(64 + field);
+            at += text.len();
+        } else {
+            right.push(label[at]);
+            at += 1;
+        }
+    }
+    if dice.one_in(2) {
+        std::mem::swap(&mut left, &mut right);
+    }
+    (left, right, texts)
+}
+
+/// One field standing many times on a side.
+fn many_times(dice: &mut Dice, alphabet: &[u8], fields: &[u8]) -> Sides {
+    let field = 64 + if fields.is_empty() { 0 } else { dice.pick(fields) };
+    let times = if dice.one_in(3) { dice.between(12, 24) } else { dice.between(2, 12) };
+    let mut left = vec![field; times];
+    if dice.one_in(2) {
+        left[dice.below(times)] = dice.pick(alphabet);
+    }
+    let (mut right, _, _) = mixed(dice, alphabet, fields);
+    right.truncate(8);
+    if dice.one_in(2) {
+        std::mem::swap(&mut left, &mut right);
+    }
+    (left, right, Vec::new())
+}
+
+// --------------------------------------------------------------- patterns
+
+/// A pattern for a field; where its text is known, mostly one that takes it.
+fn field_pattern(dice: &mut Dice, alphabet: &[u8], text: Option<&[u8]>) -> Vec<u8> {
+    if dice.one_in(30) {
+        return big_pattern(dice, alphabet);
+    }
+    let all = || vec![68, 65, *alphabet.iter().min().unwrap(), *alphabet.iter().max().unwrap()];
+    match (text, dice.below(5)) {
+        (Some(_), 0) => all(),
+        (Some(text), 1) => exactly(text),
+        (Some(text), 2) => {
+            let budget = dice.between(1, 3);
+            let other = pattern(dice, alphabet, budget);
+            let (a, b) =
+                if dice.one_in(2) { (exactly(text), other) } else { (other, exactly(text)) };
+            [&[67], &a[..], &b].concat()
+        }
+        (Some(text), 3) => [&[68], &exactly(text)[..]].concat(),
+        _ => {
+            let budget = dice.pick(&[1, 2, 2, 3, 4, 6]);
+            pattern(dice, alphabet, budget)
+        }
+    }
+}
+
+/// The pattern that takes just this text.
+fn exactly(text: &[u8]) -> Vec<u8> {
+    match text {
+        [] => vec![64],
+        [only] => vec![*only],
+        [first, rest @ ..] => [&[66, *first], &exactly(rest)[..]].concat(),
+    }
+}
+
+/// Any pattern with about so many parts.
+fn pattern(dice: &mut Dice, alphabet: &[u8], budget: usize) -> Vec<u8> {
+    if budget <= 1 {
+        return match dice.below(8) {
+            0 => vec![64],
+            1 | 2 => range(dice, alphabet),
+            _ => vec![dice.pick(alphabet)],
+        };
+    }
+    match dice.below(4) {
+        0 => [&[68], &pattern(dice, alphabet, budget - 1)[..]].concat(),
+        operator => {
+            let first = dice.between(1, budget - 1);
+            let a = pattern(dice, alphabet, first);
+            let b = pattern(dice, alphabet, budget - first);
+            [&[if operator == 1 { 67 } else { 66 }], &a[..], &b].concat()
+        }
+    }
+}
+
+fn range(dice: &mut Dice, alphabet: &[u8]) -> Vec<u8> {
+    let one = dice.pick(alphabet);
+    match dice.below(4) {
+        0 => vec![65, 0, 42],
+        1 => vec![65, one, one],
+        2 => vec![65, one, dice.between(usize::from(one), 42) as u8],
+        _ => vec![65, dice.below(usize::from(one) + 1) as u8, one],
+    }
+}
+
+/// A pattern with exactly 31 leaves, with 32 or with more; its length is left
+/// as it comes, or filled up to 96 bytes.
+fn big_pattern(dice: &mut Dice, alphabet: &[u8]) -> Vec<u8> {
+    let leaves = match dice.below(6) {
+        0 | 1 => 31,
+        2 => 30,
+        3 => 32,
+        4 => 33,
+        _ => dice.between(32, 48),
+    };
+    let mut parts: Vec<Vec<u8>> = (0..leaves).map(|_| vec![dice.pick(alphabet)]).collect();
+    let mut length = 2 * leaves - 1;
+    if leaves < 40 && dice.one_in(3) {
+        let part = dice.below(leaves);
+        parts[part] = range(dice, alphabet);
+        length += 2;
+    }
+    // "68 A" adds one byte and no leaf.
+    let full = dice.one_in(2);
+    while length < 96 && (full || dice.one_in(6)) {
+        let part = dice.below(leaves);
+        parts[part].insert(0, 68);
+        length += 1;
+    }
+    // Join neighbours until one pattern is left.
+    while parts.len() > 1 {
+        let at = if dice.one_in(2) { parts.len() - 2 } else { dice.below(parts.len() - 1) };
+        let b = parts.remove(at + 1);
+        let operator = if dice.one_in(3) { 67 } else { 66 };
+        parts[at] = [&[operator], &parts[at][..], &b].concat();
+    }
+    parts.remove(0)
+}
+
+// ---------------------------------------------------------------- damages
+
+/// Bytes that are no sheet, some of them beginning like one.
+fn random_bytes(dice: &mut Dice) -> Vec<u8> {
+    match dice.below(4) {
+        0 => (0..dice.below(4)).map(|_| dice.byte()).collect(),
+        1 => (0..dice.below(30)).map(|_| dice.byte()).collect(),
+        2 => (0..dice.below(12)).map(|_| dice.pick(b"PALERI\0\x01")).collect(),
+        _ => {
+            let mut sheet = dice.pick(&[b"PA", b"LE", b"RI"]).to_vec();
+            sheet.extend((0..dice.below(12)).map(|_| dice.pick(&[0, 1, 2, 3, 64, 65, 66, 68])));
+            sheet
+        }
+    }
+}
+
+/// A sheet with one damage at some record, now and then with two.
+fn damaged(dice: &mut Dice, mut records: Vec<Record>) -> Vec<u8> {
+    // A damage to a pattern needs a pattern.
+    if records.len() == 2 && dice.one_in(2) {
+        for _ in 0..dice.between(1, 2) {
+            let field = dice.below(8) as u8;
+            let body = pattern(dice, &[10, 11], 2);
+            records.insert(0, Record::pattern(field, body));
+        }
+        let sides = records.len() - 2;
+        records[..sides].sort_by_key(|record| record.field);
+        if sides == 2 && records[0].field == records[1].field {
+            return write_out(&records);
+        }
+    }
+    if dice.one_in(8) {
+        damage(dice, &mut records);
+    }
+    damage(dice, &mut records);
+    let mut sheet = write_out(&records);
+    match dice.below(6) {
+        // "sheet cut short", at every place
+        0 | 1 => sheet.truncate(dice.below(sheet.len() + 1)),
+        // bytes left over after `RI`
+        2 if dice.one_in(2) => {
+            sheet.extend((0..dice.between(1, 3)).map(|_| dice.pick(b"PALERI\0")))
+        }
+        _ => {}
+    }
+    sheet
+}
+
+fn damage(dice: &mut Dice, records: &mut Vec<Record>) {
+    let at = dice.below(records.len());
+    let is_pattern = records[at].field.is_some();
+    match dice.below(14) {
+        // One byte of a mark, or the whole mark.
+        0 => records[at].mark[dice.below(2)] = dice.byte(),
+        1 => records[at].mark = *dice.pick(&[b"PA", b"LE", b"RI", b"VA", b"AP", b"pa"]),
+        // Records in another order, twice, or not at all.
+        2 => {
+            let other = dice.below(records.len());
+            records.swap(at, other);
+        }
+        3 => records.insert(at, records[at].clone()),
+        4 => {
+            records.remove(at);
+        }
+        // Fields above 7 or not rising.
+        5 if is_pattern => records[at].field = Some(dice.pick(&[8, 9, 64, 255, 7, 0])),
+        6 if is_pattern => {
+            let again = Record::pattern(dice.below(8) as u8, vec![64]);
+            records.insert(at + 1, again);
+        }
+        // Lengths at and over their bounds, and next to the right one.
+        5..=7 => records[at].length = dice.pick(&[0, 24, 25, 26, 96, 97, 255]),
+        8 => {
+            let by = dice.pick(&[1, 255]);
+            records[at].length = records[at].length.wrapping_add(by);
+        }
+        // A side or a pattern of a length at or over its bound.
+        9 => {
+            let length = if is_pattern { dice.pick(&[96, 97]) } else { dice.pick(&[24, 25]) };
+            records[at].length = length;
+            records[at].body = if is_pattern {
+                let mut body = vec![68; usize::from(length) - 1];
+                body.push(0);
+                body
+            } else {
+                (0..length).map(|_| dice.pick(&[64, 65, 5])).collect()
+            };
+        }
+        10.. if is_pattern => damage_pattern(dice, &mut records[at]),
+        // A wrong token.
+        _ => {
+            let wrong = dice.pick(&[43, 44, 50, 63, 72, 73, 100, 254, 255]);
+            let record = &mut records[at];
+            match record.body.len() {
+                0 => record.body.push(wrong),
+                n => record.body[dice.below(n)] = wrong,
+            }
+            record.length = record.body.len() as u8;
+        }
+    }
+}
+
+/// Bytes that are not one pattern, or one with too many leaves; the length
+/// byte stays right.
+fn damage_pattern(dice: &mut Dice, record: &mut Record) {
+    let body = &mut record.body;
+    match dice.below(7) {
+        // lo above hi, hi above 42, or a range cut off
+        0 => *body = dice.pick(&[&[65, 5, 4], &[65, 42, 41], &[65, 0, 43], &[65, 43, 43]]).to_vec(),
+        1 => *body = dice.pick(&[&[65][..], &[65, 3], &[68, 65, 3], &[66, 1, 65]]).to_vec(),
+        // left over
+        2 => body.push(dice.pick(&[0, 1, 64, 68])),
+        // running out
+        3 => body.insert(0, dice.pick(&[66, 67])),
+        4 if body.len() > 1 => {
+            body.pop();
+        }
+        // a byte that is no operator
+        4 | 5 => {
+            let at = dice.below(body.len());
+            body[at] = dice.pick(&[43, 63, 69, 70, 255]);
+        }
+        // too many leaves, and sometimes a byte left over as well
+        _ => {
+            let leaves = dice.between(32, 40);
+            *body = vec![66; leaves - 1];
+            body.extend(vec![7; leaves]);
+            if dice.one_in(3) {
+                body.push(7);
+            }
+        }
+    }
+    body.truncate(96);
+    record.length = body.len() as u8;
+}
+
+// ------------------------------------------------------------- long ones
+
+/// Cases whose search fills the whole room and then finds no more of it.
+pub fn long(room: u32) -> Vec<Case> {
+    const A: u8 = 10;
+    const B: u8 = 11;
+    const X: u8 = 64;
+    const Y: u8 = 65;
+    let case = |patterns: &[(u8, Vec<u8>)], left: &[u8], right: &[u8]| {
+        let patterns = patterns.iter().map(|(field, body)| Record::pattern(*field, body.clone()));
+        let mut records: Vec<Record> = patterns.collect();
+        records.push(Record::side(b"LE", left.to_vec()));
+        records.push(Record::side(b"RI", right.to_vec()));
+        Case { work: room * SITUATION_BYTES as u32, answer: 4096, sheet: write_out(&records) }
+    };
+
+    // Long token lists that differ at the end of the right one only.
+    let mut late_left = vec![A; 23];
+    late_left.insert(0, X);
+    let mut late_right = vec![B; 22];
+    late_right.insert(0, Y);
+    late_right.push(X);
+
+    // Equal token lists and different place sets: x is 0s and 1s with a 1 at
+    // the 21st place from the end.
+    let twenty_first = twenty_first_from_the_end();
+
+    vec![
+        // x`A` and `B`yx, open: short lists that differ in the right one.
+        case(&[], &[X, A], &[B, Y, X]),
+        // xx`A` and yy`B`, open: the lists differ early, in the left one.
+        case(&[], &[X, X, A], &[Y, Y, B]),
+        case(&[], &late_left, &late_right),
+        case(&[(0, twenty_first)], &[X, A], &[Y, B]),
+    ]
+}
+
+/// 0s and 1s with a 1 at the 21st place from the end: 22 leaves.
+fn twenty_first_from_the_end() -> Vec<u8> {
+    let mut bytes = vec![66, 68, 65, 0, 1];
+    bytes.extend([66; 20]);
+    bytes.push(1);
+    for _ in 0..20 {
+        bytes.extend([65, 0, 1]);
+    }
+    bytes
+}

@@ -1,0 +1,198 @@
+//! Patterns and their places.
+
+/// "31 leaves and the start make 32 places."
+pub const MOST_LEAVES: usize = 31;
+/// Characters are the values 0 to 42.
+pub const CHARACTERS: u8 = 43;
+
+/// A set of places: bit 0 is the start, bit k the k-th leaf of the pattern.
+pub type PlaceSet = u32;
+
+/// The place set that "at first ... holds only the start".
+pub const ONLY_START: PlaceSet = 1;
+
+/// A pattern as a tree.
+#[derive(Clone, Debug, PartialEq, Eq)]
+pub enum Pattern {
+    /// "64: the empty text"
+    Empty,
+    /// "0 to 42: that character (a leaf)" and "65 lo hi: one character with
+    /// lo ≤ value ≤ hi ≤ 42 (a leaf)"
+    Leaf { lo: u8, hi: u8 },
+    /// "66 A B: A then B"
+    Then(Box<Pattern>, Box<Pattern>),
+    /// "67 A B: A or B, each again a pattern"
+    Or(Box<Pattern>, Box<Pattern>),
+    /// "68 A: A any number of times, none included"
+    AnyTimes(Box<Pattern>),
+}
+
+impl Pattern {
+    /// "The n bytes after the length byte are judged by themselves, as exactly
+    /// one pattern that uses them all."
+    pub fn read(bytes: &[u8]) -> Option<Pattern> {
+        let (pattern, rest) = Pattern::read_front(bytes)?;
+        rest.is_empty().then_some(pattern)
+    }
+
+    /// Reads one pattern from the front, "written operator first", and hands
+    /// back the bytes behind it.
+    fn read_front(bytes: &[u8]) -> Option<(Pattern, &[u8])> {
+        let (&operator, rest) = bytes.split_first()?;
+        match operator {
+            0..=42 => Some((Pattern::Leaf { lo: operator, hi: operator }, rest)),
+            64 => Some((Pattern::Empty, rest)),
+            65 => match *rest {
+                [lo, hi, ref rest @ ..] if lo <= hi && hi < CHARACTERS => {
+                    Some((Pattern::Leaf { lo, hi }, rest))
+                }
+                _ => None,
+            },
+            66 | 67 => {
+                let (a, rest) = Pattern::read_front(rest)?;
+                let (b, rest) = Pattern::read_front(rest)?;
+                let (a, b) = (Box::new(a), Box::new(b));
+                let pattern = if operator == 66 { Pattern::Then(a, b) } else { Pattern::Or(a, b) };
+                Some((pattern, rest))
+            }
+            68 => {
+                let (a, rest) = Pattern::read_front(rest)?;
+                Some((Pattern::AnyTimes(Box::new(a)), rest))
+            }
+            _ => None,
+        }
+    }
+
+    /// The number of leaves.
+    pub fn leaves(&self) -> usize {
+        match self {
+            Pattern::Empty => 0,
+            Pattern::Leaf { .. } => 1,
+            Pattern::Then(a, b) | Pattern::Or(a, b) => a.leaves() + b.leaves(),
+            Pattern::AnyTimes(a) => a.leaves(),
+        }
+    }
+}
+
+/// "For every field and every place, the set of places that may follow is
+/// worked out once from the pattern."
+#[derive(Clone, Debug)]
+pub struct Places {
+    /// For each place, the places that may follow it.
+    follow: [PlaceSet; 32],
+    /// For each character, the leaves that take it.
+    takes: [PlaceSet; CHARACTERS as usize],
+    /// The places that "may be the last one of a text (the start may, if the
+    /// pattern takes the empty text)".
+    last: PlaceSet,
+}
+
+/// What is known of a part of a pattern.
+struct Part {
+    /// The part takes the empty text.
+    empty: bool,
+    /// The leaves that may be read first in the part.
+    first: PlaceSet,
+    /// The leaves that may be read last in the part.
+    last: PlaceSet,
+}
+
+impl Places {
+    /// The places of a pattern with at most 31 leaves.
+    pub fn of(pattern: &Pattern) -> Places {
+        let mut places = Places { follow: [0; 32], takes: [0; CHARACTERS as usize], last: 0 };
+        let mut leaves = 0;
+        let whole = places.part(pattern, &mut leaves);
+        places.follow[0] = whole.first;
+        places.last = whole.last | if whole.empty { ONLY_START } else { 0 };
+        places
+    }
+
+    /// Goes down the pattern; `leaves` is the number of leaves met so far.
+    fn part(&mut self, pattern: &Pattern, leaves: &mut usize) -> Part {
+        match pattern {
+            Pattern::Empty => Part { empty: true, first: 0, last: 0 },
+            Pattern::Leaf { lo, hi } => {
+                *leaves += 1;
+                let place = 1 << *leaves;
+                for character in *lo..=*hi {
+                    self.takes[usize::from(character)] |= place;
+                }
+                Part { empty: false, first: place, last: place }
+            }
+            Pattern::Then(a, b) => {
+                let a = self.part(a, leaves);
+                let b = self.part(b, leaves);
+                self.may_follow(a.last, b.first);
+                Part {
+                    empty: a.empty && b.empty,
+                    first: a.first | if a.empty { b.first } else { 0 },
+                    last: b.last | if b.empty { a.last } else { 0 },
+                }
+            }
+            Pattern::Or(a, b) => {
+                let a = self.part(a, leaves);
+                let b = self.part(b, leaves);
+                Part { empty: a.empty || b.empty, first: a.first | b.first, last: a.last | b.last }
+            }
+            Pattern::AnyTimes(a) => {
+                let a = self.part(a, leaves);
+                self.may_follow(a.last, a.first);
+                Part { empty: true, first: a.first, last: a.last }
+            }
+        }
+    }
+
+    /// Each place of `first` may follow each place of `last`.
+    fn may_follow(&mut self, last: PlaceSet, first: PlaceSet) {
+        for place in members(last) {
+            self.follow[place] |= first;
+        }
+    }
+}
+
+/// The places of a set, rising.
+fn members(set: PlaceSet) -> impl Iterator<Item = usize> {
+    let mut rest = set;
+    std::iter::from_fn(move || {
+        if rest == 0 {
+            return None;
+        }
+        let place = rest.trailing_zeros() as usize;
+        rest &= rest - 1;
+        Some(place)
+    })
+}
+
+/// What a field may stand for.
+#[derive(Clone, Debug)]
+pub enum Rule {
+    /// "A field without `PA` is open: any text, the empty one included."
+    Open,
+    /// A field with a pattern.
+    Pattern(Box<Places>),
+}
+
+impl Rule {
+    /// "After a character c it holds each leaf that may follow some place of
+    /// the set and that takes c." "An open field has one place set that never
+    /// changes ..."
+    pub fn after(&self, set: PlaceSet, character: u8) -> PlaceSet {
+        match self {
+            Rule::Open => set,
+            Rule::Pattern(places) => {
+                let following = members(set).fold(0, |all, place| all | places.follow[place]);
+                following & places.takes[usize::from(character)]
+            }
+        }
+    }
+
+    /// "The set may end if some place in it may be the last one of a text ..."
+    /// "... and may always end."
+    pub fn may_end(&self, set: PlaceSet) -> bool {
+        match self {
+            Rule::Open => true,
+            Rule::Pattern(places) => set & places.last != 0,
+        }
+    }
+}

@@ -1,0 +1,422 @@
+//! The same search with the situations in the lent working buffer, as flat
+//! slots of 144 bytes, and with the look-up done by a plain scan over them
+//! from the oldest to the newest.
+//!
+//! A slot, by offset:
+//!
+//! | Bytes | What |
+//! |---|---|
+//! | 0, 1 | lengths of the left and of the right token list |
+//! | 2 to 49 | left tokens, the rest 0 |
+//! | 50 to 97 | right tokens, the rest 0 |
+//! | 98 to 129 | place set of each field in four bytes, 0 for a field that is gone |
+//! | 130, 131 | number of the parent |
+//! | 132 | the character put, or 255 for a strike or the start |
+//!
+//! Bytes 0 to 129 are the situation, the others its way.
+
+use crate::pattern::{PlaceSet, Rule, CHARACTERS, ONLY_START};
+use crate::sheet::{self, Question, Token, FIELDS};
+use crate::{
+    room, Outcome, ANSWER_BUFFER_TOO_SHORT, ANSWER_RECORD_HEAD, CLASH, MOST_TEXT, MOST_TOKENS,
+    NO_CLASH, NO_ROOM, SIDE_TOO_LONG, SITUATION_BYTES, TEXT_TOO_LONG,
+};
+
+const LEFT: usize = 2;
+const RIGHT: usize = LEFT + MOST_TOKENS;
+const SETS: usize = RIGHT + MOST_TOKENS;
+const KEY_BYTES: usize = SETS + 4 * FIELDS;
+const PARENT: usize = KEY_BYTES;
+const STEP: usize = PARENT + 2;
+/// The step byte where no character was put.
+const NOTHING_PUT: u8 = 255;
+
+/// The part of a slot that is the situation.
+type Key = [u8; KEY_BYTES];
+
+/// Judges the sheet, searches, and writes the answer.
+pub fn answer(sheet: &[u8], work: &mut [u8], answer: &mut [u8]) -> Outcome {
+    let question = match sheet::read(sheet) {
+        Ok(question) => question,
+        Err(fault) => return Outcome::of_fault(fault),
+    };
+    let mut slots = Slots { room: room(work.len()), work, count: 0 };
+    let (number, written) = match search(&question, &mut slots) {
+        Ending::Clash(finish) => write_answer(&question, &slots, finish, answer),
+        Ending::NoClash => (NO_CLASH, 0),
+        Ending::NoRoom => (NO_ROOM, 0),
+        Ending::SideTooLong => (SIDE_TOO_LONG, 0),
+    };
+    let count = slots.count;
+    work.fill(0);
+    Outcome::of_search(number, count, written)
+}
+
+/// The entered situations in the working buffer.
+struct Slots<'a> {
+    work: &'a mut [u8],
+    room: usize,
+    count: usize,
+}
+
+impl Slots<'_> {
+    fn slot(&self, number: usize) -> &[u8] {
+        &self.work[number * SITUATION_BYTES..][..SITUATION_BYTES]
+    }
+
+    /// Scans from the oldest to the newest.
+    fn already_entered(&self, key: &Key) -> bool {
+        let entered = &self.work[..self.count * SITUATION_BYTES];
+        entered.chunks_exact(SITUATION_BYTES).any(|slot| slot[..KEY_BYTES] == key[..])
+    }
+
+    /// Enters a situation behind the newest; there must be room.
+    fn enter(&mut self, key: &Key, parent: usize, step: u8) {
+        let slot = &mut self.work[self.count * SITUATION_BYTES..][..SITUATION_BYTES];
+        slot[..KEY_BYTES].copy_from_slice(key);
+        slot[PARENT..STEP].copy_from_slice(&(parent as u16).to_le_bytes());
+        slot[STEP] = step;
+        self.count += 1;
+    }
+
+    /// The situation of a slot.
+    fn situation(&self, number: usize) -> Flat {
+        let slot = self.slot(number);
+        let set = |field: usize| {
+            let at = SETS + 4 * field;
+            PlaceSet::from_le_bytes([slot[at], slot[at + 1], slot[at + 2], slot[at + 3]])
+        };
+        Flat {
+            left: Side::of(&slot[LEFT..][..usize::from(slot[0])]),
+            right: Side::of(&slot[RIGHT..][..usize::from(slot[1])]),
+            sets: std::array::from_fn(set),
+        }
+    }
+
+    /// The way to a situation from its parent.
+    fn way(&self, number: usize) -> Way {
+        let slot = self.slot(number);
+        let parent = usize::from(u16::from_le_bytes([slot[PARENT], slot[PARENT + 1]]));
+        if slot[STEP] == NOTHING_PUT {
+            return Way { parent, put: None, before: [None, None] };
+        }
+        // A character is put only where neither side is empty.
+        let fronts = self.slot(parent);
+        let before = [field(fronts[LEFT]), field(fronts[RIGHT])];
+        Way { parent, put: Some(slot[STEP]), before }
+    }
+}
+
+/// "a situation's way is the one by which it was first entered"
+struct Way {
+    parent: usize,
+    /// The character put; none for a strike.
+    put: Option<u8>,
+    /// The parent's front fields, before which it was put; twice the same
+    /// where both fronts are one field.
+    before: [Option<usize>; 2],
+}
+
+/// The field of a token, if it is one.
+fn field(token: u8) -> Option<usize> {
+    (token >= 64).then(|| usize::from(token - 64))
+}
+
+/// A token list, long enough for a child that is not yet trimmed: no token
+/// becomes more than two.
+#[derive(Clone, Copy)]
+struct Side {
+    tokens: [u8; 2 * MOST_TOKENS],
+    /// Tokens before this one are trimmed.
+    from: usize,
+    to: usize,
+}
+
+impl Side {
+    fn empty() -> Side {
+        Side { tokens: [0; 2 * MOST_TOKENS], from: 0, to: 0 }
+    }
+
+    fn of(tokens: &[u8]) -> Side {
+        let mut side = Side::empty();
+        side.tokens[..tokens.len()].copy_from_slice(tokens);
+        side.to = tokens.len();
+        side
+    }
+
+    fn push(&mut self, token: u8) {
+        self.tokens[self.to] = token;
+        self.to += 1;
+    }
+
+    fn tokens(&self) -> &[u8] {
+        &self.tokens[self.from..self.to]
+    }
+
+    fn front(&self) -> Option<u8> {
+        self.tokens().first().copied()
+    }
+
+    /// The side without any standing of the token.
+    fn strike(&self, struck: u8) -> Side {
+        let mut side = Side::empty();
+        for &token in self.tokens() {
+            if token != struck {
+                side.push(token);
+            }
+        }
+        side
+    }
+
+    /// The side with the character before each standing of a front field.
+    fn put(&self, character: u8, left_front: u8, right_front: u8) -> Side {
+        let mut side = Side::empty();
+        for &token in self.tokens() {
+            if token >= 64 && (token == left_front || token == right_front) {
+                side.push(character);
+            }
+            side.push(token);
+        }
+        side
+    }
+}
+
+/// A situation, the place sets of fields that are gone being 0.
+#[derive(Clone, Copy)]
+struct Flat {
+    left: Side,
+    right: Side,
+    sets: [PlaceSet; FIELDS],
+}
+
+impl Flat {
+    fn of(question: &Question) -> Flat {
+        let mut start = Flat { left: Side::empty(), right: Side::empty(), sets: [0; FIELDS] };
+        for &token in &question.left {
+            start.left.push(token.byte());
+        }
+        for &token in &question.right {
+            start.right.push(token.byte());
+        }
+        for &token in question.left.iter().chain(&question.right) {
+            if let Token::Field(field) = token {
+                start.sets[usize::from(field)] = ONLY_START;
+            }
+        }
+        start
+    }
+
+    fn trim(&mut self) {
+        while let (Some(left), Some(right)) = (self.left.front(), self.right.front()) {
+            if left != right || left >= 64 {
+                break;
+            }
+            self.left.from += 1;
+            self.right.from += 1;
+        }
+    }
+
+    fn finished(&self) -> bool {
+        self.left.front().is_none() && self.right.front().is_none()
+    }
+
+    /// Not finished, and no field in front of either side.
+    fn dead(&self) -> bool {
+        let is_field = |front: Option<u8>| front.is_some_and(|token| token >= 64);
+        !self.finished() && !is_field(self.left.front()) && !is_field(self.right.front())
+    }
+
+    fn too_long(&self) -> bool {
+        self.left.tokens().len() > MOST_TOKENS || self.right.tokens().len() > MOST_TOKENS
+    }
+
+    fn key(&self) -> Key {
+        let (left, right) = (self.left.tokens(), self.right.tokens());
+        let mut key = [0; KEY_BYTES];
+        key[0] = left.len() as u8;
+        key[1] = right.len() as u8;
+        key[LEFT..][..left.len()].copy_from_slice(left);
+        key[RIGHT..][..right.len()].copy_from_slice(right);
+        for (field, set) in self.sets.iter().enumerate() {
+            key[SETS + 4 * field..][..4].copy_from_slice(&set.to_le_bytes());
+        }
+        key
+    }
+
+    /// The child with a field struck, if its set may end.
+    fn strike(&self, token: u8, rules: &[Rule; FIELDS]) -> Option<Flat> {
+        let field = field(token)?;
+        if !rules[field].may_end(self.sets[field]) {
+            return None;
+        }
+        let mut sets = self.sets;
+        sets[field] = 0;
+        Some(Flat { left: self.left.strike(token), right: self.right.strike(token), sets })
+    }
+
+    /// The child with the character put before the front fields, if both
+    /// fronts allow it.
+    fn put(&self, character: u8, fronts: (u8, u8), rules: &[Rule; FIELDS]) -> Option<Flat> {
+        let mut sets = self.sets;
+        for front in [fronts.0, fronts.1] {
+            match field(front) {
+                None => {
+                    if front != character {
+                        return None;
+                    }
+                }
+                // From the parent's set, so that one field in both fronts
+                // takes the character once.
+                Some(field) => {
+                    sets[field] = rules[field].after(self.sets[field], character);
+                    if sets[field] == 0 {
+                        return None;
+                    }
+                }
+            }
+        }
+        Some(Flat {
+            left: self.left.put(character, fronts.0, fronts.1),
+            right: self.right.put(character, fronts.0, fronts.1),
+            sets,
+        })
+    }
+}
+
+/// How the search ended; a clash with the number of the finished situation.
+enum Ending {
+    Clash(usize),
+    NoClash,
+    NoRoom,
+    SideTooLong,
+}
+
+fn search(question: &Question, slots: &mut Slots) -> Ending {
+    let rules = &question.rules;
+    if slots.room == 0 {
+        return Ending::NoRoom;
+    }
+    let mut start = Flat::of(question);
+    start.trim();
+    slots.enter(&start.key(), 0, NOTHING_PUT);
+    if start.finished() {
+        return Ending::Clash(0);
+    }
+
+    let mut taken = 0;
+    while taken < slots.count {
+        let parent = slots.situation(taken);
+        let (left, right) = (parent.left.front(), parent.right.front());
+        if !parent.dead() {
+            if let Some(child) = left.and_then(|left| parent.strike(left, rules)) {
+                if let Some(ending) = offer(child, taken, NOTHING_PUT, slots) {
+                    return ending;
+                }
+            }
+            if left != right {
+                if let Some(child) = right.and_then(|right| parent.strike(right, rules)) {
+                    if let Some(ending) = offer(child, taken, NOTHING_PUT, slots) {
+                        return ending;
+                    }
+                }
+            }
+            if let (Some(left), Some(right)) = (left, right) {
+                for character in 0..CHARACTERS {
+                    if let Some(child) = parent.put(character, (left, right), rules) {
+                        if let Some(ending) = offer(child, taken, character, slots) {
+                            return ending;
+                        }
+                    }
+                }
+            }
+        }
+        taken += 1;
+    }
+    Ending::NoClash
+}
+
+/// "Each child is trimmed, then: dead is dropped; a side above 48 tokens gives
+/// 19; one already entered is dropped; no room gives 18; otherwise it is
+/// entered, and a finished one ends the search at once."
+fn offer(mut child: Flat, parent: usize, step: u8, slots: &mut Slots) -> Option<Ending> {
+    child.trim();
+    if child.dead() {
+        return None;
+    }
+    if child.too_long() {
+        return Some(Ending::SideTooLong);
+    }
+    let key = child.key();
+    if slots.already_entered(&key) {
+        return None;
+    }
+    if slots.count == slots.room {
+        return Some(Ending::NoRoom);
+    }
+    slots.enter(&key, parent, step);
+    child.finished().then(|| Ending::Clash(slots.count - 1))
+}
+
+/// Writes the records if they fit: the answer's number and the bytes written.
+fn write_answer(
+    question: &Question,
+    slots: &Slots,
+    finish: usize,
+    answer: &mut [u8],
+) -> (u8, usize) {
+    // Each text's length, by walking the way back.
+    let mut lengths = [0; FIELDS];
+    walk_back(slots, finish, |_, field| lengths[field] += 1);
+
+    // "21 comes before 20."
+    if lengths.iter().any(|&length| length > MOST_TEXT) {
+        return (TEXT_TOO_LONG, 0);
+    }
+    let stands = |field: usize| {
+        let field = Token::Field(field as u8);
+        question.left.contains(&field) || question.right.contains(&field)
+    };
+    let bytes = |field: usize| if stands(field) { ANSWER_RECORD_HEAD + lengths[field] } else { 0 };
+    let written = (0..FIELDS).map(bytes).sum();
+    if written > answer.len() {
+        return (ANSWER_BUFFER_TOO_SHORT, 0);
+    }
+
+    // The records without their values, and where each record ends.
+    let mut ends = [0; FIELDS];
+    let mut at = 0;
+    for field in 0..FIELDS {
+        if stands(field) {
+            answer[at..at + 2].copy_from_slice(b"VA");
+            answer[at + 2] = field as u8;
+            answer[at + 3..at + 5].copy_from_slice(&(lengths[field] as u16).to_le_bytes());
+        }
+        at += bytes(field);
+        ends[field] = at;
+    }
+    // The values, from the last to the first.
+    walk_back(slots, finish, |character, field| {
+        ends[field] -= 1;
+        answer[ends[field]] = character;
+    });
+    (CLASH, written)
+}
+
+/// From the finish back to the start: each character put and the field before
+/// which it was put.
+fn walk_back(slots: &Slots, finish: usize, mut each: impl FnMut(u8, usize)) {
+    let mut at = finish;
+    while at != 0 {
+        let Way { parent, put, before: [left, right] } = slots.way(at);
+        if let Some(character) = put {
+            if let Some(field) = left {
+                each(character, field);
+            }
+            // "Where both fronts are one field, this is done once."
+            if let Some(field) = right.filter(|_| right != left) {
+                each(character, field);
+            }
+        }
+        at = parent;
+    }
+}

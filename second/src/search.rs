@@ -1,0 +1,124 @@
+//! The search, with the situations in storage of its own.
+
+use std::collections::HashSet;
+use std::rc::Rc;
+
+use crate::sheet::{Question, Token};
+use crate::situation::{Situation, State, Step};
+use crate::MOST_TOKENS;
+
+/// How the search ended.
+#[derive(Clone, Debug, PartialEq, Eq)]
+pub enum Ending {
+    /// A clash, with each field that stands in the sides, by rising number,
+    /// and its text.
+    Clash(Vec<(u8, Vec<u8>)>),
+    NoClash,
+    NoRoom,
+    SideTooLong,
+}
+
+/// The ending and the number of situations entered.
+#[derive(Clone, Debug, PartialEq, Eq)]
+pub struct Found {
+    pub ending: Ending,
+    pub count: usize,
+}
+
+/// A situation that was entered and "the one [way] by which it was first
+/// entered": the number of its parent and the step from there. The start has
+/// none.
+struct Entered {
+    situation: Rc<Situation>,
+    way: Option<(usize, Step)>,
+}
+
+/// Searches with room for so many situations.
+pub fn search(question: &Question, room: usize) -> Found {
+    let mut entered: Vec<Entered> = Vec::new();
+    let mut known: HashSet<Rc<Situation>> = HashSet::new();
+
+    // "A start that finds no room gives 18."
+    if room == 0 {
+        return Found { ending: Ending::NoRoom, count: 0 };
+    }
+    // "The trimmed question is entered first, dead or not."
+    let start = Rc::new(Situation::of(question).trimmed());
+    known.insert(start.clone());
+    entered.push(Entered { situation: start, way: None });
+
+    // "Situations are taken in the order of entry."
+    let mut taken = 0;
+    while taken < entered.len() {
+        let situation = entered[taken].situation.clone();
+        let children = match situation.state() {
+            // "A finished one ends the search with a clash; a dead one has no
+            // children."
+            State::Finished => return clash(question, &entered, taken),
+            State::Dead => Vec::new(),
+            State::Open => situation.children(&question.rules),
+        };
+        for (child, step) in children {
+            // "Each child is trimmed, then: dead is dropped;"
+            let child = child.trimmed();
+            let state = child.state();
+            if state == State::Dead {
+                continue;
+            }
+            // "a side above 48 tokens gives 19;"
+            if child.left.len() > MOST_TOKENS || child.right.len() > MOST_TOKENS {
+                return Found { ending: Ending::SideTooLong, count: entered.len() };
+            }
+            // "one already entered is dropped;"
+            if known.contains(&child) {
+                continue;
+            }
+            // "no room gives 18;"
+            if entered.len() == room {
+                return Found { ending: Ending::NoRoom, count: entered.len() };
+            }
+            // "otherwise it is entered, and a finished one ends the search at
+            // once."
+            let child = Rc::new(child);
+            known.insert(child.clone());
+            entered.push(Entered { situation: child, way: Some((taken, step)) });
+            if state == State::Finished {
+                return clash(question, &entered, entered.len() - 1);
+            }
+        }
+        taken += 1;
+    }
+    // "When all are used up the answer is 1."
+    Found { ending: Ending::NoClash, count: entered.len() }
+}
+
+/// "A field's text is the characters put before it on the way from the start
+/// to the finish".
+fn clash(question: &Question, entered: &[Entered], finish: usize) -> Found {
+    // The steps of the way, from the start to the finish.
+    let mut steps = Vec::new();
+    let mut at = finish;
+    while let Some((parent, step)) = &entered[at].way {
+        steps.push(step);
+        at = *parent;
+    }
+    steps.reverse();
+
+    let standing = |field: u8| {
+        let field = Token::Field(field);
+        question.left.contains(&field) || question.right.contains(&field)
+    };
+    let text = |field: u8| {
+        let mut text = Vec::new();
+        for step in &steps {
+            if let Step::Put { character, fields } = step {
+                if fields.contains(&field) {
+                    text.push(*character);
+                }
+            }
+        }
+        text
+    };
+    let texts = (0..8).filter(|&field| standing(field)).map(|field| (field, text(field)));
+    Found { ending: Ending::Clash(texts.collect()), count: entered.len() }
+}
