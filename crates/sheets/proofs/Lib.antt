@@ -3,4 +3,4 @@ pub mod Stand
 pub mod Reached
 pub mod Sides
 pub mod Bytes
-pub mod Tables
+pub mod Filled

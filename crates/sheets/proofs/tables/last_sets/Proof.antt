@@ -1,4 +1,4 @@
--- `sheets::last_sets` meets its contract. The loop's invariant: the fields below `f` have their sets.
+-- `sheets::tables::last_sets` meets its contract. The loop's invariant: the fields below `f` have their sets.
 -- Assumes nothing.
 use Prim.Native.Nat.{_-_}
 use native.Mathlib.Omega.{arith}
@@ -8,9 +8,9 @@ use Rattle.paper.specs.Numbers.{fields}
 use Rattle.patterns.specs.Masks.{last-mask}
 use Rattle.sheets.specs.Tables.{last-sets}
 use Rattle.sheets.proofs.Stand.{found-so}
-use Rattle.sheets.proofs.Tables.{Filled, filled-none, filled-more, filled-all}
-use Rattle.sheets.proofs.last_sets.Statement.{statement}
-use Rattle.sheets.proofs.last_sets.Tie as tie
+use Rattle.sheets.proofs.Filled.{Filled, filled-none, filled-more, filled-all}
+use Rattle.sheets.proofs.tables.last_sets.Statement.{statement}
+use Rattle.sheets.proofs.tables.last_sets.Tie as tie
 
 abbrev Inv-loop : tie.InvT-loop
 Inv-loop s sets₀ r f₀ sets f = Filled last-mask s r sets f

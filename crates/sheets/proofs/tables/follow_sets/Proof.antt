@@ -1,4 +1,4 @@
--- `sheets::follow_sets` meets its contract. The loop's invariant: the fields below `f` have their sets.
+-- `sheets::tables::follow_sets` meets its contract. The loop's invariant: the fields below `f` have their sets.
 -- Assumes nothing.
 use Prim.Native.Nat.{_-_}
 use native.Mathlib.Omega.{arith}
@@ -9,9 +9,9 @@ use Rattle.paper.specs.Numbers.{fields}
 use Rattle.patterns.specs.Masks.{places, follow-masks}
 use Rattle.sheets.specs.Tables.{follow-sets}
 use Rattle.sheets.proofs.Stand.{found-so}
-use Rattle.sheets.proofs.Tables.{Filled, filled-none, filled-more, filled-all}
-use Rattle.sheets.proofs.follow_sets.Statement.{statement}
-use Rattle.sheets.proofs.follow_sets.Tie as tie
+use Rattle.sheets.proofs.Filled.{Filled, filled-none, filled-more, filled-all}
+use Rattle.sheets.proofs.tables.follow_sets.Statement.{statement}
+use Rattle.sheets.proofs.tables.follow_sets.Tie as tie
 
 abbrev Inv-loop : tie.InvT-loop
 Inv-loop s sets₀ r f₀ sets f = Filled follow-masks s r sets f

@@ -1,4 +1,4 @@
--- `sheets::taking_sets` meets its contract. The loop's invariant: the fields below `f` have their sets.
+-- `sheets::tables::taking_sets` meets its contract. The loop's invariant: the fields below `f` have their sets.
 -- Assumes nothing.
 use Prim.Native.Nat.{_-_}
 use native.Mathlib.Omega.{arith}
@@ -9,9 +9,9 @@ use Rattle.paper.specs.Numbers.{characters, fields}
 use Rattle.patterns.specs.Masks.{taking-masks}
 use Rattle.sheets.specs.Tables.{taking-sets}
 use Rattle.sheets.proofs.Stand.{found-so}
-use Rattle.sheets.proofs.Tables.{Filled, filled-none, filled-more, filled-all}
-use Rattle.sheets.proofs.taking_sets.Statement.{statement}
-use Rattle.sheets.proofs.taking_sets.Tie as tie
+use Rattle.sheets.proofs.Filled.{Filled, filled-none, filled-more, filled-all}
+use Rattle.sheets.proofs.tables.taking_sets.Statement.{statement}
+use Rattle.sheets.proofs.tables.taking_sets.Tie as tie
 
 abbrev Inv-loop : tie.InvT-loop
 Inv-loop s sets₀ r f₀ sets f = Filled taking-masks s r sets f

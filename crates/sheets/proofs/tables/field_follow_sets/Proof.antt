@@ -1,4 +1,4 @@
--- `sheets::field_follow_sets` meets its contract: an open field has no bytes, and another field's bytes are its pattern's.
+-- `sheets::tables::field_follow_sets` meets its contract: an open field has no bytes, and another field's bytes are its pattern's.
 -- Assumes nothing.
 use Prim.Native.Nat.{_+_, _-_}
 use native.Mathlib.Omega.{arith}
@@ -6,9 +6,9 @@ use mathlib.Core.Path.{_≡_, refl, _∙_}
 use denote.Ref.{now}
 use borrow.Author.Needs.{needs}
 use Rattle.patterns.specs.Masks.{follow-masks, follow-sets-of}
-use Rattle.sheets.proofs.Tables.{open-stands, pattern-stands}
-use Rattle.sheets.proofs.field_follow_sets.Statement.{statement}
-use Rattle.sheets.proofs.field_follow_sets.Tie as tie
+use Rattle.sheets.proofs.Filled.{open-stands, pattern-stands}
+use Rattle.sheets.proofs.tables.field_follow_sets.Statement.{statement}
+use Rattle.sheets.proofs.tables.field_follow_sets.Tie as tie
 
 open-follow-sets-requires : tie.Need-open-follow-sets-requires
 open-follow-sets-requires c κs = search needs
