@@ -2,14 +2,13 @@
 -- what becomes of the answer buffer.
 use Prim.Native.Nat.{ℕ, suc, _+_, _/_, _%_, _≤_, _<_}
 use mathlib.Core.Path.{_≡_}
-use mathlib.Core.Bool.{Bool, false, cond, not, _&&_, _||_}
+use mathlib.Core.Bool.{Bool, false, cond, not}
 use mathlib.Core.List.{List, [], _∷_, _++_}
-use lib.Dec.{leb, ltb, eqb}
+use lib.Dec.{leb, eqb}
 use lib.ListN.{length, getD, drop}
 use Rattle.paper.specs.Lists.{upto, any, only, keep, each}
-use Rattle.paper.specs.Numbers.{characters, fields, field-token, longest-text}
+use Rattle.paper.specs.Numbers.{fields, longest-text}
 use Rattle.paper.specs.Outcome.{value-record}
-use Rattle.bradovusc.specs.Coded.{Coded, front}
 use Rattle.bradovusc.specs.Slots.{Slot, Holds-slots}
 use Rattle.bradovusc.specs.Run.{slot-at, text-back}
 use Rattle.bradovusc.specs.declared.answer.Back.{Back}
@@ -30,11 +29,6 @@ pub record Way-to (work : List ℕ) (last : ℕ) : Type 0 where
 -- the token in front of a side in a slot: its length stands at one place of the buffer, its tokens from another on
 abbrev pub front-at : List ℕ → ℕ → ℕ → ℕ
 front-at work count tokens = cond (eqb (getD work count 0) 0) 255 (getD work tokens 0)
-
--- did the step m from the situation put its character before the field f?
-abbrev pub puts-before : ℕ → Coded → ℕ → Bool
-puts-before f s m =
-    ltb m characters && (eqb (front (s .left)) (field-token + f) || eqb (front (s .right)) (field-token + f))
 
 -- the text of the field f, spelt from slot i back to slot 0
 abbrev pub text-at : List Slot → ℕ → ℕ → List ℕ
@@ -57,14 +51,9 @@ pub record Record-fits (text buffer : List ℕ) : Type 0 where
   pub short : length text ≤ longest-text
   pub room : head-bytes + length text ≤ length buffer
 
--- the bytes in front, "the rest unchanged"
+-- the bytes in front of the buffer, "the rest unchanged"
 abbrev pub in-front : List ℕ → List ℕ → List ℕ
 in-front bytes buffer = bytes ++ drop (length bytes) buffer
-
--- the bytes were put in front of the buffer, and so many they are
-pub record Put-in-front (bytes before after : List ℕ) (n : ℕ) : Type 0 where
-  pub many : n ≡ length bytes
-  pub put : after ≡ in-front bytes before
 
 -- "for each field standing in the sides, by rising number": those whose first place set is not 0
 unfoldable pub standing-fields : List ℕ → List ℕ
@@ -98,6 +87,7 @@ module _ (sets : List ℕ) (text : ℕ → List ℕ) where
       (cond (not (leb (length value-records) (length buffer))) buffer
       (in-front value-records buffer))
 
+  -- what is answered, and the buffer afterwards
   pub record Answered (before after : List ℕ) (answer : Answer) : Type 0 where
     pub given : answer ≡ answer-given before
     pub buffer : after ≡ buffer-after before

@@ -2,11 +2,13 @@
 ghost use mathlib.Core.Path.{_≡_};
 ghost use Prim.Native.Nat.{_<_, _≤_};
 ghost use lib.ListN.{length};
+ghost use Rattle.paper.specs.Lists.{only};
 ghost use Rattle.paper.specs.Numbers.{fields, longest-text};
 ghost use Rattle.paper.specs.Outcome.{value-record};
-ghost use Rattle.bradovusc.specs.Run.{slot-at};
-ghost use Rattle.bradovusc.specs.Answer.{Way-to, Steps-back, Record-fits, Put-in-front, Records-fit, Answered};
-ghost use Rattle.bradovusc.specs.Answer.{front-at, puts-before, text-at, record-head, head-bytes, in-front, text-above, value-records};
+ghost use Rattle.bradovusc.specs.Made.{Written};
+ghost use Rattle.bradovusc.specs.Run.{slot-at, given-coded};
+ghost use Rattle.bradovusc.specs.Answer.{Way-to, Steps-back, Record-fits, Records-fit, Answered};
+ghost use Rattle.bradovusc.specs.Answer.{front-at, text-at, record-head, head-bytes, in-front, text-above, value-records};
 use crate::situation::CHARACTERS;
 use crate::situation::FIELD_TOKEN;
 use crate::situation::FIELDS;
@@ -52,7 +54,7 @@ fn front_at(work: &[u8], count: usize, tokens: usize) -> u8
 fn puts_before(work: &[u8], i: usize, step: u8, f: u8) -> bool
     requires { ⌜ Way-to (now work) i ⌝ }
     requires { ⌜ f < fields ⌝ }
-    ensures { λ r. ⌜ ((w : Way-to (now (work .entry)) i) → r ≡ puts-before f (slot-at (w .slots) i .at) step) ⌝ }
+    ensures { λ r. ⌜ ((w : Way-to (now (work .entry)) i) → given-coded f (slot-at (w .slots) i .at) step ≡ only r step) ⌝ }
 {
     if step >= CHARACTERS {
         return false;
@@ -130,7 +132,7 @@ fn write_record(out: &mut [u8], work: &[u8], last: usize, f: u8) -> usize
     requires { ⌜ Way-to (now work) last ⌝ }
     requires { ⌜ f < fields ⌝ }
     requires { ⌜ ((w : Way-to (now work) last) → Record-fits (text-at (w .slots) last f) (now out)) ⌝ }
-    ensures { λ r. ⌜ ((w : Way-to (now (work .entry)) last) → Put-in-front (value-record f (text-at (w .slots) last f)) (now (out .entry)) (now (out .exit)) r) ⌝ }
+    ensures { λ r. ⌜ ((w : Way-to (now (work .entry)) last) → Written (now (out .entry)) (now (out .exit)) r (value-record f (text-at (w .slots) last f))) ⌝ }
 {
     let n = text_length(work, last, f);
     write_head(&mut out[0..HEAD], f, n);

@@ -14,7 +14,7 @@ use Rattle.paper.specs.Numbers.{fields, longest-text}
 use Rattle.paper.specs.Outcome.{value-record}
 use Rattle.paper.proofs.Tests.{lt-leb, le-leb, leb-true, neq-eqb, not-is-false, false-not}
 use Rattle.paper.proofs.Lists.{any-false, keep-mem, upto-mem}
-use Rattle.bradovusc.specs.Answer.{standing-fields, text-above, value-records}
+use Rattle.bradovusc.specs.Answer.{head-bytes, standing-fields, text-above, value-records}
 use Rattle.bradovusc.proofs.answer.Records.{length-record}
 
 module _ (sets : List ℕ) where
@@ -24,7 +24,7 @@ module _ (sets : List ℕ) where
 
   step : (f : ℕ) → f < fields → standing-from f ≡ only (not (eqb (getD sets f 0) 0)) f ++ standing-from (f + 1)
   step f h =
-      let e : 8 - f ≡ suc (8 - (f + 1)) = omega arith in
+      let e : fields - f ≡ suc (fields - (f + 1)) = omega arith in
       rw (e, add-one)
 
   stands-first : (f : ℕ) → f < fields → (getD sets f 0 ≡ 0 → ⊥) → standing-from f ≡ f ∷ standing-from (f + 1)
@@ -65,7 +65,7 @@ module _ (sets : List ℕ) where
       pub records-here : (getD sets f 0 ≡ 0 → ⊥) → records-from f ≡ value-record f (text f) ++ records-from (f + 1)
       records-here e = rw (stands-first f h e)
 
-      pub length-here : (getD sets f 0 ≡ 0 → ⊥) → length (records-from f) ≡ 5 + length (text f) + length (records-from (f + 1))
+      pub length-here : (getD sets f 0 ≡ 0 → ⊥) → length (records-from f) ≡ head-bytes + length (text f) + length (records-from (f + 1))
       length-here e = rw (records-here e, length-append, length-record)
 
       pub records-passed : getD sets f 0 ≡ 0 → records-from f ≡ records-from (f + 1)

@@ -2,13 +2,16 @@
 use Prim.Native.Nat.{_+_}
 use mathlib.Core.Path.{_∙_}
 use borrow.Author.Tests.{lt-ltb, le-ltb, eq-eqb, ne-eqb}
+use Rattle.paper.specs.Numbers.{characters, field-token}
+use Rattle.bradovusc.specs.Run.{given-coded}
 use Rattle.bradovusc.proofs.answer.Fronts.{left-front, right-front}
 use borrow.Author.Needs.{needs}
 use Rattle.bradovusc.proofs.answer.puts_before.Statement.{statement}
 use Rattle.bradovusc.proofs.answer.puts_before.Tie as tie
 
 returns : tie.Need-returns
-returns c w = rw (le-ltb (c .before .before .args .step) 43 (c .if1 .taken))
+unfolding given-coded
+returns c w = rw (le-ltb (c .before .before .args .step) characters (c .if1 .taken))
 
 mul-at : tie.Need-mul-at
 mul-at c = search needs
@@ -23,11 +26,12 @@ add-if2 : tie.Need-add-if2
 add-if2 c = search needs
 
 returns-2 : tie.Need-returns-2
+unfolding given-coded
 returns-2 c w =
     let at = c .before .before in
     let args = at .before .before .args in
     let left = c .before .front-at .ensures ∙ left-front (w .holds) (args .i) (w .entered) in
-    rw (lt-ltb (args .step) 43 (at .if1 .left), ← left, eq-eqb (c .before .front-at .result) (64 + args .f) (c .if2 .taken))
+    rw (lt-ltb (args .step) characters (at .if1 .left), ← left, eq-eqb (c .before .front-at .result) (field-token + args .f) (c .if2 .taken))
 
 add-front-at-2 : tie.Need-add-front-at-2
 add-front-at-2 c = search needs
@@ -42,13 +46,14 @@ add-result : tie.Need-add-result
 add-result c = search needs
 
 returns-3 : tie.Need-returns-3
+unfolding given-coded
 returns-3 c w =
     let at = c .before .before .before in
     let args = at .before .before .args in
     let first = c .before .before .front-at in
     let left = first .ensures ∙ left-front (w .holds) (args .i) (w .entered) in
     let right = c .front-at2 .ensures ∙ right-front (w .holds) (args .i) (w .entered) in
-    rw (lt-ltb (args .step) 43 (at .if1 .left), ← left, ne-eqb (first .result) (64 + args .f) (c .before .if2 .left), ← right)
+    rw (lt-ltb (args .step) characters (at .if1 .left), ← left, ne-eqb (first .result) (field-token + args .f) (c .before .if2 .left), ← right)
 
 pub puts-before-spec : {M : Type 1} → statement M
 puts-before-spec =

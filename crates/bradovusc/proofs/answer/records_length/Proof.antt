@@ -1,11 +1,12 @@
 -- `records_length` adds up the bytes of the records. The loop's invariant: those added and those of the fields left make the length.
--- A text is no longer than its way, which the buffer holds, so the sum fits.
+-- A text is no longer than its way, and the buffer has 144 bytes for each slot of it, so a record has at most 2 ^ 57 bytes and the sum fits.
 use Prim.Native.Nat.{_+_, _-_, _*_, _^_, _≤_}
 use native.Mathlib.Omega.{arith}
 use mathlib.Core.Path.{_≡_, ap}
 use mathlib.Core.Logic.{⊎-elim}
 use lib.ListN.{length}
 use borrow.Author.Needs.{needs}
+use Rattle.paper.specs.Numbers.{fields}
 use Rattle.bradovusc.specs.Answer.{Way-to, text-at, value-records}
 use Rattle.bradovusc.proofs.answer.Text.{text-short}
 use Rattle.bradovusc.proofs.answer.Standing.{records-from, records-all, length-here, records-passed}
@@ -14,13 +15,13 @@ use Rattle.bradovusc.proofs.answer.records_length.Tie as tie
 
 abbrev Inv-loop : tie.InvT-loop
 Inv-loop work last sets total₀ f₀ total f =
-    (f ≤ 8)
+    (f ≤ fields)
     × (total ≤ 2 ^ 57 * f)
     × ((w : Way-to work last) →
     total + length (records-from sets (text-at (w .slots) last) f) ≡ length (value-records sets (text-at (w .slots) last)))
 
 abbrev μ-loop : tie.MeasureT-loop
-μ-loop work last sets total₀ f₀ total f = 8 - f
+μ-loop work last sets total₀ f₀ total f = fields - f
 
 loop-holds : tie.Need-loop-holds Inv-loop μ-loop
 loop-holds c =
@@ -80,7 +81,7 @@ loop-again c =
 returns : tie.Need-returns Inv-loop μ-loop
 returns c w =
     let at = c .before in
-    let z : at .loop .f ≡ 8 = omega arith in
+    let z : at .loop .f ≡ fields = omega arith in
     omega (arith, rw z at (at .loop .inv .2 w))
 
 pub records-length-spec : {M : Type 1} → statement M

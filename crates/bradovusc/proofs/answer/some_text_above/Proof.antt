@@ -4,6 +4,7 @@ use native.Mathlib.Omega.{arith}
 use mathlib.Core.Path.{_≡_, sym, _∙_}
 use mathlib.Core.Logic.{⊎-elim}
 use borrow.Author.Needs.{needs}
+use Rattle.paper.specs.Numbers.{fields}
 use Rattle.bradovusc.specs.Answer.{Way-to, text-at, text-above}
 use Rattle.bradovusc.proofs.answer.Standing.{above-from, above-all, above-here, above-later, above-passed}
 use Rattle.bradovusc.proofs.answer.some_text_above.Statement.{statement}
@@ -11,11 +12,11 @@ use Rattle.bradovusc.proofs.answer.some_text_above.Tie as tie
 
 abbrev Inv-loop : tie.InvT-loop
 Inv-loop work last sets f₀ f =
-    (f ≤ 8)
+    (f ≤ fields)
     × ((w : Way-to work last) → above-from sets (text-at (w .slots) last) f ≡ text-above sets (text-at (w .slots) last))
 
 abbrev μ-loop : tie.MeasureT-loop
-μ-loop work last sets f₀ f = 8 - f
+μ-loop work last sets f₀ f = fields - f
 
 loop-holds : tie.Need-loop-holds Inv-loop μ-loop
 loop-holds c =
@@ -63,7 +64,7 @@ loop-again c =
 returns-2 : tie.Need-returns-2 Inv-loop μ-loop
 returns-2 c w =
     let at = c .before in
-    let z : at .loop .f ≡ 8 = omega arith in
+    let z : at .loop .f ≡ fields = omega arith in
     rw z at (at .loop .inv .1 w)
 
 pub some-text-above-spec : {M : Type 1} → statement M

@@ -19,7 +19,7 @@ parent-before : (c : tie.After-parent-of) (w : Way-to (c .before .before .args .
     → c .parent-of .result < c .before .before .args .i
 parent-before c w =
     let at = c .before .before in
-    parent-below w (at .args .i) (at .pre .1 .0) (omega arith) (c .parent-of .result) (c .parent-of .ensures (w .slots) no-slot (w .holds) (w .entered))
+    parent-below w (at .pre .1 .0) (c .parent-of .result) (c .parent-of .ensures (w .slots) no-slot (w .holds) (w .entered))
 
 puts-before-requires : tie.Need-puts-before-requires
 puts-before-requires c κs =
@@ -34,7 +34,7 @@ returns c w =
     record {
       falls = p;
       text =
-          text-back-one w (at .args .i) (at .pre .1 .0) (omega arith) (at .args .f) (c .before .before .parent-of .result)
+          text-back-one w (at .pre .1 .0) (at .args .f) (c .before .before .parent-of .result)
           (c .before .step-of .result) (c .puts-before .result) (c .before .before .parent-of .ensures (w .slots) no-slot (w .holds) (w .entered))
           (c .before .step-of .ensures (w .slots) no-slot (w .holds) (w .entered))
           (c .puts-before .ensures (way-back (c .before .before .parent-of .result) (omega arith) w));

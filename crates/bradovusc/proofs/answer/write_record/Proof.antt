@@ -5,7 +5,8 @@ use mathlib.Core.Path.{_∙_}
 use lib.ListN.{length}
 use lib.Seq.{length-take-le}
 use Rattle.paper.specs.Numbers.{longest-text}
-use Rattle.bradovusc.proofs.answer.Records.{length-record, text-room, text-part, record-stored}
+use Rattle.bradovusc.specs.Answer.{head-bytes}
+use Rattle.bradovusc.proofs.answer.Records.{text-room, text-part, record-stored}
 use borrow.Author.Needs.{needs}
 use Rattle.bradovusc.proofs.answer.write_record.Statement.{statement}
 use Rattle.bradovusc.proofs.answer.write_record.Tie as tie
@@ -25,7 +26,7 @@ short c =
     let at = c .before .before .before in
     rw (c .text-length .ensures (at .pre .0)) (at .pre .1 .1 (at .pre .0) .short)
 
-room : (c : tie.After-text-length) → 5 + c .text-length .result ≤ length (c .before .before .before .args .out .now)
+room : (c : tie.After-text-length) → head-bytes + c .text-length .result ≤ length (c .before .before .before .args .out .now)
 room c =
     let at = c .before .before .before in
     rw (c .text-length .ensures (at .pre .0)) (at .pre .1 .1 (at .pre .0) .room)
@@ -35,7 +36,7 @@ part-write-head-end c = omega (arith, room c)
 
 write-head-requires : tie.Need-write-head-requires
 write-head-requires c κs =
-    (length-take-le 5 (c .before .before .before .before .args .out .now) (omega (arith, room (c .before))), short (c .before))
+    (length-take-le head-bytes (c .before .before .before .before .args .out .now) (omega (arith, room (c .before))), short (c .before))
 
 add-write-text : tie.Need-add-write-text
 add-write-text c = omega (arith, room (c .before .before .before .before))
@@ -79,12 +80,8 @@ returns c w =
     let head = c .before .before .before .before .before .before .write-head in
     let text = c .before .before .write-text in
     let n = at .text-length .ensures w in
-    record {
-      many = rw (n, length-record);
-      put =
-          rw (← text .ensures w)
-          (record-stored (args .out .now) (head .last .0) (args .f) (at .text-length .result) (head .ensures) (text .last .0) (rw (text .ensures w) n));
-    }
+    rw (← text .ensures w)
+    (record-stored (args .out .now) (head .last .0) (args .f) (at .text-length .result) (head .ensures) (room at) (text .last .0) (rw (text .ensures w) n))
 
 pub write-record-spec : {M : Type 1} → statement M
 write-record-spec =

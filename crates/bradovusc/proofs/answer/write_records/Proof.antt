@@ -1,5 +1,5 @@
 -- `write_records` lends the answer buffer's rest to the record's writer, for each standing field. The loop's invariant: the records so far
--- sets in front, those of the fields left are missing, the rest is unchanged.
+-- stand in front, those of the fields left are missing, the rest is unchanged.
 use Prim.Native.Nat.{_+_, _-_, _≤_}
 use native.Mathlib.Omega.{arith}
 use mathlib.Core.Path.{_≡_, refl, _∙_}
@@ -8,6 +8,7 @@ use lib.ListN.{length}
 use borrow.Author.Needs.{needs}
 use borrow.Rule.Slice.PartMut.{same-len-mid}
 use Rattle.paper.specs.Outcome.{value-record}
+use Rattle.paper.specs.Numbers.{fields}
 use Rattle.bradovusc.specs.Answer.{Way-to, text-at, value-records}
 use Rattle.bradovusc.proofs.answer.Records.{Underway, none-written, one-more, all-written, length-record, length-rest}
 use Rattle.bradovusc.proofs.answer.Standing.{records-from, records-all, records-here, length-here, records-passed, short-text}
@@ -16,13 +17,13 @@ use Rattle.bradovusc.proofs.answer.write_records.Tie as tie
 
 abbrev Inv-loop : tie.InvT-loop
 Inv-loop answer₀ work last sets at₀ f₀ answer at f =
-    (f ≤ 8)
+    (f ≤ fields)
     × (length answer ≡ length answer₀)
     × ((w : Way-to work last) →
     Underway (value-records sets (text-at (w .slots) last)) (records-from sets (text-at (w .slots) last) f) answer₀ answer at)
 
 abbrev μ-loop : tie.MeasureT-loop
-μ-loop answer₀ work last sets at₀ f₀ answer at f = 8 - f
+μ-loop answer₀ work last sets at₀ f₀ answer at f = fields - f
 
 loop-holds : tie.Need-loop-holds Inv-loop μ-loop
 loop-holds c =
@@ -123,7 +124,7 @@ same-length c = search needs
 returns : tie.Need-returns Inv-loop μ-loop
 returns c w =
     let at = c .before in
-    let z : at .loop .f ≡ 8 = omega arith in
+    let z : at .loop .f ≡ fields = omega arith in
     all-written (rw z at (at .loop .inv .2 w))
 
 pub write-records-spec : {M : Type 1} → statement M
