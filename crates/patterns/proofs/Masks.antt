@@ -28,11 +28,11 @@ use Rattle.patterns.proofs.MaskOf.{mask-of-lt, in-mask-of, mask-of-same
 use Rattle.patterns.proofs.Tables.{getD-table}
 
 -- Lists by tests that say the same.
-any-same : (f g : ℕ → Bool) (l : List ℕ) → ((x : ℕ) → List·Memᴰ x l → f x ≡ g x) → any f l ≡ any g l
+pub any-same : (f g : ℕ → Bool) (l : List ℕ) → ((x : ℕ) → List·Memᴰ x l → f x ≡ g x) → any f l ≡ any g l
 any-same f g [] h = refl
 any-same f g (x ∷ l) h = ap₂ _||_ (h x (List·Memᴰ·head refl)) (any-same f g l (λ y d. h y (List·Memᴰ·tail d)))
 
-keep-same : (f g : ℕ → Bool) (l : List ℕ) → ((x : ℕ) → List·Memᴰ x l → f x ≡ g x) → keep f l ≡ keep g l
+pub keep-same : (f g : ℕ → Bool) (l : List ℕ) → ((x : ℕ) → List·Memᴰ x l → f x ≡ g x) → keep f l ≡ keep g l
 keep-same f g [] h = refl
 keep-same f g (x ∷ l) h =
     ap₂ (λ (b : Bool) (m : List ℕ). only b x ++ m) (h x (List·Memᴰ·head refl)) (keep-same f g l (λ y d. h y (List·Memᴰ·tail d)))
