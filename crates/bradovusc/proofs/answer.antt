@@ -3,3 +3,4 @@ pub mod Fronts
 pub mod Records
 pub mod Standing
 pub mod Text
+pub mod Told

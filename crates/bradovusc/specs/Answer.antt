@@ -8,7 +8,7 @@ use lib.Dec.{leb, eqb}
 use lib.ListN.{length, getD, drop}
 use Rattle.paper.specs.Lists.{upto, any, only, keep, each}
 use Rattle.paper.specs.Numbers.{fields, longest-text}
-use Rattle.paper.specs.Outcome.{value-record}
+use Rattle.paper.specs.Outcome.{Outcome, value-record}
 use Rattle.bradovusc.specs.Slots.{Slot, Holds-slots}
 use Rattle.bradovusc.specs.Run.{slot-at, text-back}
 use Rattle.bradovusc.specs.declared.answer.Back.{Back}
@@ -91,3 +91,20 @@ module _ (sets : List ℕ) (text : ℕ → List ℕ) where
   pub record Answered (before after : List ℕ) (answer : Answer) : Type 0 where
     pub given : answer ≡ answer-given before
     pub buffer : after ≡ buffer-after before
+
+-- the paper's number of an answer, and the bytes written
+abbrev pub answer-number : Answer → ℕ
+answer-number TextTooLong = 21
+answer-number TooShort = 20
+answer-number (Written n) = 0
+
+abbrev pub bytes-written : Answer → ℕ
+bytes-written TextTooLong = 0
+bytes-written TooShort = 0
+bytes-written (Written n) = n
+
+-- the answer and the answer buffer afterwards are those of the outcome
+pub record Tells (outcome : Outcome) (answer : Answer) (after : List ℕ) : Type 0 where
+  pub number : answer-number answer ≡ outcome .number
+  pub written : bytes-written answer ≡ outcome .written
+  pub buffer : after ≡ outcome .answer
