@@ -27,7 +27,8 @@ upto-snoc : (n : ℕ) → upto (suc n) ≡ upto n ++ (n ∷ [])
 upto-snoc n = from-snoc 0 n ∙ rw zero-add
 
 module _ (room p : ℕ) where
-  pub offers-append : (R : Running) (xs ys : List (Child Coded ℕ)) → offer-slots room p R (xs ++ ys) ≡ offer-slots room p (offer-slots room p R xs) ys
+  pub offers-append : (R : Running) (xs ys : List (Child Coded ℕ))
+      → offer-slots room p R (xs ++ ys) ≡ offer-slots room p (offer-slots room p R xs) ys
   offers-append R [] ys = refl
   offers-append R (x ∷ xs) ys = offers-append (offer-slot room p R x) xs ys
 
@@ -38,7 +39,8 @@ module _ (room p : ℕ) where
       ap (offer-slots room p R) (ap (each f) (upto-snoc c) ∙ each-snoc f (upto c) c) ∙ offers-append R (each f (upto c)) (f c)
 
   pub lent-more : {work : List ℕ} {run : Run} (R : Running) (f : ℕ → List (Child Coded ℕ)) (c : ℕ)
-      → Lent work run (offer-slots room p (offer-slots room p R (each f (upto c))) (f c)) → Lent work run (offer-slots room p R (each f (upto (c + 1))))
+      → Lent work run (offer-slots room p (offer-slots room p R (each f (upto c))) (f c))
+      → Lent work run (offer-slots room p R (each f (upto (c + 1))))
   lent-more {work} {run} R f c l =
       subst (Lent work run) (sym (ap (λ (n : ℕ). offer-slots room p R (each f (upto n))) (add-one c) ∙ offers-more R f c)) l
 
@@ -61,7 +63,8 @@ module _ {work : List ℕ} {run : Run} {R : Running} (l : Lent work run R) (room
   offered-ended above h = rw (still false h) l
   offered-ended (made t) h = rw (still false h) l
 
-  pub offered-above : is-going (run .status) ≡ true → Lent work (record { entered = run .entered; status = TooLong }) (offer-slots room p R (as-child step above))
+  pub offered-above : is-going (run .status) ≡ true
+      → Lent work (record { entered = run .entered; status = TooLong }) (offer-slots room p R (as-child step above))
   unfolding offer-slot
   offered-above h = rw (still true h) (record { holds = l .holds; entered = l .entered; status = refl })
 
@@ -74,7 +77,8 @@ module _ {work : List ℕ} {run : Run} {R : Running} (l : Lent work run R) (room
     offered-seen e =
         rw (still true h, e) (record { holds = l .holds; entered = l .entered; status = going (run .status) h })
 
-    pub offered-new : {work′ : List ℕ} {run′ : Run} → seen ≡ false → Lent work′ run′ (enter-slot room (R .slots) (record { at = t; parent = p; step = step }))
+    pub offered-new : {work′ : List ℕ} {run′ : Run} → seen ≡ false
+        → Lent work′ run′ (enter-slot room (R .slots) (record { at = t; parent = p; step = step }))
         → Lent work′ run′ (offer-slots room p R (as-child step (made t)))
     unfolding offer-slot
     offered-new e n = rw (still true h, e) n

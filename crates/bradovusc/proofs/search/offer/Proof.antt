@@ -53,7 +53,9 @@ returns-2 c =
     }
 
 enter-requires : tie.Need-enter-requires
-enter-requires c κs = (search needs, c .before .before .before .before .before .before .before .before .before .before .pre .1 (c .before .before .before .before .before .enum-told3 .given .1))
+enter-requires c κs =
+    let m = c .before .before .before .before .before in
+    (search needs, m .before .before .before .before .before .pre .1 (m .enum-told3 .given .1))
 
 returns-3 : tie.Need-returns-3
 returns-3 c =
