@@ -41,7 +41,7 @@ module _ {A B : Type 0} (f : A → List B) where
   each-map-keep g p [] = refl
   each-map-keep g p (c ∷ l) = by-bool (p c) (λ e. rw e (ap (λ (r : List B). f (g c) ++ r) (each-map-keep g p l))) (λ e. rw e (each-map-keep g p l))
 
-  each-same : (g : A → List B) (l : List A) → ((x : A) → List·Memᴰ x l → f x ≡ g x) → each f l ≡ each g l
+  pub each-same : (g : A → List B) (l : List A) → ((x : A) → List·Memᴰ x l → f x ≡ g x) → each f l ≡ each g l
   each-same g [] h = refl
   each-same g (x ∷ l) h = ap₂ _++_ (h x (List·Memᴰ·head refl)) (each-same g l (λ y d. h y (List·Memᴰ·tail d)))
 

@@ -38,7 +38,8 @@ set-mask [] f s = refl
 set-mask (t ∷ l) zero s = refl
 set-mask (t ∷ l) (suc f) s = cons-eq refl (set-mask l f s)
 
-pub masked-set : (l : List PlaceSet) (f : ℕ) (s : PlaceSet) → f < length l → Masked s → ((g : ℕ) → Masked (getD l g [])) → (g : ℕ) → Masked (getD (set l f s) g [])
+pub masked-set : (l : List PlaceSet) (f : ℕ) (s : PlaceSet) → f < length l → Masked s
+    → ((g : ℕ) → Masked (getD l g [])) → (g : ℕ) → Masked (getD (set l f s) g [])
 masked-set l f s b h k g =
     by-bool (eqb g f)
     (λ e. rw (eqb-true g f e, getD-set-same l f s [] b) h)
@@ -50,7 +51,8 @@ set-coded s t h k =
     (λ e. subst (λ (u : PlaceSet). same-set s u ≡ true) (mask-same s t h k (eqb-true (mask s) (mask t) e)) (equal-same s))
     (λ e. eq-eqb (mask s) (mask t) (ap mask (same-equal s t e)))
 
-pub same-sets : (l m : List PlaceSet) → ((f : ℕ) → Masked (getD l f [])) → ((f : ℕ) → Masked (getD m f [])) → same-by eqb (map mask l) (map mask m) ≡ same-by same-set l m
+pub same-sets : (l m : List PlaceSet) → ((f : ℕ) → Masked (getD l f [])) → ((f : ℕ) → Masked (getD m f []))
+    → same-by eqb (map mask l) (map mask m) ≡ same-by same-set l m
 same-sets [] [] h k = refl
 same-sets [] (t ∷ m) h k = refl
 same-sets (s ∷ l) [] h k = refl
@@ -69,25 +71,31 @@ module _ (q : Question) (few : (f : ℕ) → Few (held-by q f)) (s : Situation P
   set-at-coded f = rw (field-of-token f) (List·getD-map mask (s .sets) f [])
 
   -- "a field whose set may end"
-  pub may-strike-coded : (side : Side) → Known-side side → may-strike (tables-of q) (code-situation s) (front (code-side side)) ≡ front-may-end (acceptor q) s (front-field side)
+  pub may-strike-coded : (side : Side) → Known-side side
+      → may-strike (tables-of q) (code-situation s) (front (code-side side)) ≡ front-may-end (acceptor q) s (front-field side)
   unfolding may-strike acceptor tables-of
   may-strike-coded [] k = refl
   may-strike-coded (chr a ∷ side) k = rw (char-not-standing a (k .0))
   may-strike-coded (fld f ∷ side) k =
-      rw (field-standing f (k .0), set-at-coded f, field-of-token f, getD-map-upto (λ (g : ℕ). last-mask (held-by q g)) 0 fields f (k .0), or-false)
+      let last = getD-map-upto (λ (g : ℕ). last-mask (held-by q g)) 0 fields f (k .0) in
+      rw (field-standing f (k .0), set-at-coded f, field-of-token f, last, or-false)
       (mask-may-end (held-by q f) (the-set f) (masked-at f))
 
   -- the set after a character
   pub next-set-coded : (f c : ℕ) → f < fields → c < characters
-      → next-set (tables-of q) (field-token + f) (gathered (tables-of q) (code-situation s) (field-token + f)) c ≡ mask (acceptor q .set-after f (the-set f) c)
+      → next-set (tables-of q) (field-token + f) (gathered (tables-of q) (code-situation s) (field-token + f)) c
+      ≡ mask (acceptor q .set-after f (the-set f) c)
   unfolding next-set gathered acceptor tables-of
   next-set-coded f c h k =
-      rw (set-at-coded f, field-of-token f, getD-map-upto (λ (g : ℕ). follow-masks (held-by q g)) [] fields f h, getD-map-upto (λ (g : ℕ). taking-masks (held-by q g)) [] fields f h, taking-at (held-by q f) c k)
+      let follow = getD-map-upto (λ (g : ℕ). follow-masks (held-by q g)) [] fields f h in
+      let taking = getD-map-upto (λ (g : ℕ). taking-masks (held-by q g)) [] fields f h in
+      rw (set-at-coded f, field-of-token f, follow, taking, taking-at (held-by q f) c k)
       (mask-after (held-by q f) (the-set f) c (few f) (masked-at f))
 
   -- "a character in front must be c, and each front field's set after c must not be empty"
   pub takes-front-coded : (side : Side) (c : ℕ) → c < characters → Known-side side
-      → takes-front (tables-of q) (front (code-side side)) (gathered (tables-of q) (code-situation s) (front (code-side side))) c ≡ front-takes (acceptor q) s c side
+      → takes-front (tables-of q) (front (code-side side)) (gathered (tables-of q) (code-situation s) (front (code-side side))) c
+      ≡ front-takes (acceptor q) s c side
   unfolding takes-front acceptor
   takes-front-coded [] c h k = neq-eqb 255 c (λ e. omega arith)
   takes-front-coded (chr a ∷ side) c h k = rw (char-not-standing a (k .0))

@@ -1,5 +1,6 @@
--- Sides as bytes: what the code does to bytes is what the paper does to tokens. Tests of tokens, trimming, dead, finished, strikes, puts.
--- Holds of tokens in range: characters below 43 and fields below 8. Follows from the codes of tokens being different, by induction on sides.
+-- Sides as bytes: what the code does to bytes is what the paper does to tokens. Tests of tokens, strikes, puts, trimming, dead, finished.
+-- Holds of tokens in range: characters below 43 and fields below 8. Follows from the codes of tokens being different, by induction on
+-- sides.
 use Prim.Native.Nat.{ℕ, _+_, _<_}
 use native.Mathlib.Omega.{arith}
 use mathlib.Core.Path.{_≡_, refl, sym, ap, ap₂, _∙_}
@@ -84,11 +85,13 @@ map-only f false x = refl
 pub strike-coded : (f : ℕ) (side : Side) → Known-side side → strike-bytes (field-token + f) (code-side side) ≡ code-side (strike-in f side)
 strike-coded f [] h = refl
 strike-coded f (t ∷ side) h =
-    rw (byte-of-field f t (h .0), map-append code-token (only (not (is-field f t)) t) (strike-in f side), map-only code-token (not (is-field f t)) t)
-    (ap (λ (l : List ℕ). only (not (is-field f t)) (code-token t) ++ l) (strike-coded f side (h .1)))
+    let other = not (is-field f t) in
+    rw (byte-of-field f t (h .0), map-append code-token (only other t) (strike-in f side), map-only code-token other t)
+    (ap (λ (l : List ℕ). only other (code-token t) ++ l) (strike-coded f side (h .1)))
 
 -- a byte in front is the field's, where the field is in front; 255 is no field's
-pub front-byte : (h : ℕ) (side : Side) → h < fields → Known-side side → eqb (field-token + h) (front (code-side side)) ≡ member h (front-field side)
+pub front-byte : (h : ℕ) (side : Side) → h < fields → Known-side side
+    → eqb (field-token + h) (front (code-side side)) ≡ member h (front-field side)
 front-byte h [] b k = neq-eqb (field-token + h) 255 (λ e. omega arith)
 front-byte h (chr a ∷ side) b k = eqb-symmetric (field-token + h) a ∙ char-field a h (k .0)
 front-byte h (fld f ∷ side) b k = eqb-field h f ∙ sym (or-false (eqb h f))
@@ -128,11 +131,14 @@ put-bytes-where : (c : ℕ) (l r side : Side) → Known-side l → Known-side r 
 put-bytes-where c l r [] h k m = refl
 put-bytes-where c l r (chr a ∷ side) h k m = rw (char-not-field a (m .0)) (cons-eq refl (put-bytes-where c l r side h k (m .1)))
 put-bytes-where c l r (fld g ∷ side) h k m =
-    rw (field-is-field g, ← front-member g l r (m .0) h k, map-append code-token (only (member g (front-fields l r)) (chr c)) (fld g ∷ put-where c (is-of (front-fields l r)) side), map-only code-token (member g (front-fields l r)) (chr c))
-    (ap (λ (x : List ℕ). only (member g (front-fields l r)) c ++ ((field-token + g) ∷ x)) (put-bytes-where c l r side h k (m .1)))
+    let fs = front-fields l r in
+    rw (field-is-field g, ← front-member g l r (m .0) h k)
+    (rw (map-append code-token (only (member g fs) (chr c)) (fld g ∷ put-where c (is-of fs) side), map-only code-token (member g fs) (chr c))
+    (ap (λ (x : List ℕ). only (member g fs) c ++ ((field-token + g) ∷ x)) (put-bytes-where c l r side h k (m .1))))
 
 -- one field, then others: where the one is not among them
-put-in-where : (c f : ℕ) (fs : List ℕ) (side : Side) → member f fs ≡ false → put-where c (is-of fs) (put-in c f side) ≡ put-where c (is-of (f ∷ fs)) side
+put-in-where : (c f : ℕ) (fs : List ℕ) (side : Side) → member f fs ≡ false
+    → put-where c (is-of fs) (put-in c f side) ≡ put-where c (is-of (f ∷ fs)) side
 put-in-where c f fs [] n = refl
 put-in-where c f fs (chr a ∷ side) n = cons-eq refl (put-in-where c f fs side n)
 put-in-where c f fs (fld g ∷ side) n =
@@ -175,7 +181,9 @@ trim-coded [] r h k = record { left = refl; right = refl }
 trim-coded (fld f ∷ l) [] h k = record { left = refl; right = refl }
 trim-coded (fld f ∷ l) (y ∷ r) h k = record { left = rw (field-not-char f); right = rw (field-not-char f) }
 trim-coded (chr a ∷ l) [] h k = record { left = refl; right = refl }
-trim-coded (chr a ∷ l) (fld g ∷ r) h k = record { left = rw (char-is-char a (h .0), char-field a g (h .0)); right = rw (char-is-char a (h .0), char-field a g (h .0)) }
+trim-coded (chr a ∷ l) (fld g ∷ r) h k =
+    let n : is-char a && eqb a (field-token + g) ≡ false = rw (char-is-char a (h .0), char-field a g (h .0)) in
+    record { left = rw n; right = rw n }
 trim-coded (chr a ∷ l) (chr b ∷ r) h k =
     let t = trim-coded l r (h .1) (k .1) in
     by-bool (eqb a b)
@@ -202,7 +210,8 @@ dead-coded (chr a ∷ l) (chr b ∷ r) h k =
     (λ e. rw (e, e, char-is-char a (h .0), char-is-char b (k .0)))
 
 -- finished
-pub finished-sides : {P : Type 0} (A : Acceptor P) (l r : Side) → (no-token (code-side l) && no-token (code-side r)) ≡ kind-finished A (kind-of l r)
+pub finished-sides : {P : Type 0} (A : Acceptor P) (l r : Side)
+    → (no-token (code-side l) && no-token (code-side r)) ≡ kind-finished A (kind-of l r)
 finished-sides A [] [] = refl
 finished-sides A [] (chr b ∷ r) = refl
 finished-sides A [] (fld g ∷ r) = refl

@@ -48,7 +48,8 @@ masked-firsts l r f =
     rw (getD-map-upto (first-of l r) [] fields f (ltb-true f fields e))
     (cond-by Masked (stands-in f (l ++ r)) (λ _. masked-first) (λ _. masked-none)))
     (λ e.
-    let out : length (map (first-of l r) (upto fields)) ≤ f = omega (arith, length-map (upto fields) (first-of l r), length-from 0 fields, ltb-false f fields e) in
+    let out : length (map (first-of l r) (upto fields)) ≤ f =
+    omega (arith, length-map (upto fields) (first-of l r), length-from 0 fields, ltb-false f fields e) in
     rw (List·getD-eq-default (map (first-of l r) (upto fields)) [] out) masked-none)
 
 module _ (q : Question) (few : (f : ℕ) → Few (held-by q f)) where
@@ -70,7 +71,8 @@ module _ (q : Question) (few : (f : ℕ) → Few (held-by q f)) where
 
   good-strike-all : (fs : List ℕ) (s : Situation PlaceSet) → Known-fields fs → Good s → Good (strike-all (acceptor q) fs s)
   good-strike-all [] s b g = g
-  good-strike-all (f ∷ fs) s b g = good-strike-all fs (strike (acceptor q) f s) (λ h d. b h (List·Memᴰ·tail d)) (good-strike f s (b f (List·Memᴰ·head refl)) g)
+  good-strike-all (f ∷ fs) s b g =
+      good-strike-all fs (strike (acceptor q) f s) (λ h d. b h (List·Memᴰ·tail d)) (good-strike f s (b f (List·Memᴰ·head refl)) g)
 
   good-put : (c f : ℕ) (s : Situation PlaceSet) → c < characters → f < fields → Good s → Good (put-before (acceptor q) c f s)
   unfolding put-before acceptor
@@ -79,21 +81,28 @@ module _ (q : Question) (few : (f : ℕ) → Few (held-by q f)) where
         left = known-put c f (s .left) h (g .left);
         right = known-put c f (s .right) h (g .right);
         many = length-set (s .sets) f _ ∙ g .many;
-        masked = masked-set (s .sets) f _ (rw (g .many) b) (masked-after (held-by q f) (getD (s .sets) f []) c (few f) (g .masked f)) (g .masked);
+        masked =
+            masked-set (s .sets) f _ (rw (g .many) b)
+            (masked-after (held-by q f) (getD (s .sets) f []) c (few f) (g .masked f)) (g .masked);
       }
 
-  good-put-all : (c : ℕ) (fs : List ℕ) (s : Situation PlaceSet) → c < characters → Known-fields fs → Good s → Good (put-before-all (acceptor q) c fs s)
+  good-put-all : (c : ℕ) (fs : List ℕ) (s : Situation PlaceSet) → c < characters → Known-fields fs → Good s
+      → Good (put-before-all (acceptor q) c fs s)
   good-put-all c [] s h b g = g
-  good-put-all c (f ∷ fs) s h b g = good-put-all c fs (put-before (acceptor q) c f s) h (λ k d. b k (List·Memᴰ·tail d)) (good-put c f s h (b f (List·Memᴰ·head refl)) g)
+  good-put-all c (f ∷ fs) s h b g =
+      good-put-all c fs (put-before (acceptor q) c f s) h (λ k d. b k (List·Memᴰ·tail d))
+      (good-put c f s h (b f (List·Memᴰ·head refl)) g)
 
   good-moved : {m : Move} (s : Situation PlaceSet) → Opened (acceptor q) s m → Good s → Good (moved (acceptor q) s m)
   unfolding acceptor
   good-moved s (strikes-left e) g = good-strike-all (front-field (s .left)) s (known-front (s .left) (g .left)) g
   good-moved s (strikes-right e) g = good-strike-all (front-field (s .right)) s (known-front (s .right) (g .right)) g
-  good-moved s (puts {c = c} h) g = good-put-all c (front-fields (s .left) (s .right)) s h (known-fronts (s .left) (s .right) (g .left) (g .right)) g
+  good-moved s (puts {c = c} h) g =
+      good-put-all c (front-fields (s .left) (s .right)) s h (known-fronts (s .left) (s .right) (g .left) (g .right)) g
 
   -- every child of a good situation is good
-  pub child-good : (s : Situation PlaceSet) (m : Move) (t : Situation PlaceSet) → Good s → List·Memᴰ (child m t) (children (acceptor q) longest-side s) → Good t
+  pub child-good : (s : Situation PlaceSet) (m : Move) (t : Situation PlaceSet) → Good s
+      → List·Memᴰ (child m t) (children (acceptor q) longest-side s) → Good t
   child-good s m t g d =
       let (i, e) = child-made (acceptor q) longest-side s d in
       subst Good (sym e) (good-trimmed (moved (acceptor q) s m) (good-moved s (move-opened (acceptor q) s i) g))

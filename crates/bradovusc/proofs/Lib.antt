@@ -12,3 +12,7 @@ pub mod KeptGood
 pub mod Ways
 pub mod Simulated
 pub mod FirstCoded
+pub mod Told
+pub mod Concluding
+pub mod Searching
+pub mod Answering

@@ -1,8 +1,8 @@
--- The search over slots is the paper's search of the question, to its end: it ends alike, with as many slots as entries, and the text spelt
--- back from the last slot is the text of the entry found.
---   status-agrees : slots .status ≡ status-of (how-of q (searched q room))
---   count-agrees  : length (slots .slots) ≡ count-of q (searched q room)
---   text-agrees   : text-back n (slots .slots) f last ≡ texts-of (acceptor q) (q .left) (q .right) e f, where e is found
+-- The search over slots is the paper's search of the question, to its end: it ends alike, with as many slots as entries, and the text
+-- spelt back from the last slot is the text of the entry found.
+--   status-agrees : run .status ≡ status-of (how-of q (searched q room))
+--   count-agrees  : length (run .slots) ≡ count-of q (searched q room)
+--   text-agrees   : text-back n (run .slots) f last ≡ texts-of (acceptor q) (q .left) (q .right) e f, where e is found
 -- Holds of good questions. Follows from the children and tests agreeing (`CodedChildren`), from the law of two searches side by
 -- side (`Mapped`), and from the slots standing for entries (`Numbered`).
 use Prim.Native.Nat.{ℕ, zero, suc, _-_, _≤_, _<_}
@@ -25,21 +25,29 @@ use Rattle.paper.proofs.Asked.{GoodHeld, GoodQuestion}
 use Rattle.paper.proofs.Same.{situation-equal, situation-same}
 use Rattle.paper.proofs.PlaceSets.{same-equal, equal-same}
 use Rattle.paper.proofs.Searched as Searched
-use Rattle.paper.proofs.Mapped.{code-entry, code-entries, code-end, Simulates, search-how, search-entries, search-count}
+use Rattle.paper.proofs.Mapped.{code-entry, code-end, Simulates, search-how, search-entries, search-count}
 use Rattle.patterns.proofs.Masks.{Few}
 use Rattle.bradovusc.specs.Coded.{Coded, finished-coded, same-coded, children-coded}
-use Rattle.bradovusc.specs.Codes.{code-situation, code-move, tables-of}
+use Rattle.bradovusc.specs.Codes.{code-side, code-situation, code-move, status-of, tables-of}
+use Rattle.bradovusc.specs.Made.{question-coded}
 use Rattle.bradovusc.specs.Run.{Running, slot-at, slot-search, given-coded, text-back}
-use Rattle.bradovusc.proofs.Numbered.{entry-at, status-of, Linked, linked-length, linked-at, slots-status, slots-linked}
+use Rattle.bradovusc.proofs.Numbered.{entry-at, Linked, linked-length, linked-at, slots-status, slots-linked}
 use Rattle.bradovusc.proofs.TextBack.{text-back-is}
-use Rattle.bradovusc.proofs.CodedSides.{known-side, same-sides, finished-sides}
+use Rattle.bradovusc.proofs.CodedSides.{Known-side, known-side, same-sides, finished-sides}
 use Rattle.bradovusc.proofs.CodedSets.{Good, same-sets}
 use Rattle.bradovusc.proofs.CodedChildren.{children-agree}
+use Rattle.bradovusc.proofs.FirstCoded.{question-agrees}
 use Rattle.bradovusc.proofs.KeptGood.{child-good, question-good}
 use Rattle.bradovusc.proofs.Ways.{way-last, way-known, text-last, given-agrees}
 
-abbrev Paper-entries : Type 0
-Paper-entries = List (Entry (Situation PlaceSet) Move)
+abbrev Paper-entry : Type 0
+Paper-entry = Entry (Situation PlaceSet) Move
+
+abbrev coded-entry : Paper-entry → Entry Coded ℕ
+coded-entry = code-entry code-situation code-move
+
+abbrev nothing : Paper-entry
+nothing = record { at = record { left = []; right = []; sets = [] }; way = [] }
 
 status-coded : (x : End (Situation PlaceSet) Move) → status-of (code-end code-situation code-move x) ≡ status-of x
 status-coded (found e) = refl
@@ -64,13 +72,17 @@ module _ (q : Question) (good : GoodQuestion q) where
   few : (f : ℕ) → Few (held-by q f)
   few f = few-leaves (held-by q f) (good .held .good f)
 
-  same-agrees : (s t : Situation PlaceSet) → Good s → Good t → same-coded (code-situation s) (code-situation t) ≡ same-situation (acceptor q) s t
+  same-agrees : (s t : Situation PlaceSet) → Good s → Good t
+      → same-coded (code-situation s) (code-situation t) ≡ same-situation (acceptor q) s t
   unfolding acceptor
   same-agrees s t g h =
       ap₂ _&&_ (same-sides (s .left) (t .left) (g .left) (h .left))
       (ap₂ _&&_ (same-sides (s .right) (t .right) (g .right) (h .right)) (same-sets (s .sets) (t .sets) (g .masked) (h .masked)))
 
-  simulates : Simulates code-situation code-move (same-situation (acceptor q)) (finished (acceptor q)) (children (acceptor q) longest-side) same-coded finished-coded (children-coded (tables-of q)) Good
+  simulates :
+      Simulates code-situation code-move
+      (same-situation (acceptor q)) (finished (acceptor q)) (children (acceptor q) longest-side)
+      same-coded finished-coded (children-coded (tables-of q)) Good
   simulates =
       record {
         same-alike = same-agrees;
@@ -83,95 +95,120 @@ module _ (q : Question) (good : GoodQuestion q) where
   abbrev first : Situation PlaceSet
   first = question (acceptor q) (q .left) (q .right)
 
+  left-known : Known-side (q .left)
+  left-known = known-side (q .left) (good .left .tokens)
+
+  right-known : Known-side (q .right)
+  right-known = known-side (q .right) (good .right .tokens)
+
   first-good : Good first
-  first-good = question-good q few (q .left) (q .right) (known-side (q .left) (good .left .tokens)) (known-side (q .right) (good .right .tokens))
+  first-good = question-good q few (q .left) (q .right) left-known right-known
 
-  situations-equal : (s t : Situation PlaceSet) → same-situation (acceptor q) s t ≡ true → s ≡ t
-  unfolding acceptor
-  situations-equal = situation-equal (acceptor q) same-equal
+  first-coded : code-situation first ≡ question-coded (code-side (q .left)) (code-side (q .right))
+  first-coded = question-agrees q (q .left) (q .right) left-known right-known
 
-  situations-same : (s : Situation PlaceSet) → same-situation (acceptor q) s s ≡ true
+  equal : (s t : Situation PlaceSet) → same-situation (acceptor q) s t ≡ true → s ≡ t
   unfolding acceptor
-  situations-same = situation-same (acceptor q) equal-same
+  equal = situation-equal (acceptor q) same-equal
+
+  same : (s : Situation PlaceSet) → same-situation (acceptor q) s s ≡ true
+  unfolding acceptor
+  same = situation-same (acceptor q) equal-same
 
   module _ (room : ℕ) where
-    abbrev the-entries : Paper-entries
-    the-entries = entries (same-situation (acceptor q)) (finished (acceptor q)) (children (acceptor q) longest-side) (search (same-situation (acceptor q)) (finished (acceptor q)) (children (acceptor q) longest-side) room first)
+    abbrev the-entries : List Paper-entry
+    the-entries =
+        entries (same-situation (acceptor q)) (finished (acceptor q)) (children (acceptor q) longest-side)
+        (search (same-situation (acceptor q)) (finished (acceptor q)) (children (acceptor q) longest-side) room first)
 
-    -- the search over slots, from the first situation as the code holds it
-    abbrev pub slots : Running
-    slots = slot-search (tables-of q) room (code-situation first)
+    -- the search over slots, from the bytes of the sides
+    abbrev pub run : Running
+    run = slot-search (tables-of q) room (question-coded (code-side (q .left)) (code-side (q .right)))
 
-    pub status-agrees : slots .status ≡ status-of (how-of q (searched q room))
+    -- It ends as the paper's.
+    pub status-agrees : run .status ≡ status-of (how-of q (searched q room))
     unfolding how-of searched search-from
     status-agrees =
-        slots-status (tables-of q) room (code-situation first)
-        ∙ ap status-of (search-how code-situation code-move _ _ _ _ _ _ Good simulates room first first-good)
-        ∙ status-coded (how-of q (searched q room))
+        rw (← first-coded)
+        (slots-status (tables-of q) room (code-situation first)
+        ∙ ap status-of (search-how simulates room first first-good)
+        ∙ status-coded (how-of q (searched q room)))
 
-    entries-linked : Linked (slots .slots) (code-entries code-situation code-move the-entries)
-    entries-linked = rw (search-entries code-situation code-move _ _ _ _ _ _ Good simulates room first first-good) at (slots-linked (tables-of q) room (code-situation first))
-
-    as-many : length (slots .slots) ≡ length the-entries
+    as-many : length (run .slots) ≡ length the-entries
     as-many =
-        linked-length (slots-linked (tables-of q) room (code-situation first))
-        ∙ search-count code-situation code-move _ _ _ _ _ _ Good simulates room first first-good
+        rw (← first-coded)
+        (linked-length (slots-linked (tables-of q) room (code-situation first)) ∙ search-count simulates room first first-good)
 
-    pub count-agrees : length (slots .slots) ≡ count-of q (searched q room)
+    -- It enters as many.
+    pub count-agrees : length (run .slots) ≡ count-of q (searched q room)
     unfolding count-of searched search-from
     count-agrees = as-many
 
+    -- Its slots hold the paper's entries.
+    linked : Linked (run .slots) (map coded-entry the-entries)
+    linked =
+        rw (← first-coded)
+        (rw (search-entries simulates room first first-good) at (slots-linked (tables-of q) room (code-situation first)))
+
     -- the paper's entry with the number i
-    abbrev paper-at : ℕ → Entry (Situation PlaceSet) Move
-    paper-at i = getD the-entries i (record { at = record { left = []; right = []; sets = [] }; way = [] })
+    abbrev paper-at : ℕ → Paper-entry
+    paper-at i = getD the-entries i nothing
 
-    coded-at : (i : ℕ) → entry-at (code-entries code-situation code-move the-entries) i ≡ code-entry code-situation code-move (paper-at i)
-    coded-at i = List·getD-map (code-entry code-situation code-move) the-entries i (record { at = record { left = []; right = []; sets = [] }; way = [] })
+    coded-at : (i : ℕ) → entry-at (map coded-entry the-entries) i ≡ coded-entry (paper-at i)
+    coded-at i = List·getD-map coded-entry the-entries i nothing
 
-    module _ (i : ℕ) (h : i < length (slots .slots)) where
+    module _ (i : ℕ) (h : i < length (run .slots)) where
       at-mem : List·Memᴰ (paper-at i) the-entries
-      at-mem = getD-mem the-entries _ i (omega (arith, as-many))
+      at-mem = getD-mem the-entries nothing i (omega (arith, as-many))
 
       at-leads : Leads (children (acceptor q) longest-side) first (paper-at i .way) (paper-at i .at)
-      at-leads = Searched.way-leads _ _ _ situations-equal situations-same room first (paper-at i) at-mem
+      at-leads = Searched.way-leads _ _ _ equal same room first (paper-at i) at-mem
 
       at-good : Good (paper-at i .at)
-      at-good = Searched.every-entry _ _ _ situations-equal situations-same room first Good first-good (λ s m t g d. child-good q few s m t g d) (paper-at i) at-mem
+      at-good = Searched.every-entry _ _ _ equal same room first Good first-good (child-good q few) (paper-at i) at-mem
 
     module _ (f : ℕ) (b : f < fields) where
+      -- the text of the paper's entry with the number i
       abbrev text : ℕ → List ℕ
       text i = text-along (acceptor q) f first (reverse (paper-at i .way))
 
       text-first : text 0 ≡ []
-      text-first = rw (no-moves (paper-at 0 .way) (ap (λ (e : Entry Coded ℕ). e .way) (sym (coded-at 0)) ∙ entries-linked .first-way))
+      text-first =
+          rw (no-moves (paper-at 0 .way) (ap (λ (e : Entry Coded ℕ). e .way) (sym (coded-at 0)) ∙ linked .first-way))
 
-      text-grows : (i : ℕ) → suc i < length (slots .slots)
-          → text (suc i) ≡ text (slot-at (slots .slots) (suc i) .parent) ++ given-coded f (slot-at (slots .slots) (slot-at (slots .slots) (suc i) .parent) .at) (slot-at (slots .slots) (suc i) .step)
+      text-grows : (i : ℕ) → suc i < length (run .slots)
+          → text (suc i)
+          ≡ text (slot-at (run .slots) (suc i) .parent)
+          ++ given-coded f (slot-at (run .slots) (slot-at (run .slots) (suc i) .parent) .at) (slot-at (run .slots) (suc i) .step)
       text-grows i h =
-          let parent = slot-at (slots .slots) (suc i) .parent in
-          let below : parent < length (slots .slots) = omega (arith, entries-linked .earlier i h) in
-          let last = way-last (paper-at (suc i) .way) (slot-at (slots .slots) (suc i) .step) (paper-at parent .way) (way-known q (at-leads (suc i) h)) (way-known q (at-leads parent below))
-          (rw (coded-at (suc i), coded-at parent) at (entries-linked .its-way i h)) in
-          let at-parent : slot-at (slots .slots) parent .at ≡ code-situation (paper-at parent .at) = linked-at entries-linked parent ∙ ap (λ (e : Entry Coded ℕ). e .at) (coded-at parent) in
+          let parent = slot-at (run .slots) (suc i) .parent in
+          let below : parent < length (run .slots) = omega (arith, linked .earlier i h) in
+          let last =
+          way-last (paper-at (suc i) .way) (slot-at (run .slots) (suc i) .step) (paper-at parent .way)
+          (way-known q (at-leads (suc i) h)) (way-known q (at-leads parent below))
+          (rw (coded-at (suc i), coded-at parent) at (linked .its-way i h)) in
+          let at-parent : slot-at (run .slots) parent .at ≡ code-situation (paper-at parent .at) =
+          linked-at linked parent ∙ ap (λ (e : Entry Coded ℕ). e .at) (coded-at parent) in
           ap (λ (w : List Move). text-along (acceptor q) f first (reverse w)) (last .is)
           ∙ text-last (acceptor q) f longest-side (last .move) (at-leads parent below)
           ∙ ap (λ (w : List ℕ). text parent ++ w)
-          (sym (given-agrees q f (paper-at parent .at) (last .move) b (at-good parent below) (last .known)) ∙ ap₂ (given-coded f) (sym at-parent) (last .number))
+          (sym (given-agrees q f (paper-at parent .at) (last .move) b (at-good parent below) (last .known))
+          ∙ ap₂ (given-coded f) (sym at-parent) (last .number))
 
-    -- The entry found is in the last slot.
-    pub found-last : (e : Entry (Situation PlaceSet) Move) → how-of q (searched q room) ≡ found e
-        → (0 < length (slots .slots)) × (paper-at (length (slots .slots) - 1) ≡ e)
-    unfolding how-of searched search-from
-    found-last e h =
-        let r = Searched.found-is-last _ _ _ situations-equal situations-same room first e h in
-        let n : length (slots .slots) ≡ suc (length (r .0)) = as-many ∙ omega (arith, ap length (r .1), length-append (r .0) (e ∷ [])) in
-        (omega arith, rw (r .1) (getD-at (r .0) e [] _ (length (slots .slots) - 1) (omega arith)))
+    module _ (e : Paper-entry) (h : how-of q (searched q room) ≡ found e) where
+      -- The entry found is in the last slot.
+      pub found-last : (0 < length (run .slots)) × (paper-at (length (run .slots) - 1) ≡ e)
+      unfolding how-of searched search-from
+      found-last =
+          let r = Searched.found-is-last _ _ _ equal same room first e h in
+          let n : length (run .slots) ≡ suc (length (r .0)) = omega (arith, as-many, ap length (r .1), length-append (r .0) (e ∷ [])) in
+          (omega arith, rw (r .1) (getD-at (r .0) e [] nothing (length (run .slots) - 1) (omega arith)))
 
-    -- The text spelt back from there is the text of the entry found.
-    pub text-agrees : (e : Entry (Situation PlaceSet) Move) → how-of q (searched q room) ≡ found e → (f : ℕ) → f < fields → (n : ℕ) → length (slots .slots) - 1 ≤ n
-        → text-back n (slots .slots) f (length (slots .slots) - 1) ≡ texts-of (acceptor q) (q .left) (q .right) e f
-    unfolding texts-of
-    text-agrees e h f b n m =
-        let last = found-last e h in
-        text-back-is (slots .slots) f (text f b) (entries-linked .earlier) (text-first f b) (text-grows f b) n (length (slots .slots) - 1) m (omega arith)
-        ∙ ap (λ (x : Entry (Situation PlaceSet) Move). text-along (acceptor q) f first (reverse (x .way))) (last .1)
+      -- The text spelt back from there is the text of the entry found.
+      pub text-agrees : (f : ℕ) → f < fields → (n : ℕ) → length (run .slots) - 1 ≤ n
+          → text-back n (run .slots) f (length (run .slots) - 1) ≡ texts-of (acceptor q) (q .left) (q .right) e f
+      unfolding texts-of
+      text-agrees f b n m =
+          text-back-is (run .slots) f (text f b) (linked .earlier) (text-first f b) (text-grows f b) n (length (run .slots) - 1) m
+          (omega (arith, found-last .0))
+          ∙ ap (λ (x : Paper-entry). text-along (acceptor q) f first (reverse (x .way))) (found-last .1)

@@ -13,7 +13,9 @@ module _
     (earlier : (i : ℕ) → suc i < length ss → slot-at ss (suc i) .parent < suc i)
     (first : text 0 ≡ [])
     (grows : (i : ℕ) → suc i < length ss
-    → text (suc i) ≡ text (slot-at ss (suc i) .parent) ++ given-coded f (slot-at ss (slot-at ss (suc i) .parent) .at) (slot-at ss (suc i) .step))
+    → text (suc i)
+    ≡ text (slot-at ss (suc i) .parent)
+    ++ given-coded f (slot-at ss (slot-at ss (suc i) .parent) .at) (slot-at ss (suc i) .step))
   where
     pub text-back-is : (n i : ℕ) → i ≤ n → i < length ss → text-back n ss f i ≡ text i
     text-back-is zero i h b = sym (ap text (omega arith) ∙ first)

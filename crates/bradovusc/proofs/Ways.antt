@@ -54,7 +54,8 @@ pub record Last (way : List Move) (c : ℕ) (before : List Move) : Type 0 where
   pub number : code-move move ≡ c
   pub is : way ≡ move ∷ before
 
-pub way-last : (way : List Move) (c : ℕ) (before : List Move) → Known-way way → Known-way before → map code-move way ≡ c ∷ map code-move before → Last way c before
+pub way-last : (way : List Move) (c : ℕ) (before : List Move) → Known-way way → Known-way before
+    → map code-move way ≡ c ∷ map code-move before → Last way c before
 way-last [] c before h k e = absurd (let z : _≡_ {A = ℕ} 0 1 = cc in omega arith)
 way-last (m ∷ way) c before h k e = record { move = m; known = h .0; number = cc; is = cons-eq refl (way-equal way before (h .1) k (cc)) }
 
@@ -82,7 +83,8 @@ module _ {P : Type 0} (A : Acceptor P) where
   after-snoc s [] m = refl
   after-snoc s (n ∷ ms) m = after-snoc (trimmed A (moved A s n)) ms m
 
-  text-snoc : (f : ℕ) (s : Situation P) (ms : List Move) (m : Move) → text-along A f s (ms ++ (m ∷ [])) ≡ text-along A f s ms ++ given A f (after s ms) m
+  text-snoc : (f : ℕ) (s : Situation P) (ms : List Move) (m : Move)
+      → text-along A f s (ms ++ (m ∷ [])) ≡ text-along A f s ms ++ given A f (after s ms) m
   text-snoc f s [] m = append-nil (given A f s m)
   text-snoc f s (n ∷ ms) m =
       ap (λ (w : List ℕ). given A f s n ++ w) (text-snoc f (trimmed A (moved A s n)) ms m)
@@ -105,4 +107,7 @@ unfolding given-coded
 given-agrees q f s strike-left b g h = refl
 given-agrees q f s strike-right b g h = refl
 given-agrees q f s (put c) b g h =
-    rw (lt-ltb c characters h, front-member f (s .left) (s .right) b (g .left) (g .right), eqb-symmetric (front (code-side (s .left))) (field-token + f), eqb-symmetric (front (code-side (s .right))) (field-token + f))
+    let x = front (code-side (s .left)) in
+    let y = front (code-side (s .right)) in
+    let fronts = front-member f (s .left) (s .right) b (g .left) (g .right) in
+    rw (lt-ltb c characters h, fronts, eqb-symmetric x (field-token + f), eqb-symmetric y (field-token + f))

@@ -1,20 +1,24 @@
--- How the code's situations stand for the paper's: a token is its byte on the sheet, a place set its mask, a move its step's number; and
--- the tables of a question's fields. Proofs/ show that the children, the tests and so the whole search go over.
+-- How the code's situations stand for the paper's: a token is its byte on the sheet, a place set its mask, a move its step's number, an
+-- end of the search a status; and the tables of a question's fields. proofs/ shows that the children, the tests and so the whole search
+-- go over.
 use Prim.Native.Nat.{ℕ, _+_}
 use mathlib.Core.List.{List, map}
 use Rattle.paper.specs.Lists.{upto}
 use Rattle.paper.specs.Numbers.{fields, field-token}
 use Rattle.paper.specs.Places.{PlaceSet}
+use Rattle.paper.specs.Search.{End, found, used-up, no-room, too-long}
 use Rattle.paper.specs.Equation.{Token, chr, fld, Side}
 use Rattle.paper.specs.Situation.{Situation, Move, strike-left, strike-right, put}
 use Rattle.paper.specs.Question.{Question, held-by}
+use Rattle.sheets.specs.Read.{token-byte}
 use Rattle.patterns.specs.Masks.{mask, follow-masks, taking-masks, last-mask}
 use Rattle.bradovusc.specs.Coded.{Coded, Tables, left-struck, right-struck}
+use Rattle.bradovusc.specs.declared.search.Status.{Status}
+use Rattle.bradovusc.specs.declared.search.Status.the-variants.{Found, UsedUp, NoRoom, TooLong}
 
 -- "A token is 0 to 42 (a character) or 64 to 71 (field 0 to 7)."
 abbrev pub code-token : Token → ℕ
-code-token (chr c) = c
-code-token (fld f) = field-token + f
+code-token = token-byte
 
 abbrev pub code-side : Side → List ℕ
 code-side side = map code-token side
@@ -27,6 +31,13 @@ abbrev pub code-move : Move → ℕ
 code-move strike-left = left-struck
 code-move strike-right = right-struck
 code-move (put c) = c
+
+-- how a search ends, as the code says it
+abbrev pub status-of : {S M : Type 0} → End S M → Status
+status-of (found e) = Found
+status-of used-up = UsedUp
+status-of no-room = NoRoom
+status-of too-long = TooLong
 
 -- what is worked out once of a question's fields
 unfoldable pub tables-of : Question → Tables

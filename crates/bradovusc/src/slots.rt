@@ -12,7 +12,7 @@ ghost use Rattle.bradovusc.specs.Slots.{mask-width, mask-bytes, left-at,
 use crate::situation::Situation;
 
 // A slot's parts: the two lengths, the sides, the sets; the parent and the step; zeros.
-const SLOT: usize = 144;
+pub const SLOT: usize = 144;
 
 const SIDE: usize = 48;
 
@@ -20,9 +20,9 @@ const FIELDS: usize = 8;
 
 const MASK: usize = 4;
 
-const LEFT: usize = 2;
+pub const LEFT: usize = 2;
 
-const RIGHT: usize = LEFT + SIDE;
+pub const RIGHT: usize = LEFT + SIDE;
 
 const SETS: usize = RIGHT + SIDE;
 

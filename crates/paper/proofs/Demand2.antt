@@ -98,8 +98,8 @@ demand-2 sheet work answer =
     long : Row sheet work answer o 19 → TooLong sheet work
     long (faulty x at e low high c) = absurd (omega arith)
     long (is-too-long q g h) =
-        let (s, t, i, c, above) = too-long-left q work h in
-        record { question = q; good = g; parent = s; long = t; parent-entered = i; is-child = c; above = above }
+        let (s, m, t, i, c, above) = too-long-left q work h in
+        record { question = q; good = g; parent = s; move = m; long = t; parent-entered = i; is-child = c; above = above }
 
     short : Row sheet work answer o 20 → TooShort sheet answer
     short (faulty x at e low high c) = absurd (omega arith)

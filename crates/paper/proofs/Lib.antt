@@ -26,6 +26,7 @@ pub mod Labels
 pub mod Weight
 pub mod Solution
 pub mod Steps
+pub mod Children
 pub mod Moves
 pub mod Question
 pub mod Progress
@@ -40,7 +41,6 @@ pub mod Reached
 pub mod Plain
 -- from bytes to bytes
 pub mod Asked
-pub mod Children
 pub mod Rows
 pub mod QuestionSearched
 pub mod Demand2

@@ -9,10 +9,11 @@ use mathlib.Core.List.{List, [], _∷_, _++_, map, List·Memᴰ, List·Memᴰ·h
 use lib.Dec.{eqb}
 use Rattle.paper.specs.Lists.{any, keep, only, upto}
 use Rattle.paper.proofs.Tests.{by-bool, true-false, both-true, not-is-true, left-true, right-true, eqb-same}
-use Rattle.paper.proofs.Lists.{NoDup, none, more, nodup-append, nodup-keep, mem-only, only-mem, mem-keep, keep-mem, mem-map, map-mem, mem-upto, upto-mem, any-true, mem-any, any-append, mem-each, each-mem}
+use Rattle.paper.proofs.Lists.{NoDup, none, more, nodup-append, nodup-keep, mem-only, only-mem, mem-keep, keep-mem, mem-map, map-mem, mem-upto, upto-mem, any-true, mem-any, any-append, each-mem}
 use Rattle.paper.specs.Search.{child, long}
 use Rattle.paper.specs.Equation.{chr, fld, Side, is-field, stands-in}
 use Rattle.paper.specs.Situation.{Acceptor, Situation, Kind, is-finished, is-dead, is-open, Move, strike-left, strike-right, put, front-field, front-fields, set-of, trimmed, kind, moved, front-may-end, front-takes, open-moves, moves-of, side-above, kept, child-by, children}
+use Rattle.paper.proofs.Children.{child-of}
 
 -- the field in front of the right side, if it is not the one in front of the left
 abbrev pub other-front : Side → Side → List ℕ
@@ -111,15 +112,6 @@ module _ {P : Type 0} (A : Acceptor P) where
       (Memᴰ·append-right (strikes-of-right s)
       (map-mem put (keep-mem (fronts-take s) (upto (A .characters)) (upto-mem (A .characters) h) (both-true p q))))
 
-  cond-child : {m n : Move} {t u : Situation P} (b : Bool) → child m u ≡ cond b long (child n t) → (m ≡ n) × (u ≡ t)
-  cond-child true e = (cc, cc)
-  cond-child false e = (cc, cc)
-
-  kept-child : {m n : Move} {t u : Situation P} (k : Kind) (b : Bool) → List·Memᴰ (child m u) (kept A k b n t) → (m ≡ n) × (u ≡ t)
-  kept-child is-finished b d = cond-child b (List·Memᴰ·eq-of-singleton d)
-  kept-child is-dead b d = absurd (List·Memᴰ·not-nil d)
-  kept-child is-open b d = cond-child b (List·Memᴰ·eq-of-singleton d)
-
   move-open : {m : Move} (k : Kind) (s : Situation P) → List·Memᴰ m (moves-of A k s) → List·Memᴰ m (open-moves A s)
   move-open is-finished s d = absurd (List·Memᴰ·not-nil d)
   move-open is-dead s d = absurd (List·Memᴰ·not-nil d)
@@ -128,13 +120,7 @@ module _ {P : Type 0} (A : Acceptor P) where
   -- a child is what its move makes, trimmed
   pub child-made : {m : Move} {u : Situation P} (limit : ℕ) (s : Situation P) → List·Memᴰ (child m u) (children A limit s)
       → List·Memᴰ m (open-moves A s) × (u ≡ trimmed A (moved A s m))
-  unfolding children child-by
-  child-made {m} {u} limit s d =
-      let (n, i, j) = mem-each (child-by A limit s) (moves-of A (kind A s) s) d in
-      let (e, f) = kept-child (kind A (trimmed A (moved A s n))) (side-above A limit (trimmed A (moved A s n))) j in (
-        subst (λ (x : Move). List·Memᴰ x (open-moves A s)) (sym e) (move-open (kind A s) s i),
-        subst (λ (x : Move). u ≡ trimmed A (moved A s x)) (sym e) f,
-      )
+  child-made limit s d = let c = child-of A limit s d in (move-open (kind A s) s (c .is-move), c .makes)
 
   kept-made : (m : Move) (t : Situation P) (k : Kind) (b : Bool) → (k ≡ is-dead → ⊥)
       → List·Memᴰ (cond b long (child m t)) (kept A k b m t)

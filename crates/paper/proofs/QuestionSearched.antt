@@ -1,31 +1,47 @@
 -- The search of a question in the room of a working buffer: the laws of the search, of the clash and of no clash, at 01's place sets.
 -- Follows from `Searched`, `Sound` and `Complete`, since the place sets decide what the fields may hold, and from the children being 01's.
 use Prim.Native.Nat.{ℕ, _≤_, _<_}
-use mathlib.Core.Path.{_≡_, ap}
+use mathlib.Core.Path.{_≡_, refl, ap}
 use mathlib.Core.Logic.{_⊎_, ⊎-map}
 use mathlib.Core.Bool.{true, false}
-use mathlib.Core.List.{List, _∷_, _++_, List·Memᴰ}
+use mathlib.Core.List.{List, [], _∷_, _++_, List·Memᴰ}
+use lib.Dec.{eqb}
 use lib.ListN.{length, length-map}
 use Rattle.paper.specs.Numbers.{fields, longest-side}
+use Rattle.paper.proofs.Tests.{cond-by}
 use Rattle.paper.proofs.Lists.{mem-map, map-mem}
 use Rattle.paper.specs.Places.{PlaceSet}
 use Rattle.paper.specs.Search.{Entry, found, used-up, no-room, too-long, entries}
 use Rattle.paper.specs.Leads.{situations}
 use Rattle.paper.proofs.Searched
 use Rattle.paper.proofs.Ended.{Left-out}
-use Rattle.paper.specs.Equation.{Texts, stands-in}
+use Rattle.paper.specs.Equation.{chr, fld, Side, Texts, stands-in}
 use Rattle.paper.specs.Pattern.{Holds}
-use Rattle.paper.specs.Situation.{Situation, Move, moved, same-situation, finished, children, question}
+use Rattle.paper.specs.Situation.{Acceptor, Situation, Sides, trim, Move, trimmed, moved, same-situation, finished, children, question}
+use Rattle.paper.specs.Children.{ChildOf}
 use Rattle.paper.specs.Decides.{Decides}
 use Rattle.paper.specs.Way.{search-from, texts-of}
 use Rattle.paper.specs.Question.{Question, held-by, Solution, acceptor}
 use Rattle.paper.specs.Outcome.{room-of, searched, count-of, how-of}
-use Rattle.paper.specs.Demands.{entered, equal-fronts, ChildOf, LeftOut}
+use Rattle.paper.specs.Demands.{entered, equal-fronts, LeftOut}
 use Rattle.paper.proofs.Accepts.{question-decides}
 use Rattle.paper.proofs.Same.{situation-equal, situation-same}
 use Rattle.paper.proofs.Sound.{sound}
 use Rattle.paper.proofs.Complete.{complete}
-use Rattle.paper.proofs.Children.{trimmed-fronts, child-of, long-of}
+use Rattle.paper.proofs.Children.{child-of, long-of}
+
+-- After trimming no two equal characters are in front.
+trim-fronts : (l r : Side) → equal-fronts (trim l r .l) (trim l r .r) ≡ false
+trim-fronts [] r = refl
+trim-fronts (fld f ∷ l) r = refl
+trim-fronts (chr a ∷ l) [] = refl
+trim-fronts (chr a ∷ l) (fld g ∷ r) = refl
+trim-fronts (chr a ∷ l) (chr b ∷ r) =
+    cond-by (λ (t : Sides). equal-fronts (t .l) (t .r) ≡ false) (eqb a b) (λ _. trim-fronts l r) (λ n. n)
+
+trimmed-fronts : {P : Type 0} (A : Acceptor P) (s : Situation P) → equal-fronts (trimmed A s .left) (trimmed A s .right) ≡ false
+unfolding trimmed
+trimmed-fronts A s = trim-fronts (s .left) (s .right)
 
 module _ (q : Question) where
   decides : Decides (acceptor q) (λ (f : ℕ). Holds (held-by q f))
@@ -85,7 +101,7 @@ module _ (q : Question) where
         rw p
         (Searched.every-entry _ _ _ equal same (room-of work) first (λ (t : Situation PlaceSet). equal-fronts (t .left) (t .right) ≡ false)
         (trimmed-fronts (acceptor q) _)
-        (λ t m u h k. let c = child-of (acceptor q) longest-side t k in rw (c .makes) (trimmed-fronts (acceptor q) (moved (acceptor q) t (c .move))))
+        (λ t m u h k. let c = child-of (acceptor q) longest-side t k in rw (c .makes) (trimmed-fronts (acceptor q) (moved (acceptor q) t m)))
         e i)
 
     -- "no room gives 18"
@@ -99,6 +115,7 @@ module _ (q : Question) where
         left-out (p, m, s, i, c, n) =
             record {
               parent = p .at;
+              move = m;
               left-out = s;
               parent-entered = map-mem at i;
               is-child = child-of (acceptor q) longest-side (p .at) c;
@@ -107,12 +124,12 @@ module _ (q : Question) where
 
     -- "a side above 48 tokens gives 19"
     pub too-long-left : how-of q (searched q (room-of work)) ≡ too-long
-        → (s t : Situation PlaceSet)
+        → (s : Situation PlaceSet) × (m : Move) × (t : Situation PlaceSet)
         × List·Memᴰ s (entered q work)
-        × ChildOf (acceptor q) s t
+        × ChildOf (acceptor q) s m t
         × ((longest-side < length (t .left)) ⊎ (longest-side < length (t .right)))
     unfolding how-of searched search-from
     too-long-left h =
         let (p, i, c) = Searched.too-long-child _ _ _ equal same (room-of work) first h in
-        let (t, k, above) = long-of (acceptor q) longest-side (p .at) c in
-        (p .at, t, map-mem at i, k, above)
+        let (m, t, k, above) = long-of (acceptor q) longest-side (p .at) c in
+        (p .at, m, t, map-mem at i, k, above)

@@ -7,19 +7,21 @@ use native.Mathlib.Omega.{arith}
 use mathlib.Core.Path.{_≡_, refl, sym, _∙_, subst}
 use mathlib.Core.Logic.{⊎-elim}
 use mathlib.Core.Bool.{Bool, true, false, cond, not, _&&_}
-use mathlib.Core.List.{List, [], _∷_, _++_, map, List·Memᴰ, List·Memᴰ·not-nil, List·Memᴰ·append-cases, List·Memᴰ·eq-of-singleton}
-use lib.Dec.{eqb, leb, ltb}
+use mathlib.Core.List.{List, [], _∷_, _++_, map, List·Memᴰ, List·Memᴰ·not-nil, List·Memᴰ·append-cases}
+use lib.Dec.{eqb, ltb}
 use lib.ListN.{length, getD, set, length-set, length-map, List·getD-eq-default}
 use lib.Seq.{getD-set-same, getD-set-other}
 use Rattle.paper.specs.Lists.{any, only, keep, upto}
-use Rattle.paper.proofs.Tests.{by-bool, cond-by, cond-true, cond-false, true-false, not-true, not-is-true, and-left, and-right, or-is-true, right-true, or-left-false, or-right-false, both-false, leb-false, ltb-true, ltb-false, eqb-true, eqb-same, eqb-false, eqb-symmetric}
-use Rattle.paper.proofs.Lists.{cons-eq, any-append, length-from, mem-only, mem-keep, mem-map, mem-each, mem-upto}
+use Rattle.paper.proofs.Tests.{by-bool, cond-by, cond-true, cond-false, true-false, not-true, not-is-true, and-left, and-right, right-true, or-left-false, or-right-false, both-false, ltb-true, ltb-false, eqb-true, eqb-same, eqb-false, eqb-symmetric}
+use Rattle.paper.proofs.Lists.{cons-eq, any-append, length-from, mem-only, mem-keep, mem-map, mem-upto}
 use Rattle.paper.specs.Search.{Child, child, long}
 use Rattle.paper.specs.Equation.{chr, fld, Side, is-field, stands-in}
-use Rattle.paper.specs.Situation.{Acceptor, Situation, Sides, trim, Kind, is-finished, is-dead, is-open, strike-in, put-in, front-field, Move, strike-left, strike-right, put, trimmed, kind, strike, put-before, moved, front-may-end, front-takes, open-moves, moves-of, side-above, kept, child-by, children, question}
+use Rattle.paper.specs.Situation.{Acceptor, Situation, Sides, trim, Kind, is-finished, is-dead, is-open, strike-in, put-in, front-field, Move, strike-left, strike-right, put, trimmed, kind, strike, put-before, moved, front-may-end, front-takes, open-moves, moves-of, children, question}
 use Rattle.paper.specs.Plain.{Reaches}
 use Rattle.paper.proofs.Tails.{whole, tail-rest, tail-length, tail-stands, tail-once, front-once, stands-front, stands-left, stands-right, Plain, swap-plain}
 use Rattle.paper.proofs.Standings.{getD-map-upto, Fresh, Stands, Reached}
+use Rattle.paper.specs.Children.{ChildOf}
+use Rattle.paper.proofs.Children.{child-of, long-of}
 
 -- a field that doesn't stand in a side changes nothing there
 strike-none : (f : ℕ) (side : Side) → stands-in f side ≡ false → strike-in f side ≡ side
@@ -305,29 +307,16 @@ module _ {P : Type 0} {A : Acceptor P} {reach : ℕ → List P} (R : Reaches A r
       Kept long = length l₀ ≤ limit → length r₀ ≤ limit → ⊥
       Kept (child m t) = Reached-at t
 
-      above-limit : (t : Situation P) → Reached-at t → side-above A limit t ≡ true → Kept long
-      above-limit t h e p q =
-          ⊎-elim
-          (λ k. omega (arith, leb-false (length (t .left)) limit (not-is-true k), tail-length (h .left-tail)))
-          (λ k. omega (arith, leb-false (length (t .right)) limit (not-is-true k), tail-length (h .right-tail)))
-          (or-is-true (not (leb (length (t .left)) limit)) (not (leb (length (t .right)) limit)) e)
-
-      one-kept : (m : Move) (t : Situation P) → Reached-at t → Kept (cond (side-above A limit t) long (child m t))
-      one-kept m t h = cond-by Kept (side-above A limit t) (λ e. above-limit t h e) (λ e. h)
-
-      kept-kept :
-          (κ : Kind) (m : Move) (t : Situation P) (k : Child (Situation P) Move)
-          → Reached-at t → List·Memᴰ k (kept A κ (side-above A limit t) m t) → Kept k
-      kept-kept is-dead m t k h d = absurd (List·Memᴰ·not-nil d)
-      kept-kept is-finished m t k h d = subst Kept (sym (List·Memᴰ·eq-of-singleton d)) (one-kept m t h)
-      kept-kept is-open m t k h d = subst Kept (sym (List·Memᴰ·eq-of-singleton d)) (one-kept m t h)
+      made-reached : (s : Situation P) (m : Move) (t : Situation P) → Reached-at s → ChildOf A s m t → Reached-at t
+      made-reached s m t h c = rw (c .makes) (moved-reached s m h (moves-allowed (kind A s) s m (c .is-move)))
 
       pub children-kept : (s : Situation P) (k : Child (Situation P) Move) → Reached-at s → List·Memᴰ k (children A limit s) → Kept k
-      unfolding children child-by
-      children-kept s k h d =
-          let r = mem-each (child-by A limit s) (moves-of A (kind A s) s) d in
-          let t = trimmed A (moved A s (r .0)) in
-          kept-kept (kind A t) (r .0) t k (moved-reached s (r .0) h (moves-allowed (kind A s) s (r .0) (r .1))) (r .2)
+      children-kept s long h d =
+          λ p q.
+          let (m, t, c, above) = long-of A limit s d in
+          let g = made-reached s m t h c in
+          ⊎-elim (λ k. omega (arith, tail-length (g .left-tail))) (λ k. omega (arith, tail-length (g .right-tail))) above
+      children-kept s (child m t) h d = made-reached s m t h (child-of A limit s d)
 
 -- the question itself
 module _ {P : Type 0} {A : Acceptor P} {reach : ℕ → List P} (R : Reaches A reach) {l r : Side} (S : Plain (A .fields) l r) where

@@ -14,8 +14,8 @@ use Rattle.paper.specs.Places.{PlaceSet, reachable-sets}
 use Rattle.paper.specs.Search.{End, found, used-up, no-room, too-long, entries}
 use Rattle.paper.specs.Leads.{situations}
 use Rattle.paper.specs.Equation.{chr, fld, Side, Texts, stands-in}
-use Rattle.paper.specs.Situation.{Acceptor, Situation, is-dead, Move, kind, trimmed, moved, moves-of, same-situation, finished}
-use Rattle.paper.specs.Situation.{children, question}
+use Rattle.paper.specs.Situation.{Situation, Move, same-situation, finished, children, question}
+use Rattle.paper.specs.Children.{ChildOf}
 use Rattle.paper.specs.Plain.{plain, plain-bound}
 use Rattle.paper.specs.Question.{Question, held-by, Solution, acceptor}
 use Rattle.paper.specs.Sheet.{Fault, refused, asked, read-sheet}
@@ -54,13 +54,6 @@ pub record NoClash (sheet : List ℕ) : Type 0 where
   pub good : Good sheet question
   pub none : (texts : Texts) → Solution question texts → ⊥
 
--- t is a child of s: what one of the moves of s makes, trimmed. "Dead is dropped".
-pub record ChildOf {P : Type 0} (A : Acceptor P) (s t : Situation P) : Type 0 where
-  pub move : Move
-  pub is-move : List·Memᴰ move (moves-of A (kind A s) s)
-  pub makes : t ≡ trimmed A (moved A s move)
-  pub alive : kind A t ≡ is-dead → ⊥
-
 -- the situations that the search enters, in their order, in the room that the working buffer has
 abbrev pub entered : Question → List ℕ → List (Situation PlaceSet)
 entered q work =
@@ -70,9 +63,10 @@ entered q work =
 -- 18, "no room for a situation": all the room is used, and there is none, or a situation entered has a child that is not entered
 pub record LeftOut (q : Question) (work : List ℕ) : Type 0 where
   pub parent : Situation PlaceSet
+  pub move : Move
   pub left-out : Situation PlaceSet
   pub parent-entered : List·Memᴰ parent (entered q work)
-  pub is-child : ChildOf (acceptor q) parent left-out
+  pub is-child : ChildOf (acceptor q) parent move left-out
   pub not-entered : List·Memᴰ left-out (entered q work) → ⊥
 
 pub record NoRoom (sheet work : List ℕ) (o : Outcome) : Type 0 where
@@ -86,9 +80,10 @@ pub record TooLong (sheet work : List ℕ) : Type 0 where
   pub question : Question
   pub good : Good sheet question
   pub parent : Situation PlaceSet
+  pub move : Move
   pub long : Situation PlaceSet
   pub parent-entered : List·Memᴰ parent (entered question work)
-  pub is-child : ChildOf (acceptor question) parent long
+  pub is-child : ChildOf (acceptor question) parent move long
   pub above : (longest-side < length (long .left)) ⊎ (longest-side < length (long .right))
 
 -- 20, "answer buffer too short": there are such texts, and their records have more bytes than the buffer

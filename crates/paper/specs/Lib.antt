@@ -10,6 +10,7 @@ pub mod Reachable
 pub mod Search
 pub mod Leads
 pub mod Situation
+pub mod Children
 pub mod Decides
 pub mod Way
 pub mod Plain

@@ -4,9 +4,8 @@
 --   mask-empty       a mask is 0 exactly if the set is empty
 --   mask-may-end     a set may end exactly if its mask and the last places have a place in common
 --   mask-after       the mask of the set after c: what of the followers takes c
--- They hold for sets that a mask can hold (`Masked`): rising, of places below `places`. The first set is one, the set of a field that
--- is gone (no place) is one, and so is a set after a character. Of a pattern at most `most-leaves` leaves are assumed (`Few`), which
--- `judge` tests.
+-- They hold for sets that a mask can hold (`Masked`): rising, of places below `places`. The first set is one, the set of a field that is gone
+-- (no place) is one, and so is a set after a character. Of a pattern at most `most-leaves` leaves are assumed (`Few`), which `judge` tests.
 use Prim.Native.Nat.{ℕ, zero, suc, _+_, _^_, _≤_, _<_, zero-le}
 use native.Mathlib.Omega.{arith}
 use mathlib.Core.Path.{_≡_, refl, sym, ap, ap₂, _∙_}
@@ -18,24 +17,22 @@ use lib.ListN.{getD}
 use lib.Pow.{pow-pos}
 use Rattle.paper.specs.Lists.{from, upto, any, only, keep, member}
 use Rattle.paper.specs.Numbers.{most-leaves, characters}
-use Rattle.paper.specs.Pattern.{Held, any-text, pattern}
+use Rattle.paper.specs.Pattern.{Pattern, Held, any-text, pattern}
 use Rattle.paper.specs.Places.{leaves, leaf-takes, follows, ends-at, PlaceSet, leaf-places, first-set, set-after, may-end, is-empty}
-use Rattle.paper.proofs.Tests.{by-bool, same-tests, and-left, and-right, both-true, eqb-true, eqb-false, neq-eqb, eqb-symmetric}
-use Rattle.paper.proofs.Lists.{cons-eq, mem-cons-by, any-true, mem-any, none-any, mem-keep, keep-mem}
-use Rattle.paper.proofs.Lists.{mem-from, from-mem, mem-upto, upto-mem, member-true, mem-member}
+use Rattle.paper.proofs.Tests.{by-bool, true-false, not-true, same-tests, and-left, and-right, both-true, eqb-true, eqb-false, eq-eqb, neq-eqb, eqb-symmetric}
+use Rattle.paper.proofs.Lists.{cons-eq, mem-cons-by, any-true, mem-any, none-any, mem-keep, keep-mem, mem-from, from-mem, mem-upto, upto-mem, member-true, mem-member}
 use Rattle.paper.proofs.Parts.{takes-within}
 use Rattle.paper.proofs.Rising.{Rising, none, more, rising-first, rising-after, leaf-after}
-use Rattle.patterns.specs.Masks.{places, mask, mask-of, in-mask, comes-next, takes-at}
-use Rattle.patterns.specs.Masks.{follow-masks, taking-mask, taking-masks, last-mask, followers-of}
+use Rattle.patterns.specs.Masks.{places, mask, mask-of, in-mask, comes-next, takes-at, follow-masks, taking-mask, taking-masks, last-mask, followers-of}
 use Rattle.patterns.proofs.MaskOf.{mask-of-lt, in-mask-of, mask-of-same, mask-of-and}
 use Rattle.patterns.proofs.Tables.{getD-table}
 
 -- Lists by tests that say the same.
-any-same : (f g : ℕ → Bool) (l : List ℕ) → ((x : ℕ) → List·Memᴰ x l → f x ≡ g x) → any f l ≡ any g l
+pub any-same : (f g : ℕ → Bool) (l : List ℕ) → ((x : ℕ) → List·Memᴰ x l → f x ≡ g x) → any f l ≡ any g l
 any-same f g [] h = refl
 any-same f g (x ∷ l) h = ap₂ _||_ (h x (List·Memᴰ·head refl)) (any-same f g l (λ y d. h y (List·Memᴰ·tail d)))
 
-keep-same : (f g : ℕ → Bool) (l : List ℕ) → ((x : ℕ) → List·Memᴰ x l → f x ≡ g x) → keep f l ≡ keep g l
+pub keep-same : (f g : ℕ → Bool) (l : List ℕ) → ((x : ℕ) → List·Memᴰ x l → f x ≡ g x) → keep f l ≡ keep g l
 keep-same f g [] h = refl
 keep-same f g (x ∷ l) h =
     ap₂ (λ (b : Bool) (m : List ℕ). only b x ++ m) (h x (List·Memᴰ·head refl)) (keep-same f g l (λ y d. h y (List·Memᴰ·tail d)))
@@ -45,8 +42,7 @@ keep-none [] = refl
 keep-none (x ∷ l) = keep-none l
 
 -- some place of the set passes: all places can be tried
-any-member : (f : ℕ → Bool) (n : ℕ) (s : PlaceSet) → ((q : ℕ) → List·Memᴰ q s → q < n)
-    → any (λ (q : ℕ). member q s && f q) (upto n) ≡ any f s
+any-member : (f : ℕ → Bool) (n : ℕ) (s : PlaceSet) → ((q : ℕ) → List·Memᴰ q s → q < n) → any (λ (q : ℕ). member q s && f q) (upto n) ≡ any f s
 any-member f n s h =
     same-tests (any (λ (q : ℕ). member q s && f q) (upto n)) (any f s)
     (λ e.
@@ -60,8 +56,7 @@ any-member f n s h =
 member-behind : (q i : ℕ) (s : PlaceSet) → i < q → member q (i ∷ s) ≡ member q s
 member-behind q i s l = ap (λ (b : Bool). b || member q s) (neq-eqb q i (λ e. omega arith))
 
-keep-member : (a n : ℕ) (s : PlaceSet) → Rising s → ((q : ℕ) → List·Memᴰ q s → (a ≤ q) × (q < a + n))
-    → keep (λ (q : ℕ). member q s) (from a n) ≡ s
+keep-member : (a n : ℕ) (s : PlaceSet) → Rising s → ((q : ℕ) → List·Memᴰ q s → (a ≤ q) × (q < a + n)) → keep (λ (q : ℕ). member q s) (from a n) ≡ s
 keep-member a zero [] none h = refl
 keep-member a zero (i ∷ s) (more k r) h = let w = h i (List·Memᴰ·head refl) in absurd (omega arith)
 keep-member a (suc n) [] none h = keep-none (from (suc a) n)
@@ -162,8 +157,7 @@ followers-is h s m =
     mask-of-same (λ (q : ℕ). any (λ (i : ℕ). in-mask (mask s) i && in-mask (getD (follow-masks h) i 0) q) (upto places))
     (λ (q : ℕ). any (λ (i : ℕ). comes-next h i q) s)
     (λ q lq.
-    any-same (λ (i : ℕ). in-mask (mask s) i && in-mask (getD (follow-masks h) i 0) q)
-    (λ (i : ℕ). member i s && comes-next h i q) (upto places)
+    any-same (λ (i : ℕ). in-mask (mask s) i && in-mask (getD (follow-masks h) i 0) q) (λ (i : ℕ). member i s && comes-next h i q) (upto places)
     (λ i d.
     let li = mem-upto places d in
     ap₂ _&&_ (in-mask-is s m i li)

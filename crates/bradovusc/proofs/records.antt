@@ -1,0 +1,5 @@
+pub mod Answers
+pub mod Fronts
+pub mod Records
+pub mod Standing
+pub mod Text

@@ -1,0 +1,51 @@
+use borrow.Author.Needs.{needs}
+use borrow.Author.Tests.{eq-eqb, ne-eqb}
+use Rattle.paper.specs.Sheet.{marked}
+use Rattle.sheets.proofs.cursor.Cursor.marked.Statement.{statement}
+use Rattle.sheets.proofs.cursor.Cursor.marked.Tie as tie
+use Rattle.sheets.proofs.cursor.Cursor.marked.Reads as reads
+use Rattle.sheets.proofs.cursor.Cursor.marked.Lts as lts
+use Rattle.sheets.proofs.cursor.Mark.first_letter.Reads as first-letter-reads
+use Rattle.sheets.proofs.cursor.Mark.second_letter.Reads as second-letter-reads
+
+-- src/cursor.rt:79:12
+shared-slice-read-if1 : tie.Need-shared-slice-read-if1
+shared-slice-read-if1 c = search needs
+
+-- src/cursor.rt:79:21
+first-letter-requires : tie.Need-first-letter-requires
+first-letter-requires c κs = search needs
+
+-- src/cursor.rt:80:15
+add-result : tie.Need-add-result
+add-result c = search needs
+
+-- src/cursor.rt:80:13
+shared-slice-read-result : tie.Need-shared-slice-read-result
+shared-slice-read-result c = search needs
+
+-- src/cursor.rt:80:26
+second-letter-requires : tie.Need-second-letter-requires
+second-letter-requires c κs = search needs
+
+-- src/cursor.rt:74:5
+returns : tie.Need-returns
+unfolding marked
+returns c =
+    rw (← c .second-letter .ensures, ← c .before .before .before .first-letter .ensures, eq-eqb _ _ (c .before .before .if1 .taken))
+
+returns-2 : tie.Need-returns-2
+unfolding marked
+returns-2 c = rw (← c .before .first-letter .ensures, ne-eqb _ _ (c .if1 .left))
+
+pub marked-spec : {M : Type 1} → statement M
+marked-spec =
+    tie.close
+    (tie.spec
+    shared-slice-read-if1
+    first-letter-requires
+    add-result
+    shared-slice-read-result
+    second-letter-requires
+    returns
+    returns-2)

@@ -1,0 +1,118 @@
+// The question sheet: from any bytes to the question, or to the first fault met with its place.
+mod cursor;
+mod tables;
+mod walk;
+
+pub use tables::follow_sets;
+pub use tables::last_sets;
+pub use tables::taking_sets;
+ghost use mathlib.Core.Path.{_≡_};
+ghost use Prim.Native.Nat.{_≤_};
+ghost use mathlib.Core.List.{map};
+ghost use lib.ListN.{length};
+ghost use Rattle.paper.specs.Numbers.{sheet-side};
+ghost use Rattle.paper.specs.Sheet.{fault-number, body, token, refused, read-sheet};
+ghost use Rattle.sheets.specs.Faults.{fault-of};
+ghost use Rattle.sheets.specs.Read.{padded, side-bytes, sheet-of};
+ghost use Rattle.sheets.specs.Walk.{Tokens-stand};
+
+// "The first fault met decides."
+pub enum Fault {
+    CutShort,
+    WrongMark,
+    WrongField,
+    WrongLength,
+    NotOnePattern,
+    TooManyLeaves,
+    WrongToken,
+}
+
+// The fault's number.
+pub fn number(x: Fault) -> u8
+    ensures { λ r. ⌜ r ≡ fault-number (fault-of x) ⌝ }
+{
+    match x {
+        Fault::CutShort => 11,
+        Fault::WrongMark => 12,
+        Fault::WrongField => 13,
+        Fault::WrongLength => 14,
+        Fault::NotOnePattern => 15,
+        Fault::TooManyLeaves => 16,
+        Fault::WrongToken => 17,
+    }
+}
+
+// What the checks on a sheet find.
+pub enum Found {
+    Good,
+    Refused(Fault),
+}
+
+// What a sheet says.
+pub struct Sheet {
+    pub found: Found,
+    // where the record with the fault has its mark or should have it; 0 for a good sheet
+    pub place: usize,
+    // the tokens of the sides of a good sheet, zeros behind them
+    pub left: [u8; 24],
+    pub left_len: usize,
+    pub right: [u8; 24],
+    pub right_len: usize,
+}
+
+// Reads a sheet.
+pub fn read(s: &[u8]) -> Sheet
+    ensures { λ r. ⌜ r ≡ sheet-of (read-sheet (now (s .entry))) ⌝ }
+{
+    let r = walk::read_records(s);
+    let found = r.found;
+    if let Found::Refused(x) = found {
+        return refuse(x, r.place);
+    }
+    let left = tokens(s, r.left, r.left_len);
+    let right = tokens(s, r.right, r.right_len);
+    Sheet {
+        found: Found::Good,
+        place: 0,
+        left,
+        left_len: r.left_len,
+        right,
+        right_len: r.right_len,
+    }
+}
+
+// A sheet with a fault.
+fn refuse(x: Fault, place: usize) -> Sheet
+    ensures { λ r. ⌜ r ≡ sheet-of (refused (fault-of x) place) ⌝ }
+{
+    Sheet {
+        found: Found::Refused(x),
+        place,
+        left: [0; 24],
+        left_len: 0,
+        right: [0; 24],
+        right_len: 0,
+    }
+}
+
+// The tokens of a side, in its room.
+fn tokens(s: &[u8], start: usize, len: usize) -> [u8; 24]
+    requires { ⌜ Tokens-stand (now s) start len ⌝ }
+    ensures { λ r. ⌜ r ≡ side-bytes (map token (body (now (s .entry)) start len)) ⌝ }
+{
+    padded(&s[start..start + len])
+}
+
+// The bytes of a side, zeros behind them.
+fn padded(side: &[u8]) -> [u8; 24]
+    requires { ⌜ length (now side) ≤ sheet-side ⌝ }
+    ensures { λ r. ⌜ r ≡ padded (now (side .entry)) ⌝ }
+{
+    let mut tokens = [0; 24];
+    let mut i = 0;
+    while i < side.len() {
+        tokens[i] = side[i];
+        i += 1;
+    }
+    tokens
+}
