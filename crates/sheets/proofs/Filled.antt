@@ -12,12 +12,11 @@ use Rattle.paper.specs.Lists.{from, upto}
 use Rattle.paper.specs.Numbers.{fields}
 use Rattle.paper.specs.Pattern.{Pattern, Held, any-text, pattern}
 use Rattle.paper.specs.Written.{Judged, judge, judged}
-use Rattle.paper.specs.Question.{Question, held-by}
-use Rattle.paper.specs.Sheet.{body, asked, read-sheet}
+use Rattle.paper.specs.Sheet.{body, read-sheet}
 use Rattle.paper.proofs.Lists.{cons-eq, map-append}
 use Rattle.sheets.specs.declared.walk.Records.{Records}
 use Rattle.sheets.specs.Tables.{by-field}
-use Rattle.sheets.specs.Walk.{Stands-at, Fields-stand, Parts-stand}
+use Rattle.sheets.specs.Walk.{Stands-at, Parts-stand}
 
 from-snoc : (a n : ℕ) → from a (suc n) ≡ from a n ++ ((a + n) ∷ [])
 from-snoc a zero = cons-eq (sym (add-zero a)) refl
