@@ -70,8 +70,8 @@ put-by k l r c =
 abbrev pub puts-by : Coded → Front → Front → List (Child Coded ℕ)
 puts-by k l r = each (put-by k l r) (upto characters)
 
--- What each function does to the buffer and the run, here before and after it: the slots stay within the room, and whatever search
--- they stood for before, they stand after it for the one that the definition makes of that.
+-- What each function does to the buffer and the run, which are work and run before it, work′ and run′ after it: the slots stay within
+-- the room, and whatever search they stood for before, they stand after it for the one that the definition makes of that.
 module _ (room : ℕ) where
   -- s is entered as slot n
   pub record Enters (n parent step : ℕ) (s : Situation) (work work′ : List ℕ) (run′ : Run) : Type 0 where

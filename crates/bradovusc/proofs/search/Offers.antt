@@ -1,15 +1,14 @@
 -- Laws of offering children: one list after the other, for one number after the other, and each way that a child offered to the search
 -- in the lent buffer can go. Follows from the definitions by induction on the list, and by cases on their tests.
-use Prim.Native.Nat.{ℕ, zero, suc, _+_}
-use native.Mathlib.Nat.{zero-add, add-zero, add-suc, suc-add}
+use Prim.Native.Nat.{ℕ, suc, _+_}
 use native.Mathlib.Numerals.{add-one}
 use mathlib.Core.Path.{_≡_, refl, sym, ap, _∙_, subst}
 use mathlib.Core.Bool.{Bool, true, false}
 use mathlib.Core.List.{List, [], _∷_, _++_}
-use Rattle.paper.specs.Lists.{any, from, upto, each}
+use Rattle.paper.specs.Lists.{any, upto, each}
 use Rattle.paper.specs.Search.{Child}
-use Rattle.paper.proofs.Lists.{cons-eq}
 use Rattle.paper.proofs.Tests.{true-false}
+use Rattle.patterns.proofs.Tables.{upto-snoc}
 use Rattle.bradovusc.specs.Coded.{Coded, Settled, dropped, above, made, as-child, same-coded}
 use Rattle.bradovusc.specs.Lent.{Lent}
 use Rattle.bradovusc.specs.Run.{is-going, Running, enter-slot, offer-slot, offer-slots}
@@ -18,13 +17,6 @@ use Rattle.bradovusc.specs.declared.search.Run.{Run}
 use Rattle.bradovusc.specs.declared.search.Status.{Status}
 use Rattle.bradovusc.specs.declared.search.Status.the-variants.{Going, Found, UsedUp, NoRoom, TooLong}
 use Rattle.bradovusc.proofs.slots.Rows.{each-snoc}
-
-from-snoc : (a n : ℕ) → from a (suc n) ≡ from a n ++ ((a + n) ∷ [])
-from-snoc a zero = rw add-zero
-from-snoc a (suc n) = cons-eq refl (from-snoc (suc a) n ∙ rw (suc-add, add-suc))
-
-upto-snoc : (n : ℕ) → upto (suc n) ≡ upto n ++ (n ∷ [])
-upto-snoc n = from-snoc 0 n ∙ rw zero-add
 
 module _ (room p : ℕ) where
   pub offers-append : (R : Running) (xs ys : List (Child Coded ℕ))

@@ -28,7 +28,7 @@ enum-told-2 c = search needs
 enum-told-3 : tie.Need-enum-told-3
 enum-told-3 c = search needs
 
--- the child is made, and the search goes on
+-- past the first test the search is going
 going : (c : tie.Else1) → is-going (c .before .before .before .args .run .status) ≡ true
 going c = sym (c .before .is-going .ensures) ∙ not-is-false (c .if1 .left)
 
