@@ -8,7 +8,7 @@ use mathlib.Core.List.{List, [], _∷_, _++_}
 use Rattle.paper.specs.Lists.{any, upto, each}
 use Rattle.paper.specs.Search.{Child}
 use Rattle.paper.proofs.Tests.{true-false}
-use Rattle.patterns.proofs.Tables.{upto-snoc}
+use Rattle.paper.proofs.Made.{upto-snoc}
 use Rattle.bradovusc.specs.Coded.{Coded, Settled, dropped, above, made, as-child, same-coded}
 use Rattle.bradovusc.specs.Lent.{Lent}
 use Rattle.bradovusc.specs.Run.{is-going, Running, enter-slot, offer-slot, offer-slots}
