@@ -1,0 +1,7 @@
+// Answers every case of a stream on standard input and prints a line for each: number, count, place and bytes written, and a sum of the
+// answer buffer and of the working buffer as they are afterwards. The second program's `--many` prints the same.
+use stream::Show;
+
+fn main() {
+    stream::answer_all(Show::Sums);
+}
