@@ -5,6 +5,7 @@ mod print;
 mod sums;
 
 use bradovusc::Numbers;
+use print::print;
 use print::print_number;
 
 // "65,520 bytes of work (455 situations) and 4,096 of answer", and as much of one more situation as gives no room for it.
@@ -59,16 +60,16 @@ fn answer_case(show: Show, sheet: &[u8], work: &mut [u8], answer: &mut [u8]) {
         Show::Sums => sums::print_sums(work, answer),
         Show::Bytes => bytes::print_bytes(work, answer, told.written),
     }
-    print::print(b"\n");
+    print(b"\n");
 }
 
 // Number, count, place and written length.
 fn print_answer(told: Numbers) {
     print_number(told.number as u64);
-    print::print(b" ");
+    print(b" ");
     print_number(told.count as u64);
-    print::print(b" ");
+    print(b" ");
     print_number(told.place as u64);
-    print::print(b" ");
+    print(b" ");
     print_number(told.written as u64);
 }
