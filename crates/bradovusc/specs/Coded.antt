@@ -33,18 +33,22 @@ is-field b = leb field-token b
 abbrev pub field-of : ℕ → ℕ
 field-of b = b - field-token
 
--- the token in front; 255, which is neither a character nor a token of a field, where there is none
+-- neither a character nor a token of a field
+abbrev pub no-token : ℕ
+no-token = 255
+
+-- the token in front, if there is one
 abbrev pub front : List ℕ → ℕ
-front [] = 255
+front [] = no-token
 front (b ∷ side) = b
 
 abbrev pub none : List ℕ → Bool
 none [] = true
 none (b ∷ side) = false
 
--- a field's token, and 255 is none
+-- a field's token
 abbrev pub is-standing : ℕ → Bool
-is-standing b = leb field-token b && ltb b 255
+is-standing b = leb field-token b && ltb b no-token
 
 -- "strike it everywhere"
 abbrev pub strike-bytes : ℕ → List ℕ → List ℕ
@@ -96,10 +100,10 @@ as-child step (made s) = child step s ∷ []
 
 -- a step's number: a character's value, or one of these
 abbrev pub left-struck : ℕ
-left-struck = 43
+left-struck = characters
 
 abbrev pub right-struck : ℕ
-right-struck = 44
+right-struck = suc characters
 
 abbrev pub set-at : Coded → ℕ → ℕ
 set-at s b = getD (s .sets) (field-of b) 0

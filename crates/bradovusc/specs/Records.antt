@@ -9,6 +9,7 @@ use lib.ListN.{length, getD, drop}
 use Rattle.paper.specs.Lists.{upto, any, only, keep, each}
 use Rattle.paper.specs.Numbers.{fields, longest-text}
 use Rattle.paper.specs.Outcome.{value-record}
+use Rattle.bradovusc.specs.Coded.{no-token}
 use Rattle.bradovusc.specs.Slots.{Slot, Holds-slots}
 use Rattle.bradovusc.specs.Run.{slot-at, text-back}
 use Rattle.bradovusc.specs.declared.records.Back.{Back}
@@ -28,7 +29,7 @@ pub record Way-to (work : List ℕ) (last : ℕ) : Type 0 where
 
 -- the token in front of a side in a slot: its length stands at one place of the buffer, its tokens from another on
 abbrev pub front-at : List ℕ → ℕ → ℕ → ℕ
-front-at work count tokens = cond (eqb (getD work count 0) 0) 255 (getD work tokens 0)
+front-at work count tokens = cond (eqb (getD work count 0) 0) no-token (getD work tokens 0)
 
 -- the text of the field f, spelt from slot i back to slot 0
 abbrev pub text-at : List Slot → ℕ → ℕ → List ℕ

@@ -20,7 +20,7 @@ ghost use Rattle.bradovusc.specs.Entry.{told, as-numbers, Asks, Clash-to
 ghost use Rattle.bradovusc.specs.Records.{Way-to};
 
 // "Room is one situation for each whole 144 bytes of working buffer, and at most 65,535."
-const SITUATION_BYTES: usize = 144;
+const SITUATION_BYTES: usize = slots::SLOT;
 
 const MOST_ROOM: usize = 65535;
 

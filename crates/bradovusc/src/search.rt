@@ -25,9 +25,9 @@ use patterns::CHARACTERS;
 use patterns::PLACES;
 
 // the steps that are no character
-const LEFT_STRUCK: u8 = 43;
+const LEFT_STRUCK: u8 = situation::CHARACTERS;
 
-const RIGHT_STRUCK: u8 = 44;
+const RIGHT_STRUCK: u8 = LEFT_STRUCK + 1;
 
 // How the search stands, or how it ended.
 pub enum Status {

@@ -9,14 +9,15 @@ ghost use Rattle.paper.specs.Numbers.{fields, longest-side, situation-bytes};
 ghost use Rattle.bradovusc.specs.Coded.{Coded, same-coded};
 ghost use Rattle.bradovusc.specs.Struct.{as-struct, Short};
 ghost use Rattle.bradovusc.specs.Slots.{mask-width, mask-bytes, left-at, origin-width, struct-key, origin-bytes, struct-slot, key-bytes, sets-bytes, Slot, slot-bytes, Holds-slots, has-key, key-entered};
+use crate::situation;
 use crate::situation::Situation;
 
 // A slot's parts: the two lengths, the sides, the sets; the parent and the step; zeros.
 pub const SLOT: usize = 144;
 
-const SIDE: usize = 48;
+const SIDE: usize = situation::LONGEST_SIDE;
 
-const FIELDS: usize = 8;
+const FIELDS: usize = situation::FIELDS;
 
 const MASK: usize = 4;
 
