@@ -6,7 +6,7 @@ use mathlib.Core.Path.{_≡_, refl, sym, ap, _∙_, subst}
 use mathlib.Core.List.{List}
 use Rattle.paper.specs.Demands.{Demand2, Demand3}
 use Rattle.paper.specs.Outcome.{Outcome, outcome}
-use Rattle.paper.specs.Sheet.{Fault, cut-short, wrong-mark, wrong-field, wrong-length, not-one-pattern, too-many-leaves, wrong-token, fault-number, Reading, refused, asked, read-sheet}
+use Rattle.paper.specs.Sheet.{Fault, cut-short, wrong-mark, wrong-field, wrong-length, not-one-pattern, too-many-leaves, wrong-token, Reading, refused, asked, read-sheet}
 use Rattle.paper.proofs.Demand2.{demand-2}
 use Rattle.paper.proofs.Demand3.{demand-3}
 use Rattle.sheets.specs.Faults.{fault-of, as-fault}

@@ -5,7 +5,7 @@
 use Prim.Native.Nat.{ℕ, _+_, _<_}
 use mathlib.Core.Path.{_≡_, refl, sym, ap, ap₂, _∙_}
 use mathlib.Core.Bool.{Bool, true, false, cond, not, _&&_, and-false, and-true}
-use mathlib.Core.List.{List, [], _∷_, _++_, map, append-nil, append-assoc, List·Memᴰ, List·Memᴰ·head, List·Memᴰ·tail}
+use mathlib.Core.List.{List, [], _∷_, _++_, map, append-nil}
 use lib.Dec.{eqb}
 use lib.ListN.{getD, set, length-map}
 use lib.Seq.{set-set, getD-set-other}
@@ -16,6 +16,7 @@ use Rattle.paper.specs.Search.{Child}
 use Rattle.paper.specs.Equation.{chr, fld, Side}
 use Rattle.paper.specs.Situation.{Acceptor, Situation, Kind, is-finished, is-dead, is-open, Move, strike-left, strike-right, put, trim, kind-of, front-field, front-fields, trimmed, kind, strike, strike-all, put-before, put-before-all, front-may-end, front-takes, open-moves, moves-of, side-above, kept, child-by, children}
 use Rattle.paper.specs.Question.{Question, held-by, acceptor}
+use Rattle.paper.proofs.Made.{each-append, each-same, keep-none}
 use Rattle.paper.proofs.Tests.{by-bool, true-false, not-true, and-left, and-right, eqb-true, eqb-same, eqb-false}
 use Rattle.paper.proofs.Lists.{map-append, mem-upto}
 use Rattle.paper.proofs.Moves.{other-front}
@@ -29,10 +30,6 @@ use Rattle.bradovusc.proofs.CodedSets.{Good, set-mask, may-strike-coded
 
 -- `each` over the lists that the moves are made of
 module _ {A B : Type 0} (f : A → List B) where
-  each-append : (l m : List A) → each f (l ++ m) ≡ each f l ++ each f m
-  each-append [] m = refl
-  each-append (x ∷ l) m = ap (λ (r : List B). f x ++ r) (each-append l m) ∙ sym (append-assoc (f x) (each f l) (each f m))
-
   each-only : (b : Bool) (x : A) → each f (only b x) ≡ cond b (f x) []
   each-only true x = append-nil (f x)
   each-only false x = refl
@@ -41,17 +38,9 @@ module _ {A B : Type 0} (f : A → List B) where
   each-map-keep g p [] = refl
   each-map-keep g p (c ∷ l) = by-bool (p c) (λ e. rw e (ap (λ (r : List B). f (g c) ++ r) (each-map-keep g p l))) (λ e. rw e (each-map-keep g p l))
 
-  pub each-same : (g : A → List B) (l : List A) → ((x : A) → List·Memᴰ x l → f x ≡ g x) → each f l ≡ each g l
-  each-same g [] h = refl
-  each-same g (x ∷ l) h = ap₂ _++_ (h x (List·Memᴰ·head refl)) (each-same g l (λ y d. h y (List·Memᴰ·tail d)))
-
   map-each : {C : Type 0} (g : B → C) (l : List A) → map g (each f l) ≡ each (λ (x : A). map g (f x)) l
   map-each g [] = refl
   map-each {C} g (x ∷ l) = map-append g (f x) (each f l) ∙ ap (λ (r : List C). map g (f x) ++ r) (map-each g l)
-
-keep-none : {A : Type 0} (p : A → Bool) (l : List A) → ((x : A) → p x ≡ false) → keep p l ≡ []
-keep-none p [] h = refl
-keep-none p (x ∷ l) h = rw (h x) (keep-none p l h)
 
 -- What the children are without kinds: where a situation is not open, its fronts let no move through.
 module _ {P : Type 0} (A : Acceptor P) where

@@ -18,7 +18,7 @@ use Rattle.paper.specs.Question.{Question, held-by, acceptor}
 use Rattle.paper.proofs.Tests.{by-bool, same-tests, neq-eqb, eq-eqb, eqb-true, eqb-false}
 use Rattle.paper.proofs.Lists.{cons-eq}
 use Rattle.paper.proofs.PlaceSets.{same-equal, equal-same}
-use Rattle.paper.proofs.Standings.{getD-map-upto}
+use Rattle.paper.proofs.Made.{getD-map-upto}
 use Rattle.patterns.proofs.Masks.{Masked, Few, mask-same, mask-empty, mask-may-end, mask-after, taking-at}
 use Rattle.patterns.specs.Masks.{mask, follow-masks, taking-masks, last-mask}
 use Rattle.bradovusc.specs.Coded.{front, set-at, may-strike, gathered, next-set, takes-front}

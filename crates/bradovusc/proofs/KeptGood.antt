@@ -17,7 +17,7 @@ use Rattle.paper.specs.Situation.{Situation, Move, front-field, front-fields, t
 use Rattle.paper.specs.Question.{Question, held-by, acceptor}
 use Rattle.paper.proofs.Tests.{by-bool, cond-by, ltb-true, ltb-false}
 use Rattle.paper.proofs.Lists.{length-from}
-use Rattle.paper.proofs.Standings.{getD-map-upto}
+use Rattle.paper.proofs.Made.{getD-map-upto}
 use Rattle.paper.proofs.Moves.{other-is-front, Opened, strikes-left, strikes-right, puts, move-opened, child-made}
 use Rattle.paper.proofs.Question.{asked}
 use Rattle.patterns.proofs.Masks.{Masked, Few, masked-first, masked-none, masked-after}

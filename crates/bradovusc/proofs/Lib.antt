@@ -16,3 +16,4 @@ pub mod Told
 pub mod Concluding
 pub mod Searching
 pub mod Answering
+pub mod Unique

@@ -1,16 +1,17 @@
 -- Laws of what is made: how sides are judged, test by test, the children in terms of the struct, and the first place sets. Follows from the
 -- definitions in Coded and Made and from the laws of sides.
-use Prim.Native.Nat.{ℕ, zero, suc, _+_, _≤_, _<_}
-use native.Mathlib.Nat.{add-zero, zero-add, add-suc, suc-add}
+use Prim.Native.Nat.{ℕ, _+_, _≤_, _<_}
+use native.Mathlib.Nat.{zero-add}
 use native.Mathlib.Numerals.{add-one}
-use mathlib.Core.Path.{_≡_, refl, ap, _∙_}
+use mathlib.Core.Path.{_≡_, ap, _∙_}
 use mathlib.Core.Bool.{true, false, or-true, _||_}
 use mathlib.Core.List.{List, [], _∷_, _++_, map}
 use lib.Dec.{eqb}
 use lib.ListN.{length, take}
 use Rattle.paper.specs.Numbers.{field-token, longest-side}
-use Rattle.paper.specs.Lists.{from, upto, member}
-use Rattle.paper.proofs.Lists.{any-append, map-append, cons-eq}
+use Rattle.paper.specs.Lists.{upto, member}
+use Rattle.paper.proofs.Made.{from-snoc}
+use Rattle.paper.proofs.Lists.{any-append, map-append}
 use Rattle.paper.proofs.Tests.{le-leb, lt-leb}
 use Rattle.bradovusc.specs.Coded.{Coded, dropped, above, made, front, strike-bytes, put-bytes, dead-sides, judged-sides, settle, with-set, struck, put-child}
 use Rattle.bradovusc.specs.Made.{first-set}
@@ -67,9 +68,5 @@ module _ (l r : List ℕ) (f : ℕ) where
   first-neither e k = rw (member-both (field-token + f), e, k)
 
 -- one field more
-from-more : (a n : ℕ) → from a (suc n) ≡ from a n ++ ((a + n) ∷ [])
-from-more a zero = rw add-zero
-from-more a (suc n) = cons-eq refl (rw (add-suc, ← suc-add) (from-more (suc a) n))
-
 pub first-more : (tokens : List ℕ) (f : ℕ) → map (first-set tokens) (upto (f + 1)) ≡ map (first-set tokens) (upto f) ++ (first-set tokens f ∷ [])
-first-more tokens f = rw add-one (ap (map (first-set tokens)) (from-more 0 f) ∙ rw (map-append (first-set tokens), zero-add))
+first-more tokens f = rw add-one (ap (map (first-set tokens)) (from-snoc 0 f) ∙ rw (map-append (first-set tokens), zero-add))

@@ -1,22 +1,22 @@
 -- A good sheet's question, searched: from what the code's parts promise to the whole outcome. Follows from `Told`, `Simulated` and the laws
 -- of good sheets.
-use Prim.Native.Nat.{ℕ, _+_, _/_, _≤_, _<_, min}
+use Prim.Native.Nat.{ℕ, _+_, _≤_, _<_}
 use native.Mathlib.Omega.{arith}
 use mathlib.Core.Path.{_≡_, refl, sym, ap, ap₂, _∙_}
-use mathlib.Core.Bool.{true, _&&_, _||_}
+use mathlib.Core.Bool.{true, _&&_}
 use mathlib.Core.List.{List, [], _∷_, List·Memᴰ, List·Memᴰ·head, List·Memᴰ·tail}
 use lib.Dec.{leb, ltb}
-use lib.ListN.{length, take, replicate, length-map}
+use lib.ListN.{length, take, length-map}
 use lib.Seq.{take-at}
 use Rattle.paper.specs.Lists.{all}
-use Rattle.paper.specs.Numbers.{characters, fields, field-token, sheet-side, longest-side, situation-bytes, most-room}
+use Rattle.paper.specs.Numbers.{characters, fields, field-token, sheet-side, longest-side}
 use Rattle.paper.specs.Places.{PlaceSet}
-use Rattle.paper.specs.Search.{Entry, End, found, used-up, no-room, too-long}
+use Rattle.paper.specs.Search.{End, found, used-up, no-room, too-long}
 use Rattle.paper.specs.Situation.{Situation, Move}
 use Rattle.paper.specs.Equation.{Token, chr, fld, Side}
 use Rattle.paper.specs.Question.{Question}
 use Rattle.paper.specs.Sheet.{asked, read-sheet, is-token}
-use Rattle.paper.specs.Outcome.{Outcome, outcome, room-of, searched, cleared, answered, count-of, how-of}
+use Rattle.paper.specs.Outcome.{outcome, room-of, searched, cleared, how-of}
 use Rattle.paper.proofs.Tests.{lt-ltb, le-leb, both-true, left-true, right-true}
 use Rattle.paper.proofs.Asked.{InRange, GoodSide, GoodQuestion, asked-good}
 use Rattle.sheets.specs.Read.{side-bytes, sheet-of}
@@ -24,14 +24,13 @@ use Rattle.sheets.specs.Tables.{follow-sets, taking-sets, last-sets}
 use Rattle.sheets.specs.declared.Sheet.{Sheet}
 use Rattle.bradovusc.specs.Coded.{Coded, Tables}
 use Rattle.bradovusc.specs.Codes.{code-token, code-side, tables-of, status-of}
-use Rattle.bradovusc.specs.Entry.{told, concluded, concluded-buffer, Over, Concluded, Asks}
+use Rattle.bradovusc.specs.Entry.{told, Over, Concluded, Asks}
 use Rattle.bradovusc.specs.Lent.{Lent}
 use Rattle.bradovusc.specs.Made.{first-sets, question-coded}
-use Rattle.bradovusc.specs.Run.{Running, slot-search}
+use Rattle.bradovusc.specs.Run.{slot-search}
 use Rattle.bradovusc.specs.Struct.{as-struct, Short}
 use Rattle.bradovusc.specs.declared.Answer.{Answer}
 use Rattle.bradovusc.specs.declared.search.Run.{Run}
-use Rattle.bradovusc.specs.declared.search.Status.{Status}
 use Rattle.bradovusc.specs.declared.search.Status.the-variants.{Found}
 use Rattle.bradovusc.specs.declared.situation.Situation as Struct
 use Rattle.bradovusc.proofs.Numbered.{slots-linked}

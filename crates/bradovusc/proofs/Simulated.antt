@@ -5,11 +5,11 @@
 --   text-agrees   : text-back n (run .slots) f last ≡ texts-of (acceptor q) (q .left) (q .right) e f, where e is found
 -- Holds of good questions. Follows from the children and tests agreeing (`CodedChildren`), from the law of two searches side by
 -- side (`Mapped`), and from the slots standing for entries (`Numbered`).
-use Prim.Native.Nat.{ℕ, zero, suc, _-_, _≤_, _<_}
+use Prim.Native.Nat.{ℕ, suc, _-_, _≤_, _<_}
 use native.Mathlib.Omega.{arith}
 use mathlib.Core.Path.{_≡_, refl, sym, ap, ap₂, _∙_}
 use mathlib.Core.Bool.{true, _&&_}
-use mathlib.Core.List.{List, [], _∷_, _++_, map, reverse, List·Memᴰ, List·Memᴰ·head, List·Memᴰ·tail}
+use mathlib.Core.List.{List, [], _∷_, _++_, map, reverse, List·Memᴰ}
 use lib.ListN.{length, getD, length-append, List·getD-map}
 use lib.Seq.{getD-at}
 use Rattle.paper.specs.Numbers.{fields, longest-side}
@@ -21,6 +21,7 @@ use Rattle.paper.specs.Situation.{Situation, Move, same-situation, finished, ch
 use Rattle.paper.specs.Way.{text-along, texts-of, search-from}
 use Rattle.paper.specs.Question.{Question, held-by, acceptor}
 use Rattle.paper.specs.Outcome.{searched, count-of, how-of}
+use Rattle.paper.proofs.Made.{getD-mem}
 use Rattle.paper.proofs.Asked.{GoodHeld, GoodQuestion}
 use Rattle.paper.proofs.Same.{situation-equal, situation-same}
 use Rattle.paper.proofs.PlaceSets.{same-equal, equal-same}
@@ -58,11 +59,6 @@ status-coded too-long = refl
 no-moves : (way : List Move) → map code-move way ≡ [] → way ≡ []
 no-moves [] e = refl
 no-moves (m ∷ way) e = absurd (let z : _≡_ {A = ℕ} 0 1 = cc in omega arith)
-
-getD-mem {ℓ} : {A : Type ℓ} (l : List A) (d : A) (i : ℕ) → i < length l → List·Memᴰ (getD l i d) l
-getD-mem [] d i h = absurd (omega arith)
-getD-mem (x ∷ l) d zero h = List·Memᴰ·head refl
-getD-mem (x ∷ l) d (suc i) h = List·Memᴰ·tail (getD-mem l d i (omega arith))
 
 few-leaves : (h : Held) → GoodHeld h → Few h
 few-leaves any-text g = tt

@@ -1,14 +1,13 @@
 -- The answer once the search over slots has ended tells the whole outcome of the paper. Follows from how the search over slots stands for
 -- the paper's search (`Simulated`), and from the standing fields and their texts being the same.
-use Prim.Native.Nat.{ℕ, _+_, _-_, _<_}
-use native.Mathlib.Omega.{arith}
+use Prim.Native.Nat.{ℕ, _+_, _-_}
 use native.Mathlib.Nat.{le-refl}
-use mathlib.Core.Path.{_≡_, refl, sym, ap, ap₂, _∙_}
-use mathlib.Core.Bool.{Bool, true, false, cond, not, _||_}
-use mathlib.Core.List.{List, [], _∷_, _++_, map, List·Memᴰ, List·Memᴰ·head, List·Memᴰ·tail}
+use mathlib.Core.Path.{_≡_, refl, sym, ap, _∙_}
+use mathlib.Core.Bool.{Bool, true, false, cond, not}
+use mathlib.Core.List.{List, _++_, List·Memᴰ}
 use lib.Dec.{leb, eqb}
 use lib.ListN.{length, drop}
-use Rattle.paper.specs.Lists.{upto, any, only, keep, each, member}
+use Rattle.paper.specs.Lists.{upto, member}
 use Rattle.paper.specs.Numbers.{fields, field-token, longest-text}
 use Rattle.paper.specs.Places.{PlaceSet}
 use Rattle.paper.specs.Equation.{stands-in}
@@ -16,10 +15,10 @@ use Rattle.paper.specs.Search.{Entry, End, found, used-up, no-room, too-long}
 use Rattle.paper.specs.Situation.{Situation, Move}
 use Rattle.paper.specs.Way.{texts-of}
 use Rattle.paper.specs.Question.{Question, acceptor}
-use Rattle.paper.specs.Outcome.{Outcome, room-of, searched, standing, value-record, records, some-text-too-long, cleared, without-bytes, clash, answered, count-of, how-of}
+use Rattle.paper.specs.Outcome.{searched, standing, value-record, records, some-text-too-long, cleared, without-bytes, clash, answered, count-of, how-of}
 use Rattle.paper.proofs.Asked.{GoodQuestion}
 use Rattle.paper.proofs.Lists.{mem-keep, mem-upto, map-append}
-use Rattle.paper.proofs.Standings.{getD-map-upto}
+use Rattle.paper.proofs.Made.{getD-map-upto, any-same, keep-same, each-same}
 use Rattle.bradovusc.specs.Records.{text-at, standing-fields, value-records, text-above, in-front, answer-given, buffer-after}
 use Rattle.bradovusc.specs.Codes.{code-token, code-side}
 use Rattle.bradovusc.specs.Entry.{told, clash-answer, answer-by, buffer-by, concluded, concluded-buffer}
@@ -28,9 +27,7 @@ use Rattle.bradovusc.specs.Made.{first-set, first-sets}
 use Rattle.bradovusc.specs.Slots.{Slot}
 use Rattle.bradovusc.specs.Codes.{status-of}
 use Rattle.bradovusc.proofs.FirstCoded.{stands-coded, known-append}
-use Rattle.patterns.proofs.Masks.{any-same, keep-same}
 use Rattle.bradovusc.proofs.CodedSides.{known-side}
-use Rattle.bradovusc.proofs.CodedChildren.{each-same}
 use Rattle.bradovusc.proofs.Simulated.{run, status-agrees, count-agrees, text-agrees}
 
 -- a first place set is not 0 exactly if its field stands

@@ -1,13 +1,13 @@
 -- How the code's situations stand for the paper's: a token is its byte on the sheet, a place set its mask, a move its step's number, an
 -- end of the search a status; and the tables of a question's fields. proofs/ shows that the children, the tests and so the whole search
 -- go over.
-use Prim.Native.Nat.{ℕ, _+_}
+use Prim.Native.Nat.{ℕ}
 use mathlib.Core.List.{List, map}
 use Rattle.paper.specs.Lists.{upto}
-use Rattle.paper.specs.Numbers.{fields, field-token}
+use Rattle.paper.specs.Numbers.{fields}
 use Rattle.paper.specs.Places.{PlaceSet}
 use Rattle.paper.specs.Search.{End, found, used-up, no-room, too-long}
-use Rattle.paper.specs.Equation.{Token, chr, fld, Side}
+use Rattle.paper.specs.Equation.{Token, Side}
 use Rattle.paper.specs.Situation.{Situation, Move, strike-left, strike-right, put}
 use Rattle.paper.specs.Question.{Question, held-by}
 use Rattle.sheets.specs.Read.{token-byte}

@@ -5,7 +5,8 @@ use mathlib.Core.Bool.{Bool, false, _&&_, cond}
 use mathlib.Core.List.{List, []}
 use lib.Bits.{bitAnd}
 use lib.ListN.{length, getD}
-use Rattle.paper.specs.Numbers.{situation-bytes, most-room}
+use Rattle.paper.specs.Lists.{each, upto}
+use Rattle.paper.specs.Numbers.{situation-bytes, most-room, characters}
 use Rattle.paper.specs.Search.{Child}
 use Rattle.patterns.specs.Masks.{followers-of}
 use Rattle.bradovusc.specs.Coded.{Coded, Tables, Settled, made, field-of, as-child, struck, put-child, row-at, takes-next}
@@ -37,6 +38,10 @@ pub record Held (s : Situation) : Type 0 where
   pub is : s ≡ as-struct at
   pub short : Short at
 
+-- what is worked out once of the fields, as the search is handed it
+abbrev pub tables : List (List ℕ) → List (List ℕ) → List ℕ → Tables
+tables follow taking last = record { follow = follow; taking = taking; last = last }
+
 -- the child by striking the field with the token b, if it may be struck
 abbrev pub struck-by : Coded → Bool → ℕ → ℕ → List (Child Coded ℕ)
 struck-by k may step b = cond may (as-child step (struck k b)) []
@@ -61,8 +66,12 @@ put-by k l r c =
     (as-child c (put-child k c (set-by l c) (set-by r c)))
     []
 
--- What each function does to the buffer and the run, here before and after it: the slots stay within the room, and whatever search
--- they stood for before, they stand after it for the one that the definition makes of that.
+-- "for each character c from 0 to 42"
+abbrev pub puts-by : Coded → Front → Front → List (Child Coded ℕ)
+puts-by k l r = each (put-by k l r) (upto characters)
+
+-- What each function does to the buffer and the run, which are work and run before it, work′ and run′ after it: the slots stay within
+-- the room, and whatever search they stood for before, they stand after it for the one that the definition makes of that.
 module _ (room : ℕ) where
   -- s is entered as slot n
   pub record Enters (n parent step : ℕ) (s : Situation) (work work′ : List ℕ) (run′ : Run) : Type 0 where
@@ -77,9 +86,11 @@ module _ (room : ℕ) where
         → Lent work′ run′ (offer-slots room parent R (as-child step x))
 
   -- children of s are offered
-  pub record Offers (parent : ℕ) (s : Situation) (work : List ℕ) (run : Run) (work′ : List ℕ) (run′ : Run) (children : Coded → List (Child Coded ℕ)) : Type 0 where
+  pub record Offers (parent : ℕ) (s : Situation) (work : List ℕ) (run : Run) (work′ : List ℕ) (run′ : Run)
+      (children : Coded → List (Child Coded ℕ)) : Type 0 where
     pub within : run′ .entered ≤ room
-    pub lent : (R : Running) (k : Coded) → Lent work run R → s ≡ as-struct k → Short k → Lent work′ run′ (offer-slots room parent R (children k))
+    pub lent : (R : Running) (k : Coded) → Lent work run R → s ≡ as-struct k → Short k
+        → Lent work′ run′ (offer-slots room parent R (children k))
 
   -- slot k is taken
   pub record Takes (T : Tables) (k : ℕ) (work : List ℕ) (run : Run) (work′ : List ℕ) (run′ : Run) : Type 0 where

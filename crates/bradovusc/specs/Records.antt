@@ -8,7 +8,7 @@ use lib.Dec.{leb, eqb}
 use lib.ListN.{length, getD, drop}
 use Rattle.paper.specs.Lists.{upto, any, only, keep, each}
 use Rattle.paper.specs.Numbers.{fields, longest-text}
-use Rattle.paper.specs.Outcome.{Outcome, value-record}
+use Rattle.paper.specs.Outcome.{value-record}
 use Rattle.bradovusc.specs.Slots.{Slot, Holds-slots}
 use Rattle.bradovusc.specs.Run.{slot-at, text-back}
 use Rattle.bradovusc.specs.declared.records.Back.{Back}

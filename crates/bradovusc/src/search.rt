@@ -5,11 +5,11 @@ ghost use mathlib.Core.List.{[]};
 ghost use Prim.Native.Nat.{_*_, _<_, _≤_};
 ghost use lib.Dec.{eqb};
 ghost use lib.ListN.{length, getD};
-ghost use Rattle.paper.specs.Lists.{each, upto};
-ghost use Rattle.paper.specs.Numbers.{situation-bytes, most-room, characters, field-token};
+ghost use Rattle.paper.specs.Numbers.{situation-bytes, most-room, field-token};
 ghost use Rattle.patterns.specs.Masks.{followers-of};
 ghost use Rattle.bradovusc.specs.Coded.{Coded, field-of, takes-next, may-end-at, row-at, children-coded};
-ghost use Rattle.bradovusc.specs.Lent.{Lent, Roomy, Held, struck-by, front-from, put-by, Enters, Offers-child, Offers, Takes, Searches};
+ghost use Rattle.bradovusc.specs.Lent.{Lent, Roomy, Held, tables, struck-by, front-from, puts-by};
+ghost use Rattle.bradovusc.specs.Lent.{Enters, Offers-child, Offers, Takes, Searches};
 ghost use Rattle.bradovusc.specs.Made.{Sized};
 ghost use Rattle.bradovusc.specs.Run.{is-going, Running};
 ghost use Rattle.bradovusc.specs.declared.situation.Fate.the-variants.{Made};
@@ -246,7 +246,7 @@ fn offer_puts(
 ) -> Run
     requires { ⌜ Roomy (now work) room (run .entered) parent ⌝ }
     requires { ⌜ Held s ⌝ }
-    ensures { λ r. ⌜ Offers room parent s (now (work .entry)) run (now (work .exit)) r (λ (k : Coded). each (put-by k left right) (upto characters)) ⌝ }
+    ensures { λ r. ⌜ Offers room parent s (now (work .entry)) run (now (work .exit)) r (λ (k : Coded). puts-by k left right) ⌝ }
 {
     let mut now = run;
     let mut c: usize = 0;
@@ -275,7 +275,7 @@ fn offer_children(
 ) -> Run
     requires { ⌜ Roomy (now work) room (run .entered) parent ⌝ }
     requires { ⌜ Held s ⌝ }
-    ensures { λ r. ⌜ Offers room parent s (now (work .entry)) run (now (work .exit)) r (children-coded (record { follow = follow; taking = taking; last = last })) ⌝ }
+    ensures { λ r. ⌜ Offers room parent s (now (work .entry)) run (now (work .exit)) r (children-coded (tables follow taking last)) ⌝ }
 {
     let left = s.left;
     let right = s.right;
@@ -304,7 +304,7 @@ fn take(
     requires { ⌜ Roomy (now work) room (run .entered) k ⌝ }
     requires { ⌜ k < run .entered ⌝ }
     requires { ⌜ ((R : Running) × Lent (now work) run R) ⌝ }
-    ensures { λ r. ⌜ Takes room (record { follow = follow; taking = taking; last = last }) k (now (work .entry)) run (now (work .exit)) r ⌝ }
+    ensures { λ r. ⌜ Takes room (tables follow taking last) k (now (work .entry)) run (now (work .exit)) r ⌝ }
 {
     let s = slots::read_situation(work, k);
     offer_children(work, room, run, k, s, follow, taking, last)
@@ -321,7 +321,7 @@ pub fn search(
 ) -> Run
     requires { ⌜ (situation-bytes * room ≤ length (now work)) × (room ≤ most-room) ⌝ }
     requires { ⌜ Held first ⌝ }
-    ensures { λ r. ⌜ Searches room (record { follow = follow; taking = taking; last = last }) first (now (work .exit)) r ⌝ }
+    ensures { λ r. ⌜ Searches room (tables follow taking last) first (now (work .exit)) r ⌝ }
 {
     let mut run = enter(work, room, 0, 0, 0, first);
     let mut k: usize = 0;

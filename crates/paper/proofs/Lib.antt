@@ -1,5 +1,6 @@
 pub mod Tests
 pub mod Lists
+pub mod Made
 pub mod Known
 -- the search over any situations
 pub mod Grown

@@ -11,7 +11,7 @@ use Rattle.paper.proofs.Lists.{length-from}
 use Rattle.paper.specs.Equation.{Side, Texts, stands-in, Solves}
 use Rattle.paper.specs.Situation.{Acceptor, Situation, set-of}
 use Rattle.paper.specs.Decides.{Decides}
-use Rattle.paper.proofs.Standings.{getD-map-upto}
+use Rattle.paper.proofs.Made.{getD-map-upto}
 use Rattle.paper.proofs.Solution.{Solution, takes-in-range}
 
 module _ {P : Type 0} (A : Acceptor P) where

@@ -19,7 +19,8 @@ use Rattle.paper.specs.Equation.{chr, fld, Side, is-field, stands-in}
 use Rattle.paper.specs.Situation.{Acceptor, Situation, Sides, trim, Kind, is-finished, is-dead, is-open, strike-in, put-in, front-field, Move, strike-left, strike-right, put, trimmed, kind, strike, put-before, moved, front-may-end, front-takes, open-moves, moves-of, children, question}
 use Rattle.paper.specs.Plain.{Reaches}
 use Rattle.paper.proofs.Tails.{whole, tail-rest, tail-length, tail-stands, tail-once, front-once, stands-front, stands-left, stands-right, Plain, swap-plain}
-use Rattle.paper.proofs.Standings.{getD-map-upto, Fresh, Stands, Reached}
+use Rattle.paper.proofs.Standings.{Fresh, Stands, Reached}
+use Rattle.paper.proofs.Made.{getD-map-upto}
 use Rattle.paper.specs.Children.{ChildOf}
 use Rattle.paper.proofs.Children.{child-of, long-of}
 

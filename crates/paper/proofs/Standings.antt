@@ -3,7 +3,7 @@
 -- that field. The situation of two standings has the sets of the two front fields, first sets for the fields that stand behind,
 -- and `gone` for all others.
 -- Follows from the definitions by induction on sides.
-use Prim.Native.Nat.{ℕ, zero, suc, _<_, _+_, _*_}
+use Prim.Native.Nat.{ℕ, _+_, _*_}
 use native.Mathlib.Omega.{arith}
 use native.Mathlib.Nat.{suc-mul}
 use mathlib.Core.Path.{_≡_, refl, sym, ap, _∙_}
@@ -13,7 +13,8 @@ use mathlib.Core.List.{List, [], _∷_, _++_, map, List·Memᴰ, List·Memᴰ·h
 use lib.Dec.{eqb}
 use lib.ListN.{length, getD, length-append, length-map}
 use lib.Seq.{ext-getD}
-use Rattle.paper.specs.Lists.{from, upto, any, each}
+use Rattle.paper.proofs.Made.{getD-map-upto}
+use Rattle.paper.specs.Lists.{upto, any, each}
 use Rattle.paper.proofs.Tests.{cond-by, true-false, or-is-true, or-left-false, or-right-false, eqb-true}
 use Rattle.paper.proofs.Lists.{any-append, each-mem, map-mem, length-from}
 use Rattle.paper.specs.Equation.{Token, chr, fld, Side, stands-in}
@@ -28,14 +29,6 @@ pub record Standing (P : Type 0) : Type 0 where
 
 abbrev in-front : ℕ → Side → Bool
 in-front f side = any (eqb f) (front-field side)
-
-getD-map-from : {P : Type 0} (h : ℕ → P) (d : P) (a n i : ℕ) → i < n → getD (map h (from a n)) i d ≡ h (a + i)
-getD-map-from h d a zero i k = absurd (omega arith)
-getD-map-from h d a (suc n) zero k = ap h (omega arith)
-getD-map-from h d a (suc n) (suc i) k = getD-map-from h d (suc a) n i (omega arith) ∙ ap h (omega arith)
-
-pub getD-map-upto : {P : Type 0} (h : ℕ → P) (d : P) (n i : ℕ) → i < n → getD (map h (upto n)) i d ≡ h i
-getD-map-upto h d n i k = getD-map-from h d 0 n i k ∙ ap h (omega arith)
 
 length-each-map : {A B C : Type 0} (g : A → B → C) (l : List A) (m : List B) → length (each (λ (a : A). map (g a) m) l) ≡ length l * length m
 length-each-map g [] m = omega arith

@@ -17,29 +17,16 @@ use lib.ListN.{getD}
 use lib.Pow.{pow-pos}
 use Rattle.paper.specs.Lists.{from, upto, any, only, keep, member}
 use Rattle.paper.specs.Numbers.{most-leaves, characters}
-use Rattle.paper.specs.Pattern.{Pattern, Held, any-text, pattern}
+use Rattle.paper.specs.Pattern.{Held, any-text, pattern}
 use Rattle.paper.specs.Places.{leaves, leaf-takes, follows, ends-at, PlaceSet, leaf-places, first-set, set-after, may-end, is-empty}
-use Rattle.paper.proofs.Tests.{by-bool, true-false, not-true, same-tests, and-left, and-right, both-true, eqb-true, eqb-false, eq-eqb, neq-eqb, eqb-symmetric}
+use Rattle.paper.proofs.Made.{any-same, keep-same, keep-none}
+use Rattle.paper.proofs.Tests.{by-bool, same-tests, and-left, and-right, both-true, eqb-true, eqb-false, neq-eqb, eqb-symmetric}
 use Rattle.paper.proofs.Lists.{cons-eq, mem-cons-by, any-true, mem-any, none-any, mem-keep, keep-mem, mem-from, from-mem, mem-upto, upto-mem, member-true, mem-member}
 use Rattle.paper.proofs.Parts.{takes-within}
 use Rattle.paper.proofs.Rising.{Rising, none, more, rising-first, rising-after, leaf-after}
 use Rattle.patterns.specs.Masks.{places, mask, mask-of, in-mask, comes-next, takes-at, follow-masks, taking-mask, taking-masks, last-mask, followers-of}
 use Rattle.patterns.proofs.MaskOf.{mask-of-lt, in-mask-of, mask-of-same, mask-of-and}
 use Rattle.patterns.proofs.Tables.{getD-table}
-
--- Lists by tests that say the same.
-pub any-same : (f g : ℕ → Bool) (l : List ℕ) → ((x : ℕ) → List·Memᴰ x l → f x ≡ g x) → any f l ≡ any g l
-any-same f g [] h = refl
-any-same f g (x ∷ l) h = ap₂ _||_ (h x (List·Memᴰ·head refl)) (any-same f g l (λ y d. h y (List·Memᴰ·tail d)))
-
-pub keep-same : (f g : ℕ → Bool) (l : List ℕ) → ((x : ℕ) → List·Memᴰ x l → f x ≡ g x) → keep f l ≡ keep g l
-keep-same f g [] h = refl
-keep-same f g (x ∷ l) h =
-    ap₂ (λ (b : Bool) (m : List ℕ). only b x ++ m) (h x (List·Memᴰ·head refl)) (keep-same f g l (λ y d. h y (List·Memᴰ·tail d)))
-
-keep-none : (l : List ℕ) → keep (λ (q : ℕ). false) l ≡ []
-keep-none [] = refl
-keep-none (x ∷ l) = keep-none l
 
 -- some place of the set passes: all places can be tried
 any-member : (f : ℕ → Bool) (n : ℕ) (s : PlaceSet) → ((q : ℕ) → List·Memᴰ q s → q < n) → any (λ (q : ℕ). member q s && f q) (upto n) ≡ any f s
@@ -59,7 +46,7 @@ member-behind q i s l = ap (λ (b : Bool). b || member q s) (neq-eqb q i (λ e. 
 keep-member : (a n : ℕ) (s : PlaceSet) → Rising s → ((q : ℕ) → List·Memᴰ q s → (a ≤ q) × (q < a + n)) → keep (λ (q : ℕ). member q s) (from a n) ≡ s
 keep-member a zero [] none h = refl
 keep-member a zero (i ∷ s) (more k r) h = let w = h i (List·Memᴰ·head refl) in absurd (omega arith)
-keep-member a (suc n) [] none h = keep-none (from (suc a) n)
+keep-member a (suc n) [] none h = keep-none (λ (q : ℕ). false) (from (suc a) n) (λ q. refl)
 keep-member a (suc n) (i ∷ s) (more k r) h =
     let w = h i (List·Memᴰ·head refl) in
     by-bool (eqb a i)

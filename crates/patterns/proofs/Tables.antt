@@ -11,6 +11,7 @@ use lib.Dec.{eqb}
 use lib.Bits.{bitOr}
 use lib.ListN.{length, getD, set, drop, replicate, length-map, length-set, drop-of-length-le}
 use lib.Seq.{drop-cons, set-at, getD-at}
+use Rattle.paper.proofs.Made.{upto-snoc}
 use Rattle.paper.specs.Lists.{from, upto}
 use Rattle.paper.specs.Pattern.{takes, range}
 use Rattle.paper.proofs.Lists.{cons-eq, length-from, map-append}
@@ -19,13 +20,6 @@ use Rattle.patterns.specs.Reading.{or-at, link-at, mark-at}
 use Rattle.patterns.proofs.MaskOf.{mask-of-same, mask-of-or, mask-of-cond, mask-of-none, in-mask-of}
 
 -- the last number of a row
-pub from-snoc : (a n : ℕ) → from a (suc n) ≡ from a n ++ ((a + n) ∷ [])
-from-snoc a zero = cons-eq (omega arith) refl
-from-snoc a (suc n) = cons-eq refl (from-snoc (suc a) n ∙ ap (λ (x : ℕ). from (suc a) n ++ (x ∷ [])) (omega arith))
-
-pub upto-snoc : (n : ℕ) → upto (suc n) ≡ upto n ++ (n ∷ [])
-upto-snoc n = from-snoc 0 n ∙ ap (λ (x : ℕ). upto n ++ (x ∷ [])) (zero-add n)
-
 pub length-table : (f : ℕ → ℕ) (n : ℕ) → length (table f n) ≡ n
 unfolding table
 length-table f n = length-map (upto n) f ∙ length-from 0 n

@@ -1,30 +1,22 @@
 -- Tables by field, filled one field after the other. What is worked out of the bytes at which a field's pattern stands is what is worked
 -- out of the pattern. Follows from the definitions of the tables and the laws of `set` and `take`.
-use Prim.Native.Nat.{ℕ, zero, suc, _+_, _≤_, _<_}
-use native.Mathlib.Nat.{add-zero, zero-add, add-suc, suc-add}
+use Prim.Native.Nat.{ℕ, suc, _+_, _≤_, _<_}
 use native.Mathlib.Numerals.{add-one}
 use native.Mathlib.Omega.{arith}
 use mathlib.Core.Path.{_≡_, refl, sym, ap, _∙_}
-use mathlib.Core.List.{List, [], _∷_, _++_, map}
+use mathlib.Core.List.{List, [], _∷_, map}
 use lib.ListN.{length, getD, take, set, length-set}
 use lib.Seq.{take-suc-set, take-all}
-use Rattle.paper.specs.Lists.{from, upto}
+use Rattle.paper.specs.Lists.{upto}
 use Rattle.paper.specs.Numbers.{fields}
 use Rattle.paper.specs.Pattern.{Pattern, Held, any-text, pattern}
 use Rattle.paper.specs.Written.{Judged, judge, judged}
-use Rattle.paper.specs.Question.{Question, held-by}
-use Rattle.paper.specs.Sheet.{body, asked, read-sheet}
-use Rattle.paper.proofs.Lists.{cons-eq, map-append}
+use Rattle.paper.specs.Sheet.{body, read-sheet}
+use Rattle.paper.proofs.Made.{upto-snoc}
+use Rattle.paper.proofs.Lists.{map-append}
 use Rattle.sheets.specs.declared.walk.Records.{Records}
 use Rattle.sheets.specs.Tables.{by-field}
-use Rattle.sheets.specs.Walk.{Stands-at, Fields-stand, Parts-stand}
-
-from-snoc : (a n : ℕ) → from a (suc n) ≡ from a n ++ ((a + n) ∷ [])
-from-snoc a zero = cons-eq (sym (add-zero a)) refl
-from-snoc a (suc n) = cons-eq refl (from-snoc (suc a) n ∙ rw (suc-add a n, add-suc a n))
-
-upto-snoc : (n : ℕ) → upto (suc n) ≡ upto n ++ (n ∷ [])
-upto-snoc n = from-snoc 0 n ∙ rw (zero-add n)
+use Rattle.sheets.specs.Walk.{Stands-at, Parts-stand}
 
 module _ {A : Type 0} (work-out : Held → A) (s : List ℕ) where
   -- no bytes: the field is open

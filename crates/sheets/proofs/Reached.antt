@@ -1,16 +1,16 @@
 -- How far the patterns' records of a sheet are read. Each step of the walk is a step of the definition: a pattern's record that is
 -- good leads to the next offset, one with a fault ends the reading, and where no pattern's record comes next the sides are left.
 -- Follows from the definition of `read-records` by the tests that it makes.
-use Prim.Native.Nat.{ℕ, zero, suc, _+_, _≤_, _<_}
+use Prim.Native.Nat.{ℕ, zero, suc, _+_, _≤_}
 use native.Mathlib.Omega.{arith}
-use mathlib.Core.Path.{_≡_, refl, sym, ap, _∙_}
-use mathlib.Core.Bool.{Bool, true, false, cond}
+use mathlib.Core.Path.{_≡_, refl, _∙_}
+use mathlib.Core.Bool.{true, false}
 use mathlib.Core.List.{List}
 use lib.Dec.{ltb}
 use lib.ListN.{length, set, replicate}
 use Rattle.paper.specs.Numbers.{fields}
 use Rattle.paper.specs.Pattern.{Held, any-text, pattern}
-use Rattle.paper.specs.Sheet.{Fault, fault, PA, LE, bytes-left, marked, pattern-record, Reading, refused, left-read, pattern-read, read-records, read-sheet}
+use Rattle.paper.specs.Sheet.{Fault, fault, PA, LE, bytes-left, marked, pattern-record, refused, left-read, pattern-read, read-records, read-sheet}
 use Rattle.paper.proofs.Tests.{by-bool, true-false}
 use Rattle.sheets.specs.declared.cursor.Cursor.{Cursor}
 use Rattle.sheets.specs.Walk.{marked-side, pattern-next, Pattern-stands, Fields-stand, Patterns-stand}

@@ -1,7 +1,7 @@
 -- The sides of a sheet: a left side that is read leads to the right one, and that to the end. Follows from the definitions of
 -- `read-right` and `read-end` by the tests that they make.
 use Prim.Native.Nat.{ℕ, _≤_, _<_}
-use mathlib.Core.Path.{_≡_, refl, _∙_}
+use mathlib.Core.Path.{_≡_, _∙_}
 use mathlib.Core.List.{List}
 use lib.Dec.{ltb}
 use lib.ListN.{length}

@@ -1,11 +1,11 @@
 -- Where the patterns of the fields stand: before the first record no field has one, and a record gives its field one.
--- Follows from the laws of `set`.
-use Prim.Native.Nat.{ℕ, suc, _+_, _≤_, _<_}
+-- Follows from the laws of `set`. Where the parts of a sheet stand is known once it is known what the walk found.
+use Prim.Native.Nat.{ℕ, _+_, _≤_, _<_}
 use native.Mathlib.Omega.{arith}
 use mathlib.Core.Path.{_≡_, refl, subst}
 use mathlib.Core.List.{List}
 use lib.Dec.{eqb}
-use lib.ListN.{length, getD, set, replicate, length-set, length-replicate, getD-replicate}
+use lib.ListN.{length, getD, set, replicate, length-set, getD-replicate}
 use lib.Seq.{getD-set-same, getD-set-other}
 use Rattle.paper.specs.Numbers.{fields}
 use Rattle.paper.specs.Pattern.{Pattern, Held, any-text, pattern}
@@ -14,7 +14,7 @@ use Rattle.paper.specs.Sheet.{body}
 use Rattle.paper.proofs.Tests.{by-bool, eqb-true, eqb-false}
 use Rattle.sheets.specs.declared.Found.{Found}
 use Rattle.sheets.specs.declared.walk.Records.{Records}
-use Rattle.sheets.specs.Walk.{Stands-at, Fields-stand, Records-read}
+use Rattle.sheets.specs.Walk.{Fields-stand, Records-read}
 
 pub none-stand : (s : List ℕ) → Fields-stand s (replicate fields 0) (replicate fields 0) (replicate fields any-text)
 none-stand s =

@@ -1,24 +1,20 @@
 // A cursor that goes from record to record: "Reading goes on from where the last record ended."
 use crate::Fault;
+use crate::numbers::CHARACTERS;
+use crate::numbers::FIELD_TOKEN;
+use crate::numbers::FIELDS;
+use crate::numbers::PATTERN_BYTES;
+use crate::numbers::SHEET_SIDE;
 use patterns::Verdict;
 ghost use mathlib.Core.Path.{_≡_};
-ghost use mathlib.Core.Bool.{_&&_};
+ghost use mathlib.Core.Bool.{_||_};
 ghost use Prim.Native.Nat.{_+_, _≤_};
+ghost use lib.Dec.{leb, ltb, eqb};
 ghost use lib.ListN.{length};
 ghost use Rattle.paper.specs.Lists.{all};
+ghost use Rattle.paper.specs.Numbers.{fields, pattern-bytes};
 ghost use Rattle.paper.specs.Sheet.{first-letter, second-letter, marked, is-token};
 ghost use Rattle.sheets.specs.Walk.{mark-of, pattern-next, Pattern-read, Side-read};
-
-// "Code 39, by value": 0 to 42.
-const CHARACTERS: u8 = 43;
-// "64 to 71 (field 0 to 7)"
-const FIELD_TOKEN: u8 = 64;
-
-const FIELDS: u8 = 8;
-// "length byte n 1 to 96"
-const PATTERN_BYTES: usize = 96;
-// "length byte 0 to 24"
-const SHEET_SIDE: usize = 24;
 
 // "Every record begins with a two-byte mark."
 pub enum Mark {
@@ -121,17 +117,11 @@ impl Cursor {
             return PatternRecord::Fault(Fault::CutShort);
         }
         let field = s[at + 2] as usize;
-        if FIELDS as usize <= field {
-            return PatternRecord::Fault(Fault::WrongField);
-        }
-        if field < self.least {
+        if wrong_field(field, self.least) {
             return PatternRecord::Fault(Fault::WrongField);
         }
         let len = s[at + 3] as usize;
-        if len == 0 {
-            return PatternRecord::Fault(Fault::WrongLength);
-        }
-        if PATTERN_BYTES < len {
+        if wrong_length(len) {
             return PatternRecord::Fault(Fault::WrongLength);
         }
         if left < 4 + len {
@@ -180,7 +170,7 @@ impl Cursor {
         }
         let start = at + 3;
         let end = start + len;
-        if tokens(&s[start..end]) {
+        if all_tokens(&s[start..end]) {
             SideRecord::Read {
                 start,
                 len,
@@ -195,21 +185,42 @@ impl Cursor {
     }
 }
 
+// "field above 7 or not above the field before it"
+fn wrong_field(field: usize, least: usize) -> bool
+    ensures { λ r. ⌜ r ≡ (leb fields field || ltb field least) ⌝ }
+{
+    if FIELDS <= field {
+        return true;
+    }
+    field < least
+}
+
+// "length byte n 1 to 96"
+fn wrong_length(len: usize) -> bool
+    ensures { λ r. ⌜ r ≡ (eqb len 0 || ltb pattern-bytes len) ⌝ }
+{
+    if len == 0 {
+        return true;
+    }
+    PATTERN_BYTES < len
+}
+
 // "A token is 0 to 42 (a character) or 64 to 71 (field 0 to 7)."
 fn is_token(b: u8) -> bool
     ensures { λ r. ⌜ r ≡ is-token b ⌝ }
 {
-    if b < CHARACTERS {
+    let value = b as usize;
+    if value < CHARACTERS {
         return true;
     }
-    if b < FIELD_TOKEN {
+    if value < FIELD_TOKEN {
         return false;
     }
-    b < FIELD_TOKEN + FIELDS
+    value < FIELD_TOKEN + FIELDS
 }
 
 // Are all of these tokens?
-fn tokens(side: &[u8]) -> bool
+fn all_tokens(side: &[u8]) -> bool
     ensures { λ r. ⌜ r ≡ all is-token (now (side .entry)) ⌝ }
 {
     let mut i = 0;

@@ -1,8 +1,10 @@
 // The question sheet: from any bytes to the question, or to the first fault met with its place.
 mod cursor;
+mod numbers;
 mod tables;
 mod walk;
 
+use crate::numbers::SHEET_SIDE;
 pub use tables::follow_sets;
 pub use tables::last_sets;
 pub use tables::taking_sets;
@@ -54,9 +56,9 @@ pub struct Sheet {
     // where the record with the fault has its mark or should have it; 0 for a good sheet
     pub place: usize,
     // the tokens of the sides of a good sheet, zeros behind them
-    pub left: [u8; 24],
+    pub left: [u8; SHEET_SIDE],
     pub left_len: usize,
-    pub right: [u8; 24],
+    pub right: [u8; SHEET_SIDE],
     pub right_len: usize,
 }
 
@@ -88,15 +90,15 @@ fn refuse(x: Fault, place: usize) -> Sheet
     Sheet {
         found: Found::Refused(x),
         place,
-        left: [0; 24],
+        left: [0; SHEET_SIDE],
         left_len: 0,
-        right: [0; 24],
+        right: [0; SHEET_SIDE],
         right_len: 0,
     }
 }
 
 // The tokens of a side, in its room.
-fn tokens(s: &[u8], start: usize, len: usize) -> [u8; 24]
+fn tokens(s: &[u8], start: usize, len: usize) -> [u8; SHEET_SIDE]
     requires { ⌜ Tokens-stand (now s) start len ⌝ }
     ensures { λ r. ⌜ r ≡ side-bytes (map token (body (now (s .entry)) start len)) ⌝ }
 {
@@ -104,11 +106,11 @@ fn tokens(s: &[u8], start: usize, len: usize) -> [u8; 24]
 }
 
 // The bytes of a side, zeros behind them.
-fn padded(side: &[u8]) -> [u8; 24]
+fn padded(side: &[u8]) -> [u8; SHEET_SIDE]
     requires { ⌜ length (now side) ≤ sheet-side ⌝ }
     ensures { λ r. ⌜ r ≡ padded (now (side .entry)) ⌝ }
 {
-    let mut tokens = [0; 24];
+    let mut tokens = [0; SHEET_SIDE];
     let mut i = 0;
     while i < side.len() {
         tokens[i] = side[i];

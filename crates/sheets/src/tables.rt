@@ -1,5 +1,8 @@
 // What is worked out once of the fields' patterns: the masks of each field, by its number.
 use crate::Found;
+use crate::numbers::CHARACTERS;
+use crate::numbers::FIELDS;
+use crate::numbers::PLACES;
 use crate::walk;
 ghost use mathlib.Core.Path.{_≡_};
 ghost use Prim.Native.Nat.{_+_, _≤_};
@@ -10,14 +13,11 @@ ghost use Rattle.patterns.specs.Masks.{follow-masks, taking-masks, last-mask};
 ghost use Rattle.sheets.specs.Tables.{follow-sets, taking-sets, last-sets};
 ghost use Rattle.sheets.specs.Walk.{Stands-at};
 
-// "field byte 0 to 7"
-const FIELDS: usize = 8;
-
 // "For every field and every place, the set of places that may follow", of a good sheet; else zeros.
-pub fn follow_sets(s: &[u8]) -> [[u32; 32]; 8]
+pub fn follow_sets(s: &[u8]) -> [[u32; PLACES]; FIELDS]
     ensures { λ r. ⌜ r ≡ follow-sets (read-sheet (now (s .entry))) ⌝ }
 {
-    let mut sets = [[0; 32]; 8];
+    let mut sets = [[0; PLACES]; FIELDS];
     let r = walk::read_records(s);
     let found = r.found;
     let Found::Good = found else {
@@ -33,7 +33,7 @@ pub fn follow_sets(s: &[u8]) -> [[u32; 32]; 8]
     sets
 }
 
-fn field_follow_sets(s: &[u8], start: usize, len: usize) -> [u32; 32]
+fn field_follow_sets(s: &[u8], start: usize, len: usize) -> [u32; PLACES]
     requires { ⌜ start + len ≤ length (now s) ⌝ }
     ensures { λ r. ⌜ ((h : Held) → Stands-at (now (s .entry)) start len h → r ≡ follow-masks h) ⌝ }
 {
@@ -44,10 +44,10 @@ fn field_follow_sets(s: &[u8], start: usize, len: usize) -> [u32; 32]
 }
 
 // For every field and every character the set of places that take it, of a good sheet; else zeros.
-pub fn taking_sets(s: &[u8]) -> [[u32; 43]; 8]
+pub fn taking_sets(s: &[u8]) -> [[u32; CHARACTERS]; FIELDS]
     ensures { λ r. ⌜ r ≡ taking-sets (read-sheet (now (s .entry))) ⌝ }
 {
-    let mut sets = [[0; 43]; 8];
+    let mut sets = [[0; CHARACTERS]; FIELDS];
     let r = walk::read_records(s);
     let found = r.found;
     let Found::Good = found else {
@@ -63,7 +63,7 @@ pub fn taking_sets(s: &[u8]) -> [[u32; 43]; 8]
     sets
 }
 
-fn field_taking_sets(s: &[u8], start: usize, len: usize) -> [u32; 43]
+fn field_taking_sets(s: &[u8], start: usize, len: usize) -> [u32; CHARACTERS]
     requires { ⌜ start + len ≤ length (now s) ⌝ }
     ensures { λ r. ⌜ ((h : Held) → Stands-at (now (s .entry)) start len h → r ≡ taking-masks h) ⌝ }
 {
@@ -74,10 +74,10 @@ fn field_taking_sets(s: &[u8], start: usize, len: usize) -> [u32; 43]
 }
 
 // For every field the set of places that may be the last one of a text, of a good sheet; else zeros.
-pub fn last_sets(s: &[u8]) -> [u32; 8]
+pub fn last_sets(s: &[u8]) -> [u32; FIELDS]
     ensures { λ r. ⌜ r ≡ last-sets (read-sheet (now (s .entry))) ⌝ }
 {
-    let mut sets = [0; 8];
+    let mut sets = [0; FIELDS];
     let r = walk::read_records(s);
     let found = r.found;
     let Found::Good = found else {

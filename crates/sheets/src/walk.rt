@@ -5,6 +5,7 @@ use crate::cursor::Cursor;
 use crate::cursor::Mark;
 use crate::cursor::PatternRecord;
 use crate::cursor::SideRecord;
+use crate::numbers::FIELDS;
 ghost use mathlib.Core.Path.{_≡_};
 ghost use Prim.Native.Nat.{_≤_};
 ghost use lib.ListN.{length};
@@ -15,16 +16,16 @@ pub struct Patterns {
     // behind the last pattern's record, or where the record with the fault stands
     pub next: Cursor,
     // by field: where its pattern's bytes start and how many they are, 0 where it has none
-    pub starts: [usize; 8],
-    pub lens: [usize; 8],
+    pub starts: [usize; FIELDS],
+    pub lens: [usize; FIELDS],
 }
 
 // The patterns' records, up to the first record that is none.
 pub fn read_patterns(s: &[u8]) -> Patterns
     ensures { λ r. ⌜ Patterns-read (now (s .entry)) (r .found) r ⌝ }
 {
-    let mut starts = [0; 8];
-    let mut lens = [0; 8];
+    let mut starts = [0; FIELDS];
+    let mut lens = [0; FIELDS];
     let mut c = Cursor::start();
     while c.at_pattern(s) {
         match c.pattern(s) {
@@ -109,8 +110,8 @@ pub struct Records {
     pub left_len: usize,
     pub right: usize,
     pub right_len: usize,
-    pub starts: [usize; 8],
-    pub lens: [usize; 8],
+    pub starts: [usize; FIELDS],
+    pub lens: [usize; FIELDS],
 }
 
 // "The first fault met decides."
@@ -157,7 +158,7 @@ fn refuse(x: Fault, place: usize) -> Records
         left_len: 0,
         right: 0,
         right_len: 0,
-        starts: [0; 8],
-        lens: [0; 8],
+        starts: [0; FIELDS],
+        lens: [0; FIELDS],
     }
 }

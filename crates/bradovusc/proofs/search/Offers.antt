@@ -1,15 +1,14 @@
 -- Laws of offering children: one list after the other, for one number after the other, and each way that a child offered to the search
 -- in the lent buffer can go. Follows from the definitions by induction on the list, and by cases on their tests.
-use Prim.Native.Nat.{ℕ, zero, suc, _+_}
-use native.Mathlib.Nat.{zero-add, add-zero, add-suc, suc-add}
+use Prim.Native.Nat.{ℕ, suc, _+_}
 use native.Mathlib.Numerals.{add-one}
 use mathlib.Core.Path.{_≡_, refl, sym, ap, _∙_, subst}
 use mathlib.Core.Bool.{Bool, true, false}
 use mathlib.Core.List.{List, [], _∷_, _++_}
-use Rattle.paper.specs.Lists.{any, from, upto, each}
+use Rattle.paper.specs.Lists.{any, upto, each}
 use Rattle.paper.specs.Search.{Child}
-use Rattle.paper.proofs.Lists.{cons-eq}
 use Rattle.paper.proofs.Tests.{true-false}
+use Rattle.paper.proofs.Made.{upto-snoc}
 use Rattle.bradovusc.specs.Coded.{Coded, Settled, dropped, above, made, as-child, same-coded}
 use Rattle.bradovusc.specs.Lent.{Lent}
 use Rattle.bradovusc.specs.Run.{is-going, Running, enter-slot, offer-slot, offer-slots}
@@ -19,15 +18,9 @@ use Rattle.bradovusc.specs.declared.search.Status.{Status}
 use Rattle.bradovusc.specs.declared.search.Status.the-variants.{Going, Found, UsedUp, NoRoom, TooLong}
 use Rattle.bradovusc.proofs.slots.Rows.{each-snoc}
 
-from-snoc : (a n : ℕ) → from a (suc n) ≡ from a n ++ ((a + n) ∷ [])
-from-snoc a zero = rw add-zero
-from-snoc a (suc n) = cons-eq refl (from-snoc (suc a) n ∙ rw (suc-add, add-suc))
-
-upto-snoc : (n : ℕ) → upto (suc n) ≡ upto n ++ (n ∷ [])
-upto-snoc n = from-snoc 0 n ∙ rw zero-add
-
 module _ (room p : ℕ) where
-  pub offers-append : (R : Running) (xs ys : List (Child Coded ℕ)) → offer-slots room p R (xs ++ ys) ≡ offer-slots room p (offer-slots room p R xs) ys
+  pub offers-append : (R : Running) (xs ys : List (Child Coded ℕ))
+      → offer-slots room p R (xs ++ ys) ≡ offer-slots room p (offer-slots room p R xs) ys
   offers-append R [] ys = refl
   offers-append R (x ∷ xs) ys = offers-append (offer-slot room p R x) xs ys
 
@@ -38,7 +31,8 @@ module _ (room p : ℕ) where
       ap (offer-slots room p R) (ap (each f) (upto-snoc c) ∙ each-snoc f (upto c) c) ∙ offers-append R (each f (upto c)) (f c)
 
   pub lent-more : {work : List ℕ} {run : Run} (R : Running) (f : ℕ → List (Child Coded ℕ)) (c : ℕ)
-      → Lent work run (offer-slots room p (offer-slots room p R (each f (upto c))) (f c)) → Lent work run (offer-slots room p R (each f (upto (c + 1))))
+      → Lent work run (offer-slots room p (offer-slots room p R (each f (upto c))) (f c))
+      → Lent work run (offer-slots room p R (each f (upto (c + 1))))
   lent-more {work} {run} R f c l =
       subst (Lent work run) (sym (ap (λ (n : ℕ). offer-slots room p R (each f (upto n))) (add-one c) ∙ offers-more R f c)) l
 
@@ -61,7 +55,8 @@ module _ {work : List ℕ} {run : Run} {R : Running} (l : Lent work run R) (room
   offered-ended above h = rw (still false h) l
   offered-ended (made t) h = rw (still false h) l
 
-  pub offered-above : is-going (run .status) ≡ true → Lent work (record { entered = run .entered; status = TooLong }) (offer-slots room p R (as-child step above))
+  pub offered-above : is-going (run .status) ≡ true
+      → Lent work (record { entered = run .entered; status = TooLong }) (offer-slots room p R (as-child step above))
   unfolding offer-slot
   offered-above h = rw (still true h) (record { holds = l .holds; entered = l .entered; status = refl })
 
@@ -74,7 +69,8 @@ module _ {work : List ℕ} {run : Run} {R : Running} (l : Lent work run R) (room
     offered-seen e =
         rw (still true h, e) (record { holds = l .holds; entered = l .entered; status = going (run .status) h })
 
-    pub offered-new : {work′ : List ℕ} {run′ : Run} → seen ≡ false → Lent work′ run′ (enter-slot room (R .slots) (record { at = t; parent = p; step = step }))
+    pub offered-new : {work′ : List ℕ} {run′ : Run} → seen ≡ false
+        → Lent work′ run′ (enter-slot room (R .slots) (record { at = t; parent = p; step = step }))
         → Lent work′ run′ (offer-slots room p R (as-child step (made t)))
     unfolding offer-slot
     offered-new e n = rw (still true h, e) n

@@ -53,12 +53,14 @@ module _ (T : Tables) (room : ℕ) where
     ended h =
         subst (Lent work run) (sym (q .as-begun ∙ turns-ended (suc (room - k)) k (q .at) (still false h))) (q .lent)
 
-    pub used-up : is-going (run .status) ≡ true → run .entered ≤ k → Lent work (record { entered = run .entered; status = UsedUp }) (slot-turns T room (suc room) 0 R)
+    pub used-up : is-going (run .status) ≡ true → run .entered ≤ k
+        → Lent work (record { entered = run .entered; status = UsedUp }) (slot-turns T room (suc room) 0 R)
     used-up h b =
         subst (Lent work (record { entered = run .entered; status = UsedUp }))
         (sym (q .as-begun ∙ turns-used-up (room - k) k (q .at) (still true h) (omega (arith, q .lent .entered))))
         (record { holds = q .lent .holds; entered = q .lent .entered; status = refl })
 
-    pub taken : {work′ : List ℕ} {run′ : Run} → is-going (run .status) ≡ true → k < room → Lent work′ run′ (take-slot T room k (q .at)) → Standing R work′ run′ (k + 1)
+    pub taken : {work′ : List ℕ} {run′ : Run} → is-going (run .status) ≡ true → k < room
+        → Lent work′ run′ (take-slot T room k (q .at)) → Standing R work′ run′ (k + 1)
     taken h b l =
         record { at = take-slot T room k (q .at); lent = l; as-begun = q .as-begun ∙ turns-taken k (q .at) (still true h) b }

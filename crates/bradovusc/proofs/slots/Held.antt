@@ -6,10 +6,11 @@ use native.Mathlib.Nat.{add-zero, add-assoc, add-sub-cancel-left}
 use mathlib.Core.Path.{_≡_, refl, sym, ap, _∙_, subst}
 use mathlib.Core.Logic.{⊎-elim}
 use mathlib.Core.Bool.{Bool, _||_, or-comm, or-false}
-use mathlib.Core.List.{List, [], _∷_, _++_, append-assoc, List·Memᴰ, List·Memᴰ·head, List·Memᴰ·tail, List·Memᴰ·not-nil, List·Memᴰ·append-cases, List·Memᴰ·eq-of-singleton}
+use mathlib.Core.List.{List, [], _∷_, _++_, append-assoc, List·Memᴰ, List·Memᴰ·not-nil, List·Memᴰ·append-cases, List·Memᴰ·eq-of-singleton}
 use lib.ListN.{length, getD, take, drop, length-append}
 use lib.Seq.{take-at, take-suc, getD-take, getD-drop, take-length}
 use borrow.Rule.Slice.PartMut.{putMid, postOf, same-len-mid, mid-len}
+use Rattle.paper.proofs.Made.{getD-mem}
 use Rattle.paper.specs.Lists.{any}
 use Rattle.paper.specs.Numbers.{situation-bytes}
 use Rattle.paper.proofs.Lists.{any-append}
@@ -25,11 +26,6 @@ use Rattle.bradovusc.proofs.slots.Situations.{short-key, length-slot-by
 pub holds-none : (work : List ℕ) → Holds-slots work []
 holds-none work = record { fits = omega arith; holds = refl; short = λ s d. absurd (List·Memᴰ·not-nil d) }
 
-getD-mem : (l : List Slot) (i : ℕ) (d : Slot) → i < length l → List·Memᴰ (getD l i d) l
-getD-mem [] i d h = absurd (omega arith)
-getD-mem (x ∷ l) zero d h = List·Memᴰ·head refl
-getD-mem (x ∷ l) (suc i) d h = List·Memᴰ·tail (getD-mem l i d (omega arith))
-
 module _ {work : List ℕ} {ss : List Slot} (h : Holds-slots work ss) where
   even-slots : Even slot-bytes situation-bytes ss
   even-slots x m = length-slot-bytes x (h .short x m)
@@ -40,7 +36,7 @@ module _ {work : List ℕ} {ss : List Slot} (h : Holds-slots work ss) where
 
   -- Each slot holds a situation that the struct can hold.
   pub short-held : (i : ℕ) (d : Slot) → i < length ss → Short (getD ss i d .at)
-  short-held i d k = h .short (getD ss i d) (getD-mem ss i d k)
+  short-held i d k = h .short (getD ss i d) (getD-mem ss d i k)
 
   -- The bytes at the place of the slot i are its bytes.
   pub slot-held : (i : ℕ) (d : Slot) → i < length ss → slot-part work i ≡ slot-bytes (getD ss i d)

@@ -3,19 +3,16 @@
 use Prim.Native.Nat.{ℕ, zero, suc, _+_, _*_, _<_}
 use native.Mathlib.Nat.{mul-zero, mul-suc}
 use native.Mathlib.Omega.{arith}
-use mathlib.Core.Path.{_≡_, refl, sym, _∙_}
-use mathlib.Core.List.{List, [], _∷_, _++_, append-assoc, append-nil, List·Memᴰ, List·Memᴰ·head, List·Memᴰ·tail}
+use mathlib.Core.Path.{_≡_, refl, _∙_}
+use mathlib.Core.List.{List, [], _∷_, _++_, append-nil, List·Memᴰ, List·Memᴰ·head, List·Memᴰ·tail}
 use lib.ListN.{length, getD, take, drop, length-append}
 use lib.Seq.{take-at, drop-at, drop-drop}
 use Rattle.paper.specs.Lists.{each}
+use Rattle.paper.proofs.Made.{each-append}
 
 module _ {ℓ κ} {A : Type ℓ} {B : Type κ} (f : A → List B) where
-  pub each-append : (l m : List A) → each f (l ++ m) ≡ each f l ++ each f m
-  each-append [] m = refl
-  each-append (x ∷ l) m = rw (each-append l m) (sym (append-assoc (f x) (each f l) (each f m)))
-
   pub each-snoc : (l : List A) (x : A) → each f (l ++ (x ∷ [])) ≡ each f l ++ f x
-  each-snoc l x = each-append l (x ∷ []) ∙ rw append-nil
+  each-snoc l x = each-append f l (x ∷ []) ∙ rw append-nil
 
   module _ (n : ℕ) where
     -- every row has n elements

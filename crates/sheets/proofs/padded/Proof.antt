@@ -12,8 +12,6 @@ use Rattle.paper.specs.Numbers.{sheet-side}
 use Rattle.sheets.proofs.Bytes.{filled}
 use Rattle.sheets.proofs.padded.Statement.{statement}
 use Rattle.sheets.proofs.padded.Tie as tie
-use Rattle.sheets.proofs.padded.Reads as reads
-use Rattle.sheets.proofs.padded.Lts as lts
 
 abbrev Inv-loop : tie.InvT-loop
 Inv-loop side tokens₀ i₀ tokens i = (i ≤ length side) × (tokens ≡ take i side ++ replicate (sheet-side - i) 0)

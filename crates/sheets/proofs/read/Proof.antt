@@ -1,11 +1,9 @@
 -- `sheets::read` meets its contract, from what the walk over the records finds. Assumes nothing.
-use mathlib.Core.Path.{_≡_, sym, ap, _∙_}
-use denote.Ref.{now}
+use mathlib.Core.Path.{sym, ap, _∙_}
 use borrow.Author.Needs.{needs}
-use Rattle.sheets.specs.declared.Found.the-variants.{Good}
 use Rattle.sheets.specs.Read.{sheet-of}
 use Rattle.sheets.proofs.Stand.{found-so}
-use Rattle.sheets.proofs.Bytes.{side-length}
+use Rattle.sheets.proofs.Bytes.{sheet-asked}
 use Rattle.sheets.proofs.read.Statement.{statement}
 use Rattle.sheets.proofs.read.Tie as tie
 
@@ -35,21 +33,7 @@ tokens-requires-2 c κs = found-so _ _ (c .before .enum-told .given .1) (c .befo
 returns-2 : tie.Need-returns-2
 returns-2 c =
     let told = c .before .before in
-    let s = now (told .before .before .before .before .args .s) in
-    let r = told .before .before .read-records .result in
-    let parts = found-so _ _ (told .enum-told .given .1) (told .before .before .read-records .ensures) in
-    let left-length = sym (side-length s (r .left) (r .«left_len») (parts .left-stands)) in
-    let right-length = sym (side-length s (r .right) (r .«right_len») (parts .right-stands)) in
-    (λ i.
-    record {
-      found = Good;
-      place = 0;
-      left = c .before .tokens .ensures i;
-      «left_len» = left-length i;
-      right = c .tokens2 .ensures i;
-      «right_len» = right-length i;
-    })
-    ∙ sym (ap sheet-of (parts .reads))
+    sheet-asked _ _ _ _ (found-so _ _ (told .enum-told .given .1) (told .before .before .read-records .ensures)) (c .before .tokens .ensures) (c .tokens2 .ensures)
 
 pub read-spec : {M : Type 1} → statement M
 read-spec =

@@ -28,7 +28,7 @@ enum-told-2 c = search needs
 enum-told-3 : tie.Need-enum-told-3
 enum-told-3 c = search needs
 
--- the child is made, and the search goes on
+-- past the first test the search is going
 going : (c : tie.Else1) → is-going (c .before .before .before .args .run .status) ≡ true
 going c = sym (c .before .is-going .ensures) ∙ not-is-false (c .if1 .left)
 
@@ -53,7 +53,9 @@ returns-2 c =
     }
 
 enter-requires : tie.Need-enter-requires
-enter-requires c κs = (search needs, c .before .before .before .before .before .before .before .before .before .before .pre .1 (c .before .before .before .before .before .enum-told3 .given .1))
+enter-requires c κs =
+    let m = c .before .before .before .before .before in
+    (search needs, m .before .before .before .before .before .pre .1 (m .enum-told3 .given .1))
 
 returns-3 : tie.Need-returns-3
 returns-3 c =

@@ -4,7 +4,7 @@ use native.Mathlib.Omega.{arith}
 use mathlib.Core.Path.{ap, subst}
 use borrow.Author.Needs.{needs}
 use Rattle.bradovusc.specs.Coded.{left-struck, right-struck}
-use Rattle.bradovusc.specs.Lent.{Lent, struck-by}
+use Rattle.bradovusc.specs.Lent.{Lent, tables, struck-by}
 use Rattle.bradovusc.specs.Run.{offer-slots}
 use Rattle.bradovusc.specs.declared.situation.Situation.{Situation}
 use Rattle.bradovusc.proofs.search.Children.{may-end-field, other-may-end-field, children-offered}
@@ -51,10 +51,10 @@ front-with-requires-2 c κs = search needs
 offer-puts-requires : tie.Need-offer-puts-requires
 offer-puts-requires c κs =
     let o = c .before .before .before .before .before .offer-struck2 in
-    let n = c .before .before .before .before .before .before .before .before .before .offer-struck in
-    let p = c .before .before .before .before .before .before .before .before .before .before .before .before .before .before .before .before .before .before .before in
+    let n = c .before .before .before .before .before .before .before .before .before in
+    let p = n .before .before .before .before .before .before .before .before .before .before in
     let r = p .pre .0 in (
-      record { fits = omega (arith, o .kept .0, n .kept .0); most = r .most; within = o .ensures .within; numbered = r .numbered },
+      record { fits = omega (arith, o .kept .0, n .offer-struck .kept .0); most = r .most; within = o .ensures .within; numbered = r .numbered },
       p .pre .1,
     )
 
@@ -84,7 +84,7 @@ returns c =
           let front-a = a .ensures (k .left) (ap (λ (s : Situation). s .left) e) (ap (λ (s : Situation). s .«left_len») e) in
           let front-b = b .ensures (k .right) (ap (λ (s : Situation). s .right) e) (ap (λ (s : Situation). s .«right_len») e) in
           subst (Lent (q .offer-puts .last .0) (q .offer-puts .result))
-          (children-offered (record { follow = p .follow; taking = p .taking; last = p .last }) k h (p .s) e (p .room) (p .parent) R
+          (children-offered (tables (p .follow) (p .taking) (p .last)) k h (p .s) e (p .room) (p .parent) R
           (a .result) (b .result) front-a front-b (x .result) (y .result) (x .ensures) (y .ensures)
           (l .result) (r .result) (l .ensures) (r .ensures))
           (q .offer-puts .ensures .lent two k (o .offer-struck2 .ensures .lent one k (n .offer-struck .ensures .lent R k t e h) e h) e h);

@@ -97,7 +97,8 @@ loop-again c =
         lent = λ R k l e h.
             more R (put-by k (a .t6) (a .t7)) i
             (rw (w .6, w .7, put-taken k (a .t6) (a .t7) i (b .result) (b .ensures) (w .0 .taken))
-            (w .3 .ensures .lent (done R k) (put-child k i m n) (v .lent R k l e h) (w .1 .ensures k e h) (λ t f. put-child-short i m n (omega arith) h f)));
+            (w .3 .ensures .lent (done R k) (put-child k i m n) (v .lent R k l e h) (w .1 .ensures k e h)
+            (λ t f. put-child-short i m n (omega arith) h f)));
       },
     ))
     (λ w. (

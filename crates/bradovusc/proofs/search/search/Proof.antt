@@ -9,7 +9,7 @@ use lib.ListN.{length}
 use borrow.Author.Needs.{needs}
 use Rattle.paper.proofs.Tests.{not-is-true, not-is-false}
 use Rattle.bradovusc.specs.Coded.{Coded, Tables}
-use Rattle.bradovusc.specs.Lent.{Lent}
+use Rattle.bradovusc.specs.Lent.{Lent, tables}
 use Rattle.bradovusc.specs.Run.{Running, is-going, enter-slot, slot-search}
 use Rattle.bradovusc.specs.Struct.{as-struct, Short}
 use Rattle.bradovusc.proofs.Short.{short-sized}
@@ -23,21 +23,22 @@ Inv-loop work₀ room follow taking last run₀ k₀ work run k =
     (k ≤ room)
     × (run .entered ≤ room)
     × (length work ≡ length work₀)
-    × ((R : Running) → Lent work₀ run₀ R → Standing (record { follow = follow; taking = taking; last = last }) room R work run k)
+    × ((R : Running) → Lent work₀ run₀ R → Standing (tables follow taking last) room R work run k)
 
 abbrev μ-loop : tie.MeasureT-loop
 μ-loop work₀ room follow taking last run₀ k₀ work run k = room - k
 
-abbrev tables : tie.At-loop Inv-loop μ-loop → Tables
-tables c =
+abbrev tables-at : tie.At-loop Inv-loop μ-loop → Tables
+tables-at c =
     let a = c .before .before .before .before .before .before .args in
-    record { follow = a .follow; taking = a .taking; last = a .last }
+    tables (a .follow) (a .taking) (a .last)
 
 -- at the loop's head: the search that began with k
 standing : (c : tie.At-loop Inv-loop μ-loop) →
     let a = c .before .before .before .before .before .before .args in
     (k : Coded) → a .first ≡ as-struct k → Short k →
-    Standing (tables c) (a .room) (enter-slot (a .room) [] (record { at = k; parent = 0; step = 0 })) (c .loop .work) (c .loop .run) (c .loop .k)
+    Standing (tables-at c) (a .room) (enter-slot (a .room) [] (record { at = k; parent = 0; step = 0 }))
+    (c .loop .work) (c .loop .run) (c .loop .k)
 standing c k e h =
     let n = c .before .before .before in
     let a = n .before .before .before .args in
@@ -55,8 +56,7 @@ enter-requires c κs =
 loop-holds : tie.Need-loop-holds Inv-loop μ-loop
 loop-holds c =
     let a = c .before .before .before .before .before .args in
-    let T : Tables = record { follow = a .follow; taking = a .taking; last = a .last } in
-    (zero-le, c .before .before .enter .ensures .within, refl, λ R l. begun T (a .room) l)
+    (zero-le, c .before .before .enter .ensures .within, refl, λ R l. begun (tables (a .follow) (a .taking) (a .last)) (a .room) l)
 
 is-going-requires : tie.Need-is-going-requires Inv-loop μ-loop
 is-going-requires c κs = search needs
@@ -70,7 +70,7 @@ returns c =
     let j = c .before .before in
     let g : is-going (j .loop .run .status) ≡ false = sym (c .before .is-going .ensures) ∙ not-is-true (c .if1 .taken) in
     let room = j .before .before .before .before .before .before .args .room in
-    record { within = j .loop .inv .1; over = g; lent = λ k e h. ended (tables j) room (standing j k e h) g }
+    record { within = j .loop .inv .1; over = g; lent = λ k e h. ended (tables-at j) room (standing j k e h) g }
 
 same-length-2 : tie.Need-same-length-2 Inv-loop μ-loop
 same-length-2 c = c .before .before .before .loop .inv .2 ∙ c .before .before .before .before .before .before .enter .kept .0
@@ -83,7 +83,7 @@ returns-2 c =
     record {
       within = j .loop .inv .1;
       over = refl;
-      lent = λ k e h. used-up (tables j) room (standing j k e h) (going (c .before)) (c .if2 .taken);
+      lent = λ k e h. used-up (tables-at j) room (standing j k e h) (going (c .before)) (c .if2 .taken);
     }
 
 take-requires : tie.Need-take-requires Inv-loop μ-loop
@@ -121,7 +121,7 @@ loop-again c =
       t .take .kept .0 ∙ j .loop .inv .2,
       λ R l.
           let q = j .loop .inv .3 R l in
-          taken (tables j) room q (going (d .before)) b (t .take .ensures .lent (q .at) (q .lent)),
+          taken (tables-at j) room q (going (d .before)) b (t .take .ensures .lent (q .at) (q .lent)),
     )
 
 pub search-spec : {M : Type 1} → statement M

@@ -11,11 +11,6 @@ use Rattle.sheets.specs.Walk.{Pattern-stands, Pattern-read}
 use Rattle.sheets.proofs.Reached.{Reached, reached-start, reached-fault, reached-next, reached-end}
 use Rattle.sheets.proofs.walk.read_patterns.Statement.{statement}
 use Rattle.sheets.proofs.walk.read_patterns.Tie as tie
-use Rattle.sheets.proofs.walk.read_patterns.Reads as reads
-use Rattle.sheets.proofs.walk.read_patterns.Lts as lts
-use Rattle.sheets.proofs.cursor.Cursor.at_pattern.Reads as at-pattern-reads
-use Rattle.sheets.proofs.cursor.Cursor.pattern.Reads as pattern-reads
-use Rattle.sheets.proofs.cursor.Cursor.start.Reads as start-reads
 
 abbrev Inv-loop : tie.InvT-loop
 Inv-loop s starts₀ lens₀ c₀ starts lens c = Reached s (c .at) (c .least) starts lens

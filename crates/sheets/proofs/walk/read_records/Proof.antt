@@ -7,11 +7,6 @@ use Rattle.sheets.specs.declared.walk.Sides.{Sides}
 use Rattle.sheets.specs.Walk.{Patterns-read, Sides-read}
 use Rattle.sheets.proofs.walk.read_records.Statement.{statement}
 use Rattle.sheets.proofs.walk.read_records.Tie as tie
-use Rattle.sheets.proofs.walk.read_records.Reads as reads
-use Rattle.sheets.proofs.walk.read_records.Lts as lts
-use Rattle.sheets.proofs.walk.read_patterns.Reads as read-patterns-reads
-use Rattle.sheets.proofs.walk.read_sides.Reads as read-sides-reads
-use Rattle.sheets.proofs.walk.refuse.Reads as refuse-reads
 
 read-patterns-requires : tie.Need-read-patterns-requires
 read-patterns-requires c κs = search needs

@@ -1,12 +1,9 @@
+-- `sheets::cursor::Cursor::marked` meets its contract: the two bytes are the mark's letters. Assumes nothing.
 use borrow.Author.Needs.{needs}
 use borrow.Author.Tests.{eq-eqb, ne-eqb}
 use Rattle.paper.specs.Sheet.{marked}
 use Rattle.sheets.proofs.cursor.Cursor.marked.Statement.{statement}
 use Rattle.sheets.proofs.cursor.Cursor.marked.Tie as tie
-use Rattle.sheets.proofs.cursor.Cursor.marked.Reads as reads
-use Rattle.sheets.proofs.cursor.Cursor.marked.Lts as lts
-use Rattle.sheets.proofs.cursor.Mark.first_letter.Reads as first-letter-reads
-use Rattle.sheets.proofs.cursor.Mark.second_letter.Reads as second-letter-reads
 
 -- src/cursor.rt:79:12
 shared-slice-read-if1 : tie.Need-shared-slice-read-if1

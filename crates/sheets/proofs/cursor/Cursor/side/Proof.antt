@@ -1,3 +1,5 @@
+-- `sheets::cursor::Cursor::side` meets its contract: each way out is the case of the definition that the checks on the way leave.
+-- Assumes nothing.
 use Prim.Native.Nat.{_+_, _-_}
 use native.Mathlib.Nat.{add-assoc}
 use native.Mathlib.Omega.{arith}
@@ -12,10 +14,6 @@ use Rattle.paper.specs.Sheet.{read, fault, wrong-token, is-token, token, body, 
 use Rattle.sheets.specs.Walk.{mark-of, marked-side}
 use Rattle.sheets.proofs.cursor.Cursor.side.Statement.{statement}
 use Rattle.sheets.proofs.cursor.Cursor.side.Tie as tie
-use Rattle.sheets.proofs.cursor.Cursor.side.Reads as reads
-use Rattle.sheets.proofs.cursor.Cursor.side.Lts as lts
-use Rattle.sheets.proofs.cursor.Cursor.marked.Reads as marked-reads
-use Rattle.sheets.proofs.cursor.tokens.Reads as tokens-reads
 
 sub-left : tie.Need-sub-left
 sub-left c = search needs
@@ -71,37 +69,37 @@ add-start c = search needs
 add-end : tie.Need-add-end
 add-end c = search needs
 
-sub-tokens : tie.Need-sub-tokens
-sub-tokens c = search needs
+sub-all-tokens : tie.Need-sub-all-tokens
+sub-all-tokens c = search needs
 
-part-tokens-start : tie.Need-part-tokens-start
-part-tokens-start c = search needs
+part-all-tokens-start : tie.Need-part-all-tokens-start
+part-all-tokens-start c = search needs
 
-part-tokens-end : tie.Need-part-tokens-end
-part-tokens-end c = search needs
+part-all-tokens-end : tie.Need-part-all-tokens-end
+part-all-tokens-end c = search needs
 
-tokens-requires : tie.Need-tokens-requires
-tokens-requires c κs = search needs
+all-tokens-requires : tie.Need-all-tokens-requires
+all-tokens-requires c κs = search needs
 
--- the body is what was lent to `tokens`
-all-tokens : (c : tie.After-tokens) →
+-- the body is what was lent to `all_tokens`
+lent-tokens : (c : tie.After-all-tokens) →
     let a = c .before .before .before .before .before .before .before .before .before .before .args in
-    all is-token (body (now (a .s)) (a .self .at + 3) (byte-at (now (a .s)) (a .self .at + 2))) ≡ c .tokens .result
-all-tokens c =
+    all is-token (body (now (a .s)) (a .self .at + 3) (byte-at (now (a .s)) (a .self .at + 2))) ≡ c .all-tokens .result
+lent-tokens c =
     let a = c .before .before .before .before .before .before .before .before .before .before .args in
     let n = byte-at (now (a .s)) (a .self .at + 2) in
     let e : (a .self .at + 3 + n) - (a .self .at + 3) ≡ n = omega arith in
-    sym (rw e at (c .tokens .ensures))
+    sym (rw e at (c .all-tokens .ensures))
 
 -- the checks before the tokens are passed
-past-length : (c : tie.After-tokens) →
+past-length : (c : tie.After-all-tokens) →
     let a = c .before .before .before .before .before .before .before .before .before .before .args in
     let n = byte-at (now (a .s)) (a .self .at + 2) in
     marked-side (mark-of (a .m)) (now (a .s)) (a .self .at)
-    ≡ cond (c .tokens .result) (read (map token (body (now (a .s)) (a .self .at + 3) n)) (a .self .at + (3 + n))) (fault wrong-token)
+    ≡ cond (c .all-tokens .result) (read (map token (body (now (a .s)) (a .self .at + 3) n)) (a .self .at + (3 + n))) (fault wrong-token)
 unfolding side-record
 past-length c =
-    rw (past-mark (c .before .before .before .before .before .before), ← all-tokens c)
+    rw (past-mark (c .before .before .before .before .before .before), ← lent-tokens c)
     (simp (
       le-ltb _ _ (c .before .before .before .before .before .if3 .left),
       le-ltb _ _ (c .before .before .before .if4 .left),
@@ -114,7 +112,7 @@ returns-6 c =
       reads = rw (past-length (c .before), c .if6 .taken) (simp (← add-assoc));
       stands =
           record {
-            tokens = all-tokens (c .before) ∙ c .if6 .taken;
+            tokens = lent-tokens (c .before) ∙ c .if6 .taken;
             short = search needs;
             within = omega (arith, c .before .before .before);
           };
@@ -141,9 +139,9 @@ side-spec =
     returns-5
     add-start
     add-end
-    sub-tokens
-    part-tokens-start
-    part-tokens-end
-    tokens-requires
+    sub-all-tokens
+    part-all-tokens-start
+    part-all-tokens-end
+    all-tokens-requires
     returns-6
     returns-7)

@@ -1,8 +1,8 @@
--- `show_masks` is safe and ends. The measure is what is left of the fields.
+-- `show_fields` is safe and ends. The measure is what is left of the fields.
 use Prim.Native.Nat.{_≤_, _-_}
 use borrow.Author.Needs.{needs}
-use Rattle.sheets_main.proofs.show_masks.Statement.{statement}
-use Rattle.sheets_main.proofs.show_masks.Tie as tie
+use Rattle.sheets_main.proofs.show_fields.Statement.{statement}
+use Rattle.sheets_main.proofs.show_fields.Tie as tie
 
 abbrev Inv-loop : tie.InvT-loop
 Inv-loop last follow taking f₀ f = f ≤ 8
@@ -52,8 +52,8 @@ loop-again c = search needs
 returns : tie.Need-returns Inv-loop μ-loop
 returns c = search needs
 
-pub show-masks-spec : {M : Type 1} → statement M
-show-masks-spec =
+pub show-fields-spec : {M : Type 1} → statement M
+show-fields-spec =
     tie.close
     (tie.spec
     Inv-loop

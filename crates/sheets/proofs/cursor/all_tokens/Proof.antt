@@ -1,4 +1,4 @@
--- `sheets::cursor::tokens` meets its contract. The loop's invariant: all are tokens exactly if all from `i` on are.
+-- `sheets::cursor::all_tokens` meets its contract. The loop's invariant: all are tokens exactly if all from `i` on are.
 -- Assumes nothing.
 use Prim.Native.Nat.{_≤_, _-_}
 use native.Mathlib.Numerals.{add-one}
@@ -10,11 +10,8 @@ use lib.ListN.{length, drop, drop-of-length-le}
 use lib.Seq.{drop-cons}
 use Rattle.paper.specs.Lists.{all}
 use Rattle.paper.specs.Sheet.{is-token}
-use Rattle.sheets.proofs.cursor.tokens.Statement.{statement}
-use Rattle.sheets.proofs.cursor.tokens.Tie as tie
-use Rattle.sheets.proofs.cursor.tokens.Reads as reads
-use Rattle.sheets.proofs.cursor.tokens.Lts as lts
-use Rattle.sheets.proofs.cursor.is_token.Reads as is-token-reads
+use Rattle.sheets.proofs.cursor.all_tokens.Statement.{statement}
+use Rattle.sheets.proofs.cursor.all_tokens.Tie as tie
 
 abbrev Inv-loop : tie.InvT-loop
 Inv-loop side i₀ i = (i ≤ length side) × (all is-token side ≡ all is-token (drop i side))
@@ -50,8 +47,8 @@ loop-again c =
 returns-2 : tie.Need-returns-2 Inv-loop μ-loop
 returns-2 c = rw (c .before .loop .inv .1, drop-of-length-le (c .before .before .before .args .side .now) {i = c .before .loop .i} (omega arith))
 
-pub tokens-spec : {M : Type 1} → statement M
-tokens-spec =
+pub all-tokens-spec : {M : Type 1} → statement M
+all-tokens-spec =
     tie.close
     (tie.spec
     Inv-loop
