@@ -1,0 +1,69 @@
+/*
+ * Answers a stream of cases on standard input, as the program `second --many` does.
+ *
+ * A case is the length of the working buffer in four bytes, that of the answer buffer in four, that of the sheet in two (low byte
+ * first), and the sheet. The line of a case is number, count, place, written length, and a sum over each buffer to its last byte.
+ */
+#include <inttypes.h>
+#include <stdio.h>
+#include <stdlib.h>
+#include <string.h>
+
+#include "bradovusc.h"
+
+enum { HEAD = 10, LONGEST_SHEET = 65535, WORK_FILL = 90, ANSWER_FILL = 165 };
+
+static uint32_t low_first(const uint8_t *bytes, size_t length) {
+    uint32_t number = 0;
+    while (length-- > 0) {
+        number = number * 256 + bytes[length];
+    }
+    return number;
+}
+
+static uint32_t sum(const uint8_t *bytes, size_t length) {
+    uint32_t sum = 7;
+    for (size_t i = 0; i < length; i++) {
+        sum = sum * 31 + bytes[i] + 1;
+    }
+    return sum;
+}
+
+/* A buffer of just this length; one byte where none is asked for. */
+static uint8_t *lend(size_t length, int fill) {
+    uint8_t *buffer = malloc(length > 0 ? length : 1);
+    if (buffer == NULL) {
+        fputs("many: no memory\n", stderr);
+        exit(EXIT_FAILURE);
+    }
+    return memset(buffer, fill, length);
+}
+
+static void answer_case(const uint8_t *sheet, size_t sheet_length, size_t work_length, size_t answer_length) {
+    uint8_t *work = lend(work_length, WORK_FILL);
+    uint8_t *answer = lend(answer_length, ANSWER_FILL);
+    uint64_t told[BRADOVUSC_TOLD];
+    uint32_t number =
+        bradovusc_clash(sheet, sheet_length, work, work_length, answer, answer_length, told, BRADOVUSC_TOLD);
+    printf("%" PRIu32 " %" PRIu64 " %" PRIu64 " %" PRIu64 " %" PRIu32 " %" PRIu32 "\n", number, told[BRADOVUSC_COUNT],
+           told[BRADOVUSC_PLACE], told[BRADOVUSC_WRITTEN], sum(answer, answer_length), sum(work, work_length));
+    free(work);
+    free(answer);
+}
+
+int main(void) {
+    static uint8_t head[HEAD], sheet[LONGEST_SHEET];
+    size_t read;
+    while ((read = fread(head, 1, HEAD, stdin)) == HEAD) {
+        size_t sheet_length = low_first(head + 8, 2);
+        if (fread(sheet, 1, sheet_length, stdin) != sheet_length) {
+            break;
+        }
+        answer_case(sheet, sheet_length, low_first(head, 4), low_first(head + 4, 4));
+    }
+    if (read != 0) {
+        fputs("many: the stream stops inside a case\n", stderr);
+        return EXIT_FAILURE;
+    }
+    return EXIT_SUCCESS;
+}

@@ -1,0 +1,175 @@
+//! Can two part-label rules make the same label?
+//!
+//! A rule is fixed Code 39 characters with fields between them; a field may have a pattern. Two
+//! rules clash when one label can be read by both. The two rules stand on a question sheet;
+//! [`clash`] answers it in memory that the caller lends.
+//!
+//! ```
+//! use bradovusc::{clash, texts, Answer, SITUATION_BYTES};
+//!
+//! // Field 0, any digits, is the left side; field 1, the digit 4, the right one.
+//! let sheet = b"PA\x00\x04\x44\x41\x00\x09PA\x01\x01\x04LE\x01\x40RI\x01\x41";
+//! let mut work = [0; 455 * SITUATION_BYTES];
+//! let mut answer = [0; 4096];
+//! let Answer::Clash { count, written } = clash(sheet, &mut work, &mut answer) else {
+//!     panic!("both rules can make the label 4");
+//! };
+//! assert_eq!(count, 6);
+//! let texts: Vec<String> = texts(&answer[..written]).map(|text| text.to_string()).collect();
+//! assert_eq!(texts, ["4", "4"]);
+//! ```
+
+use std::fmt;
+
+/// A situation of the search takes so many bytes of the working buffer.
+pub const SITUATION_BYTES: usize = 144;
+
+/// Room in the working buffer is never counted above so many situations.
+pub const MOST_SITUATIONS: usize = 65_535;
+
+/// The characters of Code 39, by value.
+pub const CHARACTERS: &[u8; 43] = b"0123456789ABCDEFGHIJKLMNOPQRSTUVWXYZ-. $/+%";
+
+/// A record of the answer buffer before its characters: `VA`, the field, the length in two bytes
+/// (low first).
+const RECORD_HEAD: usize = 5;
+
+/// What is wrong with a sheet.
+#[derive(Clone, Copy, Debug, PartialEq, Eq)]
+pub enum Fault {
+    /// 11: the sheet ends too early.
+    CutShort,
+    /// 12: a mark that is unknown or not allowed here, or bytes behind the right side.
+    WrongMark,
+    /// 13: a pattern's field is above 7, or not above the field of the pattern before it.
+    WrongField,
+    /// 14: a pattern's length is not 1 to 96, or a side's is above 24.
+    WrongLength,
+    /// 15: the bytes of a pattern are not exactly one pattern.
+    NotOnePattern,
+    /// 16: a pattern has more than 31 leaves.
+    TooManyLeaves,
+    /// 17: a side holds a byte that is neither a character nor a field.
+    WrongToken,
+}
+
+/// The answer to a sheet. `count` is the number of situations that the search entered.
+#[derive(Clone, Copy, Debug, PartialEq, Eq)]
+pub enum Answer {
+    /// 0: a label can be made by both rules. The first `written` bytes of the answer buffer hold
+    /// the [`texts`] of the fields on it.
+    Clash { count: usize, written: usize },
+    /// 1: no label, however long, can be made by both rules.
+    NoClash { count: usize },
+    /// 11 to 17: the sheet is at fault. `place` is the offset at which that record's mark stands or
+    /// should stand.
+    Refused { fault: Fault, place: usize },
+    /// 18: neither yes nor no; the working buffer is full.
+    NoRoom { count: usize },
+    /// 19: neither yes nor no; a side grew above 48 tokens.
+    SideTooLong { count: usize },
+    /// 20: the rules clash, but the answer buffer is too short for the texts.
+    AnswerTooShort { count: usize },
+    /// 21: the rules clash, but a text is above 65,535 characters.
+    TextTooLong { count: usize },
+}
+
+/// Can the two rules of the sheet make the same label?
+///
+/// The working buffer has room for one situation for each whole [`SITUATION_BYTES`], at most
+/// [`MOST_SITUATIONS`]. It is all zero afterwards, but a sheet at fault leaves it unchanged. Only a
+/// clash changes the answer buffer, and only the bytes written.
+pub fn clash(sheet: &[u8], work: &mut [u8], answer: &mut [u8]) -> Answer {
+    let mut told = [0; 3];
+    // SAFETY: each pointer and length are those of one slice. No two of the slices overlap, since
+    // three are borrowed mutably. The function keeps no pointer.
+    let number = unsafe {
+        bradovusc_clash(
+            sheet.as_ptr(),
+            sheet.len(),
+            work.as_mut_ptr(),
+            work.len(),
+            answer.as_mut_ptr(),
+            answer.len(),
+            told.as_mut_ptr(),
+            told.len(),
+        )
+    };
+    // These are lengths and offsets of slices, and the number of situations that one holds.
+    let [count, place, written] = told.map(|number| number as usize);
+    let refused = |fault| Answer::Refused { fault, place };
+    match number {
+        0 => Answer::Clash { count, written },
+        1 => Answer::NoClash { count },
+        11 => refused(Fault::CutShort),
+        12 => refused(Fault::WrongMark),
+        13 => refused(Fault::WrongField),
+        14 => refused(Fault::WrongLength),
+        15 => refused(Fault::NotOnePattern),
+        16 => refused(Fault::TooManyLeaves),
+        17 => refused(Fault::WrongToken),
+        18 => Answer::NoRoom { count },
+        19 => Answer::SideTooLong { count },
+        20 => Answer::AnswerTooShort { count },
+        21 => Answer::TextTooLong { count },
+        _ => unreachable!("the library promises the numbers above"),
+    }
+}
+
+extern "C" {
+    fn bradovusc_clash(
+        sheet: *const u8,
+        sheet_length: usize,
+        work: *mut u8,
+        work_length: usize,
+        answer: *mut u8,
+        answer_length: usize,
+        told: *mut u64,
+        told_length: usize,
+    ) -> u32;
+}
+
+/// What a field holds on the label that a clash found.
+#[derive(Clone, Copy, Debug, PartialEq, Eq)]
+pub struct Text<'a> {
+    pub field: u8,
+    /// The characters by value, each below 43.
+    pub values: &'a [u8],
+}
+
+/// As characters.
+impl fmt::Display for Text<'_> {
+    fn fmt(&self, to: &mut fmt::Formatter<'_>) -> fmt::Result {
+        use fmt::Write;
+        self.values.iter().try_for_each(|&value| to.write_char(character(value)))
+    }
+}
+
+fn character(value: u8) -> char {
+    CHARACTERS.get(usize::from(value)).map_or(char::REPLACEMENT_CHARACTER, |&byte| byte.into())
+}
+
+/// The texts that a clash has written: one for each field that stands in a side, by rising number.
+pub fn texts(written: &[u8]) -> Texts<'_> {
+    Texts { rest: written }
+}
+
+/// See [`texts`].
+#[derive(Clone, Debug)]
+pub struct Texts<'a> {
+    rest: &'a [u8],
+}
+
+impl<'a> Iterator for Texts<'a> {
+    type Item = Text<'a>;
+
+    fn next(&mut self) -> Option<Text<'a>> {
+        let &[b'V', b'A', field, low, high] = self.rest.get(..RECORD_HEAD)? else {
+            return None;
+        };
+        let end = RECORD_HEAD + usize::from(u16::from_le_bytes([low, high]));
+        let values = self.rest.get(RECORD_HEAD..end)?;
+        self.rest = &self.rest[end..];
+        Some(Text { field, values })
+    }
+}
