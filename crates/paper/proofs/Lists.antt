@@ -245,14 +245,6 @@ nodup-map f inj none = none
 nodup-map f inj (more {x = x} {l = l} n nl) =
     more (λ d. let r = mem-map f l d in n (Memᴰ·cast (inj x (r .0) (r .2)) (r .1))) (nodup-map f inj nl)
 
-pub nodup-from : (a n : ℕ) → NoDup (from a n)
-nodup-from a zero = none
-nodup-from a (suc n) =
-    more (λ (d : List·Memᴰ a (from (suc a) n)). let r = mem-from (suc a) n d in omega (arith, r)) (nodup-from (suc a) n)
-
-pub nodup-upto : (n : ℕ) → NoDup (upto n)
-nodup-upto n = nodup-from 0 n
-
 pub length-from : (a n : ℕ) → length (from a n) ≡ n
 length-from a zero = refl
 length-from a (suc n) = ap suc (length-from (suc a) n)

@@ -11,10 +11,6 @@ use Rattle.paper.specs.Pattern.{Held, any-text, pattern}
 use Rattle.paper.specs.Places.{PlaceSet, set-after, may-end, is-empty, same-set, set-along}
 use Rattle.paper.proofs.PlacesDecide.{mem-after}
 
-pub empty-nil : (s : PlaceSet) → is-empty s ≡ true → s ≡ []
-empty-nil [] e = refl
-empty-nil (i ∷ s) e = absurd (true-false e refl)
-
 -- a set without a place is empty
 no-place-empty : (s : PlaceSet) → ((q : ℕ) → List·Memᴰ q s → ⊥) → is-empty s ≡ true
 no-place-empty [] h = refl

@@ -82,12 +82,6 @@ module _
     pub way-leads : (e : Entry S M) → List·Memᴰ e the-entries → Leads children s₀ (e .way) (e .at)
     way-leads e d = grown-leads children room s₀ (grown-with d) e d
 
-    -- So every situation entered is one that some way leads to.
-    pub situation-led-to : (t : S) → List·Memᴰ t (situations the-entries) → (way : List M) × Leads children s₀ way t
-    situation-led-to t d =
-        let r = mem-map (λ (e : Entry S M). e .at) the-entries d in
-        (r .0 .way, subst (Leads children s₀ (r .0 .way)) (sym (r .2)) (way-leads (r .0) (r .1)))
-
     -- A way has fewer moves than there are entries.
     pub way-below-count : (e : Entry S M) → List·Memᴰ e the-entries → length (e .way) < the-count
     way-below-count e d = grown-way children room s₀ (grown-with d) e d
@@ -199,9 +193,6 @@ module _
     module _ (bound : List S) (first-in : List·Memᴰ s₀ bound) (child-in : (s : S) → List·Memᴰ s bound → (m : M) (t : S) → List·Memᴰ (child m t) (children s) → List·Memᴰ t bound) where
       abbrev Listed : S → Type 0
       Listed s = List·Memᴰ s bound
-
-      pub count-at-most-bound : the-count ≤ length bound
-      count-at-most-bound = within-count Listed first-in child-in bound (λ s d. d)
 
       pub bound-no-room : length bound ≤ room → the-end ≡ no-room → ⊥
       bound-no-room = within-has-room Listed first-in child-in bound (λ s d. d)

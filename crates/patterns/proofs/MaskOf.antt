@@ -61,11 +61,6 @@ digit-lt : (b : Bool) → digit b < 2
 digit-lt true = omega arith
 digit-lt false = omega arith
 
-pub below-lt : (n : ℕ) (t : ℕ → Bool) → below n t < 2 ^ n
-below-lt zero t = omega arith
-below-lt (suc n) t =
-    rw (below-suc n t) (omega (arith, below-lt n (λ (q : ℕ). t (suc q)), digit-lt (t 0)))
-
 pub below-none : (n : ℕ) → below n (λ (q : ℕ). false) ≡ 0
 below-none zero = refl
 below-none (suc n) = rw (below-suc n (λ (q : ℕ). false), below-none n) refl
@@ -175,10 +170,6 @@ below-out n i h =
 
 -- The laws of `mask-of`.
 module _ (t : ℕ → Bool) where
-  pub mask-of-lt : mask-of t < 2 ^ places
-  unfolding mask-of
-  mask-of-lt = below-lt places t
-
   pub in-mask-of : (i : ℕ) → i < places → in-mask (mask-of t) i ≡ t i
   unfolding mask-of
   in-mask-of = in-below places t

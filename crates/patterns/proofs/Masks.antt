@@ -1,5 +1,4 @@
 -- From masks back to place sets: what the search cites.
---   mask-lt          a mask fits: it is below 2 ^ places
 --   mask-same        equal masks are masks of equal sets
 --   mask-empty       a mask is 0 exactly if the set is empty
 --   mask-may-end     a set may end exactly if its mask and the last places have a place in common
@@ -25,7 +24,7 @@ use Rattle.paper.proofs.Lists.{cons-eq, mem-cons-by, any-true, mem-any, none-an
 use Rattle.paper.proofs.Parts.{takes-within}
 use Rattle.paper.proofs.Rising.{Rising, none, more, rising-first, rising-after, leaf-after}
 use Rattle.patterns.specs.Masks.{places, mask, mask-of, in-mask, comes-next, takes-at, follow-masks, taking-mask, taking-masks, last-mask, followers-of}
-use Rattle.patterns.proofs.MaskOf.{mask-of-lt, in-mask-of, mask-of-same, mask-of-and}
+use Rattle.patterns.proofs.MaskOf.{in-mask-of, mask-of-same, mask-of-and}
 use Rattle.patterns.proofs.Tables.{getD-table}
 
 -- some place of the set passes: all places can be tried
@@ -99,9 +98,6 @@ mask-is s m = sym (ap mask (keep-member 0 places s (m .rising) (λ q d. let l = 
 
 in-mask-is : (s : PlaceSet) → Masked s → (i : ℕ) → i < places → in-mask (mask s) i ≡ member i s
 in-mask-is s m i l = ap (λ (x : ℕ). in-mask x i) (mask-is s m) ∙ in-mask-of (λ (q : ℕ). member q s) i l
-
-pub mask-lt : (s : PlaceSet) → Masked s → mask s < 2 ^ places
-mask-lt s m = rw (mask-is s m) (mask-of-lt (λ (q : ℕ). member q s))
 
 pub mask-same : (s t : PlaceSet) → Masked s → Masked t → mask s ≡ mask t → s ≡ t
 mask-same s t m n e =

@@ -95,8 +95,3 @@ slot-compared x k h s =
     let e = slot-split (as-struct (x .at)) (short-key h) (x .parent) (x .step) in
     let n = sym (append-nil (key k)) in
     (λ i. has-key (e i) (n i)) ∙ keys-compared (x .at) k (behind-key (x .parent) (x .step)) [] h s
-
--- A key tells its situation.
-pub key-tells : (a b : Coded) → Short a → Short b → key a ≡ key b → a ≡ b
-key-tells a b h k e =
-    same-coded-equal a b (sym (keys-compared a b [] [] h k) ∙ rw e (keys-compared b b [] [] k k ∙ equal-same-coded b))
