@@ -2,9 +2,11 @@
  * Answers a stream of cases on standard input, as the program `second --many` does.
  *
  * A case is the length of the working buffer in four bytes, that of the answer buffer in four, that of the sheet in two (low byte
- * first), and the sheet. The line of a case is number, count, place, written length, and a sum over each buffer to its last byte.
+ * first), and the sheet. The line of a case is number, count, place and written length, and every byte of the two buffers: those written
+ * one by one, the others in a word where they are as they were lent, or all zero, and one by one where they are neither.
  */
 #include <inttypes.h>
+#include <stdbool.h>
 #include <stdio.h>
 #include <stdlib.h>
 #include <string.h>
@@ -21,12 +23,27 @@ static uint32_t low_first(const uint8_t *bytes, size_t length) {
     return number;
 }
 
-static uint32_t sum(const uint8_t *bytes, size_t length) {
-    uint32_t sum = 7;
+static bool all(const uint8_t *bytes, size_t length, uint8_t byte) {
     for (size_t i = 0; i < length; i++) {
-        sum = sum * 31 + bytes[i] + 1;
+        if (bytes[i] != byte) {
+            return false;
+        }
     }
-    return sum;
+    return true;
+}
+
+static void print_each(const uint8_t *bytes, size_t length) {
+    for (size_t i = 0; i < length; i++) {
+        printf(" %02x", bytes[i]);
+    }
+}
+
+static void print_lent(const uint8_t *bytes, size_t length, uint8_t fill) {
+    if (all(bytes, length, fill)) {
+        fputs(" unchanged", stdout);
+    } else {
+        print_each(bytes, length);
+    }
 }
 
 /* A buffer of just this length; one byte where none is asked for. */
@@ -45,8 +62,24 @@ static void answer_case(const uint8_t *sheet, size_t sheet_length, size_t work_l
     uint64_t told[BRADOVUSC_TOLD];
     uint32_t number =
         bradovusc_clash(sheet, sheet_length, work, work_length, answer, answer_length, told, BRADOVUSC_TOLD);
-    printf("%" PRIu32 " %" PRIu64 " %" PRIu64 " %" PRIu64 " %" PRIu32 " %" PRIu32 "\n", number, told[BRADOVUSC_COUNT],
-           told[BRADOVUSC_PLACE], told[BRADOVUSC_WRITTEN], sum(answer, answer_length), sum(work, work_length));
+    uint64_t written = told[BRADOVUSC_WRITTEN];
+    printf("%" PRIu32 " %" PRIu64 " %" PRIu64 " %" PRIu64, number, told[BRADOVUSC_COUNT], told[BRADOVUSC_PLACE], written);
+    if (written <= answer_length) {
+        fputs(", written", stdout);
+        print_each(answer, written);
+        fputs(", rest", stdout);
+        print_lent(answer + written, answer_length - written, ANSWER_FILL);
+    } else {
+        fputs(", more than the answer buffer", stdout);
+        print_each(answer, answer_length);
+    }
+    fputs(", work", stdout);
+    if (all(work, work_length, 0)) {
+        fputs(" all zero", stdout);
+    } else {
+        print_lent(work, work_length, WORK_FILL);
+    }
+    putchar('\n');
     free(work);
     free(answer);
 }

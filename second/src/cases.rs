@@ -61,17 +61,44 @@ impl Case {
 }
 
 impl After {
-    /// Six decimal numbers: number, count, place, written, sum of the answer
-    /// buffer, sum of the working buffer.
+    /// Number, count, place and written length; then every byte of the two
+    /// buffers: those written one by one, the others in a word where they are
+    /// as they were lent, or all zero, and one by one where they are neither.
     pub fn line(&self) -> String {
         let Outcome { number, count, place, written } = self.outcome;
-        format!("{number} {count} {place} {written} {} {}", sum(&self.answer), sum(&self.work))
+        let mut line = format!("{number} {count} {place} {written}");
+        match self.answer.split_at_checked(written) {
+            Some((records, rest)) => {
+                line += ", written";
+                push_each(&mut line, records);
+                line += ", rest";
+                push_lent(&mut line, rest, ANSWER_FILL);
+            }
+            None => {
+                line += ", more than the answer buffer";
+                push_each(&mut line, &self.answer);
+            }
+        }
+        line += ", work";
+        if self.work.iter().all(|&byte| byte == 0) {
+            line += " all zero";
+        } else {
+            push_lent(&mut line, &self.work, WORK_FILL);
+        }
+        line
     }
 }
 
-/// Starts at 7; for each byte, times 31 plus the byte plus 1, modulo 2^32.
-pub fn sum(bytes: &[u8]) -> u32 {
-    bytes
-        .iter()
-        .fold(7, |h: u32, &byte| h.wrapping_mul(31).wrapping_add(u32::from(byte)).wrapping_add(1))
+fn push_lent(line: &mut String, bytes: &[u8], fill: u8) {
+    if bytes.iter().all(|&byte| byte == fill) {
+        *line += " unchanged";
+    } else {
+        push_each(line, bytes);
+    }
+}
+
+fn push_each(line: &mut String, bytes: &[u8]) {
+    for byte in bytes {
+        *line += &format!(" {byte:02x}");
+    }
 }

@@ -3,9 +3,10 @@
 
 use std::collections::{BTreeMap, BTreeSet};
 
-use second::cases::{sum, Case};
+use second::cases::{After, Case};
 use second::make::{case, long, Dice};
 use second::pattern::{Pattern, Places, Rule, ONLY_START};
+use second::Outcome;
 
 fn cases(seed: u64, number: usize) -> Vec<Case> {
     let mut dice = Dice::new(seed);
@@ -57,10 +58,18 @@ fn cases_are_read_as_written() {
 }
 
 #[test]
-fn sums() {
-    assert_eq!(sum(&[]), 7);
-    assert_eq!(sum(&[0]), 7 * 31 + 1);
-    assert_eq!(sum(&[5, 255]), (7 * 31 + 6) * 31 + 256);
+fn a_line_has_every_byte() {
+    let line = |number, written, answer: &[u8], work: &[u8]| {
+        let outcome = Outcome { number, count: 3, place: 0, written };
+        After { outcome, answer: answer.to_vec(), work: work.to_vec() }.line()
+    };
+    assert_eq!(
+        line(0, 2, &[86, 10, 165, 165], &[0, 0]),
+        "0 3 0 2, written 56 0a, rest unchanged, work all zero"
+    );
+    assert_eq!(line(11, 0, &[], &[90]), "11 3 0 0, written, rest unchanged, work unchanged");
+    assert_eq!(line(1, 0, &[165, 1], &[0, 9]), "1 3 0 0, written, rest a5 01, work 00 09");
+    assert_eq!(line(0, 2, &[86], &[]), "0 3 0 2, more than the answer buffer 56, work all zero");
 }
 
 // ------------------------------------------- a good sheet, read once more

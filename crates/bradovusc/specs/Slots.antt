@@ -1,16 +1,18 @@
 -- The working buffer: one slot of 144 bytes for each situation entered. A slot's key is what makes two situations the same; behind it
 -- stand the number of the parent's slot and the step that made it.
-use Prim.Native.Nat.{ℕ, zero, suc, _+_, _-_, _*_, _/_, _%_, _≤_}
+use Prim.Native.Nat.{ℕ, zero, suc, _+_, _-_, _*_, _/_, _%_, _≤_, _<_}
 use mathlib.Core.Path.{_≡_}
-use mathlib.Core.Bool.{Bool, false, _&&_, _||_}
+use mathlib.Core.Bool.{Bool, true, false, _&&_, _||_}
 use mathlib.Core.List.{List, [], _∷_, _++_, List·Memᴰ}
 use lib.Dec.{eqb}
 use lib.ListN.{length, getD, take, drop, replicate}
-use Rattle.paper.specs.Lists.{each, same-by}
+use Rattle.paper.specs.Lists.{any, each, same-by}
 use Rattle.paper.specs.Numbers.{fields, longest-side, situation-bytes}
-use Rattle.bradovusc.specs.Coded.{Coded}
+use Rattle.bradovusc.specs.Coded.{Coded, same-coded}
 use Rattle.bradovusc.specs.Struct.{as-struct, Short}
 use Rattle.bradovusc.specs.declared.situation.Situation.{Situation}
+use Rattle.bradovusc.specs.declared.slots.Seen.{Seen}
+use Rattle.bradovusc.specs.declared.slots.Seen.the-variants.{At, Nowhere}
 
 -- a mask in four bytes, low first
 abbrev pub mask-width : ℕ
@@ -102,3 +104,13 @@ has-key slot k =
 abbrev pub key-entered : List ℕ → ℕ → List ℕ → Bool
 key-entered work zero k = false
 key-entered work (suc n) k = has-key (slot-part work n) k || key-entered work n k
+
+-- among the first n slots: the number of one that has this key, or that none has it
+abbrev pub Key-at : List ℕ → ℕ → List ℕ → Seen → Type 0
+Key-at work n k (At i) = (i < n) × (has-key (slot-part work i) k ≡ true)
+Key-at work n k Nowhere = key-entered work n k ≡ false
+
+-- "one already entered": the number of a slot that holds this situation, or that none holds it
+abbrev pub Entered-at : List Slot → Coded → Seen → Type 0
+Entered-at ss k (At i) = (i < length ss) × ((d : Slot) → same-coded (getD ss i d .at) k ≡ true)
+Entered-at ss k Nowhere = any (λ (x : Slot). same-coded (x .at) k) ss ≡ false

@@ -21,6 +21,7 @@ use crate::situation::Fate;
 use crate::situation::NO_TOKEN;
 use crate::situation::Situation;
 use crate::slots;
+use crate::slots::Seen;
 use patterns::CHARACTERS;
 use patterns::PLACES;
 
@@ -109,10 +110,11 @@ fn offer(work: &mut [u8], room: usize, run: Run, parent: usize, step: u8, child:
         },
         Fate::Made => {
             let s = child.at;
-            if slots::look_up(work, n, s) {
-                return run;
+            let seen = slots::look_up(work, n, s);
+            match seen {
+                Seen::At(_) => run,
+                Seen::Nowhere => enter(work, room, n, parent, step, s),
             }
-            enter(work, room, n, parent, step, s)
         }
     }
 }

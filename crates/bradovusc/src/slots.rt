@@ -4,11 +4,11 @@ ghost use mathlib.Core.List.{List, _∷_, [], _++_};
 ghost use Prim.Native.Nat.{ℕ, _+_, _*_, _<_, _≤_};
 ghost use lib.ListN.{length, getD, replicate};
 ghost use lib.Dec.{eqb};
-ghost use Rattle.paper.specs.Lists.{any, each, same-by};
+ghost use Rattle.paper.specs.Lists.{each, same-by};
 ghost use Rattle.paper.specs.Numbers.{fields, longest-side, situation-bytes};
-ghost use Rattle.bradovusc.specs.Coded.{Coded, same-coded};
+ghost use Rattle.bradovusc.specs.Coded.{Coded};
 ghost use Rattle.bradovusc.specs.Struct.{as-struct, Short};
-ghost use Rattle.bradovusc.specs.Slots.{mask-width, mask-bytes, left-at, origin-width, struct-key, origin-bytes, struct-slot, key-bytes, sets-bytes, Slot, slot-bytes, Holds-slots, has-key, key-entered};
+ghost use Rattle.bradovusc.specs.Slots.{mask-width, mask-bytes, left-at, origin-width, struct-key, origin-bytes, struct-slot, key-bytes, sets-bytes, Slot, slot-bytes, Holds-slots, has-key, Key-at, Entered-at};
 use crate::situation;
 use crate::situation::Situation;
 
@@ -30,6 +30,12 @@ const SETS: usize = RIGHT + SIDE;
 const KEY: usize = SETS + MASK * FIELDS;
 
 const REST: usize = KEY + 3;
+
+// Where a situation is entered: the number of its slot.
+pub enum Seen {
+    At(usize),
+    Nowhere,
+}
 
 // A copy.
 fn put(to: &mut [u8], from: &[u8])
@@ -252,27 +258,27 @@ fn same_key(slot: &[u8], key: &[u8]) -> bool
 }
 
 // From the last slot to the first: a child is often the same as one that was entered just before.
-fn entered(work: &[u8], n: usize, key: &[u8]) -> bool
+fn entered(work: &[u8], n: usize, key: &[u8]) -> Seen
     requires { ⌜ situation-bytes * n ≤ length (now work) ⌝ }
     requires { ⌜ (length (now key) ≡ key-bytes) × (getD (now key) 0 0 ≤ longest-side) × (getD (now key) 1 0 ≤ longest-side) ⌝ }
-    ensures { λ r. ⌜ r ≡ key-entered (now (work .entry)) n (now (key .entry)) ⌝ }
+    ensures { λ r. ⌜ Key-at (now (work .entry)) n (now (key .entry)) r ⌝ }
 {
     let mut i = n;
     while i > 0 {
         i -= 1;
         let at = SLOT * i;
         if same_key(&work[at..at + SLOT], key) {
-            return true;
+            return Seen::At(i);
         }
     }
-    false
+    Seen::Nowhere
 }
 
-// Is the situation already entered, in one of the first n slots?
-pub fn look_up(work: &[u8], n: usize, s: Situation) -> bool
+// Is the situation already entered, in one of the first n slots, and where?
+pub fn look_up(work: &[u8], n: usize, s: Situation) -> Seen
     requires { ⌜ situation-bytes * n ≤ length (now work) ⌝ }
     requires { ⌜ (s .«left_len» ≤ longest-side) × (s .«right_len» ≤ longest-side) ⌝ }
-    ensures { λ r. ⌜ ((k : Coded) (ss : List Slot) → s ≡ as-struct k → Short k → Holds-slots (now (work .entry)) ss → length ss ≡ n → r ≡ any (λ (x : Slot). same-coded (x .at) k) ss) ⌝ }
+    ensures { λ r. ⌜ ((k : Coded) (ss : List Slot) → s ≡ as-struct k → Short k → Holds-slots (now (work .entry)) ss → length ss ≡ n → Entered-at ss k r) ⌝ }
 {
     let mut key = [0u8; KEY];
     put_key(&mut key, s);

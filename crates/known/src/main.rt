@@ -1,6 +1,5 @@
-// The known sheets of document 01, from a stream of cases on standard input. A line for each: number, count, place and bytes written, the
-// written bytes, and what became of the rest of the answer buffer and of the working buffer. The buffers are lent full of bytes that are
-// not zero. x is field 0, y field 1; the room is 455 situations and the answer buffer 4,096 bytes where nothing else is said.
+// The known sheets of document 01, from a stream of cases on standard input. The buffers are lent full of bytes that are not zero. x is
+// field 0, y field 1; the room is 455 situations and the answer buffer 4,096 bytes where nothing else is said.
 //
 //  1  both sides empty
 //  2  `A` and `B`
@@ -18,8 +17,6 @@
 // 14  sheet S
 // 15  sheet S, an answer buffer of 11 bytes
 // 16  sheet S, room 5
-use stream::Show;
-
 fn main() {
-    stream::answer_all(Show::Bytes);
+    stream::answer_all();
 }

@@ -1,4 +1,5 @@
-// The bytes written to the answer buffer, and what became of the other bytes lent.
+// Every byte of the two buffers: those written to the answer buffer one by one; the others in a word where they are as they were lent, or
+// all zero, and one by one where they are neither.
 use crate::case::ANSWER_FILL;
 use crate::case::WORK_FILL;
 use crate::print::print;
@@ -8,9 +9,26 @@ pub fn print_bytes(work: &[u8], answer: &[u8], written: usize) {
     if written <= answer.len() {
         print(b", written");
         print_each(&answer[0..written]);
-        print_rest(&answer[written..]);
+        print(b", rest");
+        print_lent(&answer[written..], ANSWER_FILL);
+    } else {
+        print(b", more than the answer buffer");
+        print_each(answer);
     }
-    print_work(work);
+    print(b", work");
+    if all(work, 0) {
+        print(b" all zero");
+    } else {
+        print_lent(work, WORK_FILL);
+    }
+}
+
+fn print_lent(bytes: &[u8], fill: u8) {
+    if all(bytes, fill) {
+        print(b" unchanged");
+    } else {
+        print_each(bytes);
+    }
 }
 
 fn print_each(bytes: &[u8]) {
@@ -19,24 +37,6 @@ fn print_each(bytes: &[u8]) {
         print(b" ");
         print_byte(bytes[i]);
         i += 1;
-    }
-}
-
-fn print_rest(rest: &[u8]) {
-    if all(rest, ANSWER_FILL) {
-        print(b", rest unchanged");
-    } else {
-        print(b", rest changed");
-    }
-}
-
-fn print_work(work: &[u8]) {
-    if all(work, 0) {
-        print(b", work all zero");
-    } else if all(work, WORK_FILL) {
-        print(b", work unchanged");
-    } else {
-        print(b", work neither zero nor unchanged");
     }
 }
 

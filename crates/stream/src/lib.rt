@@ -1,8 +1,8 @@
-// Answers every case of a stream on standard input and prints a line for each, for programs that try the library on many sheets.
+// Answers every case of a stream on standard input and prints a line for each: number, count, place and written length, and every byte
+// of the two buffers as they are afterwards. For programs that try the library on many sheets.
 mod bytes;
 mod case;
 mod print;
-mod sums;
 
 use bradovusc::Numbers;
 use print::print;
@@ -13,38 +13,29 @@ const WORK: usize = 65663;
 
 const ANSWER: usize = 4096;
 
-// What a line shows of the two buffers behind the answer.
-pub enum Show {
-    // a sum of each
-    Sums,
-    // the bytes written, and what became of the others
-    Bytes,
-}
-
-pub fn answer_all(show: Show) {
+pub fn answer_all() {
     let mut sheet = [0u8; case::SHEET];
     let mut work = [0u8; WORK];
     let mut answer = [0u8; ANSWER];
-    answer_each(show, &mut sheet, &mut work, &mut answer);
+    answer_each(&mut sheet, &mut work, &mut answer);
 }
 
 // A proved loop has to end, and nothing says that a stream does: the turns are counted down from a number that no run uses up.
-fn answer_each(show: Show, sheet: &mut [u8], work: &mut [u8], answer: &mut [u8]) {
+fn answer_each(sheet: &mut [u8], work: &mut [u8], answer: &mut [u8]) {
     let mut turns = u64::MAX;
-    while turns > 0 && answer_next(show, sheet, work, answer) {
+    while turns > 0 && answer_next(sheet, work, answer) {
         turns -= 1;
     }
 }
 
 // Whether there was a case.
-fn answer_next(show: Show, sheet: &mut [u8], work: &mut [u8], answer: &mut [u8]) -> bool {
+fn answer_next(sheet: &mut [u8], work: &mut [u8], answer: &mut [u8]) -> bool {
     let case = case::next(sheet, work, answer);
     let sheet_len = case.sheet;
     let work_len = case.work;
     let answer_len = case.answer;
     if case.there {
         answer_case(
-            show,
             &sheet[0..sheet_len],
             &mut work[0..work_len],
             &mut answer[0..answer_len],
@@ -53,13 +44,10 @@ fn answer_next(show: Show, sheet: &mut [u8], work: &mut [u8], answer: &mut [u8])
     case.there
 }
 
-fn answer_case(show: Show, sheet: &[u8], work: &mut [u8], answer: &mut [u8]) {
+fn answer_case(sheet: &[u8], work: &mut [u8], answer: &mut [u8]) {
     let told = bradovusc::in_numbers(bradovusc::clash(sheet, work, answer));
     print_answer(told);
-    match show {
-        Show::Sums => sums::print_sums(work, answer),
-        Show::Bytes => bytes::print_bytes(work, answer, told.written),
-    }
+    bytes::print_bytes(work, answer, told.written);
     print(b"\n");
 }
 

@@ -8,14 +8,16 @@ use mathlib.Core.List.{List, [], _∷_, _++_}
 use Rattle.paper.specs.Lists.{any, upto, each}
 use Rattle.paper.specs.Search.{Child}
 use Rattle.paper.proofs.Tests.{true-false}
-use Rattle.paper.proofs.Made.{upto-snoc}
+use Rattle.paper.proofs.Lists.{mem-any}
+use Rattle.paper.proofs.Made.{upto-snoc, getD-mem}
 use Rattle.bradovusc.specs.Coded.{Coded, Settled, dropped, above, made, as-child, same-coded}
 use Rattle.bradovusc.specs.Lent.{Lent}
 use Rattle.bradovusc.specs.Run.{is-going, Running, enter-slot, offer-slot, offer-slots}
-use Rattle.bradovusc.specs.Slots.{Slot}
+use Rattle.bradovusc.specs.Slots.{Slot, Entered-at}
 use Rattle.bradovusc.specs.declared.search.Run.{Run}
 use Rattle.bradovusc.specs.declared.search.Status.{Status}
 use Rattle.bradovusc.specs.declared.search.Status.the-variants.{Going, Found, UsedUp, NoRoom, TooLong}
+use Rattle.bradovusc.specs.declared.slots.Seen.the-variants.{At, Nowhere}
 use Rattle.bradovusc.proofs.slots.Rows.{each-snoc}
 
 module _ (room p : ℕ) where
@@ -61,15 +63,16 @@ module _ {work : List ℕ} {run : Run} {R : Running} (l : Lent work run R) (room
   offered-above h = rw (still true h) (record { holds = l .holds; entered = l .entered; status = refl })
 
   module _ (t : Coded) (h : is-going (run .status) ≡ true) where
-    abbrev seen : Bool
-    seen = any (λ (x : Slot). same-coded (x .at) t) (R .slots)
-
-    pub offered-seen : seen ≡ true → Lent work run (offer-slots room p R (as-child step (made t)))
+    -- "one already entered is dropped"
+    pub offered-seen : (i : ℕ) → Entered-at (R .slots) t (At i) → Lent work run (offer-slots room p R (as-child step (made t)))
     unfolding offer-slot
-    offered-seen e =
-        rw (still true h, e) (record { holds = l .holds; entered = l .entered; status = going (run .status) h })
+    offered-seen i e =
+        let d : Slot = record { at = t; parent = p; step = step } in
+        let seen : any (λ (x : Slot). same-coded (x .at) t) (R .slots) ≡ true =
+        mem-any (λ (x : Slot). same-coded (x .at) t) (R .slots) (getD-mem (R .slots) d i (e .0)) (e .1 d) in
+        rw (still true h, seen) (record { holds = l .holds; entered = l .entered; status = going (run .status) h })
 
-    pub offered-new : {work′ : List ℕ} {run′ : Run} → seen ≡ false
+    pub offered-new : {work′ : List ℕ} {run′ : Run} → Entered-at (R .slots) t Nowhere
         → Lent work′ run′ (enter-slot room (R .slots) (record { at = t; parent = p; step = step }))
         → Lent work′ run′ (offer-slots room p R (as-child step (made t)))
     unfolding offer-slot

@@ -70,7 +70,11 @@ module _ (x k : List ℕ) where
   lengths-same l r =
       rw (eq-eqb (getD x 0 0) (getD k 0 0) l, eq-eqb (getD x 1 0) (getD k 1 0) r, add-sub-cancel-left left-at (getD k 0 0), add-sub-cancel-left right-at (getD k 1 0))
 
--- the last of i slots, as the code's range has it, and those before
+-- the slot i, as the code's range has it
+pub slot-range : (work k : List ℕ) (i : ℕ) → has-key (take (situation-bytes * i + situation-bytes - situation-bytes * i) (drop (situation-bytes * i) work)) k ≡ true → has-key (slot-part work i) k ≡ true
+slot-range work k i e = rw (add-sub-cancel-left (situation-bytes * i) situation-bytes) at e
+
+-- the last of i slots, and those before
 pub last-slot : (work k : List ℕ) (i : ℕ) (r : Bool) → 0 < i → r ≡ has-key (take (situation-bytes * (i - 1) + situation-bytes - situation-bytes * (i - 1)) (drop (situation-bytes * (i - 1)) work)) k → key-entered work i k ≡ (r || key-entered work (i - 1) k)
 last-slot work k zero r h e = absurd (omega arith)
 last-slot work k (suc i) r h e =

@@ -16,7 +16,9 @@ use Rattle.paper.specs.Numbers.{situation-bytes}
 use Rattle.paper.proofs.Lists.{any-append}
 use Rattle.bradovusc.specs.Coded.{Coded, same-coded}
 use Rattle.bradovusc.specs.Struct.{as-struct, Short}
-use Rattle.bradovusc.specs.Slots.{Slot, Holds-slots, slot-bytes, slots-bytes, slot-part, key, key-bytes, has-key, key-entered}
+use Rattle.bradovusc.specs.Slots.{Slot, Holds-slots, slot-bytes, slots-bytes, slot-part, key, key-bytes, has-key, key-entered, Key-at, Entered-at}
+use Rattle.bradovusc.specs.declared.slots.Seen.{Seen}
+use Rattle.bradovusc.specs.declared.slots.Seen.the-variants.{At, Nowhere}
 use Rattle.bradovusc.proofs.slots.Parts.{part-of-front}
 use Rattle.bradovusc.proofs.slots.Rows.{Even, each-snoc, length-rows, row-at}
 use Rattle.bradovusc.proofs.slots.Keys.{behind-key, behind-at}
@@ -86,17 +88,23 @@ module _ {work : List ℕ} {ss : List Slot} (h : Holds-slots work ss) (k : Coded
   abbrev is-it : Slot → Bool
   is-it x = same-coded (x .at) k
 
+  -- The slot i has the situation's key exactly if it holds the situation.
+  slot-is : (i : ℕ) (d : Slot) → i < length ss → has-key (slot-part work i) (key k) ≡ is-it (getD ss i d)
+  slot-is i d n = rw (slot-held h i d n) (slot-compared (getD ss i d) k (short-held h i d n) s)
+
   entered-first : (i : ℕ) → i ≤ length ss → key-entered work i (key k) ≡ any is-it (take i ss)
   entered-first zero n = refl
   entered-first (suc i) n =
       let d : Slot = record { at = k; parent = 0; step = 0 } in
       let x : Slot = getD ss i d in
-      let a : has-key (slot-part work i) (key k) ≡ is-it x =
-      rw (slot-held h i d n) (slot-compared x k (short-held h i d n) s) in
       let b : any is-it (take (suc i) ss) ≡ (any is-it (take i ss) || is-it x) =
       rw (take-suc ss i d n) (any-append is-it (take i ss) (x ∷ []) ∙ rw or-false) in
-      rw (a, entered-first i (omega arith)) (or-comm (is-it x) (any is-it (take i ss)) ∙ sym b)
+      rw (slot-is i d n, entered-first i (omega arith)) (or-comm (is-it x) (any is-it (take i ss)) ∙ sym b)
 
-  -- A situation's key is that of a slot exactly if the situation is that of the slot.
-  pub entered-slots : key-entered work (length ss) (key k) ≡ any is-it ss
+  entered-slots : key-entered work (length ss) (key k) ≡ any is-it ss
   entered-slots = entered-first (length ss) (omega arith) ∙ ap (λ (l : List Slot). any is-it l) (take-length ss)
+
+  -- A slot with the situation's key holds the situation; where none has the key, none holds it.
+  pub entered-at : (r : Seen) → Key-at work (length ss) (key k) r → Entered-at ss k r
+  entered-at (At i) e = (e .0, λ (d : Slot). sym (slot-is i d (e .0)) ∙ e .1)
+  entered-at Nowhere e = sym entered-slots ∙ e

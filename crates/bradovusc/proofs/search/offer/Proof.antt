@@ -37,33 +37,24 @@ look-up-requires c κs =
     let s = c .before .before .before .before .before .before .before .pre .1 (c .before .before .enum-told3 .given .1) in
     (search needs, (s .left, s .right))
 
-same-length : tie.Need-same-length
-same-length c = search needs
+enum-told-4 : tie.Need-enum-told-4
+enum-told-4 c = search needs
 
-returns-2 : tie.Need-returns-2
-returns-2 c =
-    let e = c .before .before .before .before .before .before in
-    let a = e .before .before .before .args in
-    record {
-      within = search needs;
-      lent = λ R x l b s.
-          let m = fate-made x (a .child) b (c .before .before .before .before .enum-told3 .given .1) in
-          let found = c .before .look-up .ensures (m .0) (R .slots) (m .2) (s (m .0) (m .1)) (l .holds) (sym (l .entered)) in
-          rw (m .1) (offered-seen l (a .room) (a .parent) (a .step) (m .0) (going e) (sym found ∙ c .if2 .taken));
-    }
+enum-told-5 : tie.Need-enum-told-5
+enum-told-5 c = search needs
 
 enter-requires : tie.Need-enter-requires
 enter-requires c κs =
-    let m = c .before .before .before .before .before in
+    let m = c .before .before .before .before .before .before in
     (search needs, m .before .before .before .before .before .pre .1 (m .enum-told3 .given .1))
 
-returns-3 : tie.Need-returns-3
-returns-3 c =
+returns-2 : tie.Need-returns-2
+returns-2 c =
     let child = c .before .before .before .before .before .args .child in
     record { within = search needs; lent = λ R x l b s. rw (fate-dropped x child b (c .enum-told .given .1)) l }
 
-returns-4 : tie.Need-returns-4
-returns-4 c =
+returns-3 : tie.Need-returns-3
+returns-3 c =
     let e = c .before .before in
     let a = e .before .before .before .args in
     record {
@@ -72,24 +63,43 @@ returns-4 c =
           rw (fate-above x (a .child) b (c .enum-told2 .given .1)) (offered-above l (a .room) (a .parent) (a .step) (going e));
     }
 
+same-length : tie.Need-same-length
+same-length c = search needs
+
+returns-4 : tie.Need-returns-4
+returns-4 c =
+    let u = c .before .before in
+    let m = u .before .before .before in
+    let a = m .before .before .before .before .before .args in
+    record {
+      within = search needs;
+      lent = λ R x l b s.
+          let k = fate-made x (a .child) b (m .enum-told3 .given .1) in
+          let seen = u .look-up .ensures (k .0) (R .slots) (k .2) (s (k .0) (k .1)) (l .holds) (sym (l .entered)) in
+          rw (k .1)
+          (offered-seen l (a .room) (a .parent) (a .step) (k .0) (going (m .before .before)) (c .enum-told4 .given .0 .0)
+          (rw (c .enum-told4 .given .1) at seen));
+    }
+
 same-length-2 : tie.Need-same-length-2
 same-length-2 c = search needs
 
 returns-5 : tie.Need-returns-5
 returns-5 c =
     let n = c .before .before in
-    let u = n .before .before in
-    let e = u .before .before .before .before .before .before in
-    let a = e .before .before .before .args in
+    let u = n .before .before .before .before in
+    let m = u .before .before .before in
+    let a = m .before .before .before .before .before .args in
     record {
       within = search needs;
       lent = λ R x l b s.
-          let m = fate-made x (a .child) b (u .before .before .before .before .enum-told3 .given .1) in
-          let short = s (m .0) (m .1) in
-          let found = u .before .look-up .ensures (m .0) (R .slots) (m .2) short (l .holds) (sym (l .entered)) in
-          rw (m .1)
-          (offered-new l (a .room) (a .parent) (a .step) (m .0) (going e) (sym found ∙ u .if2 .left)
-          (n .enter .ensures .lent (m .0) (R .slots) (m .2) short (l .holds) (sym (l .entered))));
+          let k = fate-made x (a .child) b (m .enum-told3 .given .1) in
+          let short = s (k .0) (k .1) in
+          let seen = u .look-up .ensures (k .0) (R .slots) (k .2) short (l .holds) (sym (l .entered)) in
+          rw (k .1)
+          (offered-new l (a .room) (a .parent) (a .step) (k .0) (going (m .before .before))
+          (rw (n .before .before .enum-told5 .given .1) at seen)
+          (n .enter .ensures .lent (k .0) (R .slots) (k .2) short (l .holds) (sym (l .entered))));
     }
 
 pub offer-spec : {M : Type 1} → statement M
@@ -102,10 +112,12 @@ offer-spec =
     enum-told-2
     enum-told-3
     look-up-requires
-    same-length
-    returns-2
+    enum-told-4
+    enum-told-5
     enter-requires
+    returns-2
     returns-3
+    same-length
     returns-4
     same-length-2
     returns-5)

@@ -1,10 +1,10 @@
 -- `entered` looks through the slots from the last to the first. The loop's invariant: the key is that of one of the n slots exactly if
--- it is that of one of those not yet looked at. Follows from `last-slot`.
-use Prim.Native.Nat.{_≤_}
+-- it is that of one of those not yet looked at. Follows from `slot-range` and `last-slot`.
+use Prim.Native.Nat.{_-_, _≤_}
 use native.Mathlib.Omega.{arith}
 use mathlib.Core.Path.{_≡_, refl, sym, _∙_}
 use Rattle.bradovusc.specs.Slots.{key-entered}
-use Rattle.bradovusc.proofs.slots.Compared.{last-slot}
+use Rattle.bradovusc.proofs.slots.Compared.{slot-range, last-slot}
 use borrow.Author.Needs.{needs}
 use Rattle.bradovusc.proofs.slots.entered.Statement.{statement}
 use Rattle.bradovusc.proofs.slots.entered.Tie as tie
@@ -42,11 +42,10 @@ same-key-requires c κs = search needs
 returns : tie.Need-returns Inv-loop μ-loop
 returns c =
     let at = c .before .before .before .before in
-    let args = at .before .before .before .args in
-    sym
-    (at .loop .inv .1
-    ∙ last-slot (args .work .now) (args .key .now) (at .loop .i) (c .before .same-key .result) (omega arith) (c .before .same-key .ensures)
-    ∙ rw (c .if1 .taken))
+    let args = at .before .before .before .args in (
+      search needs,
+      slot-range (args .work .now) (args .key .now) (at .loop .i - 1) (sym (c .before .same-key .ensures) ∙ c .if1 .taken),
+    )
 
 loop-less : tie.Need-loop-less Inv-loop μ-loop
 loop-less c = search needs
@@ -64,7 +63,7 @@ loop-again c =
 returns-2 : tie.Need-returns-2 Inv-loop μ-loop
 returns-2 c =
     let n : c .before .loop .i ≡ 0 = omega arith in
-    sym (c .before .loop .inv .1 ∙ rw n)
+    c .before .loop .inv .1 ∙ rw n
 
 pub entered-spec : {M : Type 1} → statement M
 entered-spec =

@@ -1,7 +1,6 @@
--- `look_up` says whether a situation is that of one of the slots. Follows from `entered-slots`.
-use mathlib.Core.Path.{_∙_}
+-- `look_up` says which slot holds a situation. Follows from `entered-at`.
 use Rattle.bradovusc.specs.Slots.{struct-key}
-use Rattle.bradovusc.proofs.slots.Held.{entered-slots}
+use Rattle.bradovusc.proofs.slots.Held.{entered-at}
 use borrow.Author.Needs.{needs}
 use Rattle.bradovusc.proofs.slots.look_up.Statement.{statement}
 use Rattle.bradovusc.proofs.slots.look_up.Tie as tie
@@ -25,7 +24,7 @@ entered-requires c κs =
 returns : tie.Need-returns
 returns c k ss e s h n =
     let put = c .before .before .before .put-key in
-    c .entered .ensures ∙ rw (put .ensures, e, ← n) (entered-slots h k s)
+    entered-at h k s (c .entered .result) (rw (put .ensures, e, ← n) at (c .entered .ensures))
 
 pub look-up-spec : {M : Type 1} → statement M
 look-up-spec =
