@@ -19,8 +19,8 @@ use Rattle.paper.proofs.Room.{ended-turns}
 use Rattle.paper.proofs.Searched.{settled}
 use Rattle.bradovusc.specs.Coded.{Coded, Tables, finished-coded, same-coded, children-coded}
 use Rattle.bradovusc.specs.Codes.{status-of}
-use Rattle.bradovusc.specs.Slots.{Slot}
-use Rattle.bradovusc.specs.Run.{Running, is-going, enter-slot, offer-slot, offer-slots, nowhere, no-slot, slot-at, take-slot, slot-turns, slot-search}
+use Rattle.bradovusc.specs.Slots.{Slot, nowhere, no-slot, slot-at}
+use Rattle.bradovusc.specs.Run.{Running, is-going, enter-slot, offer-slot, offer-slots, take-slot, slot-turns, slot-search}
 use Rattle.bradovusc.specs.declared.search.Status.the-variants.{Going}
 use Rattle.bradovusc.proofs.slots.Situations.{same-coded-equal, equal-same-coded}
 

@@ -31,7 +31,8 @@ use Rattle.patterns.proofs.Masks.{Few}
 use Rattle.bradovusc.specs.Coded.{Coded, finished-coded, same-coded, children-coded}
 use Rattle.bradovusc.specs.Codes.{code-side, code-situation, code-move, status-of, tables-of}
 use Rattle.bradovusc.specs.Made.{question-coded}
-use Rattle.bradovusc.specs.Run.{Running, slot-at, slot-search, given-coded, text-back}
+use Rattle.bradovusc.specs.Run.{Running, slot-search, given-coded, text-back}
+use Rattle.bradovusc.specs.Slots.{slot-at}
 use Rattle.bradovusc.proofs.Numbered.{entry-at, Linked, linked-length, linked-at, slots-status, slots-linked}
 use Rattle.bradovusc.proofs.TextBack.{text-back-is}
 use Rattle.bradovusc.proofs.CodedSides.{Known-side, known-side, same-sides, finished-sides}

@@ -5,8 +5,8 @@ use native.Mathlib.Omega.{arith}
 use mathlib.Core.Path.{_≡_, sym, ap, _∙_}
 use mathlib.Core.List.{List, [], _++_}
 use lib.ListN.{length}
-use Rattle.bradovusc.specs.Slots.{Slot}
-use Rattle.bradovusc.specs.Run.{slot-at, given-coded, text-back}
+use Rattle.bradovusc.specs.Slots.{Slot, slot-at}
+use Rattle.bradovusc.specs.Run.{given-coded, text-back}
 
 module _
     (ss : List Slot) (f : ℕ) (text : ℕ → List ℕ)

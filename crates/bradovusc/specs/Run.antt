@@ -4,12 +4,12 @@ use Prim.Native.Nat.{ℕ, zero, suc, _+_}
 use mathlib.Core.Bool.{Bool, true, false, cond, _&&_, _||_}
 use mathlib.Core.List.{List, [], _∷_, _++_}
 use lib.Dec.{leb, ltb, eqb}
-use lib.ListN.{length, getD}
+use lib.ListN.{length}
 use Rattle.paper.specs.Lists.{any, only}
 use Rattle.paper.specs.Numbers.{characters, field-token}
 use Rattle.paper.specs.Search.{Child, long, child}
 use Rattle.bradovusc.specs.Coded.{Coded, Tables, front, finished-coded, same-coded, children-coded}
-use Rattle.bradovusc.specs.Slots.{Slot}
+use Rattle.bradovusc.specs.Slots.{Slot, slot-at}
 use Rattle.bradovusc.specs.declared.search.Status.{Status}
 use Rattle.bradovusc.specs.declared.search.Status.the-variants.{Going, Found, UsedUp, NoRoom, TooLong}
 
@@ -44,16 +44,6 @@ offer-slot room k run c = cond (is-going (run .status)) (offer-going room k (run
 abbrev pub offer-slots : ℕ → ℕ → Running → List (Child Coded ℕ) → Running
 offer-slots room k run [] = run
 offer-slots room k run (c ∷ cs) = offer-slots room k (offer-slot room k run c) cs
-
-abbrev pub nowhere : Coded
-nowhere = record { left = []; right = []; sets = [] }
-
-abbrev pub no-slot : Slot
-no-slot = record { at = nowhere; parent = 0; step = 0 }
-
--- the situation in slot k
-abbrev pub slot-at : List Slot → ℕ → Slot
-slot-at ss k = getD ss k no-slot
 
 module _ (T : Tables) where
   -- slot k is taken, if there is one

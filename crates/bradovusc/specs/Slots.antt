@@ -1,11 +1,11 @@
 -- The working buffer: one slot of 144 bytes for each situation entered. A slot's key is what makes two situations the same; behind it
--- stand the number of the parent's slot and the step that made it.
-use Prim.Native.Nat.{ℕ, zero, suc, _+_, _-_, _*_, _/_, _%_, _≤_, _<_}
+-- stand the number of the parent's slot, the step that made it, and two links by which slots are looked up.
+use Prim.Native.Nat.{ℕ, zero, suc, _+_, _*_, _/_, _%_, _≤_, _<_}
 use mathlib.Core.Path.{_≡_}
-use mathlib.Core.Bool.{Bool, true, false, _&&_, _||_}
-use mathlib.Core.List.{List, [], _∷_, _++_, List·Memᴰ}
+use mathlib.Core.Bool.{Bool, true, false, cond, _&&_}
+use mathlib.Core.List.{List, [], _∷_, _++_}
 use lib.Dec.{eqb}
-use lib.ListN.{length, getD, take, drop, replicate}
+use lib.ListN.{length, getD, take, drop}
 use Rattle.paper.specs.Lists.{any, each, same-by}
 use Rattle.paper.specs.Numbers.{fields, longest-side, situation-bytes}
 use Rattle.bradovusc.specs.Coded.{Coded, same-coded}
@@ -51,16 +51,13 @@ origin-width = 3
 abbrev pub origin-bytes : ℕ → ℕ → List ℕ
 origin-bytes parent step = parent % 256 ∷ parent / 256 ∷ step ∷ []
 
--- where what is left of a slot begins, and how much that is
-abbrev pub rest-at : ℕ
-rest-at = key-bytes + origin-width
+-- what a slot holds of its situation
+abbrev pub held-bytes : ℕ
+held-bytes = key-bytes + origin-width
 
-abbrev pub rest-bytes : ℕ
-rest-bytes = situation-bytes - rest-at
-
--- key, origin, zeros
+-- key, origin
 unfoldable pub struct-slot : Situation → ℕ → ℕ → List ℕ
-struct-slot s parent step = struct-key s ++ origin-bytes parent step ++ replicate rest-bytes 0
+struct-slot s parent step = struct-key s ++ origin-bytes parent step
 
 -- a situation entered: its parent's number and the step from there (both 0 for the first)
 pub record Slot : Type 0 where
@@ -71,15 +68,15 @@ pub record Slot : Type 0 where
 abbrev pub slot-bytes : Slot → List ℕ
 slot-bytes s = struct-slot (as-struct (s .at)) (s .parent) (s .step)
 
--- the slots one behind the other
-abbrev pub slots-bytes : List Slot → List ℕ
-slots-bytes ss = each slot-bytes ss
+abbrev pub nowhere : Coded
+nowhere = record { left = []; right = []; sets = [] }
 
--- the buffer begins with these slots, and each holds a situation that the struct can hold
-pub record Holds-slots (work : List ℕ) (ss : List Slot) : Type 0 where
-  pub fits : situation-bytes * length ss ≤ length work
-  pub holds : take (situation-bytes * length ss) work ≡ slots-bytes ss
-  pub short : (s : Slot) → List·Memᴰ s ss → Short (s .at)
+abbrev pub no-slot : Slot
+no-slot = record { at = nowhere; parent = 0; step = 0 }
+
+-- the situation in slot k
+abbrev pub slot-at : List Slot → ℕ → Slot
+slot-at ss k = getD ss k no-slot
 
 -- the n bytes from the place a on
 abbrev pub part : ℕ → ℕ → List ℕ → List ℕ
@@ -87,7 +84,67 @@ part a n bytes = take n (drop a bytes)
 
 -- the bytes of the slot with the number i
 abbrev pub slot-part : List ℕ → ℕ → List ℕ
-slot-part work i = part (situation-bytes * i) situation-bytes work
+slot-part work i = part (situation-bytes * i) held-bytes work
+
+-- Slots are looked up by buckets, as many as the buffer has slots. A key's bucket is its hash modulo their number. The hash is over the
+-- lengths, the tokens and the sets.
+abbrev pub hash-limit : ℕ
+hash-limit = 16777216
+
+abbrev pub hash-from : ℕ → List ℕ → ℕ
+hash-from h [] = h
+hash-from h (b ∷ bytes) = hash-from ((31 * h + b) % hash-limit) bytes
+
+unfoldable pub hash : List ℕ → ℕ
+hash k =
+    hash-from (hash-from (hash-from 0 (take (left-at + getD k 0 0) k)) (part right-at (getD k 1 0) k)) (part sets-at sets-bytes k)
+
+unfoldable pub bucket : ℕ → Coded → ℕ
+bucket n k = hash (key k) % n
+
+abbrev pub buckets : List ℕ → ℕ
+buckets work = length work / situation-bytes
+
+-- A link is the number of a slot and one, or 0 for none, in two bytes, low first. Behind what slot i holds stand the link to the next
+-- older slot of its bucket, and the link to the newest slot of bucket i.
+abbrev pub link-width : ℕ
+link-width = 2
+
+abbrev pub older-at : ℕ
+older-at = held-bytes
+
+abbrev pub newest-at : ℕ
+newest-at = older-at + link-width
+
+abbrev pub link : List ℕ → ℕ → ℕ
+link work a = getD work a 0 + 256 * getD work (a + 1) 0
+
+-- the greatest number below n that passes the test, and one; 0 where none does
+abbrev pub newest : (ℕ → Bool) → ℕ → ℕ
+newest p zero = 0
+newest p (suc n) = cond (p n) (suc n) (newest p n)
+
+-- is slot j in bucket b, of n?
+abbrev pub in-bucket : ℕ → List Slot → ℕ → ℕ → Bool
+in-bucket n ss b j = eqb (bucket n (slot-at ss j .at)) b
+
+-- the buffer begins with these slots, each holds a situation that the struct can hold, and the links lead to the slots of each bucket
+-- from the newest to the oldest
+pub record Holds-slots (work : List ℕ) (ss : List Slot) : Type 0 where
+  pub fits : situation-bytes * length ss ≤ length work
+  pub holds : (i : ℕ) → i < length ss → slot-part work i ≡ slot-bytes (slot-at ss i)
+  pub short : (i : ℕ) → i < length ss → Short (slot-at ss i .at)
+  pub older : (i : ℕ) → i < length ss
+      → link work (situation-bytes * i + older-at) ≡ newest (in-bucket (buckets work) ss (bucket (buckets work) (slot-at ss i .at))) i
+  pub newest-of : (b : ℕ) → situation-bytes * (b + 1) ≤ length work
+      → link work (situation-bytes * b + newest-at) ≡ newest (in-bucket (buckets work) ss b) (length ss)
+
+-- the link at the place `from` is copied to the place `to` and becomes one to slot n; nothing else changes
+pub record Links-put (before : List ℕ) (to from n : ℕ) (after : List ℕ) : Type 0 where
+  pub same-length : length after ≡ length before
+  pub copied : link after to ≡ link before from
+  pub put : link after from ≡ n + 1
+  pub kept : (j : ℕ) → (j ≡ to → ⊥) → (j ≡ to + 1 → ⊥) → (j ≡ from → ⊥) → (j ≡ from + 1 → ⊥) → getD after j 0 ≡ getD before j 0
 
 -- Is the side of the slot that of the key? Where the lengths, which stand at n, are the same, only the tokens, from a on, are compared.
 abbrev pub same-side : ℕ → ℕ → List ℕ → List ℕ → Bool
@@ -100,17 +157,15 @@ has-key slot k =
     same-side 0 left-at slot k
     && (same-side 1 right-at slot k && same-by eqb (part sets-at sets-bytes slot) (part sets-at sets-bytes k))
 
--- is the key that of one of the first n slots?
-abbrev pub key-entered : List ℕ → ℕ → List ℕ → Bool
-key-entered work zero k = false
-key-entered work (suc n) k = has-key (slot-part work n) k || key-entered work n k
-
--- among the first n slots: the number of one that has this key, or that none has it
-abbrev pub Key-at : List ℕ → ℕ → List ℕ → Seen → Type 0
-Key-at work n k (At i) = (i < n) × (has-key (slot-part work i) k ≡ true)
-Key-at work n k Nowhere = key-entered work n k ≡ false
-
 -- "one already entered": the number of a slot that holds this situation, or that none holds it
 abbrev pub Entered-at : List Slot → Coded → Seen → Type 0
-Entered-at ss k (At i) = (i < length ss) × ((d : Slot) → same-coded (getD ss i d .at) k ≡ true)
+Entered-at ss k (At i) = (i < length ss) × (same-coded (slot-at ss i .at) k ≡ true)
 Entered-at ss k Nowhere = any (λ (x : Slot). same-coded (x .at) k) ss ≡ false
+
+-- a situation is looked up: its key is k's, the buffer holds n slots, and the link is that to the newest of its bucket
+pub record Sought (work bytes : List ℕ) (n newest-link : ℕ) (k : Coded) (ss : List Slot) : Type 0 where
+  pub is-key : bytes ≡ key k
+  pub short : Short k
+  pub holds : Holds-slots work ss
+  pub many : length ss ≡ n
+  pub begins : newest-link ≡ newest (in-bucket (buckets work) ss (bucket (buckets work) k)) n

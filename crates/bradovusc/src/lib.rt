@@ -12,7 +12,6 @@ use sheets::Found;
 use sheets::Sheet;
 ghost use mathlib.Core.Path.{_≡_};
 ghost use Prim.Native.Nat.{_-_, _/_, _<_, min};
-ghost use lib.ListN.{length};
 ghost use Rattle.paper.specs.Numbers.{situation-bytes, most-room};
 ghost use Rattle.paper.specs.Outcome.{outcome};
 ghost use Rattle.paper.specs.Demands.{Demand2, Demand3};

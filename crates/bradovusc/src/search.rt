@@ -325,6 +325,7 @@ pub fn search(
     requires { ⌜ Held first ⌝ }
     ensures { λ r. ⌜ Searches room (tables follow taking last) first (now (work .exit)) r ⌝ }
 {
+    slots::clear(work);
     let mut run = enter(work, room, 0, 0, 0, first);
     let mut k: usize = 0;
     loop {

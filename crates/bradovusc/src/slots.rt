@@ -1,18 +1,18 @@
 // Situations in the working buffer: a slot of 144 bytes for each, in the order of entry.
 ghost use mathlib.Core.Path.{_≡_};
 ghost use mathlib.Core.List.{List, _∷_, [], _++_};
-ghost use Prim.Native.Nat.{ℕ, _+_, _*_, _<_, _≤_};
+ghost use Prim.Native.Nat.{ℕ, _+_, _*_, _%_, _<_, _≤_};
 ghost use lib.ListN.{length, getD, replicate};
 ghost use lib.Dec.{eqb};
 ghost use Rattle.paper.specs.Lists.{each, same-by};
 ghost use Rattle.paper.specs.Numbers.{fields, longest-side, situation-bytes};
 ghost use Rattle.bradovusc.specs.Coded.{Coded};
 ghost use Rattle.bradovusc.specs.Struct.{as-struct, Short};
-ghost use Rattle.bradovusc.specs.Slots.{mask-width, mask-bytes, left-at, origin-width, struct-key, origin-bytes, struct-slot, key-bytes, sets-bytes, Slot, slot-bytes, Holds-slots, has-key, Key-at, Entered-at};
+ghost use Rattle.bradovusc.specs.Slots.{mask-width, mask-bytes, left-at, origin-width, struct-key, origin-bytes, key-bytes, held-bytes, sets-bytes, Slot, slot-bytes, slot-at, hash-limit, hash-from, hash, link, Links-put, Sought, Holds-slots, has-key, Entered-at};
 use crate::situation;
 use crate::situation::Situation;
 
-// A slot's parts: the two lengths, the sides, the sets; the parent and the step; zeros.
+// A slot's parts: the two lengths, the sides, the sets; the parent and the step; two links.
 pub const SLOT: usize = 144;
 
 const SIDE: usize = situation::LONGEST_SIDE;
@@ -29,7 +29,16 @@ const SETS: usize = RIGHT + SIDE;
 
 const KEY: usize = SETS + MASK * FIELDS;
 
-const REST: usize = KEY + 3;
+// what a slot holds of its situation
+const HELD: usize = KEY + 3;
+
+// A link is the number of a slot and one, or 0 for none. Slot i has one to the next older slot of its bucket, and one to the newest slot
+// of bucket i.
+const OLDER: usize = HELD;
+
+const NEWEST: usize = OLDER + 2;
+
+const HASH_LIMIT: u32 = 16777216;
 
 // Where a situation is entered: the number of its slot.
 pub enum Seen {
@@ -110,23 +119,86 @@ pub fn clear(work: &mut [u8])
     }
 }
 
-fn put_slot(to: &mut [u8], s: Situation, parent: usize, step: u8)
-    requires { ⌜ (length (now to) ≡ situation-bytes) × (s .«left_len» ≤ longest-side) × (s .«right_len» ≤ longest-side) × (parent < 65536) ⌝ }
-    ensures { λ _. ⌜ now (to .exit) ≡ struct-slot s parent step ⌝ }
+fn put_slot(to: &mut [u8], key: &[u8], parent: usize, step: u8)
+    requires { ⌜ (length (now to) ≡ held-bytes) × (length (now key) ≡ key-bytes) × (parent < 65536) ⌝ }
+    ensures { λ _. ⌜ now (to .exit) ≡ now (key .entry) ++ origin-bytes parent step ⌝ }
 {
-    put_key(&mut to[0..KEY], s);
-    put_origin(&mut to[KEY..REST], parent, step);
-    clear(&mut to[REST..SLOT]);
+    put(&mut to[0..KEY], key);
+    put_origin(&mut to[KEY..HELD], parent, step);
+}
+
+fn mixed(h: u32, b: u8) -> u32
+    requires { ⌜ h < hash-limit ⌝ }
+    ensures { λ r. ⌜ r ≡ (31 * h + b) % hash-limit ⌝ }
+{
+    (31 * h + b as u32) % HASH_LIMIT
+}
+
+fn hash_from(h: u32, bytes: &[u8]) -> u32
+    requires { ⌜ h < hash-limit ⌝ }
+    ensures { λ r. ⌜ (r < hash-limit) × (r ≡ hash-from h (now (bytes .entry))) ⌝ }
+{
+    let mut r = h;
+    let mut i = 0;
+    while i < bytes.len() {
+        r = mixed(r, bytes[i]);
+        i += 1;
+    }
+    r
+}
+
+// The bucket of a key, of n.
+fn bucket(key: &[u8], n: usize) -> usize
+    requires { ⌜ (length (now key) ≡ key-bytes) × (getD (now key) 0 0 ≤ longest-side) × (getD (now key) 1 0 ≤ longest-side) × (0 < n) ⌝ }
+    ensures { λ r. ⌜ (r < n) × (r ≡ hash (now (key .entry)) % n) ⌝ }
+{
+    let left = LEFT + key[0] as usize;
+    let right = RIGHT + key[1] as usize;
+    let a = hash_from(0, &key[0..left]);
+    let b = hash_from(a, &key[RIGHT..right]);
+    let c = hash_from(b, &key[SETS..KEY]);
+    c as usize % n
+}
+
+// The number of two bytes.
+fn pair(low: u8, high: u8) -> usize
+    ensures { λ r. ⌜ r ≡ low + 256 * high ⌝ }
+{
+    low as usize + 256 * (high as usize)
+}
+
+// The link at the place `at`.
+fn link(work: &[u8], at: usize) -> usize
+    requires { ⌜ at + 1 < length (now work) ⌝ }
+    ensures { λ r. ⌜ r ≡ link (now (work .entry)) at ⌝ }
+{
+    pair(work[at], work[at + 1])
+}
+
+// The link at `from` is copied to `to`, and becomes one to slot n: slot n is the newest of its bucket.
+fn put_links(work: &mut [u8], to: usize, from: usize, n: usize)
+    requires { ⌜ (to + 1 < length (now work)) × (from + 1 < length (now work)) × (n < 65535) ⌝ }
+    requires { ⌜ (to ≡ from → ⊥) × (to + 1 ≡ from → ⊥) × (from + 1 ≡ to → ⊥) ⌝ }
+    ensures { λ _. ⌜ Links-put (now (work .entry)) to from n (now (work .exit)) ⌝ }
+{
+    work[to] = work[from];
+    work[to + 1] = work[from + 1];
+    work[from] = ((n + 1) % 256) as u8;
+    work[from + 1] = ((n + 1) / 256) as u8;
 }
 
 // The slot with the number n, behind n slots.
 pub fn write_slot(work: &mut [u8], n: usize, s: Situation, parent: usize, step: u8)
-    requires { ⌜ situation-bytes * (n + 1) ≤ length (now work) ⌝ }
+    requires { ⌜ (situation-bytes * (n + 1) ≤ length (now work)) × (n < 65535) ⌝ }
     requires { ⌜ (s .«left_len» ≤ longest-side) × (s .«right_len» ≤ longest-side) × (parent < 65536) ⌝ }
     ensures { λ _. ⌜ ((k : Coded) (ss : List Slot) → s ≡ as-struct k → Short k → Holds-slots (now (work .entry)) ss → length ss ≡ n → Holds-slots (now (work .exit)) (ss ++ (record { at = k; parent = parent; step = step } ∷ []))) ⌝ }
 {
+    let mut key = [0u8; KEY];
+    put_key(&mut key, s);
+    let b = bucket(&key, work.len() / SLOT);
     let at = SLOT * n;
-    put_slot(&mut work[at..at + SLOT], s, parent, step);
+    put_slot(&mut work[at..at + HELD], &key, parent, step);
+    put_links(work, at + OLDER, SLOT * b + NEWEST, n);
 }
 
 fn side_of(from: &[u8]) -> [u8; SIDE]
@@ -172,7 +244,7 @@ fn wide(b: u8) -> usize
 }
 
 fn read_slot(slot: &[u8]) -> Situation
-    requires { ⌜ length (now slot) ≡ situation-bytes ⌝ }
+    requires { ⌜ length (now slot) ≡ held-bytes ⌝ }
     ensures { λ r. ⌜ ((s : Slot) → Short (s .at) → now (slot .entry) ≡ slot-bytes s → r ≡ as-struct (s .at)) ⌝ }
 {
     let left = side_of(&slot[LEFT..RIGHT]);
@@ -190,32 +262,24 @@ fn read_slot(slot: &[u8]) -> Situation
 // The situation in the slot with the number i.
 pub fn read_situation(work: &[u8], i: usize) -> Situation
     requires { ⌜ situation-bytes * (i + 1) ≤ length (now work) ⌝ }
-    ensures { λ r. ⌜ ((ss : List Slot) (d : Slot) → Holds-slots (now (work .entry)) ss → i < length ss → r ≡ as-struct (getD ss i d .at)) ⌝ }
+    ensures { λ r. ⌜ ((ss : List Slot) → Holds-slots (now (work .entry)) ss → i < length ss → r ≡ as-struct (slot-at ss i .at)) ⌝ }
 {
     let at = SLOT * i;
-    read_slot(&work[at..at + SLOT])
-}
-
-// The number of two bytes.
-fn pair(low: u8, high: u8) -> usize
-    ensures { λ r. ⌜ r ≡ low + 256 * high ⌝ }
-{
-    low as usize + 256 * (high as usize)
+    read_slot(&work[at..at + HELD])
 }
 
 // The number of the parent of the slot with the number i.
 pub fn parent_of(work: &[u8], i: usize) -> usize
     requires { ⌜ situation-bytes * (i + 1) ≤ length (now work) ⌝ }
-    ensures { λ r. ⌜ ((ss : List Slot) (d : Slot) → Holds-slots (now (work .entry)) ss → i < length ss → r ≡ getD ss i d .parent) ⌝ }
+    ensures { λ r. ⌜ ((ss : List Slot) → Holds-slots (now (work .entry)) ss → i < length ss → r ≡ slot-at ss i .parent) ⌝ }
 {
-    let at = SLOT * i + KEY;
-    pair(work[at], work[at + 1])
+    link(work, SLOT * i + KEY)
 }
 
 // The step that made the slot with the number i.
 pub fn step_of(work: &[u8], i: usize) -> u8
     requires { ⌜ situation-bytes * (i + 1) ≤ length (now work) ⌝ }
-    ensures { λ r. ⌜ ((ss : List Slot) (d : Slot) → Holds-slots (now (work .entry)) ss → i < length ss → r ≡ getD ss i d .step) ⌝ }
+    ensures { λ r. ⌜ ((ss : List Slot) → Holds-slots (now (work .entry)) ss → i < length ss → r ≡ slot-at ss i .step) ⌝ }
 {
     let at = SLOT * i + KEY;
     work[at + 2]
@@ -237,7 +301,7 @@ fn same(a: &[u8], b: &[u8]) -> bool
 
 // What differs early is compared early: the lengths, then the tokens, then the sets. Behind the tokens nothing can differ.
 fn same_key(slot: &[u8], key: &[u8]) -> bool
-    requires { ⌜ (length (now slot) ≡ situation-bytes) × (length (now key) ≡ key-bytes) × (getD (now key) 0 0 ≤ longest-side) × (getD (now key) 1 0 ≤ longest-side) ⌝ }
+    requires { ⌜ (length (now slot) ≡ held-bytes) × (length (now key) ≡ key-bytes) × (getD (now key) 0 0 ≤ longest-side) × (getD (now key) 1 0 ≤ longest-side) ⌝ }
     ensures { λ r. ⌜ r ≡ has-key (now (slot .entry)) (now (key .entry)) ⌝ }
 {
     if slot[0] != key[0] {
@@ -257,19 +321,26 @@ fn same_key(slot: &[u8], key: &[u8]) -> bool
     same(&slot[SETS..KEY], &key[SETS..KEY])
 }
 
-// From the last slot to the first: a child is often the same as one that was entered just before.
-fn entered(work: &[u8], n: usize, key: &[u8]) -> Seen
+// The slots of a bucket, from the newest to the oldest: a child is often the same as one that was entered just before. A link leads to an
+// older slot; one that does not is not followed.
+fn entered(work: &[u8], n: usize, newest: usize, key: &[u8]) -> Seen
     requires { ⌜ situation-bytes * n ≤ length (now work) ⌝ }
     requires { ⌜ (length (now key) ≡ key-bytes) × (getD (now key) 0 0 ≤ longest-side) × (getD (now key) 1 0 ≤ longest-side) ⌝ }
-    ensures { λ r. ⌜ Key-at (now (work .entry)) n (now (key .entry)) r ⌝ }
+    ensures { λ r. ⌜ ((k : Coded) (ss : List Slot) → Sought (now (work .entry)) (now (key .entry)) n newest k ss → Entered-at ss k r) ⌝ }
 {
-    let mut i = n;
-    while i > 0 {
-        i -= 1;
+    let mut above = n + 1;
+    let mut next = newest;
+    while next < above {
+        if next == 0 {
+            return Seen::Nowhere;
+        }
+        let i = next - 1;
         let at = SLOT * i;
-        if same_key(&work[at..at + SLOT], key) {
+        if same_key(&work[at..at + HELD], key) {
             return Seen::At(i);
         }
+        above = next;
+        next = link(work, at + OLDER);
     }
     Seen::Nowhere
 }
@@ -280,7 +351,12 @@ pub fn look_up(work: &[u8], n: usize, s: Situation) -> Seen
     requires { ⌜ (s .«left_len» ≤ longest-side) × (s .«right_len» ≤ longest-side) ⌝ }
     ensures { λ r. ⌜ ((k : Coded) (ss : List Slot) → s ≡ as-struct k → Short k → Holds-slots (now (work .entry)) ss → length ss ≡ n → Entered-at ss k r) ⌝ }
 {
+    if n == 0 {
+        return Seen::Nowhere;
+    }
     let mut key = [0u8; KEY];
     put_key(&mut key, s);
-    entered(work, n, &key)
+    let b = bucket(&key, work.len() / SLOT);
+    let newest = link(work, SLOT * b + NEWEST);
+    entered(work, n, newest, &key)
 }

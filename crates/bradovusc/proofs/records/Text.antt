@@ -14,8 +14,8 @@ use lib.Seq.{drop-cons, drop-set-add}
 use Rattle.paper.specs.Lists.{only}
 use Rattle.paper.specs.Numbers.{characters, field-token}
 use Rattle.bradovusc.specs.Coded.{Coded, front}
-use Rattle.bradovusc.specs.Slots.{Slot}
-use Rattle.bradovusc.specs.Run.{slot-at, given-coded, text-back}
+use Rattle.bradovusc.specs.Slots.{Slot, slot-at}
+use Rattle.bradovusc.specs.Run.{given-coded, text-back}
 use Rattle.bradovusc.specs.Records.{Earlier, Way-to, Steps-back, text-at}
 use Rattle.bradovusc.specs.declared.records.Back.{Back}
 

@@ -13,7 +13,7 @@ use Rattle.paper.proofs.Made.{upto-snoc, getD-mem}
 use Rattle.bradovusc.specs.Coded.{Coded, Settled, dropped, above, made, as-child, same-coded}
 use Rattle.bradovusc.specs.Lent.{Lent}
 use Rattle.bradovusc.specs.Run.{is-going, Running, enter-slot, offer-slot, offer-slots}
-use Rattle.bradovusc.specs.Slots.{Slot, Entered-at}
+use Rattle.bradovusc.specs.Slots.{Slot, no-slot, Entered-at}
 use Rattle.bradovusc.specs.declared.search.Run.{Run}
 use Rattle.bradovusc.specs.declared.search.Status.{Status}
 use Rattle.bradovusc.specs.declared.search.Status.the-variants.{Going, Found, UsedUp, NoRoom, TooLong}
@@ -67,9 +67,8 @@ module _ {work : List ℕ} {run : Run} {R : Running} (l : Lent work run R) (room
     pub offered-seen : (i : ℕ) → Entered-at (R .slots) t (At i) → Lent work run (offer-slots room p R (as-child step (made t)))
     unfolding offer-slot
     offered-seen i e =
-        let d : Slot = record { at = t; parent = p; step = step } in
         let seen : any (λ (x : Slot). same-coded (x .at) t) (R .slots) ≡ true =
-        mem-any (λ (x : Slot). same-coded (x .at) t) (R .slots) (getD-mem (R .slots) d i (e .0)) (e .1 d) in
+        mem-any (λ (x : Slot). same-coded (x .at) t) (R .slots) (getD-mem (R .slots) no-slot i (e .0)) (e .1) in
         rw (still true h, seen) (record { holds = l .holds; entered = l .entered; status = going (run .status) h })
 
     pub offered-new : {work′ : List ℕ} {run′ : Run} → Entered-at (R .slots) t Nowhere

@@ -1,20 +1,19 @@
--- Laws of comparing: byte by byte; a side by its length and its tokens; a slot and a key; the slots from the last to the first.
+-- Laws of comparing: byte by byte; a side by its length and its tokens; a slot and a key.
 -- Follows from the laws of tests and of `same-by`.
-use Prim.Native.Nat.{ℕ, zero, suc, _+_, _-_, _*_, _<_}
+use Prim.Native.Nat.{ℕ, _+_, _-_, _<_}
 use native.Mathlib.Omega.{arith}
 use native.Mathlib.Nat.{add-sub-cancel-left}
 use native.Mathlib.Numerals.{add-one}
 use mathlib.Core.Path.{_≡_, refl, ap}
-use mathlib.Core.Bool.{Bool, true, false, _&&_, _||_}
+use mathlib.Core.Bool.{Bool, true, false, _&&_}
 use mathlib.Core.List.{List}
 use lib.Dec.{eqb}
 use lib.ListN.{length, getD, take, drop, drop-of-length-le}
 use lib.Seq.{drop-cons}
 use Rattle.paper.specs.Lists.{same-by}
-use Rattle.paper.specs.Numbers.{situation-bytes}
 use Rattle.paper.proofs.Tests.{by-bool, not-true, true-false, eqb-true, right-false, eqb-same, eq-eqb, neq-eqb}
 use Rattle.paper.proofs.Lists.{same-by-equal, same-by-same}
-use Rattle.bradovusc.specs.Slots.{left-at, right-at, sets-at, sets-bytes, part, slot-part, same-side, has-key, key-entered}
+use Rattle.bradovusc.specs.Slots.{left-at, right-at, sets-at, sets-bytes, part, same-side, has-key}
 
 -- two lists are compared from the place i on: the next elements are the same, they differ, or there is none
 pub same-next : (i : ℕ) (a b : List ℕ) → i < length a → length a ≡ length b → getD a i 0 ≡ getD b i 0 → same-by eqb (drop i a) (drop i b) ≡ same-by eqb (drop (i + 1) a) (drop (i + 1) b)
@@ -69,15 +68,3 @@ module _ (x k : List ℕ) where
   unfolding has-key
   lengths-same l r =
       rw (eq-eqb (getD x 0 0) (getD k 0 0) l, eq-eqb (getD x 1 0) (getD k 1 0) r, add-sub-cancel-left left-at (getD k 0 0), add-sub-cancel-left right-at (getD k 1 0))
-
--- the slot i, as the code's range has it
-pub slot-range : (work k : List ℕ) (i : ℕ) → has-key (take (situation-bytes * i + situation-bytes - situation-bytes * i) (drop (situation-bytes * i) work)) k ≡ true → has-key (slot-part work i) k ≡ true
-slot-range work k i e = rw (add-sub-cancel-left (situation-bytes * i) situation-bytes) at e
-
--- the last of i slots, and those before
-pub last-slot : (work k : List ℕ) (i : ℕ) (r : Bool) → 0 < i → r ≡ has-key (take (situation-bytes * (i - 1) + situation-bytes - situation-bytes * (i - 1)) (drop (situation-bytes * (i - 1)) work)) k → key-entered work i k ≡ (r || key-entered work (i - 1) k)
-last-slot work k zero r h e = absurd (omega arith)
-last-slot work k (suc i) r h e =
-    let n : suc i - 1 ≡ i = omega arith in
-    let f : r ≡ has-key (slot-part work i) k = rw (n, add-sub-cancel-left (situation-bytes * i) situation-bytes) at e in
-    rw (n, f)

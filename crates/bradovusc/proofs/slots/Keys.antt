@@ -4,13 +4,13 @@ use Prim.Native.Nat.{ℕ, _+_}
 use native.Mathlib.Omega.{arith}
 use mathlib.Core.Path.{_≡_, refl, ap, _∙_}
 use mathlib.Core.List.{List, [], _∷_, _++_, append-assoc, append-nil}
-use lib.ListN.{length, getD, drop, replicate, length-append, length-drop, drop-of-length-le}
-use lib.Seq.{getD-append-add, drop-at, length-take-le}
-use borrow.Rule.Slice.PartMut.{putMid, midOf, postOf}
+use lib.ListN.{length, getD, drop, length-append, length-drop, drop-of-length-le}
+use lib.Seq.{getD-append-add}
+use borrow.Rule.Slice.PartMut.{putMid, postOf}
 use Rattle.paper.specs.Lists.{each}
-use Rattle.paper.specs.Numbers.{fields, longest-side, situation-bytes}
+use Rattle.paper.specs.Numbers.{fields, longest-side}
 use Rattle.bradovusc.specs.declared.situation.Situation.{Situation}
-use Rattle.bradovusc.specs.Slots.{mask-bytes, key-bytes, left-at, right-at, sets-at, sets-bytes, origin-width, rest-at, rest-bytes, origin-bytes, struct-key, struct-slot, part}
+use Rattle.bradovusc.specs.Slots.{mask-bytes, key-bytes, left-at, right-at, sets-at, sets-bytes, held-bytes, origin-width, origin-bytes, struct-key, struct-slot, part}
 use Rattle.bradovusc.proofs.slots.Parts.{part-back, part-at}
 use Rattle.bradovusc.proofs.slots.Sets.{length-sets}
 
@@ -19,10 +19,6 @@ pub record Sized (s : Situation) : Type 0 where
   pub left : length (s .left) ≡ longest-side
   pub right : length (s .right) ≡ longest-side
   pub sets : length (s .sets) ≡ fields
-
--- what stands behind a slot's key
-abbrev pub behind-key : ℕ → ℕ → List ℕ
-behind-key parent step = origin-bytes parent step ++ replicate rest-bytes 0
 
 module _ (s : Situation) (z : Sized s) where
   abbrev lengths : List ℕ
@@ -74,29 +70,18 @@ module _ (s : Situation) (z : Sized s) where
       part-at (lengths ++ s .left ++ s .right) (each mask-bytes (s .sets)) t sets-at sets-bytes to-sets (length-sets (s .sets) ∙ rw (z .sets))
 
 module _ (s : Situation) (k : length (struct-key s) ≡ key-bytes) where
-  -- a slot is its key and what stands behind it
-  pub slot-split : (parent step : ℕ) → struct-slot s parent step ≡ struct-key s ++ behind-key parent step
+  pub length-slot : (parent step : ℕ) → length (struct-slot s parent step) ≡ held-bytes
   unfolding struct-slot
-  slot-split parent step = append-assoc (struct-key s) (origin-bytes parent step) (replicate rest-bytes 0)
-
-  pub length-slot : (parent step : ℕ) → length (struct-slot s parent step) ≡ situation-bytes
-  length-slot parent step = rw (slot-split parent step, length-append (struct-key s) (behind-key parent step), k)
+  length-slot parent step = rw (length-append (struct-key s) (origin-bytes parent step), k)
 
   -- the byte j behind the key
-  pub behind-at : (parent step j : ℕ) → getD (struct-slot s parent step) (key-bytes + j) 0 ≡ getD (behind-key parent step) j 0
-  behind-at parent step j =
-      rw (slot-split parent step, ← k) (getD-append-add (struct-key s) (behind-key parent step) j 0)
-
-  -- the parts of the slot, stored one behind the other
-  pub slot-stored : (parent step : ℕ) (d ks os zs : List ℕ) → length d ≡ situation-bytes → ks ≡ struct-key s → os ≡ origin-bytes parent step → zs ≡ replicate (length (midOf rest-at rest-bytes (putMid key-bytes origin-width (ks ++ postOf 0 key-bytes d) os))) 0 → putMid rest-at rest-bytes (putMid key-bytes origin-width (ks ++ postOf 0 key-bytes d) os) zs ≡ struct-slot s parent step
+  pub behind-at : (parent step j : ℕ) → getD (struct-slot s parent step) (key-bytes + j) 0 ≡ getD (origin-bytes parent step) j 0
   unfolding struct-slot
-  slot-stored parent step d ks os zs n e f g =
-      let after-key = drop key-bytes d in
-      let rest = drop origin-width after-key in
-      let h : length (ks ++ os) ≡ rest-at = rw (e, f, length-append (struct-key s) (origin-bytes parent step), k) in
-      let a = part-back ks after-key os key-bytes origin-width refl (rw e k) in
-      let m : length rest ≡ rest-bytes = simp length-drop (omega arith) in
-      let r : zs ≡ replicate rest-bytes 0 = g ∙ rw (a, drop-at (ks ++ os) rest rest-at h, length-take-le rest-bytes rest (omega arith)) in
-      let b = part-back (ks ++ os) rest zs rest-at rest-bytes a h in
-      let x : drop rest-bytes rest ≡ [] = drop-of-length-le rest {i = rest-bytes} (omega arith) in
-      b ∙ rw (x, e, f, r) (append-nil (struct-slot s parent step))
+  behind-at parent step j = rw (← k) (getD-append-add (struct-key s) (origin-bytes parent step) j 0)
+
+-- the parts of a slot, stored one behind the other
+pub slot-stored : (k o d ks os : List ℕ) → length d ≡ held-bytes → length k ≡ key-bytes → ks ≡ k → os ≡ o → putMid key-bytes origin-width (ks ++ postOf 0 key-bytes d) os ≡ k ++ o
+slot-stored k o d ks os n m e f =
+    let after-key = drop key-bytes d in
+    let x : drop origin-width after-key ≡ [] = drop-of-length-le after-key {i = origin-width} (simp length-drop (omega arith)) in
+    part-back ks after-key os key-bytes origin-width refl (rw e m) ∙ rw (x, e, f) (append-nil (k ++ o))

@@ -1,13 +1,14 @@
 -- Laws of lists for writing and reading slots: stores over a whole list, a copy from the front, a part that was lent and is back,
--- a part that is read.
+-- a part that is read, and what a part that is written leaves as it was.
 -- Follows from the laws of `lib.Seq`.
-use Prim.Native.Nat.{ℕ, _+_, _≤_, _<_}
+use Prim.Native.Nat.{ℕ, _+_, _-_, _≤_, _<_}
 use native.Mathlib.Omega.{arith}
 use native.Mathlib.Numerals.{add-one}
 use mathlib.Core.Path.{_≡_, _∙_, ap, sym}
 use mathlib.Core.List.{List, _++_, append-assoc, append-nil}
-use lib.ListN.{length, getD, take, drop, set, length-drop, take-append-drop}
-use lib.Seq.{sets, sets-eq, take-suc, drop-cons, set-at, take-at, drop-at, drop-length, length-take-le, take-append-le, drop-append-le}
+use lib.ListN.{length, getD, take, drop, set, length-drop, List·getD-append}
+use lib.Seq.{sets, sets-eq, take-suc, drop-cons, set-at, take-at, drop-at, drop-length, length-take-le, ext-getD, getD-take, getD-drop}
+use borrow.Rule.Slice.PartMut.{putMid, postOf, drop-put}
 
 module _ {ℓ} {A : Type ℓ} where
   -- as many stores from the front as there are elements
@@ -27,15 +28,37 @@ module _ {ℓ} {A : Type ℓ} where
   pub part-back : {l : List A} (p q ys : List A) (a k : ℕ) → l ≡ p ++ q → length p ≡ a → take a l ++ (ys ++ drop k (drop a l)) ≡ (p ++ ys) ++ drop k q
   part-back {l} p q ys a k e n = rw (e, take-at p q a n, drop-at p q a n, append-assoc)
 
-  -- a part of what stands in front of a list is a part of the list
-  pub part-of-front : (k a m : ℕ) (l : List A) → a + k ≤ m → m ≤ length l → take k (drop a (take m l)) ≡ take k (drop a l)
-  part-of-front k a m l h n =
-      let e : length (take m l) ≡ m = length-take-le m l n in
-      let w : take k (drop a (take m l ++ drop m l)) ≡ take k (drop a (take m l)) =
-      rw (drop-append-le a (take m l) (drop m l) (omega arith))
-      (take-append-le k (drop a (take m l)) (drop m l) (rw (length-drop, e) (omega arith))) in
-      sym w ∙ ap (λ (z : List A). take k (drop a z)) (take-append-drop m l)
-
   -- the part q, behind p
   pub part-at : (p q r : List A) (a n : ℕ) → length p ≡ a → length q ≡ n → take n (drop a (p ++ q ++ r)) ≡ q
   part-at p q r a n e h = rw (append-assoc, drop-at p (q ++ r) a e, take-at q r n h)
+
+  -- two lists that are alike in a part
+  pub part-same : (d : A) (a k : ℕ) (l m : List A) → length l ≡ length m → a + k ≤ length l → ((j : ℕ) → j < k → getD l (a + j) d ≡ getD m (a + j) d) → take k (drop a l) ≡ take k (drop a m)
+  part-same d a k l m n h e =
+      let f : length (take k (drop a l)) ≡ k = length-take-le k (drop a l) (rw length-drop (omega arith)) in
+      let g : length (take k (drop a m)) ≡ k = length-take-le k (drop a m) (rw length-drop (omega arith)) in
+      ext-getD d (take k (drop a l)) (take k (drop a m)) (f ∙ sym g)
+      (λ (j : ℕ) (i : j < length (take k (drop a l))).
+      let b : j < k = omega arith in
+      getD-take k (drop a l) j d b ∙ getD-drop a l j d ∙ e j b ∙ sym (getD-take k (drop a m) j d b ∙ getD-drop a m j d))
+
+module _ {A : Type 0} where
+  -- the part that is written
+  pub put-at : (a k : ℕ) (l m : List A) → a ≤ length l → length m ≡ k → take k (drop a (putMid a k l m)) ≡ m
+  put-at a k l m h e =
+      rw (drop-at (take a l) (m ++ postOf a k l) a (length-take-le a l h), take-at m (postOf a k l) k e)
+
+  -- what stands before and behind it
+  pub put-before : (d : A) (a k j : ℕ) (l m : List A) → a ≤ length l → j < a → getD (putMid a k l m) j d ≡ getD l j d
+  put-before d a k j l m h b =
+      let n : j < length (take a l) = omega (arith, length-take-le a l h) in
+      List·getD-append (take a l) (m ++ postOf a k l) d j n ∙ getD-take a l j d b
+
+  pub put-behind : (d : A) (a e j : ℕ) (l m : List A) → a ≤ e → e ≤ length l → length m ≡ e - a → e ≤ j → getD (putMid a (e - a) l m) j d ≡ getD l j d
+  put-behind d a e j l m h k n b =
+      let i : e + (j - e) ≡ j = omega arith in
+      ap (λ (x : ℕ). getD (putMid a (e - a) l m) x d) (sym i)
+      ∙ sym (getD-drop e (putMid a (e - a) l m) (j - e) d)
+      ∙ ap (λ (x : List A). getD x (j - e) d) (drop-put a e l m h k n)
+      ∙ getD-drop e l (j - e) d
+      ∙ ap (λ (x : ℕ). getD l x d) i

@@ -2,21 +2,21 @@
 -- Follows from the laws of keys and of comparing.
 use Prim.Native.Nat.{ℕ, _≤_}
 use native.Mathlib.Omega.{arith}
-use mathlib.Core.Path.{_≡_, refl, sym, _∙_}
+use mathlib.Core.Path.{_≡_, refl, sym, ap, _∙_}
 use mathlib.Core.Bool.{true, _&&_}
 use mathlib.Core.List.{List, [], _++_, append-nil}
 use lib.Dec.{eqb}
 use lib.ListN.{length, getD, take, drop, length-append, length-replicate}
 use lib.Seq.{take-at, take-take}
 use Rattle.paper.specs.Lists.{each, same-by}
-use Rattle.paper.specs.Numbers.{longest-side, situation-bytes}
+use Rattle.paper.specs.Numbers.{longest-side}
 use Rattle.paper.proofs.Tests.{and-left, and-right, both-true}
 use Rattle.bradovusc.specs.Coded.{Coded, same-coded}
 use Rattle.bradovusc.specs.Struct.{padded, as-struct, Short}
-use Rattle.bradovusc.specs.Slots.{mask-bytes, Slot, slot-bytes, part, key, key-bytes, left-at, right-at, sets-at, sets-bytes, struct-key, has-key}
+use Rattle.bradovusc.specs.Slots.{mask-bytes, origin-bytes, held-bytes, struct-slot, Slot, slot-bytes, part, key, key-bytes, left-at, right-at, sets-at, sets-bytes, struct-key, has-key}
 use Rattle.bradovusc.proofs.slots.Sets.{sets-compared}
 use Rattle.bradovusc.proofs.slots.Compared.{bytes-equal, equal-bytes, side-compared}
-use Rattle.bradovusc.proofs.slots.Keys.{Sized, length-key, left-part, right-part, sets-part, behind-key, slot-split, length-slot}
+use Rattle.bradovusc.proofs.slots.Keys.{Sized, length-key, left-part, right-part, sets-part, length-slot}
 
 -- The test of situations is equality.
 pub same-coded-equal : (a b : Coded) → same-coded a b ≡ true → a ≡ b
@@ -42,14 +42,14 @@ short-sized {k} h =
 pub short-key : {k : Coded} → Short k → length (key k) ≡ key-bytes
 short-key {k} h = length-key (as-struct k) (short-sized h)
 
--- The bytes of a slot are 144.
-pub length-slot-bytes : (x : Slot) → Short (x .at) → length (slot-bytes x) ≡ situation-bytes
+pub length-slot-bytes : (x : Slot) → Short (x .at) → length (slot-bytes x) ≡ held-bytes
 length-slot-bytes x h = length-slot (as-struct (x .at)) (short-key h) (x .parent) (x .step)
 
 -- the parts of a slot's bytes
 module _ (x : Slot) (h : Short (x .at)) (l : List ℕ) (e : l ≡ slot-bytes x) where
-  whole : l ≡ key (x .at) ++ behind-key (x .parent) (x .step)
-  whole = e ∙ slot-split (as-struct (x .at)) (short-key h) (x .parent) (x .step)
+  whole : l ≡ key (x .at) ++ origin-bytes (x .parent) (x .step)
+  unfolding struct-slot
+  whole = e
 
   pub left-length-read : getD l 0 0 ≡ length (x .at .left)
   unfolding struct-key
@@ -60,13 +60,13 @@ module _ (x : Slot) (h : Short (x .at)) (l : List ℕ) (e : l ≡ slot-bytes x) 
   right-length-read = rw whole
 
   pub left-read : part left-at longest-side l ≡ padded (x .at .left)
-  left-read = rw whole (left-part (as-struct (x .at)) (short-sized h) (behind-key (x .parent) (x .step)))
+  left-read = rw whole (left-part (as-struct (x .at)) (short-sized h) (origin-bytes (x .parent) (x .step)))
 
   pub right-read : part right-at longest-side l ≡ padded (x .at .right)
-  right-read = rw whole (right-part (as-struct (x .at)) (short-sized h) (behind-key (x .parent) (x .step)))
+  right-read = rw whole (right-part (as-struct (x .at)) (short-sized h) (origin-bytes (x .parent) (x .step)))
 
   pub sets-read : part sets-at sets-bytes l ≡ each mask-bytes (x .at .sets)
-  sets-read = rw whole (sets-part (as-struct (x .at)) (short-sized h) (behind-key (x .parent) (x .step)))
+  sets-read = rw whole (sets-part (as-struct (x .at)) (short-sized h) (origin-bytes (x .parent) (x .step)))
 
 -- the tokens of a side are the front of its 48 bytes
 tokens : (side x : List ℕ) → length side ≤ longest-side → take longest-side x ≡ padded side → take (length side) x ≡ side
@@ -91,7 +91,7 @@ keys-compared a b t u h k =
     λ i. l i && (r i && s i)
 
 pub slot-compared : (x : Slot) (k : Coded) → Short (x .at) → Short k → has-key (slot-bytes x) (key k) ≡ same-coded (x .at) k
+unfolding struct-slot
 slot-compared x k h s =
-    let e = slot-split (as-struct (x .at)) (short-key h) (x .parent) (x .step) in
-    let n = sym (append-nil (key k)) in
-    (λ i. has-key (e i) (n i)) ∙ keys-compared (x .at) k (behind-key (x .parent) (x .step)) [] h s
+    ap (has-key (slot-bytes x)) (sym (append-nil (key k)))
+    ∙ keys-compared (x .at) k (origin-bytes (x .parent) (x .step)) [] h s

@@ -1,7 +1,6 @@
 -- `step_back` reads the parent, the step and the parent's fronts. Follows from `parent-below` and `text-back-one`.
 use native.Mathlib.Omega.{arith}
 use Prim.Native.Nat.{_<_}
-use Rattle.bradovusc.specs.Run.{no-slot}
 use Rattle.bradovusc.specs.Records.{Way-to}
 use Rattle.bradovusc.proofs.records.Text.{way-back, parent-below, text-back-one}
 use borrow.Author.Needs.{needs}
@@ -19,7 +18,7 @@ parent-before : (c : tie.After-parent-of) (w : Way-to (c .before .before .args .
     → c .parent-of .result < c .before .before .args .i
 parent-before c w =
     let at = c .before .before in
-    parent-below w (at .pre .1 .0) (c .parent-of .result) (c .parent-of .ensures (w .slots) no-slot (w .holds) (w .entered))
+    parent-below w (at .pre .1 .0) (c .parent-of .result) (c .parent-of .ensures (w .slots) (w .holds) (w .entered))
 
 puts-before-requires : tie.Need-puts-before-requires
 puts-before-requires c κs =
@@ -35,8 +34,8 @@ returns c w =
       falls = p;
       text =
           text-back-one w (at .pre .1 .0) (at .args .f) (c .before .before .parent-of .result)
-          (c .before .step-of .result) (c .puts-before .result) (c .before .before .parent-of .ensures (w .slots) no-slot (w .holds) (w .entered))
-          (c .before .step-of .ensures (w .slots) no-slot (w .holds) (w .entered))
+          (c .before .step-of .result) (c .puts-before .result) (c .before .before .parent-of .ensures (w .slots) (w .holds) (w .entered))
+          (c .before .step-of .ensures (w .slots) (w .holds) (w .entered))
           (c .puts-before .ensures (way-back (c .before .before .parent-of .result) (omega arith) w));
     }
 

@@ -30,56 +30,63 @@ abbrev μ-loop : tie.MeasureT-loop
 
 abbrev tables-at : tie.At-loop Inv-loop μ-loop → Tables
 tables-at c =
-    let a = c .before .before .before .before .before .before .args in
+    let a = c .before .before .before .before .before .before .before .before .before .before .args in
     tables (a .follow) (a .taking) (a .last)
 
 -- at the loop's head: the search that began with k
 standing : (c : tie.At-loop Inv-loop μ-loop) →
-    let a = c .before .before .before .before .before .before .args in
+    let a = c .before .before .before .before .before .before .before .before .before .before .args in
     (k : Coded) → a .first ≡ as-struct k → Short k →
     Standing (tables-at c) (a .room) (enter-slot (a .room) [] (record { at = k; parent = 0; step = 0 }))
     (c .loop .work) (c .loop .run) (c .loop .k)
 standing c k e h =
     let n = c .before .before .before in
-    let a = n .before .before .before .args in
+    let a = n .before .before .before .before .before .before .before .args in
     c .loop .inv .3 (enter-slot (a .room) [] (record { at = k; parent = 0; step = 0 }))
-    (n .enter .ensures .lent k [] e h (holds-none (a .work .now)) refl)
+    (n .enter .ensures .lent k [] e h (rw (n .before .before .before .before .clear .ensures) (holds-none (length (a .work .now)))) refl)
 
 going : (c : tie.Else1 Inv-loop μ-loop) → is-going (c .before .before .loop .run .status) ≡ true
 going c = sym (c .before .is-going .ensures) ∙ not-is-false (c .if1 .left)
 
+clear-requires : tie.Need-clear-requires Inv-loop μ-loop
+clear-requires c κs = search needs
+
 enter-requires : tie.Need-enter-requires Inv-loop μ-loop
 enter-requires c κs =
-    let p = c .before .before .pre in
-    (record { fits = p .0 .0; most = p .0 .1; within = zero-le; numbered = zero-le }, short-sized (p .1 .is) (p .1 .short))
+    let p = c .before .before .before .before .before .before .pre in
+    (record { fits = omega (arith, p .0 .0, c .before .before .before .clear .kept .0); most = p .0 .1; within = zero-le; numbered = zero-le }, short-sized (p .1 .is) (p .1 .short))
 
 loop-holds : tie.Need-loop-holds Inv-loop μ-loop
 loop-holds c =
-    let a = c .before .before .before .before .before .args in
+    let a = c .before .before .before .before .before .before .before .before .before .args in
     (zero-le, c .before .before .enter .ensures .within, refl, λ R l. begun (tables (a .follow) (a .taking) (a .last)) (a .room) l)
 
 is-going-requires : tie.Need-is-going-requires Inv-loop μ-loop
 is-going-requires c κs = search needs
 
 same-length : tie.Need-same-length Inv-loop μ-loop
-same-length c = c .before .before .loop .inv .2 ∙ c .before .before .before .before .before .enter .kept .0
+same-length c =
+    let n = c .before .before .before .before .before in
+    c .before .before .loop .inv .2 ∙ n .enter .kept .0 ∙ n .before .before .before .before .clear .kept .0
 
 returns : tie.Need-returns Inv-loop μ-loop
 unfolding slot-search
 returns c =
     let j = c .before .before in
     let g : is-going (j .loop .run .status) ≡ false = sym (c .before .is-going .ensures) ∙ not-is-true (c .if1 .taken) in
-    let room = j .before .before .before .before .before .before .args .room in
+    let room = j .before .before .before .before .before .before .before .before .before .before .args .room in
     record { within = j .loop .inv .1; over = g; lent = λ k e h. ended (tables-at j) room (standing j k e h) g }
 
 same-length-2 : tie.Need-same-length-2 Inv-loop μ-loop
-same-length-2 c = c .before .before .before .loop .inv .2 ∙ c .before .before .before .before .before .before .enter .kept .0
+same-length-2 c =
+    let n = c .before .before .before .before .before .before in
+    c .before .before .before .loop .inv .2 ∙ n .enter .kept .0 ∙ n .before .before .before .before .clear .kept .0
 
 returns-2 : tie.Need-returns-2 Inv-loop μ-loop
 unfolding slot-search
 returns-2 c =
     let j = c .before .before .before in
-    let room = j .before .before .before .before .before .before .args .room in
+    let room = j .before .before .before .before .before .before .before .before .before .before .args .room in
     record {
       within = j .loop .inv .1;
       over = refl;
@@ -89,8 +96,9 @@ returns-2 c =
 take-requires : tie.Need-take-requires Inv-loop μ-loop
 take-requires c κs =
     let j = c .before .before .before .before in
-    let p = j .before .before .before .before .before .before in
-    let n = j .before .before .before .enter .kept .0 in
+    let p = j .before .before .before .before .before .before .before .before .before .before in
+    let e = j .before .before .before in
+    let n = e .enter .kept .0 ∙ e .before .before .before .before .clear .kept .0 in
     let f = p .pre .1 in
     let q = standing j (f .at) (f .is) (f .short) in (
       record {
@@ -113,7 +121,7 @@ loop-again c =
     let t = c .before .before in
     let d = t .before .before in
     let j = d .before .before .before in
-    let room = j .before .before .before .before .before .before .args .room in
+    let room = j .before .before .before .before .before .before .before .before .before .before .args .room in
     let i = j .loop .k in
     let b : i < room = omega (arith, j .loop .inv .1, d .if2 .left) in (
       omega arith,
@@ -130,6 +138,7 @@ search-spec =
     (tie.spec
     Inv-loop
     μ-loop
+    clear-requires
     enter-requires
     loop-holds
     is-going-requires

@@ -4,8 +4,8 @@ use native.Mathlib.Omega.{arith}
 use lib.ListN.{length}
 use borrow.Author.Needs.{needs}
 use Rattle.paper.proofs.Tests.{lt-ltb}
-use Rattle.bradovusc.specs.Run.{no-slot, slot-at, take-slot}
-use Rattle.bradovusc.proofs.slots.Held.{short-held}
+use Rattle.bradovusc.specs.Run.{take-slot}
+use Rattle.bradovusc.specs.Slots.{slot-at}
 use Rattle.bradovusc.proofs.search.take.Statement.{statement}
 use Rattle.bradovusc.proofs.search.take.Tie as tie
 
@@ -23,8 +23,8 @@ offer-children-requires c κs =
       p .pre .0,
       record {
         at = slot-at (R .slots) k .at;
-        is = s .ensures (R .slots) no-slot (l .holds) b;
-        short = short-held (l .holds) k no-slot b;
+        is = s .ensures (R .slots) (l .holds) b;
+        short = l .holds .short k b;
       },
     )
 
@@ -43,8 +43,8 @@ returns c =
       lent = λ R l.
           let b : k < length (R .slots) = omega (arith, p .pre .1 .0, l .entered) in
           rw (lt-ltb k (length (R .slots)) b)
-          (o .offer-children .ensures .lent R (slot-at (R .slots) k .at) l (s .ensures (R .slots) no-slot (l .holds) b)
-          (short-held (l .holds) k no-slot b));
+          (o .offer-children .ensures .lent R (slot-at (R .slots) k .at) l (s .ensures (R .slots) (l .holds) b)
+          (l .holds .short k b));
     }
 
 pub take-spec : {M : Type 1} → statement M

@@ -1,22 +1,43 @@
--- `entered` looks through the slots from the last to the first. The loop's invariant: the key is that of one of the n slots exactly if
--- it is that of one of those not yet looked at. Follows from `slot-range` and `last-slot`.
-use Prim.Native.Nat.{_-_, _≤_}
+-- `entered` walks along the links of a bucket. The loop's invariant: where the walk stands. Follows from the laws of the walk.
+use Prim.Native.Nat.{ℕ, _+_, _-_, _*_, _≤_, _<_}
+use native.Mathlib.Nat.{add-sub-cancel-left}
 use native.Mathlib.Omega.{arith}
-use mathlib.Core.Path.{_≡_, refl, sym, _∙_}
-use Rattle.bradovusc.specs.Slots.{key-entered}
-use Rattle.bradovusc.proofs.slots.Compared.{slot-range, last-slot}
+use mathlib.Core.Path.{_≡_, sym, _∙_}
+use mathlib.Core.Bool.{Bool}
+use mathlib.Core.List.{List}
+use lib.ListN.{take, drop}
+use Rattle.paper.specs.Numbers.{situation-bytes}
+use Rattle.bradovusc.specs.Coded.{Coded, same-coded}
+use Rattle.bradovusc.specs.Slots.{Slot, slot-at, Sought, held-bytes, has-key}
+use Rattle.bradovusc.proofs.slots.Chained.{Walked, walk-begins, walk-within, walk-ends, walk-goes-on}
+use Rattle.bradovusc.proofs.slots.Held.{slot-is}
 use borrow.Author.Needs.{needs}
 use Rattle.bradovusc.proofs.slots.entered.Statement.{statement}
 use Rattle.bradovusc.proofs.slots.entered.Tie as tie
 
 abbrev Inv-loop : tie.InvT-loop
-Inv-loop work n key i₀ i = (i ≤ n) × (key-entered work n key ≡ key-entered work i key)
+Inv-loop work n newest key above₀ next₀ above next =
+    (above ≤ n + 1) × (0 < above) × ((k : Coded) (ss : List Slot) → Sought work key n newest k ss → Walked work k ss above next)
 
 abbrev μ-loop : tie.MeasureT-loop
-μ-loop work n key i₀ i = i
+μ-loop work n newest key above₀ next₀ above next = above
+
+-- the slot i is compared with the key, as the code's range has it
+slot-met : {work bytes : List ℕ} {n first : ℕ} {k : Coded} {ss : List Slot} (i : ℕ) (r : Bool) → Sought work bytes n first k ss → i < n
+    → r ≡ has-key (take (situation-bytes * i + held-bytes - situation-bytes * i) (drop (situation-bytes * i) work)) bytes
+    → same-coded (slot-at ss i .at) k ≡ r
+slot-met {k = k} i r q b e =
+    sym (slot-is (q .holds) i (omega (arith, q .many)) k (q .short))
+    ∙ sym (rw (add-sub-cancel-left (situation-bytes * i) held-bytes, q .is-key) at e)
+
+add-above : tie.Need-add-above Inv-loop μ-loop
+add-above c = search needs
 
 loop-holds : tie.Need-loop-holds Inv-loop μ-loop
-loop-holds c = (search needs, refl)
+loop-holds c = (omega arith, omega arith, λ k ss q. walk-begins q)
+
+returns : tie.Need-returns Inv-loop μ-loop
+returns c k ss q = walk-ends q (c .before .before .loop .inv .2 k ss q) (c .if1 .taken)
 
 sub-i : tie.Need-sub-i Inv-loop μ-loop
 sub-i c = search needs
@@ -39,31 +60,39 @@ part-same-key-end c = search needs
 same-key-requires : tie.Need-same-key-requires Inv-loop μ-loop
 same-key-requires c κs = search needs
 
-returns : tie.Need-returns Inv-loop μ-loop
-returns c =
-    let at = c .before .before .before .before in
-    let args = at .before .before .before .args in (
-      search needs,
-      slot-range (args .work .now) (args .key .now) (at .loop .i - 1) (sym (c .before .same-key .ensures) ∙ c .if1 .taken),
-    )
+returns-2 : tie.Need-returns-2 Inv-loop μ-loop
+returns-2 c k ss q =
+    let at = c .before .before .before .before .before in
+    let i = at .loop .next - 1 in
+    let args = at .before .before .before .args in
+    let b : i < args .n = omega (arith, at .loop .inv .0) in
+    (omega (arith, q .many), slot-met (at .loop .next - 1) (c .before .same-key .result) q b (c .before .same-key .ensures) ∙ c .if2 .taken)
+
+add-link : tie.Need-add-link Inv-loop μ-loop
+add-link c = search needs
+
+link-requires : tie.Need-link-requires Inv-loop μ-loop
+link-requires c κs = search needs
 
 loop-less : tie.Need-loop-less Inv-loop μ-loop
 loop-less c = search needs
 
 loop-again : tie.Need-loop-again Inv-loop μ-loop
 loop-again c =
-    let at = c .before .before .before .before in
-    let args = at .before .before .before .args in (
-      search needs,
-      at .loop .inv .1
-          ∙ last-slot (args .work .now) (args .key .now) (at .loop .i) (c .before .same-key .result) (omega arith) (c .before .same-key .ensures)
-          ∙ rw (c .if1 .left),
+    let at = c .before .before .before .before .before .before in
+    let i = at .loop .next - 1 in
+    let args = at .before .before .before .args in
+    let b : i < args .n = omega (arith, at .loop .inv .0) in (
+      omega arith,
+      omega arith,
+      λ k ss q. walk-goes-on q (at .loop .inv .2 k ss q) i (c .link .result) (omega arith) b
+          (slot-met i (c .before .before .same-key .result) q b (c .before .before .same-key .ensures) ∙ c .before .if2 .left) (c .link .ensures),
     )
 
-returns-2 : tie.Need-returns-2 Inv-loop μ-loop
-returns-2 c =
-    let n : c .before .loop .i ≡ 0 = omega arith in
-    c .before .loop .inv .1 ∙ rw n
+returns-3 : tie.Need-returns-3 Inv-loop μ-loop
+returns-3 c k ss q =
+    let at = c .before in
+    absurd (omega (arith, walk-within q (at .loop .inv .2 k ss q) (at .loop .inv .1)))
 
 pub entered-spec : {M : Type 1} → statement M
 entered-spec =
@@ -71,7 +100,9 @@ entered-spec =
     (tie.spec
     Inv-loop
     μ-loop
+    add-above
     loop-holds
+    returns
     sub-i
     mul-at
     add-same-key
@@ -79,7 +110,9 @@ entered-spec =
     part-same-key-start
     part-same-key-end
     same-key-requires
-    returns
+    returns-2
+    add-link
+    link-requires
     loop-less
     loop-again
-    returns-2)
+    returns-3)

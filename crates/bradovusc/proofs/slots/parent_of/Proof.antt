@@ -5,35 +5,17 @@ use borrow.Author.Needs.{needs}
 use Rattle.bradovusc.proofs.slots.parent_of.Statement.{statement}
 use Rattle.bradovusc.proofs.slots.parent_of.Tie as tie
 
-mul-at : tie.Need-mul-at
-mul-at c = search needs
+mul-link : tie.Need-mul-link
+mul-link c = search needs
 
-add-at : tie.Need-add-at
-add-at c = search needs
+add-link : tie.Need-add-link
+add-link c = search needs
 
-shared-slice-read-pair : tie.Need-shared-slice-read-pair
-shared-slice-read-pair c = search needs
-
-add-pair : tie.Need-add-pair
-add-pair c = search needs
-
-shared-slice-read-pair-2 : tie.Need-shared-slice-read-pair-2
-shared-slice-read-pair-2 c = search needs
-
-pair-requires : tie.Need-pair-requires
-pair-requires c κs = search needs
+link-requires : tie.Need-link-requires
+link-requires c κs = search needs
 
 returns : tie.Need-returns
-returns c ss d h k = c .pair .ensures ∙ parent-held h (c .before .before .before .before .args .i) d k
+returns c ss h k = c .link .ensures ∙ parent-held h (c .before .before .args .i) k
 
 pub parent-of-spec : {M : Type 1} → statement M
-parent-of-spec =
-    tie.close
-    (tie.spec
-    mul-at
-    add-at
-    shared-slice-read-pair
-    add-pair
-    shared-slice-read-pair-2
-    pair-requires
-    returns)
+parent-of-spec = tie.close (tie.spec mul-link add-link link-requires returns)

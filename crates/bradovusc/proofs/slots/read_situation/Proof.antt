@@ -1,9 +1,8 @@
--- `read_situation` reads the situation of the slot i. Follows from `slot-held`.
+-- `read_situation` reads the situation of the slot i. Follows from what `Holds-slots` says.
 use Prim.Native.Nat.{_*_}
 use native.Mathlib.Nat.{add-sub-cancel-left}
-use lib.ListN.{getD}
 use Rattle.paper.specs.Numbers.{situation-bytes}
-use Rattle.bradovusc.proofs.slots.Held.{short-held, slot-held}
+use Rattle.bradovusc.specs.Slots.{slot-at, held-bytes}
 use borrow.Author.Needs.{needs}
 use Rattle.bradovusc.proofs.slots.read_situation.Statement.{statement}
 use Rattle.bradovusc.proofs.slots.read_situation.Tie as tie
@@ -27,10 +26,9 @@ read-slot-requires : tie.Need-read-slot-requires
 read-slot-requires c κs = search needs
 
 returns : tie.Need-returns
-returns c ss d h k =
+returns c ss h k =
     let i = c .before .before .before .args .i in
-    c .read-slot .ensures (getD ss i d) (short-held h i d k)
-    (rw (add-sub-cancel-left (situation-bytes * i) situation-bytes) (slot-held h i d k))
+    c .read-slot .ensures (slot-at ss i) (h .short i k) (rw (add-sub-cancel-left (situation-bytes * i) held-bytes) (h .holds i k))
 
 pub read-situation-spec : {M : Type 1} → statement M
 read-situation-spec =

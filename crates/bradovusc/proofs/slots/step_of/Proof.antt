@@ -17,7 +17,7 @@ shared-slice-read-result : tie.Need-shared-slice-read-result
 shared-slice-read-result c = search needs
 
 returns : tie.Need-returns
-returns c ss d h k = step-held h (c .before .args .i) d k
+returns c ss h k = step-held h (c .before .args .i) k
 
 pub step-of-spec : {M : Type 1} → statement M
 step-of-spec = tie.close (tie.spec mul-at add-at add-result shared-slice-read-result returns)
