@@ -146,17 +146,6 @@ pub record Links-put (before : List ℕ) (to from n : ℕ) (after : List ℕ) : 
   pub put : link after from ≡ n + 1
   pub kept : (j : ℕ) → (j ≡ to → ⊥) → (j ≡ to + 1 → ⊥) → (j ≡ from → ⊥) → (j ≡ from + 1 → ⊥) → getD after j 0 ≡ getD before j 0
 
--- Is the side of the slot that of the key? Where the lengths, which stand at n, are the same, only the tokens, from a on, are compared.
-abbrev pub same-side : ℕ → ℕ → List ℕ → List ℕ → Bool
-same-side n a slot k =
-    eqb (getD slot n 0) (getD k n 0) && same-by eqb (part a (getD k n 0) slot) (part a (getD k n 0) k)
-
--- does the slot have this key?
-unfoldable pub has-key : List ℕ → List ℕ → Bool
-has-key slot k =
-    same-side 0 left-at slot k
-    && (same-side 1 right-at slot k && same-by eqb (part sets-at sets-bytes slot) (part sets-at sets-bytes k))
-
 -- "one already entered": the number of a slot that holds this situation, or that none holds it
 abbrev pub Entered-at : List Slot → Coded → Seen → Type 0
 Entered-at ss k (At i) = (i < length ss) × (same-coded (slot-at ss i .at) k ≡ true)

@@ -8,7 +8,7 @@ ghost use Rattle.paper.specs.Lists.{each, same-by};
 ghost use Rattle.paper.specs.Numbers.{fields, longest-side, situation-bytes};
 ghost use Rattle.bradovusc.specs.Coded.{Coded};
 ghost use Rattle.bradovusc.specs.Struct.{as-struct, Short};
-ghost use Rattle.bradovusc.specs.Slots.{mask-width, mask-bytes, left-at, origin-width, struct-key, origin-bytes, key-bytes, held-bytes, sets-bytes, Slot, slot-bytes, slot-at, hash-limit, hash-from, hash, link, Links-put, Sought, Holds-slots, has-key, Entered-at};
+ghost use Rattle.bradovusc.specs.Slots.{mask-width, mask-bytes, left-at, origin-width, struct-key, origin-bytes, key-bytes, held-bytes, sets-bytes, Slot, slot-bytes, slot-at, hash-limit, hash-from, hash, link, Links-put, Sought, Holds-slots, Entered-at};
 use crate::situation;
 use crate::situation::Situation;
 
@@ -299,28 +299,6 @@ fn same(a: &[u8], b: &[u8]) -> bool
     true
 }
 
-// What differs early is compared early: the lengths, then the tokens, then the sets. Behind the tokens nothing can differ.
-fn same_key(slot: &[u8], key: &[u8]) -> bool
-    requires { ⌜ (length (now slot) ≡ held-bytes) × (length (now key) ≡ key-bytes) × (getD (now key) 0 0 ≤ longest-side) × (getD (now key) 1 0 ≤ longest-side) ⌝ }
-    ensures { λ r. ⌜ r ≡ has-key (now (slot .entry)) (now (key .entry)) ⌝ }
-{
-    if slot[0] != key[0] {
-        return false;
-    }
-    if slot[1] != key[1] {
-        return false;
-    }
-    let left = LEFT + key[0] as usize;
-    if !same(&slot[LEFT..left], &key[LEFT..left]) {
-        return false;
-    }
-    let right = RIGHT + key[1] as usize;
-    if !same(&slot[RIGHT..right], &key[RIGHT..right]) {
-        return false;
-    }
-    same(&slot[SETS..KEY], &key[SETS..KEY])
-}
-
 // The slots of a bucket, from the newest to the oldest: a child is often the same as one that was entered just before. A link leads to an
 // older slot; one that does not is not followed.
 fn entered(work: &[u8], n: usize, newest: usize, key: &[u8]) -> Seen
@@ -336,7 +314,7 @@ fn entered(work: &[u8], n: usize, newest: usize, key: &[u8]) -> Seen
         }
         let i = next - 1;
         let at = SLOT * i;
-        if same_key(&work[at..at + HELD], key) {
+        if same(&work[at..at + KEY], &key[0..KEY]) {
             return Seen::At(i);
         }
         above = next;

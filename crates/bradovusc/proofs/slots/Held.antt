@@ -6,13 +6,15 @@ use native.Mathlib.Nat.{add-zero, add-assoc}
 use mathlib.Core.Path.{_≡_, sym, ap, _∙_}
 use mathlib.Core.List.{List, []}
 use lib.ListN.{length, getD, drop, replicate, length-replicate, getD-replicate}
-use lib.Seq.{getD-take, getD-drop}
+use lib.Seq.{getD-take, getD-drop, take-take}
+use lib.Dec.{eqb}
+use Rattle.paper.specs.Lists.{same-by}
 use Rattle.paper.specs.Numbers.{situation-bytes}
 use Rattle.bradovusc.specs.Coded.{Coded, same-coded}
 use Rattle.bradovusc.specs.Struct.{as-struct, Short}
-use Rattle.bradovusc.specs.Slots.{Slot, slot-at, Holds-slots, slot-part, key, key-bytes, held-bytes, origin-bytes, newest-at, link, has-key}
+use Rattle.bradovusc.specs.Slots.{Slot, slot-at, Holds-slots, key, key-bytes, held-bytes, origin-bytes, newest-at, link, part}
 use Rattle.bradovusc.proofs.slots.Keys.{behind-at}
-use Rattle.bradovusc.proofs.slots.Situations.{short-key, slot-compared}
+use Rattle.bradovusc.proofs.slots.Situations.{short-key, key-of-slot, keys-compared}
 
 -- A buffer of zeros holds no slots.
 pub holds-none : (n : ℕ) → Holds-slots (replicate n 0) []
@@ -44,6 +46,11 @@ module _ {work : List ℕ} {ss : List Slot} (h : Holds-slots work ss) (i : ℕ) 
   pub step-held : getD work (situation-bytes * i + key-bytes + 2) 0 ≡ slot-at ss i .step
   step-held = behind-held 2 (omega arith)
 
+  its-key : part (situation-bytes * i) key-bytes work ≡ key (slot-at ss i .at)
+  its-key =
+      sym (take-take key-bytes held-bytes (drop (situation-bytes * i) work) (omega arith))
+      ∙ rw (h .holds i k) (key-of-slot (slot-at ss i) (h .short i k))
+
   -- The slot i has a situation's key exactly if it holds the situation.
-  pub slot-is : (c : Coded) → Short c → has-key (slot-part work i) (key c) ≡ same-coded (slot-at ss i .at) c
-  slot-is c s = rw (h .holds i k) (slot-compared (slot-at ss i) c (h .short i k) s)
+  pub slot-is : (c : Coded) → Short c → same-by eqb (part (situation-bytes * i) key-bytes work) (key c) ≡ same-coded (slot-at ss i .at) c
+  slot-is c s = rw its-key (keys-compared (slot-at ss i .at) c (h .short i k) s)

@@ -1,4 +1,4 @@
--- Laws of the sets' bytes, four for each mask: storing them, reading them, comparing them.
+-- Laws of the sets' bytes, four for each mask: storing them, reading them, that they tell the masks.
 -- Follows from the laws of rows and of a part that is back.
 use Prim.Native.Nat.{ℕ, _+_, _-_, _*_, _/_, _%_, _<_}
 use native.Mathlib.Omega.{arith}
@@ -9,14 +9,11 @@ use mathlib.Core.List.{List, [], _∷_, _++_, append-nil}
 use lib.ListN.{length, getD, take, drop}
 use lib.Seq.{take-suc, drop-drop, take-length, drop-length, length-take-le}
 use borrow.Rule.Slice.PartMut.{putMid}
-use lib.Dec.{eqb}
-use Rattle.paper.specs.Lists.{each, same-by}
-use Rattle.paper.proofs.Tests.{same-tests}
+use Rattle.paper.specs.Lists.{each}
 use Rattle.paper.proofs.Lists.{cons-eq}
 use Rattle.bradovusc.specs.Slots.{mask-width, mask-bytes}
 use Rattle.bradovusc.proofs.slots.Parts.{part-back}
 use Rattle.bradovusc.proofs.slots.Rows.{each-snoc, length-rows, row-at}
-use Rattle.bradovusc.proofs.slots.Compared.{bytes-equal, equal-bytes}
 
 pub length-sets : (ms : List ℕ) → length (each mask-bytes ms) ≡ mask-width * length ms
 length-sets ms = length-rows mask-bytes mask-width ms (λ m d. refl)
@@ -57,15 +54,9 @@ same-mask m n x y e =
     let d : m / 16777216 ≡ n / 16777216 = cc in
     (sym (mask-joined m) ∙ rw (a, b, c, d) (mask-joined n), cc)
 
-same-masks : (l m : List ℕ) → each mask-bytes l ≡ each mask-bytes m → l ≡ m
+pub same-masks : (l m : List ℕ) → each mask-bytes l ≡ each mask-bytes m → l ≡ m
 same-masks [] [] e = refl
 same-masks [] (y ∷ m) e = let z : _≡_ {A = ℕ} 0 1 = cc in absurd (omega arith)
 same-masks (x ∷ l) [] e = let z : _≡_ {A = ℕ} 0 1 = cc in absurd (omega arith)
 same-masks (x ∷ l) (y ∷ m) e =
     let r = same-mask x y (each mask-bytes l) (each mask-bytes m) e in cons-eq (r .0) (same-masks l m (r .1))
-
-pub sets-compared : (l m : List ℕ) → same-by eqb (each mask-bytes l) (each mask-bytes m) ≡ same-by eqb l m
-sets-compared l m =
-    same-tests (same-by eqb (each mask-bytes l) (each mask-bytes m)) (same-by eqb l m)
-    (λ t. equal-bytes l m (same-masks l m (bytes-equal (each mask-bytes l) (each mask-bytes m) t)))
-    (λ t. equal-bytes (each mask-bytes l) (each mask-bytes m) (ap (λ (z : List ℕ). each mask-bytes z) (bytes-equal l m t)))

@@ -3,19 +3,19 @@
 use Prim.Native.Nat.{ℕ, _≤_}
 use native.Mathlib.Omega.{arith}
 use mathlib.Core.Path.{_≡_, refl, sym, ap, _∙_}
-use mathlib.Core.Bool.{true, _&&_}
-use mathlib.Core.List.{List, [], _++_, append-nil}
+use mathlib.Core.Bool.{true}
+use mathlib.Core.List.{List, [], _++_}
 use lib.Dec.{eqb}
 use lib.ListN.{length, getD, take, drop, length-append, length-replicate}
 use lib.Seq.{take-at, take-take}
 use Rattle.paper.specs.Lists.{each, same-by}
 use Rattle.paper.specs.Numbers.{longest-side}
-use Rattle.paper.proofs.Tests.{and-left, and-right, both-true}
+use Rattle.paper.proofs.Tests.{and-left, and-right, both-true, same-tests}
 use Rattle.bradovusc.specs.Coded.{Coded, same-coded}
 use Rattle.bradovusc.specs.Struct.{padded, as-struct, Short}
-use Rattle.bradovusc.specs.Slots.{mask-bytes, origin-bytes, held-bytes, struct-slot, Slot, slot-bytes, part, key, key-bytes, left-at, right-at, sets-at, sets-bytes, struct-key, has-key}
-use Rattle.bradovusc.proofs.slots.Sets.{sets-compared}
-use Rattle.bradovusc.proofs.slots.Compared.{bytes-equal, equal-bytes, side-compared}
+use Rattle.bradovusc.specs.Slots.{mask-bytes, origin-bytes, held-bytes, struct-slot, Slot, slot-bytes, part, key, key-bytes, left-at, right-at, sets-at, sets-bytes, struct-key}
+use Rattle.bradovusc.proofs.slots.Sets.{same-masks}
+use Rattle.bradovusc.proofs.slots.Compared.{bytes-equal, equal-bytes}
 use Rattle.bradovusc.proofs.slots.Keys.{Sized, length-key, left-part, right-part, sets-part, length-slot}
 
 -- The test of situations is equality.
@@ -79,19 +79,28 @@ module _ (k : Coded) (h : Short k) (t : List ℕ) where
   right-tokens : take (length (k .right)) (drop right-at (key k ++ t)) ≡ k .right
   right-tokens = tokens (k .right) (drop right-at (key k ++ t)) (h .right) (right-part (as-struct k) (short-sized h) t)
 
--- Comparing the keys of two situations is comparing the situations, whatever stands behind the keys.
-keys-compared : (a b : Coded) (t u : List ℕ) → Short a → Short b → has-key (key a ++ t) (key b ++ u) ≡ same-coded a b
-unfolding has-key struct-key
-keys-compared a b t u h k =
-    let l = side-compared (a .left) (b .left) (drop left-at (key a ++ t)) (drop left-at (key b ++ u)) (left-tokens a h t) (left-tokens b k u) in
-    let r = side-compared (a .right) (b .right) (drop right-at (key a ++ t)) (drop right-at (key b ++ u)) (right-tokens a h t) (right-tokens b k u) in
-    let x = sets-part (as-struct a) (short-sized h) t in
-    let y = sets-part (as-struct b) (short-sized k) u in
-    let s = (λ i. same-by eqb (x i) (y i)) ∙ sets-compared (a .sets) (b .sets) in
-    λ i. l i && (r i && s i)
+-- A key tells the situation.
+key-tells : (a b : Coded) → Short a → Short b → key a ≡ key b → a ≡ b
+unfolding struct-key
+key-tells a b h k e =
+    let f : key a ++ [] ≡ key b ++ [] = ap (λ (l : List ℕ). l ++ []) e in
+    let m : length (a .left) ≡ length (b .left) = ap (λ (l : List ℕ). getD l 0 0) e in
+    let n : length (a .right) ≡ length (b .right) = ap (λ (l : List ℕ). getD l 1 0) e in
+    let l : a .left ≡ b .left = sym (left-tokens a h []) ∙ (λ i. take (m i) (drop left-at (f i))) ∙ left-tokens b k [] in
+    let r : a .right ≡ b .right = sym (right-tokens a h []) ∙ (λ i. take (n i) (drop right-at (f i))) ∙ right-tokens b k [] in
+    let s : a .sets ≡ b .sets =
+    same-masks (a .sets) (b .sets)
+    (sym (sets-part (as-struct a) (short-sized h) []) ∙ ap (part sets-at sets-bytes) f ∙ sets-part (as-struct b) (short-sized k) []) in
+    λ i. record { left = l i; right = r i; sets = s i }
 
-pub slot-compared : (x : Slot) (k : Coded) → Short (x .at) → Short k → has-key (slot-bytes x) (key k) ≡ same-coded (x .at) k
+-- Comparing the keys of two situations is comparing the situations.
+pub keys-compared : (a b : Coded) → Short a → Short b → same-by eqb (key a) (key b) ≡ same-coded a b
+keys-compared a b h k =
+    same-tests (same-by eqb (key a) (key b)) (same-coded a b)
+    (λ t. rw (key-tells a b h k (bytes-equal (key a) (key b) t)) (equal-same-coded b))
+    (λ t. equal-bytes (key a) (key b) (ap key (same-coded-equal a b t)))
+
+-- The front of a slot's bytes is its key.
+pub key-of-slot : (x : Slot) → Short (x .at) → take key-bytes (slot-bytes x) ≡ key (x .at)
 unfolding struct-slot
-slot-compared x k h s =
-    ap (has-key (slot-bytes x)) (sym (append-nil (key k)))
-    ∙ keys-compared (x .at) k (origin-bytes (x .parent) (x .step)) [] h s
+key-of-slot x h = take-at (key (x .at)) (origin-bytes (x .parent) (x .step)) key-bytes (short-key h)

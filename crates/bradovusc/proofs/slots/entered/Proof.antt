@@ -5,12 +5,16 @@ use native.Mathlib.Omega.{arith}
 use mathlib.Core.Path.{_≡_, sym, _∙_}
 use mathlib.Core.Bool.{Bool}
 use mathlib.Core.List.{List}
+use lib.Dec.{eqb}
 use lib.ListN.{take, drop}
+use lib.Seq.{take-all}
+use Rattle.paper.specs.Lists.{same-by}
 use Rattle.paper.specs.Numbers.{situation-bytes}
 use Rattle.bradovusc.specs.Coded.{Coded, same-coded}
-use Rattle.bradovusc.specs.Slots.{Slot, slot-at, Sought, held-bytes, has-key}
+use Rattle.bradovusc.specs.Slots.{Slot, slot-at, Sought, key-bytes, key}
 use Rattle.bradovusc.proofs.slots.Chained.{Walked, walk-begins, walk-within, walk-ends, walk-goes-on}
 use Rattle.bradovusc.proofs.slots.Held.{slot-is}
+use Rattle.bradovusc.proofs.slots.Situations.{short-key}
 use borrow.Author.Needs.{needs}
 use Rattle.bradovusc.proofs.slots.entered.Statement.{statement}
 use Rattle.bradovusc.proofs.slots.entered.Tie as tie
@@ -24,11 +28,12 @@ abbrev μ-loop : tie.MeasureT-loop
 
 -- the slot i is compared with the key, as the code's range has it
 slot-met : {work bytes : List ℕ} {n first : ℕ} {k : Coded} {ss : List Slot} (i : ℕ) (r : Bool) → Sought work bytes n first k ss → i < n
-    → r ≡ has-key (take (situation-bytes * i + held-bytes - situation-bytes * i) (drop (situation-bytes * i) work)) bytes
+    → r ≡ same-by eqb (take (situation-bytes * i + key-bytes - situation-bytes * i) (drop (situation-bytes * i) work)) (take (key-bytes - 0) (drop 0 bytes))
     → same-coded (slot-at ss i .at) k ≡ r
 slot-met {k = k} i r q b e =
+    let whole : take key-bytes (key k) ≡ key k = take-all key-bytes (key k) (omega (arith, short-key (q .short))) in
     sym (slot-is (q .holds) i (omega (arith, q .many)) k (q .short))
-    ∙ sym (rw (add-sub-cancel-left (situation-bytes * i) held-bytes, q .is-key) at e)
+    ∙ sym (e ∙ rw (add-sub-cancel-left (situation-bytes * i) key-bytes, q .is-key, whole))
 
 add-above : tie.Need-add-above Inv-loop μ-loop
 add-above c = search needs
@@ -45,28 +50,37 @@ sub-i c = search needs
 mul-at : tie.Need-mul-at Inv-loop μ-loop
 mul-at c = search needs
 
-add-same-key : tie.Need-add-same-key Inv-loop μ-loop
-add-same-key c = search needs
+add-same : tie.Need-add-same Inv-loop μ-loop
+add-same c = search needs
 
-sub-same-key : tie.Need-sub-same-key Inv-loop μ-loop
-sub-same-key c = search needs
+sub-same : tie.Need-sub-same Inv-loop μ-loop
+sub-same c = search needs
 
-part-same-key-start : tie.Need-part-same-key-start Inv-loop μ-loop
-part-same-key-start c = search needs
+part-same-start : tie.Need-part-same-start Inv-loop μ-loop
+part-same-start c = search needs
 
-part-same-key-end : tie.Need-part-same-key-end Inv-loop μ-loop
-part-same-key-end c = search needs
+part-same-end : tie.Need-part-same-end Inv-loop μ-loop
+part-same-end c = search needs
 
-same-key-requires : tie.Need-same-key-requires Inv-loop μ-loop
-same-key-requires c κs = search needs
+sub-same-2 : tie.Need-sub-same-2 Inv-loop μ-loop
+sub-same-2 c = search needs
+
+part-same-start-2 : tie.Need-part-same-start-2 Inv-loop μ-loop
+part-same-start-2 c = search needs
+
+part-same-end-2 : tie.Need-part-same-end-2 Inv-loop μ-loop
+part-same-end-2 c = search needs
+
+same-requires : tie.Need-same-requires Inv-loop μ-loop
+same-requires c κs = search needs
 
 returns-2 : tie.Need-returns-2 Inv-loop μ-loop
 returns-2 c k ss q =
-    let at = c .before .before .before .before .before in
+    let at = c .before .before .before .before .before .before in
     let i = at .loop .next - 1 in
     let args = at .before .before .before .args in
     let b : i < args .n = omega (arith, at .loop .inv .0) in
-    (omega (arith, q .many), slot-met (at .loop .next - 1) (c .before .same-key .result) q b (c .before .same-key .ensures) ∙ c .if2 .taken)
+    (omega (arith, q .many), slot-met (at .loop .next - 1) (c .before .same .result) q b (c .before .same .ensures) ∙ c .if2 .taken)
 
 add-link : tie.Need-add-link Inv-loop μ-loop
 add-link c = search needs
@@ -79,14 +93,14 @@ loop-less c = search needs
 
 loop-again : tie.Need-loop-again Inv-loop μ-loop
 loop-again c =
-    let at = c .before .before .before .before .before .before in
+    let at = c .before .before .before .before .before .before .before in
     let i = at .loop .next - 1 in
     let args = at .before .before .before .args in
     let b : i < args .n = omega (arith, at .loop .inv .0) in (
       omega arith,
       omega arith,
       λ k ss q. walk-goes-on q (at .loop .inv .2 k ss q) i (c .link .result) (omega arith) b
-          (slot-met i (c .before .before .same-key .result) q b (c .before .before .same-key .ensures) ∙ c .before .if2 .left) (c .link .ensures),
+          (slot-met i (c .before .before .same .result) q b (c .before .before .same .ensures) ∙ c .before .if2 .left) (c .link .ensures),
     )
 
 returns-3 : tie.Need-returns-3 Inv-loop μ-loop
@@ -105,11 +119,14 @@ entered-spec =
     returns
     sub-i
     mul-at
-    add-same-key
-    sub-same-key
-    part-same-key-start
-    part-same-key-end
-    same-key-requires
+    add-same
+    sub-same
+    part-same-start
+    part-same-end
+    sub-same-2
+    part-same-start-2
+    part-same-end-2
+    same-requires
     returns-2
     add-link
     link-requires
