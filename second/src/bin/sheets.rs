@@ -2,6 +2,7 @@
 //!
 //! - `sheets SEED NUMBER`: so many cases made from the seed
 //! - `sheets --long ROOM`: a few whose search fills room for so many situations
+//! - `sheets --long ROOM N`: the sheet alone of the N-th of these
 
 use std::io::{self, Write};
 use std::process::ExitCode;
@@ -14,10 +15,18 @@ fn main() -> ExitCode {
     let arguments: Vec<String> = std::env::args().skip(1).collect();
     let arguments: Vec<&str> = arguments.iter().map(String::as_str).collect();
     let cases: Vec<Case> = match arguments[..] {
-        ["--long", room] => match room.parse() {
-            Ok(room) if room as usize <= MOST_ROOM => long(room),
-            _ => return usage(),
+        ["--long", room] => match filling(room) {
+            Some(cases) => cases,
+            None => return usage(),
         },
+        ["--long", room, number] => {
+            return match (filling(room), number.parse::<usize>()) {
+                (Some(cases), Ok(number)) if (1..=cases.len()).contains(&number) => {
+                    put(&cases[number - 1].sheet)
+                }
+                _ => usage(),
+            };
+        }
         [seed, number] => match (seed.parse(), number.parse::<usize>()) {
             (Ok(seed), Ok(number)) => {
                 let mut dice = Dice::new(seed);
@@ -31,7 +40,17 @@ fn main() -> ExitCode {
     for case in &cases {
         case.write(&mut stream);
     }
-    match io::stdout().lock().write_all(&stream) {
+    put(&stream)
+}
+
+/// The long cases for a room.
+fn filling(room: &str) -> Option<Vec<Case>> {
+    let room = room.parse().ok()?;
+    (room as usize <= MOST_ROOM).then(|| long(room))
+}
+
+fn put(bytes: &[u8]) -> ExitCode {
+    match io::stdout().lock().write_all(bytes) {
         Ok(()) => ExitCode::SUCCESS,
         Err(error) => {
             eprintln!("sheets: {error}");
@@ -41,6 +60,6 @@ fn main() -> ExitCode {
 }
 
 fn usage() -> ExitCode {
-    eprintln!("usage: sheets SEED NUMBER | sheets --long ROOM (at most 65535)");
+    eprintln!("usage: sheets SEED NUMBER | sheets --long ROOM [N] (ROOM at most 65535)");
     ExitCode::from(2)
 }
