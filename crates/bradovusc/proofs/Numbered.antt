@@ -269,10 +269,10 @@ module _ (T : Tables) (room : ℕ) where
     the-search = search same-coded finished-coded (children-coded T) room s
 
     abbrev the-end : End Coded ℕ
-    the-end = how same-coded finished-coded (children-coded T) the-search
+    the-end = how the-search
 
     abbrev the-entries : Entries
-    the-entries = entries same-coded finished-coded (children-coded T) the-search
+    the-entries = entries the-search
 
     between : Between (suc room + 0) the-search (slot-search T room s)
     unfolding search slot-search

@@ -86,9 +86,9 @@ module _ (sheet : List ℕ) (q : Question) (g : read-sheet sheet ≡ asked q) wh
 
   module _ (room : ℕ) where
     pub some-slot : run q good room .status ≡ Found → 0 < length (run q good room .slots)
-    some-slot e = by-end (how-of q (searched q room)) refl (sym (status-agrees q good room) ∙ e)
+    some-slot e = by-end (how-of (searched q room)) refl (sym (status-agrees q good room) ∙ e)
       where
-        by-end : (x : End (Situation PlaceSet) Move) → how-of q (searched q room) ≡ x → status-of x ≡ Found → 0 < length (run q good room .slots)
+        by-end : (x : End (Situation PlaceSet) Move) → how-of (searched q room) ≡ x → status-of x ≡ Found → 0 < length (run q good room .slots)
         by-end (found f) h k = found-last q good room f h .0
         by-end used-up h k = absurd (let z : _≡_ {A = ℕ} 0 1 = cc in omega arith)
         by-end no-room h k = absurd (let z : _≡_ {A = ℕ} 0 1 = cc in omega arith)

@@ -1,7 +1,7 @@
 -- The search over slots is the paper's search of the question, to its end: it ends alike, with as many slots as entries, and the text
 -- spelt back from the last slot is the text of the entry found.
---   status-agrees : run .status ≡ status-of (how-of q (searched q room))
---   count-agrees  : length (run .slots) ≡ count-of q (searched q room)
+--   status-agrees : run .status ≡ status-of (how-of (searched q room))
+--   count-agrees  : length (run .slots) ≡ count-of (searched q room)
 --   text-agrees   : text-back n (run .slots) f last ≡ texts-of (acceptor q) (q .left) (q .right) e f, where e is found
 -- Holds of good questions. Follows from the children and tests agreeing (`CodedChildren`), from the law of two searches side by
 -- side (`Mapped`), and from the slots standing for entries (`Numbered`).
@@ -115,7 +115,7 @@ module _ (q : Question) (good : GoodQuestion q) where
   module _ (room : ℕ) where
     abbrev the-entries : List Paper-entry
     the-entries =
-        entries (same-situation (acceptor q)) (finished (acceptor q)) (children (acceptor q) longest-side)
+        entries
         (search (same-situation (acceptor q)) (finished (acceptor q)) (children (acceptor q) longest-side) room first)
 
     -- the search over slots, from the bytes of the sides
@@ -123,13 +123,13 @@ module _ (q : Question) (good : GoodQuestion q) where
     run = slot-search (tables-of q) room (question-coded (code-side (q .left)) (code-side (q .right)))
 
     -- It ends as the paper's.
-    pub status-agrees : run .status ≡ status-of (how-of q (searched q room))
+    pub status-agrees : run .status ≡ status-of (how-of (searched q room))
     unfolding how-of searched search-from
     status-agrees =
         rw (← first-coded)
         (slots-status (tables-of q) room (code-situation first)
         ∙ ap status-of (search-how simulates room first first-good)
-        ∙ status-coded (how-of q (searched q room)))
+        ∙ status-coded (how-of (searched q room)))
 
     as-many : length (run .slots) ≡ length the-entries
     as-many =
@@ -137,7 +137,7 @@ module _ (q : Question) (good : GoodQuestion q) where
         (linked-length (slots-linked (tables-of q) room (code-situation first)) ∙ search-count simulates room first first-good)
 
     -- It enters as many.
-    pub count-agrees : length (run .slots) ≡ count-of q (searched q room)
+    pub count-agrees : length (run .slots) ≡ count-of (searched q room)
     unfolding count-of searched search-from
     count-agrees = as-many
 
@@ -192,7 +192,7 @@ module _ (q : Question) (good : GoodQuestion q) where
           (sym (given-agrees q f (paper-at parent .at) (last .move) b (at-good parent below) (last .known))
           ∙ ap₂ (given-coded f) (sym at-parent) (last .number))
 
-    module _ (e : Paper-entry) (h : how-of q (searched q room) ≡ found e) where
+    module _ (e : Paper-entry) (h : how-of (searched q room) ≡ found e) where
       -- The entry found is in the last slot.
       pub found-last : (0 < length (run .slots)) × (paper-at (length (run .slots) - 1) ≡ e)
       unfolding how-of searched search-from

@@ -62,7 +62,7 @@ module _ (q : Question) (good : GoodQuestion q) where
       keep-same _ (λ (f : ℕ). stands-in f (q .left ++ q .right)) (upto fields)
       (λ f d. ap (λ (m : ℕ). not (eqb m 0)) (getD-map-upto (first-set tokens) 0 fields f (mem-upto fields d)) ∙ one-or-none (member (field-token + f) tokens) ∙ stands-alike f)
 
-  module _ (room : ℕ) (e : Entry (Situation PlaceSet) Move) (h : how-of q (searched q room) ≡ found e) where
+  module _ (room : ℕ) (e : Entry (Situation PlaceSet) Move) (h : how-of (searched q room) ≡ found e) where
     abbrev ss : List Slot
     ss = run q good room .slots
 
@@ -96,17 +96,17 @@ module _ (q : Question) (good : GoodQuestion q) where
   -- The answer by how the search over slots ended, with the buffers that it leaves, is the outcome by how the paper's search ended.
   pub concluded-told : (room : ℕ) (work buffer : List ℕ)
       → told (concluded (run q good room) (first-sets tokens) buffer) (concluded-buffer (run q good room) (first-sets tokens) buffer) (cleared work)
-      ≡ answered q (count-of q (searched q room)) (how-of q (searched q room)) work buffer
+      ≡ answered q (count-of (searched q room)) (how-of (searched q room)) work buffer
   unfolding concluded concluded-buffer
   concluded-told room work buffer =
-      rw (status-agrees q good room) (by-end (how-of q (searched q room)) refl)
+      rw (status-agrees q good room) (by-end (how-of (searched q room)) refl)
     where
       ss′ : List Slot
       ss′ = run q good room .slots
 
-      by-end : (x : End (Situation PlaceSet) Move) → how-of q (searched q room) ≡ x
+      by-end : (x : End (Situation PlaceSet) Move) → how-of (searched q room) ≡ x
           → told (answer-by (status-of x) ss′ (first-sets tokens) buffer) (buffer-by (status-of x) ss′ (first-sets tokens) buffer) (cleared work)
-          ≡ answered q (count-of q (searched q room)) x work buffer
+          ≡ answered q (count-of (searched q room)) x work buffer
       by-end (found e) h = clash-told room e h (length ss′) work buffer ∙ ap (λ (n : ℕ). clash q n e work buffer) (count-agrees q good room)
       by-end used-up h = ap (λ (n : ℕ). without-bytes 1 n work buffer) (count-agrees q good room)
       by-end no-room h = ap (λ (n : ℕ). without-bytes 18 n work buffer) (count-agrees q good room)

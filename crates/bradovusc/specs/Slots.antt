@@ -6,7 +6,7 @@ use mathlib.Core.Bool.{Bool, true, false, cond, _&&_}
 use mathlib.Core.List.{List, [], _∷_, _++_}
 use lib.Dec.{eqb}
 use lib.ListN.{length, getD, take, drop}
-use Rattle.paper.specs.Lists.{any, each, same-by}
+use Rattle.paper.specs.Lists.{any, each}
 use Rattle.paper.specs.Numbers.{fields, longest-side, situation-bytes}
 use Rattle.bradovusc.specs.Coded.{Coded, same-coded}
 use Rattle.bradovusc.specs.Struct.{as-struct, Short}

@@ -17,7 +17,7 @@ use Rattle.paper.specs.Way.{search-from}
 module _ {P : Type 0} (A : Acceptor P) where
   -- how the search on a question ends
   abbrev pub end-of : ℕ → ℕ → Side → Side → End (Situation P) Move
-  end-of limit room l r = how (same-situation A) (finished A) (children A limit) (search-from A limit room l r)
+  end-of limit room l r = how (search-from A limit room l r)
 
   -- situations with all their children, none finished, none with a child that is too long
   pub record UsedUp (limit : ℕ) (all : List (Situation P)) : Type 0 where
@@ -62,7 +62,7 @@ module _ {P : Type 0} (A : Acceptor P) {Holds : ℕ → List ℕ → Type 0} (D 
   )
     where
       all : List (Entry (Situation P) Move)
-      all = entries (same-situation A) (finished A) (children A limit) (search-from A limit room l r)
+      all = entries (search-from A limit room l r)
 
       -- what holds of every entry's situation
       at-entry : (Q : Situation P → Type 0) → ((e : Entry (Situation P) Move) → List·Memᴰ e all → Q (e .at)) → (s : Situation P)

@@ -195,8 +195,8 @@ module _ {S M : Type 0} (finished : S → Bool) (children : S → List (Child S 
     -- the state is an end, of which `Ended` says what it does
     abbrev pub Ends : State S M → Type 0
     Ends st =
-        (st ≡ ended (how same finished children st) (entries same finished children st))
-        × Outcome finished children room s₀ (how same finished children st) (entries same finished children st)
+        (st ≡ ended (how st) (entries st))
+        × Outcome finished children room s₀ (how st) (entries st)
 
     -- whoever has taken more than the room has ended: an entry taken is an entry
     good-ends : (n : ℕ) (st : State S M) → room < n → Good n st → Ends st

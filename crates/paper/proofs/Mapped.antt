@@ -137,12 +137,12 @@ module _
     alike-coded (ended x l) st′ a = a
 
     how-coded : (st : State S M)
-        → how same′ finished′ children′ (code-state code step st) ≡ code-end code step (how same finished children st)
+        → how (code-state code step st) ≡ code-end code step (how st)
     how-coded (going t w) = refl
     how-coded (ended x l) = refl
 
     entries-coded : (st : State S M)
-        → entries same′ finished′ children′ (code-state code step st) ≡ coded (entries same finished children st)
+        → entries (code-state code step st) ≡ coded (entries st)
     entries-coded (going t w) = sym (coded-append t w)
     entries-coded (ended x l) = refl
 
@@ -164,11 +164,11 @@ module _
           (enter-alike [] [] e (λ x d. absurd (List·Memᴰ·not-nil d)) g))
 
       -- So it ends alike, with the same entries taken over, as many of them.
-      pub search-how : how same′ finished′ children′ second-search ≡ code-end code step (how same finished children first-search)
+      pub search-how : how second-search ≡ code-end code step (how first-search)
       search-how = rw search-mapped (how-coded first-search)
 
-      pub search-entries : entries same′ finished′ children′ second-search ≡ coded (entries same finished children first-search)
+      pub search-entries : entries second-search ≡ coded (entries first-search)
       search-entries = rw search-mapped (entries-coded first-search)
 
-      pub search-count : count same′ finished′ children′ second-search ≡ count same finished children first-search
-      search-count = ap length search-entries ∙ length-map (entries same finished children first-search) (code-entry code step)
+      pub search-count : count second-search ≡ count first-search
+      search-count = ap length search-entries ∙ length-map (entries first-search) (code-entry code step)

@@ -29,7 +29,7 @@ module _
     sides = plain-sides (A .fields) l r is-plain below
 
     abbrev the-end : End (Situation P) Move
-    the-end = how (same-situation A) (finished A) (children A limit) (search-from A limit room l r)
+    the-end = how (search-from A limit room l r)
 
     listed : (s : Situation P) → Reached-at R sides s → List·Memᴰ s (all-situations A reach l r)
     listed s h = reached-listed A reach l r (s .sets) (s .left) (s .right) h
@@ -40,7 +40,7 @@ module _
     child-reached s h m t d = children-kept R sides limit s (child m t) h d
 
     -- "the count is at most (1 + L) times (1 + R)"
-    pub plain-count : count (same-situation A) (finished A) (children A limit) (search-from A limit room l r) ≤ plain-bound reach l r
+    pub plain-count : count (search-from A limit room l r) ≤ plain-bound reach l r
     unfolding search-from
     plain-count =
         rw (length-situations A reach l r) at

@@ -17,7 +17,7 @@ use Rattle.paper.proofs.Searched
 use Rattle.paper.proofs.Ended.{Left-out}
 use Rattle.paper.specs.Equation.{chr, fld, Side, Texts, stands-in}
 use Rattle.paper.specs.Pattern.{Holds}
-use Rattle.paper.specs.Situation.{Acceptor, Situation, Sides, trim, Move, trimmed, moved, same-situation, finished, children, question}
+use Rattle.paper.specs.Situation.{Acceptor, Situation, Sides, trim, Move, trimmed, moved, same-situation, children, question}
 use Rattle.paper.specs.Children.{ChildOf}
 use Rattle.paper.specs.Decides.{Decides}
 use Rattle.paper.specs.Way.{search-from, texts-of}
@@ -58,14 +58,14 @@ module _ (q : Question) where
   first = question (acceptor q) (q .left) (q .right)
 
   -- The texts of the entry found solve the question.
-  pub found-solves : (room : ℕ) (e : Entry (Situation PlaceSet) Move) → how-of q (searched q room) ≡ found e
+  pub found-solves : (room : ℕ) (e : Entry (Situation PlaceSet) Move) → how-of (searched q room) ≡ found e
       → Solution q (texts-of (acceptor q) (q .left) (q .right) e)
   unfolding how-of searched acceptor
   found-solves room e h = sound (acceptor q) decides longest-side room (q .left) (q .right) e h
 
   -- Where all are used up, no texts solve the question, if its fields are 01's.
   pub used-up-unsolved : (room : ℕ) → ((f : ℕ) → stands-in f (q .left ++ q .right) ≡ true → f < fields)
-      → how-of q (searched q room) ≡ used-up → (texts : Texts) → Solution q texts → ⊥
+      → how-of (searched q room) ≡ used-up → (texts : Texts) → Solution q texts → ⊥
   unfolding how-of searched acceptor
   used-up-unsolved room known h = complete (acceptor q) decides longest-side room (q .left) (q .right) known h
 
@@ -73,17 +73,17 @@ module _ (q : Question) where
     -- the entries, of which `entered` has the situations
     abbrev all : List (Entry (Situation PlaceSet) Move)
     all =
-        entries (same-situation (acceptor q)) (finished (acceptor q)) (children (acceptor q) longest-side) (searched q (room-of work))
+        entries (searched q (room-of work))
 
     abbrev at : Entry (Situation PlaceSet) Move → Situation PlaceSet
     at e = e .at
 
     -- "The count equals the number of situations entered", and is never above the room.
-    pub count-entered : count-of q (searched q (room-of work)) ≡ length (entered q work)
+    pub count-entered : count-of (searched q (room-of work)) ≡ length (entered q work)
     unfolding count-of
     count-entered = rw (length-map all at)
 
-    pub count-in-room : count-of q (searched q (room-of work)) ≤ room-of work
+    pub count-in-room : count-of (searched q (room-of work)) ≤ room-of work
     unfolding count-of searched search-from
     count-in-room = Searched.count-at-most-room _ _ _ equal same (room-of work) first
 
@@ -105,8 +105,8 @@ module _ (q : Question) where
         e i)
 
     -- "no room gives 18"
-    pub no-room-left : how-of q (searched q (room-of work)) ≡ no-room
-        → (count-of q (searched q (room-of work)) ≡ room-of work) × ((room-of work ≡ 0) ⊎ LeftOut q work)
+    pub no-room-left : how-of (searched q (room-of work)) ≡ no-room
+        → (count-of (searched q (room-of work)) ≡ room-of work) × ((room-of work ≡ 0) ⊎ LeftOut q work)
     unfolding how-of count-of searched search-from
     no-room-left h =
         let (full, out) = Searched.no-room-full _ _ _ equal same (room-of work) first h in (full, ⊎-map (λ z. z) left-out out)
@@ -123,7 +123,7 @@ module _ (q : Question) where
             }
 
     -- "a side above 48 tokens gives 19"
-    pub too-long-left : how-of q (searched q (room-of work)) ≡ too-long
+    pub too-long-left : how-of (searched q (room-of work)) ≡ too-long
         → (s : Situation PlaceSet) × (m : Move) × (t : Situation PlaceSet)
         × List·Memᴰ s (entered q work)
         × ChildOf (acceptor q) s m t

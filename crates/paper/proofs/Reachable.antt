@@ -109,10 +109,10 @@ module _ (n : ℕ) (h : Held) where
   the-search = search same-set none-finished (sets-after n h) (all-sets h) first-set
 
   abbrev the-entries : List (Entry PlaceSet ℕ)
-  the-entries = entries same-set none-finished (sets-after n h) the-search
+  the-entries = entries the-search
 
   -- there is room for every set: the search uses all up
-  all-taken : how same-set none-finished (sets-after n h) the-search ≡ used-up
+  all-taken : how the-search ≡ used-up
   all-taken =
       bound-used-up same-set none-finished (sets-after n h) same-equal equal-same (all-sets h) first-set (bound h) (first-in h)
       (λ s d c t k. rw (child-set n h s c t k .is-after) (after-in h s c d))

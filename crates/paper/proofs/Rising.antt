@@ -1,5 +1,4 @@
--- What a place set looks like: each set that a text leads to is a strictly rising list of places, the start or leaves.
---   rising-reached : Rising (set-along h first-set w)
+-- What a place set looks like: a strictly rising list of places, the start or leaves.
 --   places-reached : a place q of set-along (pattern p) first-set w is at most leaves p
 -- Follows from the definitions: a set after a character is a part of the list of leaves.
 use Prim.Native.Nat.{ℕ, zero, suc, _≤_, _<_}
@@ -37,13 +36,6 @@ pub rising-after : (h : Held) (s : PlaceSet) (c : ℕ) → Rising s → Rising (
 unfolding set-after
 rising-after any-text s c r = r
 rising-after (pattern p) s c r = rising-keep _ (rising-from 1 (leaves p))
-
-rising-along : (h : Held) (s : PlaceSet) (w : List ℕ) → Rising s → Rising (set-along h s w)
-rising-along h s [] r = r
-rising-along h s (c ∷ w) r = rising-along h (set-after h s c) w (rising-after h s c r)
-
-pub rising-reached : (h : Held) (w : List ℕ) → Rising (set-along h first-set w)
-rising-reached h w = rising-along h first-set w rising-first
 
 -- after a character every place is a leaf
 pub leaf-after : (p : Pattern) (s : PlaceSet) (c q : ℕ) → List·Memᴰ q (set-after (pattern p) s c) → (1 ≤ q) × (q ≤ leaves p)

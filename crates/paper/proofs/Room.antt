@@ -96,6 +96,6 @@ module _ {S M : Type 0} (same : S → S → Bool) (finished : S → Bool) (child
         let st : State S M = enter same finished children room [] [] e₀ in
         let st′ : State S M = enter same finished children room′ [] [] e₀ in
         ⊎-elim
-        (λ h. absurd (n (ap (how same finished children) (sym e ∙ h .1))))
+        (λ h. absurd (n (ap how (sym e ∙ h .1))))
         (λ h. rw (turns-of-larger st′, ← h, e) (ended-turns room′ (room′ - room) x l))
         (turns-alike (suc room) st st′ (enter-alike [] [] e₀))

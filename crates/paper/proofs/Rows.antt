@@ -21,7 +21,7 @@ use Rattle.paper.specs.Demands.{Good, number-of}
 
 -- how the search of the question ends, in the room of the working buffer
 abbrev pub end-of : List ℕ → Question → End (Situation PlaceSet) Move
-end-of work q = how-of q (searched q (room-of work))
+end-of work q = how-of (searched q (room-of work))
 
 fault-range : (x : Fault) → (11 ≤ fault-number x) × (fault-number x ≤ 17)
 fault-range cut-short = omega arith
@@ -68,7 +68,7 @@ module _ (sheet work answer : List ℕ) where
 
   reading-in-row : (r : Reading) → read-sheet sheet ≡ r → InRow (outcome-of r work answer)
   reading-in-row (refused x at) e = let (low, high) = fault-range x in faulty x at e low high refl
-  reading-in-row (asked q) e = end-in-row q (count-of q (searched q (room-of work))) (end-of work q) e refl
+  reading-in-row (asked q) e = end-in-row q (count-of (searched q (room-of work))) (end-of work q) e refl
 
   pub in-row : (n : ℕ) → outcome sheet work answer .number ≡ n → Row (outcome sheet work answer) n
   unfolding outcome
@@ -97,10 +97,10 @@ end-number q n too-long work answer = (refl, refl)
 
 pub good-outcome : (sheet work answer : List ℕ) (q : Question) → Good sheet q
     → (outcome sheet work answer .number ≡ number-of q answer (end-of work q))
-    × (outcome sheet work answer .count ≡ count-of q (searched q (room-of work)))
+    × (outcome sheet work answer .count ≡ count-of (searched q (room-of work)))
 unfolding outcome
 good-outcome sheet work answer q g =
-    rw g (end-number q (count-of q (searched q (room-of work))) (end-of work q) work answer)
+    rw g (end-number q (count-of (searched q (room-of work))) (end-of work q) work answer)
 
 -- So the number is one of the search's.
 abbrev OfSearch : ℕ → Type 0

@@ -6,7 +6,7 @@
 use Prim.Native.Nat.{ℕ, _≤_, _<_}
 use native.Mathlib.Omega.{arith}
 use mathlib.Core.Path.{_≡_, refl, sym, ap, _∙_, subst}
-use mathlib.Core.Logic.{_⊎_, inl, inr, ⊎-elim}
+use mathlib.Core.Logic.{_⊎_, ⊎-elim}
 use mathlib.Core.Bool.{Bool, true, false}
 use mathlib.Core.List.{List, [], _∷_, _++_}
 use mathlib.Core.List.{List·Memᴰ, List·Memᴰ·head, List·Memᴰ·append-cases, List·Memᴰ·eq-of-singleton, List·Memᴰ·not-nil}
@@ -38,13 +38,13 @@ module _
     the-search = search same finished children room s₀
 
     abbrev the-end : End S M
-    the-end = how same finished children the-search
+    the-end = how the-search
 
     abbrev the-entries : List (Entry S M)
-    the-entries = entries same finished children the-search
+    the-entries = entries the-search
 
     abbrev the-count : ℕ
-    the-count = count same finished children the-search
+    the-count = count the-search
 
     -- The search always ends: room + 1 turns are enough.
     pub settled : the-search ≡ ended the-end the-entries
@@ -107,16 +107,6 @@ module _
 
     pub found-finished : (e : Entry S M) → the-end ≡ found e → finished (e .at) ≡ true
     found-finished e h = found-is-last e h .2
-
-    -- No other entry is finished.
-    pub found-only : (e : Entry S M) → the-end ≡ found e
-        → (f : Entry S M) → List·Memᴰ f the-entries → (f ≡ e) ⊎ (finished (f .at) ≡ false)
-    found-only e h f d =
-        let r = found-is-last e h in
-        ⊎-elim
-        (λ (i : List·Memᴰ f (r .0)). inr (r .3 f i))
-        (λ i. inl (List·Memᴰ·eq-of-singleton i))
-        (List·Memᴰ·append-cases (r .0) (subst (List·Memᴰ f) (r .1) d))
 
     -- Where none is found, no entry is finished.
     pub none-finished : ((e : Entry S M) → the-end ≡ found e → ⊥)

@@ -14,7 +14,7 @@ use Rattle.paper.specs.Places.{PlaceSet, reachable-sets}
 use Rattle.paper.specs.Search.{End, found, used-up, no-room, too-long, entries}
 use Rattle.paper.specs.Leads.{situations}
 use Rattle.paper.specs.Equation.{chr, fld, Side, Texts, stands-in}
-use Rattle.paper.specs.Situation.{Situation, Move, same-situation, finished, children, question}
+use Rattle.paper.specs.Situation.{Situation, Move, question}
 use Rattle.paper.specs.Children.{ChildOf}
 use Rattle.paper.specs.Plain.{plain, plain-bound}
 use Rattle.paper.specs.Question.{Question, held-by, Solution, acceptor}
@@ -58,7 +58,7 @@ pub record NoClash (sheet : List ℕ) : Type 0 where
 abbrev pub entered : Question → List ℕ → List (Situation PlaceSet)
 entered q work =
     situations
-    (entries (same-situation (acceptor q)) (finished (acceptor q)) (children (acceptor q) longest-side) (searched q (room-of work)))
+    (entries (searched q (room-of work)))
 
 -- 18, "no room for a situation": all the room is used, and there is none, or a situation entered has a child that is not entered
 pub record LeftOut (q : Question) (work : List ℕ) : Type 0 where
@@ -117,7 +117,7 @@ equal-fronts (chr a ∷ l) (chr b ∷ r) = eqb a b
 -- order": the number is that of the search's end, the count that of the situations entered, of which the trimmed question is the first. Each is
 -- trimmed to the last.
 pub record InOrder (q : Question) (work answer : List ℕ) (o : Outcome) : Type 0 where
-  pub number : o .number ≡ number-of q answer (how-of q (searched q (room-of work)))
+  pub number : o .number ≡ number-of q answer (how-of (searched q (room-of work)))
   pub count : o .count ≡ length (entered q work)
   pub first :
       0 < room-of work

@@ -10,7 +10,7 @@ use Rattle.paper.specs.Numbers.{fields, longest-side, situation-bytes, m
 use Rattle.paper.specs.Places.{PlaceSet}
 use Rattle.paper.specs.Search.{Entry, End, found, used-up, no-room, too-long, State, how, count}
 use Rattle.paper.specs.Equation.{stands-in}
-use Rattle.paper.specs.Situation.{Situation, Move, same-situation, finished, children}
+use Rattle.paper.specs.Situation.{Situation, Move}
 use Rattle.paper.specs.Way.{search-from, texts-of}
 use Rattle.paper.specs.Question.{Question, acceptor}
 use Rattle.paper.specs.Sheet.{fault-number, Reading, refused, asked, read-sheet}
@@ -78,18 +78,18 @@ answered q n used-up work answer = without-bytes 1 n work answer
 answered q n no-room work answer = without-bytes 18 n work answer
 answered q n too-long work answer = without-bytes 19 n work answer
 
-unfoldable pub count-of : Question → State (Situation PlaceSet) Move → ℕ
-count-of q st = count (same-situation (acceptor q)) (finished (acceptor q)) (children (acceptor q) longest-side) st
+unfoldable pub count-of : State (Situation PlaceSet) Move → ℕ
+count-of st = count st
 
-unfoldable pub how-of : Question → State (Situation PlaceSet) Move → End (Situation PlaceSet) Move
-how-of q st = how (same-situation (acceptor q)) (finished (acceptor q)) (children (acceptor q) longest-side) st
+unfoldable pub how-of : State (Situation PlaceSet) Move → End (Situation PlaceSet) Move
+how-of st = how st
 
 -- the outcome by what reading the sheet gives: a refused sheet changes no buffer
 abbrev pub outcome-of : Reading → List ℕ → List ℕ → Outcome
 outcome-of (refused x at) work answer =
     record { number = fault-number x; count = 0; place = at; written = 0; answer = answer; work = work }
 outcome-of (asked q) work answer =
-    let st = searched q (room-of work) in answered q (count-of q st) (how-of q st) work answer
+    let st = searched q (room-of work) in answered q (count-of st) (how-of st) work answer
 
 unfoldable pub outcome : List ℕ → List ℕ → List ℕ → Outcome
 outcome sheet work answer = outcome-of (read-sheet sheet) work answer

@@ -119,5 +119,5 @@ all-sets (pattern p) = suc (2 ^ leaves p)
 unfoldable pub reachable-sets : ℕ → Held → List PlaceSet
 reachable-sets characters h =
     map (λ (e : Entry PlaceSet ℕ). e .at)
-    (entries same-set (λ (s : PlaceSet). false) (sets-after characters h)
+    (entries
     (search same-set (λ (s : PlaceSet). false) (sets-after characters h) (all-sets h) first-set))

@@ -78,6 +78,7 @@ module _ {S M : Type 0} (same : S → S → Bool) (finished : S → Bool) (child
   unfoldable pub search : ℕ → S → State S M
   search room s = turns room (suc room) (enter room [] [] (record { at = s; way = [] }))
 
+module _ {S M : Type 0} where
   -- what a search that is over says; one that is still going would have found no room
   abbrev pub how : State S M → End S M
   how (going t w) = no-room
