@@ -112,7 +112,7 @@ fn put_origin(to: &mut [u8], parent: usize, step: u8)
 pub fn clear(work: &mut [u8])
     ensures { λ _. ⌜ now (work .exit) ≡ replicate (length (now (work .entry))) 0 ⌝ }
 {
-    let mut i = 0;
+    let mut i: usize = 0;
     while i < work.len() {
         work[i] = 0;
         i += 1;
