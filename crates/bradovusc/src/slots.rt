@@ -127,6 +127,7 @@ fn put_slot(to: &mut [u8], key: &[u8], parent: usize, step: u8)
     put_origin(&mut to[KEY..HELD], parent, step);
 }
 
+// The hash gone on with: by a byte, by several.
 fn mixed(h: u32, b: u8) -> u32
     requires { ⌜ h < hash-limit ⌝ }
     ensures { λ r. ⌜ r ≡ (31 * h + b) % hash-limit ⌝ }
@@ -167,7 +168,7 @@ fn pair(low: u8, high: u8) -> usize
     low as usize + 256 * (high as usize)
 }
 
-// The link at the place `at`.
+// The number in the two bytes from `at` on: a link, or a parent's number.
 fn link(work: &[u8], at: usize) -> usize
     requires { ⌜ at + 1 < length (now work) ⌝ }
     ensures { λ r. ⌜ r ≡ link (now (work .entry)) at ⌝ }
