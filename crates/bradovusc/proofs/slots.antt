@@ -1,11 +1,7 @@
-pub mod Chained
 pub mod Compared
-pub mod Hashed
 pub mod Held
 pub mod Keys
-pub mod Newest
 pub mod Parts
 pub mod Rows
 pub mod Sets
 pub mod Situations
-pub mod Written

@@ -12,7 +12,8 @@ use Rattle.patterns.specs.Masks.{followers-of}
 use Rattle.bradovusc.specs.Coded.{Coded, Tables, Settled, made, field-of, as-child, struck, put-child, row-at, takes-next}
 use Rattle.bradovusc.specs.Made.{Becomes}
 use Rattle.bradovusc.specs.Run.{is-going, Running, enter-slot, offer-slots, take-slot, slot-search}
-use Rattle.bradovusc.specs.Slots.{Slot, Holds-slots}
+use Rattle.bradovusc.specs.Buckets.{Holds-slots}
+use Rattle.bradovusc.specs.Slots.{Slot}
 use Rattle.bradovusc.specs.Struct.{as-struct, Short}
 use Rattle.bradovusc.specs.declared.search.Front.{Front}
 use Rattle.bradovusc.specs.declared.search.Run.{Run}

@@ -1,3 +1,4 @@
+pub mod Buckets
 pub mod Coded
 pub mod Codes
 pub mod Entry

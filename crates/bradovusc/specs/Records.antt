@@ -10,7 +10,8 @@ use Rattle.paper.specs.Lists.{upto, any, only, keep, each}
 use Rattle.paper.specs.Numbers.{fields, longest-text}
 use Rattle.paper.specs.Outcome.{value-record}
 use Rattle.bradovusc.specs.Coded.{no-token}
-use Rattle.bradovusc.specs.Slots.{Slot, Holds-slots, slot-at}
+use Rattle.bradovusc.specs.Buckets.{Holds-slots}
+use Rattle.bradovusc.specs.Slots.{Slot, slot-at}
 use Rattle.bradovusc.specs.Run.{text-back}
 use Rattle.bradovusc.specs.declared.records.Back.{Back}
 use Rattle.bradovusc.specs.declared.records.Given.{Given}

@@ -1,4 +1,5 @@
 // Do two label rules clash? A question sheet and two lent buffers in, an answer out.
+mod buckets;
 mod records;
 mod search;
 mod situation;

@@ -13,6 +13,8 @@ ghost use Rattle.bradovusc.specs.Lent.{Enters, Offers-child, Offers, Tak
 ghost use Rattle.bradovusc.specs.Made.{Sized};
 ghost use Rattle.bradovusc.specs.Run.{is-going, Running};
 ghost use Rattle.bradovusc.specs.declared.situation.Fate.the-variants.{Made};
+use crate::buckets;
+use crate::buckets::Seen;
 use crate::situation;
 use crate::situation::Child;
 use crate::situation::FIELD_TOKEN;
@@ -21,7 +23,6 @@ use crate::situation::Fate;
 use crate::situation::NO_TOKEN;
 use crate::situation::Situation;
 use crate::slots;
-use crate::slots::Seen;
 use patterns::CHARACTERS;
 use patterns::PLACES;
 
@@ -77,7 +78,7 @@ fn enter(work: &mut [u8], room: usize, n: usize, parent: usize, step: u8, s: Sit
             status: Status::NoRoom,
         };
     }
-    slots::write_slot(work, n, s, parent, step);
+    buckets::write_slot(work, n, s, parent, step);
     if situation::is_finished(s) {
         return Run {
             entered: n + 1,
@@ -110,7 +111,7 @@ fn offer(work: &mut [u8], room: usize, run: Run, parent: usize, step: u8, child:
         },
         Fate::Made => {
             let s = child.at;
-            let seen = slots::look_up(work, n, s);
+            let seen = buckets::look_up(work, n, s);
             match seen {
                 Seen::At(_) => run,
                 Seen::Nowhere => enter(work, room, n, parent, step, s),

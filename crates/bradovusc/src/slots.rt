@@ -1,14 +1,13 @@
 // Situations in the working buffer: a slot of 144 bytes for each, in the order of entry.
 ghost use mathlib.Core.Path.{_≡_};
 ghost use mathlib.Core.List.{List, _∷_, [], _++_};
-ghost use Prim.Native.Nat.{ℕ, _+_, _*_, _%_, _<_, _≤_};
-ghost use lib.ListN.{length, getD, replicate};
-ghost use lib.Dec.{eqb};
-ghost use Rattle.paper.specs.Lists.{each, same-by};
+ghost use Prim.Native.Nat.{ℕ, _+_, _*_, _<_, _≤_};
+ghost use lib.ListN.{length, replicate};
+ghost use Rattle.paper.specs.Lists.{each};
 ghost use Rattle.paper.specs.Numbers.{fields, longest-side, situation-bytes};
-ghost use Rattle.bradovusc.specs.Coded.{Coded};
 ghost use Rattle.bradovusc.specs.Struct.{as-struct, Short};
-ghost use Rattle.bradovusc.specs.Slots.{mask-width, mask-bytes, left-at, origin-width, struct-key, origin-bytes, key-bytes, held-bytes, sets-bytes, Slot, slot-bytes, slot-at, hash-limit, hash-from, hash, link, Links-put, Sought, Holds-slots, Entered-at};
+ghost use Rattle.bradovusc.specs.Buckets.{Holds-slots};
+ghost use Rattle.bradovusc.specs.Slots.{mask-width, mask-bytes, left-at, origin-width, struct-key, origin-bytes, key-bytes, held-bytes, sets-bytes, Slot, slot-bytes, slot-at, two-bytes};
 use crate::situation;
 use crate::situation::Situation;
 
@@ -25,26 +24,12 @@ pub const LEFT: usize = 2;
 
 pub const RIGHT: usize = LEFT + SIDE;
 
-const SETS: usize = RIGHT + SIDE;
+pub const SETS: usize = RIGHT + SIDE;
 
-const KEY: usize = SETS + MASK * FIELDS;
+pub const KEY: usize = SETS + MASK * FIELDS;
 
 // what a slot holds of its situation
-const HELD: usize = KEY + 3;
-
-// A link is the number of a slot and one, or 0 for none. Slot i has one to the next older slot of its bucket, and one to the newest slot
-// of bucket i.
-const OLDER: usize = HELD;
-
-const NEWEST: usize = OLDER + 2;
-
-const HASH_LIMIT: u32 = 16777216;
-
-// Where a situation is entered: the number of its slot.
-pub enum Seen {
-    At(usize),
-    Nowhere,
-}
+pub const HELD: usize = KEY + 3;
 
 // A copy.
 fn put(to: &mut [u8], from: &[u8])
@@ -88,7 +73,7 @@ fn put_sets(to: &mut [u8], sets: &[u32])
     }
 }
 
-fn put_key(to: &mut [u8], s: Situation)
+pub fn put_key(to: &mut [u8], s: Situation)
     requires { ⌜ (length (now to) ≡ key-bytes) × (s .«left_len» ≤ longest-side) × (s .«right_len» ≤ longest-side) ⌝ }
     ensures { λ _. ⌜ now (to .exit) ≡ struct-key s ⌝ }
 {
@@ -119,87 +104,12 @@ pub fn clear(work: &mut [u8])
     }
 }
 
-fn put_slot(to: &mut [u8], key: &[u8], parent: usize, step: u8)
+pub fn put_slot(to: &mut [u8], key: &[u8], parent: usize, step: u8)
     requires { ⌜ (length (now to) ≡ held-bytes) × (length (now key) ≡ key-bytes) × (parent < 65536) ⌝ }
     ensures { λ _. ⌜ now (to .exit) ≡ now (key .entry) ++ origin-bytes parent step ⌝ }
 {
     put(&mut to[0..KEY], key);
     put_origin(&mut to[KEY..HELD], parent, step);
-}
-
-// The hash gone on with: by a byte, by several.
-fn mixed(h: u32, b: u8) -> u32
-    requires { ⌜ h < hash-limit ⌝ }
-    ensures { λ r. ⌜ r ≡ (31 * h + b) % hash-limit ⌝ }
-{
-    (31 * h + b as u32) % HASH_LIMIT
-}
-
-fn hash_from(h: u32, bytes: &[u8]) -> u32
-    requires { ⌜ h < hash-limit ⌝ }
-    ensures { λ r. ⌜ (r < hash-limit) × (r ≡ hash-from h (now (bytes .entry))) ⌝ }
-{
-    let mut r = h;
-    let mut i = 0;
-    while i < bytes.len() {
-        r = mixed(r, bytes[i]);
-        i += 1;
-    }
-    r
-}
-
-// The bucket of a key, of n.
-fn bucket(key: &[u8], n: usize) -> usize
-    requires { ⌜ (length (now key) ≡ key-bytes) × (getD (now key) 0 0 ≤ longest-side) × (getD (now key) 1 0 ≤ longest-side) × (0 < n) ⌝ }
-    ensures { λ r. ⌜ (r < n) × (r ≡ hash (now (key .entry)) % n) ⌝ }
-{
-    let left = LEFT + key[0] as usize;
-    let right = RIGHT + key[1] as usize;
-    let a = hash_from(0, &key[0..left]);
-    let b = hash_from(a, &key[RIGHT..right]);
-    let c = hash_from(b, &key[SETS..KEY]);
-    c as usize % n
-}
-
-// The number of two bytes.
-fn pair(low: u8, high: u8) -> usize
-    ensures { λ r. ⌜ r ≡ low + 256 * high ⌝ }
-{
-    low as usize + 256 * (high as usize)
-}
-
-// The number in the two bytes from `at` on: a link, or a parent's number.
-fn link(work: &[u8], at: usize) -> usize
-    requires { ⌜ at + 1 < length (now work) ⌝ }
-    ensures { λ r. ⌜ r ≡ link (now (work .entry)) at ⌝ }
-{
-    pair(work[at], work[at + 1])
-}
-
-// The link at `from` is copied to `to`, and becomes one to slot n: slot n is the newest of its bucket.
-fn put_links(work: &mut [u8], to: usize, from: usize, n: usize)
-    requires { ⌜ (to + 1 < length (now work)) × (from + 1 < length (now work)) × (n < 65535) ⌝ }
-    requires { ⌜ (to ≡ from → ⊥) × (to + 1 ≡ from → ⊥) × (from + 1 ≡ to → ⊥) ⌝ }
-    ensures { λ _. ⌜ Links-put (now (work .entry)) to from n (now (work .exit)) ⌝ }
-{
-    work[to] = work[from];
-    work[to + 1] = work[from + 1];
-    work[from] = ((n + 1) % 256) as u8;
-    work[from + 1] = ((n + 1) / 256) as u8;
-}
-
-// The slot with the number n, behind n slots.
-pub fn write_slot(work: &mut [u8], n: usize, s: Situation, parent: usize, step: u8)
-    requires { ⌜ (situation-bytes * (n + 1) ≤ length (now work)) × (n < 65535) ⌝ }
-    requires { ⌜ (s .«left_len» ≤ longest-side) × (s .«right_len» ≤ longest-side) × (parent < 65536) ⌝ }
-    ensures { λ _. ⌜ ((k : Coded) (ss : List Slot) → s ≡ as-struct k → Short k → Holds-slots (now (work .entry)) ss → length ss ≡ n → Holds-slots (now (work .exit)) (ss ++ (record { at = k; parent = parent; step = step } ∷ []))) ⌝ }
-{
-    let mut key = [0u8; KEY];
-    put_key(&mut key, s);
-    let b = bucket(&key, work.len() / SLOT);
-    let at = SLOT * n;
-    put_slot(&mut work[at..at + HELD], &key, parent, step);
-    put_links(work, at + OLDER, SLOT * b + NEWEST, n);
 }
 
 fn side_of(from: &[u8]) -> [u8; SIDE]
@@ -269,12 +179,27 @@ pub fn read_situation(work: &[u8], i: usize) -> Situation
     read_slot(&work[at..at + HELD])
 }
 
+// The number of two bytes.
+fn pair(low: u8, high: u8) -> usize
+    ensures { λ r. ⌜ r ≡ low + 256 * high ⌝ }
+{
+    low as usize + 256 * (high as usize)
+}
+
+// The number in the two bytes from `at` on, low first.
+pub fn two_bytes(bytes: &[u8], at: usize) -> usize
+    requires { ⌜ at + 1 < length (now bytes) ⌝ }
+    ensures { λ r. ⌜ r ≡ two-bytes (now (bytes .entry)) at ⌝ }
+{
+    pair(bytes[at], bytes[at + 1])
+}
+
 // The number of the parent of the slot with the number i.
 pub fn parent_of(work: &[u8], i: usize) -> usize
     requires { ⌜ situation-bytes * (i + 1) ≤ length (now work) ⌝ }
     ensures { λ r. ⌜ ((ss : List Slot) → Holds-slots (now (work .entry)) ss → i < length ss → r ≡ slot-at ss i .parent) ⌝ }
 {
-    link(work, SLOT * i + KEY)
+    two_bytes(work, SLOT * i + KEY)
 }
 
 // The step that made the slot with the number i.
@@ -284,58 +209,4 @@ pub fn step_of(work: &[u8], i: usize) -> u8
 {
     let at = SLOT * i + KEY;
     work[at + 2]
-}
-
-fn same(a: &[u8], b: &[u8]) -> bool
-    requires { ⌜ length (now a) ≡ length (now b) ⌝ }
-    ensures { λ r. ⌜ r ≡ same-by eqb (now (a .entry)) (now (b .entry)) ⌝ }
-{
-    let mut i = 0;
-    while i < a.len() {
-        if a[i] != b[i] {
-            return false;
-        }
-        i += 1;
-    }
-    true
-}
-
-// The slots of a bucket, from the newest to the oldest: a child is often the same as one that was entered just before. A link leads to an
-// older slot; one that does not is not followed.
-fn entered(work: &[u8], n: usize, newest: usize, key: &[u8]) -> Seen
-    requires { ⌜ situation-bytes * n ≤ length (now work) ⌝ }
-    requires { ⌜ (length (now key) ≡ key-bytes) × (getD (now key) 0 0 ≤ longest-side) × (getD (now key) 1 0 ≤ longest-side) ⌝ }
-    ensures { λ r. ⌜ ((k : Coded) (ss : List Slot) → Sought (now (work .entry)) (now (key .entry)) n newest k ss → Entered-at ss k r) ⌝ }
-{
-    let mut above = n + 1;
-    let mut next = newest;
-    while next < above {
-        if next == 0 {
-            return Seen::Nowhere;
-        }
-        let i = next - 1;
-        let at = SLOT * i;
-        if same(&work[at..at + KEY], &key[0..KEY]) {
-            return Seen::At(i);
-        }
-        above = next;
-        next = link(work, at + OLDER);
-    }
-    Seen::Nowhere
-}
-
-// Is the situation already entered, in one of the first n slots, and where?
-pub fn look_up(work: &[u8], n: usize, s: Situation) -> Seen
-    requires { ⌜ situation-bytes * n ≤ length (now work) ⌝ }
-    requires { ⌜ (s .«left_len» ≤ longest-side) × (s .«right_len» ≤ longest-side) ⌝ }
-    ensures { λ r. ⌜ ((k : Coded) (ss : List Slot) → s ≡ as-struct k → Short k → Holds-slots (now (work .entry)) ss → length ss ≡ n → Entered-at ss k r) ⌝ }
-{
-    if n == 0 {
-        return Seen::Nowhere;
-    }
-    let mut key = [0u8; KEY];
-    put_key(&mut key, s);
-    let b = bucket(&key, work.len() / SLOT);
-    let newest = link(work, SLOT * b + NEWEST);
-    entered(work, n, newest, &key)
 }

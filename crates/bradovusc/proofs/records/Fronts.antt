@@ -11,7 +11,8 @@ use borrow.Author.Tests.{ne-eqb}
 use Rattle.paper.specs.Numbers.{longest-side, situation-bytes}
 use Rattle.bradovusc.specs.Coded.{front}
 use Rattle.bradovusc.specs.Struct.{padded}
-use Rattle.bradovusc.specs.Slots.{Slot, Holds-slots, slot-part, part, left-at, right-at, slot-at, held-bytes}
+use Rattle.bradovusc.specs.Buckets.{Holds-slots}
+use Rattle.bradovusc.specs.Slots.{Slot, slot-part, part, left-at, right-at, slot-at, held-bytes}
 use Rattle.bradovusc.specs.Records.{front-at}
 use Rattle.bradovusc.proofs.slots.Situations.{left-length-read, right-length-read, left-read, right-read}
 

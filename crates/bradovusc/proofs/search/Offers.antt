@@ -13,11 +13,12 @@ use Rattle.paper.proofs.Made.{upto-snoc, getD-mem}
 use Rattle.bradovusc.specs.Coded.{Coded, Settled, dropped, above, made, as-child, same-coded}
 use Rattle.bradovusc.specs.Lent.{Lent}
 use Rattle.bradovusc.specs.Run.{is-going, Running, enter-slot, offer-slot, offer-slots}
-use Rattle.bradovusc.specs.Slots.{Slot, no-slot, Entered-at}
+use Rattle.bradovusc.specs.Buckets.{Entered-at}
+use Rattle.bradovusc.specs.Slots.{Slot, no-slot}
 use Rattle.bradovusc.specs.declared.search.Run.{Run}
 use Rattle.bradovusc.specs.declared.search.Status.{Status}
 use Rattle.bradovusc.specs.declared.search.Status.the-variants.{Going, Found, UsedUp, NoRoom, TooLong}
-use Rattle.bradovusc.specs.declared.slots.Seen.the-variants.{At, Nowhere}
+use Rattle.bradovusc.specs.declared.buckets.Seen.the-variants.{At, Nowhere}
 use Rattle.bradovusc.proofs.slots.Rows.{each-snoc}
 
 module _ (room p : ℕ) where

@@ -12,7 +12,8 @@ use Rattle.paper.specs.Lists.{same-by}
 use Rattle.paper.specs.Numbers.{situation-bytes}
 use Rattle.bradovusc.specs.Coded.{Coded, same-coded}
 use Rattle.bradovusc.specs.Struct.{as-struct, Short}
-use Rattle.bradovusc.specs.Slots.{Slot, slot-at, Holds-slots, key, key-bytes, held-bytes, origin-bytes, newest-at, link, part}
+use Rattle.bradovusc.specs.Buckets.{Holds-slots, newest-at}
+use Rattle.bradovusc.specs.Slots.{Slot, slot-at, key, key-bytes, held-bytes, origin-bytes, part, two-bytes}
 use Rattle.bradovusc.proofs.slots.Keys.{behind-at}
 use Rattle.bradovusc.proofs.slots.Situations.{short-key, key-of-slot, keys-compared}
 
@@ -37,7 +38,7 @@ module _ {work : List ℕ} {ss : List Slot} (h : Holds-slots work ss) (i : ℕ) 
       rw (add-assoc (situation-bytes * i) key-bytes j, ← getD-drop (situation-bytes * i) work (key-bytes + j) 0, ← getD-take held-bytes (drop (situation-bytes * i) work) (key-bytes + j) 0 n, h .holds i k)
       (behind-at (as-struct (x .at)) (short-key (h .short i k)) (x .parent) (x .step) j)
 
-  pub parent-held : link work (situation-bytes * i + key-bytes) ≡ slot-at ss i .parent
+  pub parent-held : two-bytes work (situation-bytes * i + key-bytes) ≡ slot-at ss i .parent
   parent-held =
       let low : getD work (situation-bytes * i + key-bytes) 0 ≡ slot-at ss i .parent % 256 =
       ap (λ (n : ℕ). getD work n 0) (sym (add-zero (situation-bytes * i + key-bytes))) ∙ behind-held 0 (omega arith) in

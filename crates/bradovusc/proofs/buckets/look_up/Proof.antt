@@ -5,10 +5,10 @@ use lib.ListN.{length}
 use Rattle.paper.specs.Numbers.{situation-bytes}
 use Rattle.bradovusc.specs.Coded.{same-coded}
 use Rattle.bradovusc.specs.Slots.{struct-key, Slot, no-slot}
-use Rattle.bradovusc.proofs.slots.Chained.{none-at, sought}
+use Rattle.bradovusc.proofs.buckets.Chained.{none-at, sought}
 use borrow.Author.Needs.{needs}
-use Rattle.bradovusc.proofs.slots.look_up.Statement.{statement}
-use Rattle.bradovusc.proofs.slots.look_up.Tie as tie
+use Rattle.bradovusc.proofs.buckets.look_up.Statement.{statement}
+use Rattle.bradovusc.proofs.buckets.look_up.Tie as tie
 
 returns : tie.Need-returns
 returns c k ss e s h n = none-at (λ (x : Slot). same-coded (x .at) k) no-slot ss (λ i b. absurd (omega (arith, c .if1 .taken)))
@@ -34,18 +34,18 @@ bucket-requires c κs =
 within : (c : tie.After-bucket) → situation-bytes * c .bucket .result + situation-bytes ≤ length (c .before .before .before .before .before .before .before .args .work .now)
 within c = omega (arith, c .bucket .ensures .0)
 
-mul-link : tie.Need-mul-link
-mul-link c =
+mul-two-bytes : tie.Need-mul-two-bytes
+mul-two-bytes c =
     let h = within c in
     search needs
 
-add-link : tie.Need-add-link
-add-link c =
+add-two-bytes : tie.Need-add-two-bytes
+add-two-bytes c =
     let h = within c in
     search needs
 
-link-requires : tie.Need-link-requires
-link-requires c κs = omega (arith, within c)
+two-bytes-requires : tie.Need-two-bytes-requires
+two-bytes-requires c κs = omega (arith, within c)
 
 slice-aggregate-entered : tie.Need-slice-aggregate-entered
 slice-aggregate-entered c = search needs
@@ -65,8 +65,8 @@ returns-2 c k ss e s h n =
     let other = put .before .before in
     let start = other .before .before in
     c .entered .ensures k ss
-    (sought h k (start .args .s) (put .put-key .last .0) (start .args .n) (b .bucket .result) (link .link .result) s e n (omega (arith, other .if1 .left))
-    (start .pre .0) (put .put-key .ensures) (b .bucket .ensures .1) (link .link .ensures))
+    (sought h k (start .args .s) (put .put-key .last .0) (start .args .n) (b .bucket .result) (link .two-bytes .result) s e n (omega (arith, other .if1 .left))
+    (start .pre .0) (put .put-key .ensures) (b .bucket .ensures .1) (link .two-bytes .ensures))
 
 pub look-up-spec : {M : Type 1} → statement M
 look-up-spec =
@@ -77,9 +77,9 @@ look-up-spec =
     put-key-requires
     slice-aggregate-bucket
     bucket-requires
-    mul-link
-    add-link
-    link-requires
+    mul-two-bytes
+    add-two-bytes
+    two-bytes-requires
     slice-aggregate-entered
     entered-requires
     returns-2)

@@ -5,11 +5,12 @@ use mathlib.Core.Path.{_≡_}
 use lib.ListN.{length}
 use borrow.Rule.Slice.PartMut.{putMid, same-len-mid}
 use Rattle.paper.specs.Numbers.{situation-bytes}
-use Rattle.bradovusc.specs.Slots.{struct-key, held-bytes, older-at, newest-at}
-use Rattle.bradovusc.proofs.slots.Written.{written}
+use Rattle.bradovusc.specs.Buckets.{older-at, newest-at}
+use Rattle.bradovusc.specs.Slots.{struct-key, held-bytes}
+use Rattle.bradovusc.proofs.buckets.Written.{written}
 use borrow.Author.Needs.{needs}
-use Rattle.bradovusc.proofs.slots.write_slot.Statement.{statement}
-use Rattle.bradovusc.proofs.slots.write_slot.Tie as tie
+use Rattle.bradovusc.proofs.buckets.write_slot.Statement.{statement}
+use Rattle.bradovusc.proofs.buckets.write_slot.Tie as tie
 
 slice-aggregate-put-key : tie.Need-slice-aggregate-put-key
 slice-aggregate-put-key c = search needs

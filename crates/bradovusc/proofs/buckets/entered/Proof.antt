@@ -11,13 +11,14 @@ use lib.Seq.{take-all}
 use Rattle.paper.specs.Lists.{same-by}
 use Rattle.paper.specs.Numbers.{situation-bytes}
 use Rattle.bradovusc.specs.Coded.{Coded, same-coded}
-use Rattle.bradovusc.specs.Slots.{Slot, slot-at, Sought, key-bytes, key}
-use Rattle.bradovusc.proofs.slots.Chained.{Walked, walk-begins, walk-within, walk-ends, walk-goes-on}
+use Rattle.bradovusc.specs.Buckets.{Sought}
+use Rattle.bradovusc.specs.Slots.{Slot, slot-at, key-bytes, key}
+use Rattle.bradovusc.proofs.buckets.Chained.{Walked, walk-begins, walk-within, walk-ends, walk-goes-on}
 use Rattle.bradovusc.proofs.slots.Held.{slot-is}
 use Rattle.bradovusc.proofs.slots.Situations.{short-key}
 use borrow.Author.Needs.{needs}
-use Rattle.bradovusc.proofs.slots.entered.Statement.{statement}
-use Rattle.bradovusc.proofs.slots.entered.Tie as tie
+use Rattle.bradovusc.proofs.buckets.entered.Statement.{statement}
+use Rattle.bradovusc.proofs.buckets.entered.Tie as tie
 
 abbrev Inv-loop : tie.InvT-loop
 Inv-loop work n newest key above₀ next₀ above next =
@@ -82,11 +83,11 @@ returns-2 c k ss q =
     let b : i < args .n = omega (arith, at .loop .inv .0) in
     (omega (arith, q .many), slot-met (at .loop .next - 1) (c .before .same .result) q b (c .before .same .ensures) ∙ c .if2 .taken)
 
-add-link : tie.Need-add-link Inv-loop μ-loop
-add-link c = search needs
+add-two-bytes : tie.Need-add-two-bytes Inv-loop μ-loop
+add-two-bytes c = search needs
 
-link-requires : tie.Need-link-requires Inv-loop μ-loop
-link-requires c κs = search needs
+two-bytes-requires : tie.Need-two-bytes-requires Inv-loop μ-loop
+two-bytes-requires c κs = search needs
 
 loop-less : tie.Need-loop-less Inv-loop μ-loop
 loop-less c = search needs
@@ -99,8 +100,8 @@ loop-again c =
     let b : i < args .n = omega (arith, at .loop .inv .0) in (
       omega arith,
       omega arith,
-      λ k ss q. walk-goes-on q (at .loop .inv .2 k ss q) i (c .link .result) (omega arith) b
-          (slot-met i (c .before .before .same .result) q b (c .before .before .same .ensures) ∙ c .before .if2 .left) (c .link .ensures),
+      λ k ss q. walk-goes-on q (at .loop .inv .2 k ss q) i (c .two-bytes .result) (omega arith) b
+          (slot-met i (c .before .before .same .result) q b (c .before .before .same .ensures) ∙ c .before .if2 .left) (c .two-bytes .ensures),
     )
 
 returns-3 : tie.Need-returns-3 Inv-loop μ-loop
@@ -128,8 +129,8 @@ entered-spec =
     part-same-end-2
     same-requires
     returns-2
-    add-link
-    link-requires
+    add-two-bytes
+    two-bytes-requires
     loop-less
     loop-again
     returns-3)

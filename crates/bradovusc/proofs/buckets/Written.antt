@@ -14,9 +14,10 @@ use Rattle.paper.specs.Numbers.{situation-bytes}
 use Rattle.paper.proofs.Tests.{by-bool, ltb-true, ltb-false, eqb-true, eqb-false}
 use Rattle.bradovusc.specs.Coded.{Coded}
 use Rattle.bradovusc.specs.Struct.{as-struct, Short}
-use Rattle.bradovusc.specs.Slots.{Slot, slot-at, no-slot, slot-bytes, slot-part, held-bytes, struct-key, struct-slot, origin-bytes, older-at, newest-at, link, newest, buckets, bucket, hash, key, in-bucket, Links-put, Holds-slots}
+use Rattle.bradovusc.specs.Buckets.{older-at, newest-at, link, newest, buckets, bucket, hash, in-bucket, Links-put, Holds-slots}
+use Rattle.bradovusc.specs.Slots.{Slot, slot-at, no-slot, slot-bytes, slot-part, held-bytes, struct-key, struct-slot, origin-bytes, key}
 use Rattle.bradovusc.specs.declared.situation.Situation.{Situation}
-use Rattle.bradovusc.proofs.slots.Newest.{newest-same}
+use Rattle.bradovusc.proofs.buckets.Newest.{newest-same}
 use Rattle.bradovusc.proofs.slots.Parts.{part-same, put-at, put-before, put-behind}
 use Rattle.bradovusc.proofs.slots.Situations.{length-slot-bytes}
 

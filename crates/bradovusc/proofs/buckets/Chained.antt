@@ -11,13 +11,14 @@ use Rattle.paper.specs.Lists.{any}
 use Rattle.paper.specs.Numbers.{situation-bytes}
 use Rattle.paper.proofs.Tests.{by-bool, true-false, not-true, leb-true, leb-false, eqb-true, eq-eqb}
 use Rattle.bradovusc.specs.Coded.{Coded, same-coded}
-use Rattle.bradovusc.specs.Slots.{struct-key, key, Slot, slot-at, no-slot, hash, buckets, bucket, in-bucket, newest, link, older-at, newest-at, Holds-slots, Sought, Entered-at}
+use Rattle.bradovusc.specs.Buckets.{hash, buckets, bucket, in-bucket, newest, link, older-at, newest-at, Holds-slots, Sought, Entered-at}
+use Rattle.bradovusc.specs.Slots.{struct-key, key, Slot, slot-at, no-slot}
 use Rattle.bradovusc.specs.Struct.{as-struct, Short}
 use Rattle.bradovusc.specs.declared.situation.Situation.{Situation}
-use Rattle.bradovusc.specs.declared.slots.Seen.the-variants.{Nowhere}
-use Rattle.bradovusc.proofs.slots.Newest.{newest-le, newest-passes, newest-none}
+use Rattle.bradovusc.specs.declared.buckets.Seen.the-variants.{Nowhere}
+use Rattle.bradovusc.proofs.buckets.Newest.{newest-le, newest-passes, newest-none}
 use Rattle.bradovusc.proofs.slots.Situations.{same-coded-equal}
-use Rattle.bradovusc.proofs.slots.Written.{bucket-fits}
+use Rattle.bradovusc.proofs.buckets.Written.{bucket-fits}
 
 pub none-at {ℓ} : {A : Type ℓ} (p : A → Bool) (d : A) (l : List A) → ((i : ℕ) → i < length l → p (getD l i d) ≡ false) → any p l ≡ false
 none-at p d [] h = refl

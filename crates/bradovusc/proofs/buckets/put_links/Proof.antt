@@ -1,10 +1,10 @@
 -- `put_links` copies a link and puts another in its place. Follows from `links-put`.
 use native.Mathlib.Omega.{arith}
 use lib.ListN.{length-set}
-use Rattle.bradovusc.proofs.slots.Written.{links-put}
+use Rattle.bradovusc.proofs.buckets.Written.{links-put}
 use borrow.Author.Needs.{needs}
-use Rattle.bradovusc.proofs.slots.put_links.Statement.{statement}
-use Rattle.bradovusc.proofs.slots.put_links.Tie as tie
+use Rattle.bradovusc.proofs.buckets.put_links.Statement.{statement}
+use Rattle.bradovusc.proofs.buckets.put_links.Tie as tie
 
 slice-read-work : tie.Need-slice-read-work
 slice-read-work c = search needs

@@ -2,10 +2,10 @@
 use native.Mathlib.Nat.{mod-lt}
 use mathlib.Core.Path.{ap}
 use Prim.Native.Nat.{ℕ, _%_}
-use Rattle.bradovusc.proofs.slots.Hashed.{hash-parts}
+use Rattle.bradovusc.proofs.buckets.Hashed.{hash-parts}
 use borrow.Author.Needs.{needs}
-use Rattle.bradovusc.proofs.slots.bucket.Statement.{statement}
-use Rattle.bradovusc.proofs.slots.bucket.Tie as tie
+use Rattle.bradovusc.proofs.buckets.bucket.Statement.{statement}
+use Rattle.bradovusc.proofs.buckets.bucket.Tie as tie
 
 shared-slice-read-left : tie.Need-shared-slice-read-left
 shared-slice-read-left c = search needs

@@ -4,11 +4,11 @@ use Prim.Native.Nat.{_≤_, _<_, _-_}
 use native.Mathlib.Omega.{arith}
 use mathlib.Core.Path.{_≡_, refl, sym, _∙_}
 use lib.ListN.{length, drop}
-use Rattle.bradovusc.specs.Slots.{hash-limit, hash-from}
-use Rattle.bradovusc.proofs.slots.Hashed.{hash-next, hash-end}
+use Rattle.bradovusc.specs.Buckets.{hash-limit, hash-from}
+use Rattle.bradovusc.proofs.buckets.Hashed.{hash-next, hash-end}
 use borrow.Author.Needs.{needs}
-use Rattle.bradovusc.proofs.slots.hash_from.Statement.{statement}
-use Rattle.bradovusc.proofs.slots.hash_from.Tie as tie
+use Rattle.bradovusc.proofs.buckets.hash_from.Statement.{statement}
+use Rattle.bradovusc.proofs.buckets.hash_from.Tie as tie
 
 abbrev Inv-loop : tie.InvT-loop
 Inv-loop h bytes r₀ i₀ r i = (i ≤ length bytes) × (r < hash-limit) × (hash-from h bytes ≡ hash-from r (drop i bytes))

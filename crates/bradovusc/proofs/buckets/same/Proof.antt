@@ -7,8 +7,8 @@ use lib.ListN.{length, drop}
 use Rattle.paper.specs.Lists.{same-by}
 use Rattle.bradovusc.proofs.slots.Compared.{same-next, differ-next, same-end}
 use borrow.Author.Needs.{needs}
-use Rattle.bradovusc.proofs.slots.same.Statement.{statement}
-use Rattle.bradovusc.proofs.slots.same.Tie as tie
+use Rattle.bradovusc.proofs.buckets.same.Statement.{statement}
+use Rattle.bradovusc.proofs.buckets.same.Tie as tie
 
 abbrev Inv-loop : tie.InvT-loop
 Inv-loop a b i₀ i = (i ≤ length a) × (same-by eqb a b ≡ same-by eqb (drop i a) (drop i b))

@@ -6,7 +6,7 @@ use mathlib.Core.Path.{_≡_, refl}
 use mathlib.Core.Bool.{Bool, true, false}
 use lib.Dec.{ltb}
 use Rattle.paper.proofs.Tests.{by-bool, ltb-true, ltb-false}
-use Rattle.bradovusc.specs.Slots.{newest}
+use Rattle.bradovusc.specs.Buckets.{newest}
 
 module _ (p : ℕ → Bool) where
   pub newest-le : (n : ℕ) → newest p n ≤ n

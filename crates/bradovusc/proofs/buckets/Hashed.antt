@@ -7,7 +7,8 @@ use mathlib.Core.Path.{_≡_, _∙_}
 use mathlib.Core.List.{List}
 use lib.ListN.{length, getD, take, drop, drop-of-length-le}
 use lib.Seq.{drop-cons}
-use Rattle.bradovusc.specs.Slots.{left-at, right-at, sets-at, sets-bytes, part, hash-limit, hash-from, hash}
+use Rattle.bradovusc.specs.Buckets.{hash-limit, hash-from, hash}
+use Rattle.bradovusc.specs.Slots.{left-at, right-at, sets-at, sets-bytes, part}
 
 pub hash-next : (h i : ℕ) (l : List ℕ) → i < length l → hash-from h (drop i l) ≡ hash-from ((31 * h + getD l i 0) % hash-limit) (drop (i + 1) l)
 hash-next h i l k = rw (drop-cons l i 0 k, add-one)

@@ -1,0 +1,4 @@
+pub mod Chained
+pub mod Hashed
+pub mod Newest
+pub mod Written
