@@ -4,6 +4,7 @@ pub mod Short
 pub mod Sides
 -- the search over slots, and how it stands for the paper's
 pub mod Numbered
+pub mod Once
 pub mod TextBack
 pub mod CodedSides
 pub mod CodedSets
