@@ -44,5 +44,6 @@ pub mod Plain
 pub mod Asked
 pub mod Rows
 pub mod QuestionSearched
+pub mod AnswerRoom
 pub mod Demand2
 pub mod Demand3

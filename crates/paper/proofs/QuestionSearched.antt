@@ -47,10 +47,10 @@ module _ (q : Question) where
   decides : Decides (acceptor q) (λ (f : ℕ). Holds (held-by q f))
   decides = question-decides q
 
-  equal : (s t : Situation PlaceSet) → same-situation (acceptor q) s t ≡ true → s ≡ t
+  pub equal : (s t : Situation PlaceSet) → same-situation (acceptor q) s t ≡ true → s ≡ t
   equal = situation-equal (acceptor q) (decides .same-equal)
 
-  same : (s : Situation PlaceSet) → same-situation (acceptor q) s s ≡ true
+  pub same : (s : Situation PlaceSet) → same-situation (acceptor q) s s ≡ true
   same = situation-same (acceptor q) (decides .equal-same)
 
   -- the trimmed question
