@@ -97,13 +97,13 @@ fn put_links(work: &mut [u8], to: usize, from: usize, n: usize)
 }
 
 // The slot with the number n, behind n slots, in the bucket b of its key.
-pub fn write_slot(work: &mut [u8], n: usize, key: &[u8], b: usize, parent: usize, step: u8)
+pub fn write_slot(work: &mut [u8], n: usize, its: &[u8], b: usize, parent: usize, step: u8)
     requires { ⌜ (situation-bytes * (n + 1) ≤ length (now work)) × (n < 65535) × (parent < 65536) ⌝ }
-    requires { ⌜ (length (now key) ≡ key-bytes) × (b < buckets (now work)) ⌝ }
-    ensures { λ _. ⌜ ((k : Coded) (ss : List Slot) → now (key .entry) ≡ key k → b ≡ bucket (buckets (now (work .entry))) k → Short k → Kept (now (work .entry)) ss → length ss ≡ n → Kept (now (work .exit)) (ss ++ (record { at = k; parent = parent; step = step } ∷ []))) ⌝ }
+    requires { ⌜ (length (now its) ≡ key-bytes) × (b < buckets (now work)) ⌝ }
+    ensures { λ _. ⌜ ((k : Coded) (ss : List Slot) → now (its .entry) ≡ key k → b ≡ bucket (buckets (now (work .entry))) k → Short k → Kept (now (work .entry)) ss → length ss ≡ n → Kept (now (work .exit)) (ss ++ (record { at = k; parent = parent; step = step } ∷ []))) ⌝ }
 {
     let at = slots::SLOT * n;
-    slots::put_slot(&mut work[at..at + slots::HELD], key, parent, step);
+    slots::put_slot(&mut work[at..at + slots::HELD], its, parent, step);
     put_links(work, at + OLDER, slots::SLOT * b + NEWEST, n);
 }
 
@@ -146,11 +146,11 @@ fn entered(work: &[u8], n: usize, newest: usize, key: &[u8]) -> Seen
 }
 
 // Is the situation with this key, whose bucket is b, already entered, in one of the first n slots, and where?
-pub fn look_up(work: &[u8], n: usize, key: &[u8], b: usize) -> Seen
+pub fn look_up(work: &[u8], n: usize, its: &[u8], b: usize) -> Seen
     requires { ⌜ situation-bytes * n ≤ length (now work) ⌝ }
-    requires { ⌜ (length (now key) ≡ key-bytes) × (b < buckets (now work)) ⌝ }
-    ensures { λ r. ⌜ ((k : Coded) (ss : List Slot) → now (key .entry) ≡ key k → b ≡ bucket (buckets (now (work .entry))) k → Short k → Kept (now (work .entry)) ss → length ss ≡ n → Entered-at ss k r) ⌝ }
+    requires { ⌜ (length (now its) ≡ key-bytes) × (b < buckets (now work)) ⌝ }
+    ensures { λ r. ⌜ ((k : Coded) (ss : List Slot) → now (its .entry) ≡ key k → b ≡ bucket (buckets (now (work .entry))) k → Short k → Kept (now (work .entry)) ss → length ss ≡ n → Entered-at ss k r) ⌝ }
 {
     let newest = slots::number_at(work, slots::SLOT * b + NEWEST);
-    entered(work, n, newest, key)
+    entered(work, n, newest, its)
 }
