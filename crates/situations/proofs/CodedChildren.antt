@@ -139,7 +139,7 @@ module _ {P : Type 0} (A : Acceptor P) (c : ℕ) where
   put-all-right [] s = refl
   put-all-right (f ∷ fs) s = put-all-right fs (put-before A c f s)
 
--- of a token in front that one is told
+-- what is worked out of a token in front is of that token
 token-at : (q : Question) (s : Situation PlaceSet) (b : ℕ) → front-at q s b .token ≡ b
 unfolding front-from
 token-at q s b = refl

@@ -60,7 +60,7 @@ same-sets [] (t ∷ m) h k = refl
 same-sets (s ∷ l) [] h k = refl
 same-sets (s ∷ l) (t ∷ m) h k = ap₂ _&&_ (set-coded s t (h 0) (k 0)) (same-sets l m (λ f. h (suc f)) (λ f. k (suc f)))
 
--- what stands in a situation for a field of a question
+-- a field's set, and a token in front
 module _ (q : Question) (s : Situation PlaceSet) where
   abbrev the-set : ℕ → PlaceSet
   the-set f = set-of (acceptor q) s f

@@ -1,4 +1,4 @@
--- Codable situations stay so: the question of a sheet is codable, and so is every child of a codable situation.
+-- The question of sides with known tokens is codable, and so is every child of a codable situation.
 -- Follows from what strikes, puts and trimming do to tokens and sets.
 use Prim.Native.Nat.{ℕ, _≤_, _<_}
 use native.Mathlib.Omega.{arith}
