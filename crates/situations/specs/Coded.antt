@@ -145,6 +145,11 @@ children-coded T s =
     ++ (as-child right-struck (right-strike (T .last) s)
     ++ puts-of s (front-from (T .follow) (T .taking) (s .sets) (front (s .left))) (front-from (T .follow) (T .taking) (s .sets) (front (s .right))))
 
+-- the character, if the step from the situation put one before the field f
+unfoldable pub given-coded : ℕ → Coded → ℕ → List ℕ
+given-coded f s step =
+    only (ltb step characters && (eqb (front (s .left)) (field-code + f) || eqb (front (s .right)) (field-code + f))) step
+
 -- at first a field's place set holds only the start: the mask 1 for each field that stands in either side
 unfoldable pub first-mask : List ℕ → ℕ → ℕ
 first-mask side f = cond (member (field-code + f) side) 1 0

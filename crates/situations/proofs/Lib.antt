@@ -1,0 +1,7 @@
+-- situations by inner codes stand for the paper's
+pub mod CodedSides
+pub mod CodedSets
+pub mod CodedChildren
+pub mod CodedQuestion
+pub mod KeptCodable
+pub mod Ways
