@@ -165,8 +165,3 @@ question-coded l r =
       right = drop (alike-in-front l r) r;
       sets = first-masks (l ++ r);
     }
-
--- the character, if the step from the situation put one before the field f
-unfoldable pub given-coded : ℕ → Coded → ℕ → List ℕ
-given-coded f s m =
-    only (ltb m characters && (eqb (front (s .left)) (field-code + f) || eqb (front (s .right)) (field-code + f))) m
