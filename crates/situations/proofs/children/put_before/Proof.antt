@@ -1,15 +1,25 @@
--- `children::put_before` meets its contract: c is put on both sides, the front set-fields get their sets, and the child is settled.
-use mathlib.Core.Path.{ap}
+-- `children::put_before` meets its contract: c is put on both sides, the front fields get their sets, and the child is settled.
+use native.Mathlib.Omega.{arith}
+use mathlib.Core.Path.{_≡_}
+use lib.ListN.{length}
 use borrow.Author.Needs.{needs}
-use Rattle.situations.specs.Coded.{Situation, put-by}
+use Rattle.paper.specs.Numbers.{longest-side}
+use Rattle.inner.proofs.Tokens.{tokens-front}
+use Rattle.situations.specs.Coded.{put-child}
 use Rattle.situations.proofs.children.put_before.Statement.{statement}
 use Rattle.situations.proofs.children.put_before.Tie as tie
 
-front-in-requires : tie.Need-front-in-requires
-front-in-requires c κs = search needs
+element-copy-out-a : tie.Need-element-copy-out-a
+element-copy-out-a c = search needs
 
-front-in-requires-2 : tie.Need-front-in-requires-2
-front-in-requires-2 c κs = search needs
+element-copy-out-b : tie.Need-element-copy-out-b
+element-copy-out-b c = search needs
+
+length-of-requires : tie.Need-length-of-requires
+length-of-requires c κs = search needs
+
+length-of-requires-2 : tie.Need-length-of-requires-2
+length-of-requires-2 c κs = search needs
 
 put-side-requires : tie.Need-put-side-requires
 put-side-requires c κs = search needs
@@ -27,22 +37,24 @@ settle-wide-requires : tie.Need-settle-wide-requires
 settle-wide-requires c κs = search needs
 
 returns : tie.Need-returns
-returns c k e short =
+unfolding put-child
+returns c =
     let r = c .before .before .before in
-    let b = r .before .before in
-    let a = b .before in
-    let start = a .before .before .before .before in
-    let s = start .args .s in
-    let left = a .front-in .ensures (k .left) (ap (λ (t : Situation). t .left) e) (ap (λ (t : Situation). t .«left_len») e) in
-    let right = b .front-in2 .ensures (k .right) (ap (λ (t : Situation). t .right) e) (ap (λ (t : Situation). t .«right_len») e) in
-    rw (r .before .put-side .ensures .has, r .put-side2 .ensures .has, c .before .with-set2 .ensures, c .before .before .with-set .ensures, put-by s k e short (start .args .c) (start .args .m) (start .args .n) (a .front-in .result) (b .front-in2 .result) left right) at (c .settle-wide .ensures)
+    let n = r .before .before in
+    let s = n .before .before .before .before .before .before .before .args .t1 in
+    let l : length (s .left) ≡ longest-side = search needs in
+    let k : length (s .right) ≡ longest-side = search needs in
+    rw (tokens-front (s .left) 0 (omega arith), tokens-front (s .right) 0 (omega arith))
+    (rw (r .before .put-side .ensures .has, r .put-side2 .ensures .has, c .before .with-set2 .ensures, c .before .before .with-set .ensures, n .before .length-of .ensures .2, n .length-of2 .ensures .2) at (c .settle-wide .ensures))
 
 pub put-before-spec : {M : Type 1} → statement M
 put-before-spec =
     tie.close
     (tie.spec
-    front-in-requires
-    front-in-requires-2
+    element-copy-out-a
+    element-copy-out-b
+    length-of-requires
+    length-of-requires-2
     put-side-requires
     put-side-requires-2
     with-set-requires
