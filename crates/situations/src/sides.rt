@@ -42,6 +42,13 @@ pub fn length_of(side: [u8; LONGEST_SIDE]) -> usize
 }
 
 // The token in front of a side, 255 where there is none.
+pub fn front_in(side: [u8; LONGEST_SIDE]) -> u8
+    ensures { λ r. ⌜ r ≡ front (tokens side) ⌝ }
+{
+    side[0]
+}
+
+// The same of a part of one.
 fn front_of(side: &[u8]) -> u8
     ensures { λ r. ⌜ r ≡ front (now (side .entry)) ⌝ }
 {

@@ -1,19 +1,15 @@
 -- `children::put_before` meets its contract: c is put on both sides, the front fields get their sets, and the child is settled.
-use native.Mathlib.Omega.{arith}
-use mathlib.Core.Path.{_≡_}
-use lib.ListN.{length}
+use mathlib.Core.Path.{sym}
 use borrow.Author.Needs.{needs}
-use Rattle.paper.specs.Numbers.{longest-side}
-use Rattle.inner.proofs.Tokens.{tokens-front}
 use Rattle.situations.specs.Coded.{put-child}
 use Rattle.situations.proofs.children.put_before.Statement.{statement}
 use Rattle.situations.proofs.children.put_before.Tie as tie
 
-element-copy-out-a : tie.Need-element-copy-out-a
-element-copy-out-a c = search needs
+front-in-requires : tie.Need-front-in-requires
+front-in-requires c κs = search needs
 
-element-copy-out-b : tie.Need-element-copy-out-b
-element-copy-out-b c = search needs
+front-in-requires-2 : tie.Need-front-in-requires-2
+front-in-requires-2 c κs = search needs
 
 length-of-requires : tie.Need-length-of-requires
 length-of-requires c κs = search needs
@@ -41,18 +37,16 @@ unfolding put-child
 returns c =
     let r = c .before .before .before in
     let n = r .before .before in
-    let s = n .before .before .before .before .before .before .before .args .t1 in
-    let l : length (s .left) ≡ longest-side = search needs in
-    let k : length (s .right) ≡ longest-side = search needs in
-    rw (tokens-front (s .left) 0 (omega arith), tokens-front (s .right) 0 (omega arith))
+    let b = n .before .before in
+    rw (sym (b .before .front-in .ensures), sym (b .front-in2 .ensures))
     (rw (r .before .put-side .ensures .has, r .put-side2 .ensures .has, c .before .with-set2 .ensures, c .before .before .with-set .ensures, n .before .length-of .ensures .2, n .length-of2 .ensures .2) at (c .settle-wide .ensures))
 
 pub put-before-spec : {M : Type 1} → statement M
 put-before-spec =
     tie.close
     (tie.spec
-    element-copy-out-a
-    element-copy-out-b
+    front-in-requires
+    front-in-requires-2
     length-of-requires
     length-of-requires-2
     put-side-requires

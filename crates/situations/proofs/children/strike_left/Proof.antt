@@ -1,23 +1,12 @@
--- `children::strike_left` meets its contract: the first byte is the front. Follows from what `may_end` and `strike` ensure.
-use native.Mathlib.Omega.{arith}
-use mathlib.Core.Path.{_≡_, sym, _∙_}
-use lib.ListN.{length, getD}
+-- `children::strike_left` meets its contract. Follows from what `front_in`, `may_end` and `strike` ensure.
+use mathlib.Core.Path.{sym, _∙_}
 use borrow.Author.Needs.{needs}
-use Rattle.paper.specs.Numbers.{longest-side}
-use Rattle.inner.specs.Inner.{front, tokens}
-use Rattle.inner.proofs.Tokens.{tokens-front}
 use Rattle.situations.specs.Coded.{left-strike}
 use Rattle.situations.proofs.children.strike_left.Statement.{statement}
 use Rattle.situations.proofs.children.strike_left.Tie as tie
 
--- the first byte is the front
-front-read : (c : tie.Start) → let side = c .args .t1 .left in front (tokens side) ≡ getD side 0 0
-front-read c =
-    let e : length (c .args .t1 .left) ≡ longest-side = search needs in
-    tokens-front (c .args .t1 .left) 0 (omega arith)
-
-element-copy-out-a : tie.Need-element-copy-out-a
-element-copy-out-a c = search needs
+front-in-requires : tie.Need-front-in-requires
+front-in-requires c κs = search needs
 
 may-end-requires : tie.Need-may-end-requires
 may-end-requires c κs = search needs
@@ -29,7 +18,7 @@ returns : tie.Need-returns
 unfolding left-strike
 returns c =
     let m = c .before .before in
-    rw (front-read (m .before .before .before), sym (m .may-end .ensures) ∙ c .before .if1 .taken) (c .strike .ensures)
+    rw (sym (m .before .front-in .ensures), sym (m .may-end .ensures) ∙ c .before .if1 .taken) (c .strike .ensures)
 
 dropped-requires : tie.Need-dropped-requires
 dropped-requires c κs = search needs
@@ -38,13 +27,13 @@ returns-2 : tie.Need-returns-2
 unfolding left-strike
 returns-2 c =
     let m = c .before .before in
-    rw (front-read (m .before .before .before), sym (m .may-end .ensures) ∙ c .before .if1 .left) (c .dropped .ensures)
+    rw (sym (m .before .front-in .ensures), sym (m .may-end .ensures) ∙ c .before .if1 .left) (c .dropped .ensures)
 
 pub strike-left-spec : {M : Type 1} → statement M
 strike-left-spec =
     tie.close
     (tie.spec
-    element-copy-out-a
+    front-in-requires
     may-end-requires
     strike-requires
     returns
