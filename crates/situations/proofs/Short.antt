@@ -12,7 +12,7 @@ use Rattle.paper.specs.Lists.{all, only, keep}
 use Rattle.paper.specs.Numbers.{characters, set-fields, longest-side}
 use Rattle.paper.proofs.Lists.{all-true, every-all, all-append, mem-keep}
 use Rattle.paper.proofs.Tests.{cond-by, both-true, and-left, and-right, or-left-false, or-right-false, not-is-false, false-not, leb-true, ltb-true, neq-eqb}
-use Rattle.inner.specs.Inner.{field-code, no-token, is-token, is-field, field-of, front, tokens, padded}
+use Rattle.inner.specs.Inner.{field-code, no-token, is-token, is-field, field-of, front}
 use Rattle.inner.proofs.Tokens.{tokens-length, tokens-tokens, tokens-padded}
 use Rattle.situations.specs.Coded.{Coded, Settled, dropped, above, made, strike-codes, put-codes, alike-in-front, dead-sides}
 use Rattle.situations.specs.Coded.{judged-sides, settle, with-set, struck, put-child, set-by, takes-next, may-end-at}

@@ -12,7 +12,7 @@ row-requires c κs = search needs
 
 returns : tie.Need-returns
 unfolding front-from
-returns c = cc
+returns c = λ i. record { token = c .before .before .args .token; followers = c .before .gather .ensures i; row = c .row .ensures i }
 
 pub front-with-spec : {M : Type 1} → statement M
 front-with-spec =
