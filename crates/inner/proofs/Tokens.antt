@@ -32,10 +32,10 @@ tokens-front [] d h = absurd (omega arith)
 tokens-front (b ∷ l) d h =
     cond-by (λ (t : List ℕ). front t ≡ b) (eqb b no-token) (λ e. sym (eqb-true b no-token e)) (λ _. refl)
 
-pub tokens-tokens : (l : List ℕ) → all is-token (tokens l) ≡ true
-tokens-tokens [] = refl
-tokens-tokens (b ∷ l) =
-    cond-by (λ (t : List ℕ). all is-token t ≡ true) (eqb b no-token) (λ _. refl) (λ e. both-true (false-not e) (tokens-tokens l))
+pub all-tokens : (l : List ℕ) → all is-token (tokens l) ≡ true
+all-tokens [] = refl
+all-tokens (b ∷ l) =
+    cond-by (λ (t : List ℕ). all is-token t ≡ true) (eqb b no-token) (λ _. refl) (λ e. both-true (false-not e) (all-tokens l))
 
 -- the tokens of a padded side
 tokens-behind : (n : ℕ) → tokens (replicate n no-token) ≡ []

@@ -13,7 +13,7 @@ use Rattle.paper.specs.Numbers.{characters, set-fields, longest-side}
 use Rattle.paper.proofs.Lists.{all-true, every-all, all-append, mem-keep}
 use Rattle.paper.proofs.Tests.{cond-by, both-true, and-left, and-right, or-left-false, or-right-false, not-is-false, false-not, leb-true, ltb-true, neq-eqb}
 use Rattle.inner.specs.Inner.{field-code, no-token, is-token, is-field, field-of, front}
-use Rattle.inner.proofs.Tokens.{tokens-length, tokens-tokens, tokens-padded}
+use Rattle.inner.proofs.Tokens.{tokens-length, all-tokens, tokens-padded}
 use Rattle.situations.specs.Coded.{Coded, Settled, dropped, above, made, strike-codes, put-codes, alike-in-front, dead-sides}
 use Rattle.situations.specs.Coded.{judged-sides, settle, with-set, struck, put-child, set-by, takes-next, may-end-at}
 use Rattle.situations.specs.Coded.{left-strike, right-strike, put-of, first-masks, question-coded}
@@ -29,8 +29,8 @@ short-held s l r n =
       left = omega (arith, tokens-length (s .left));
       right = omega (arith, tokens-length (s .right));
       sets = n;
-      left-tokens = tokens-tokens (s .left);
-      right-tokens = tokens-tokens (s .right);
+      left-tokens = all-tokens (s .left);
+      right-tokens = all-tokens (s .right);
     }
 
 -- what the struct made for a short situation holds
