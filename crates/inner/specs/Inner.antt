@@ -2,7 +2,7 @@
 -- field its number behind 192, and 255 is no token. A side is its tokens, then 255s: it ends at its first 255, so that every list of
 -- bytes is a side.
 use Prim.Native.Nat.{ℕ, _+_, _-_}
-use mathlib.Core.Bool.{Bool, cond, _&&_}
+use mathlib.Core.Bool.{Bool, cond, _&&_, not}
 use mathlib.Core.List.{List, [], _∷_, _++_, map}
 use lib.Dec.{leb, ltb, eqb}
 use lib.ListN.{length, replicate}
@@ -38,7 +38,7 @@ move-code strike-right = right-struck
 move-code (put c) = c
 
 abbrev pub is-token : ℕ → Bool
-is-token b = ltb b no-token
+is-token b = not (eqb b no-token)
 
 abbrev pub is-char : ℕ → Bool
 is-char b = ltb b field-code

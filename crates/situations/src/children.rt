@@ -75,8 +75,9 @@ fn strike(s: Situation, b: u8) -> Child
 pub fn strike_left(s: Situation, last: [u32; FIELDS]) -> Child
     ensures { λ r. ⌜ r ≡ child-of (left-strike last (held s)) ⌝ }
 {
+    let left = s.left;
     let sets = s.sets;
-    let a = s.left[0];
+    let a = sides::front_in(left);
     if may_end(sets, a, last) {
         return strike(s, a);
     }
@@ -87,9 +88,11 @@ pub fn strike_left(s: Situation, last: [u32; FIELDS]) -> Child
 pub fn strike_right(s: Situation, last: [u32; FIELDS]) -> Child
     ensures { λ r. ⌜ r ≡ child-of (right-strike last (held s)) ⌝ }
 {
+    let left = s.left;
+    let right = s.right;
     let sets = s.sets;
-    let a = s.left[0];
-    let b = s.right[0];
+    let a = sides::front_in(left);
+    let b = sides::front_in(right);
     if b == a {
         return sides::dropped();
     }
@@ -166,8 +169,8 @@ fn put_before(s: Situation, c: u8, m: u32, n: u32) -> Child
     let left = s.left;
     let right = s.right;
     let old = s.sets;
-    let a = s.left[0];
-    let b = s.right[0];
+    let a = sides::front_in(left);
+    let b = sides::front_in(right);
     let left_len = sides::length_of(left);
     let right_len = sides::length_of(right);
     let l = sides::put_side(left, left_len, c, a, b);

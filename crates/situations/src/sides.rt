@@ -14,9 +14,9 @@ ghost use lib.Dec.{leb, eqb};
 ghost use lib.ListN.{length, take, replicate};
 ghost use Rattle.paper.specs.Lists.{member};
 ghost use Rattle.paper.specs.Numbers.{set-fields, longest-side};
-ghost use Rattle.inner.specs.Inner.{field-code, no-token, front, tokens};
+ghost use Rattle.inner.specs.Inner.{field-code, no-token, front, tokens, padded};
 ghost use Rattle.situations.specs.Coded.{dropped, above, strike-codes, put-codes, alike-in-front, dead-sides, judged-sides, settle, first-mask, first-masks, question-coded};
-ghost use Rattle.situations.specs.Laid.{as-struct, nowhere, child-of, widest-side, wide-tokens, Has, In-front};
+ghost use Rattle.situations.specs.Laid.{as-struct, nowhere, child-of, widest-side, wide-tokens, Has};
 
 // a side with a character put before each of its tokens
 const WIDEST_SIDE: usize = LONGEST_SIDE + LONGEST_SIDE;
@@ -42,6 +42,13 @@ pub fn length_of(side: [u8; LONGEST_SIDE]) -> usize
 }
 
 // The token in front of a side, 255 where there is none.
+pub fn front_in(side: [u8; LONGEST_SIDE]) -> u8
+    ensures { λ r. ⌜ r ≡ front (tokens side) ⌝ }
+{
+    side[0]
+}
+
+// The same of a part of one.
 fn front_of(side: &[u8]) -> u8
     ensures { λ r. ⌜ r ≡ front (now (side .entry)) ⌝ }
 {
@@ -157,16 +164,18 @@ fn is_dead(l: &[u8], r: &[u8]) -> bool
     false
 }
 
-// Writes the side into the front of dst.
-fn copy_in(dst: &mut [u8], side: &[u8])
-    requires { ⌜ length (now side) ≤ length (now dst) ⌝ }
-    ensures { λ _. ⌜ In-front (now (dst .entry)) (now (dst .exit)) (length (now (side .entry))) (now (side .entry)) ⌝ }
+// The side in its 48 bytes.
+fn padded_side(side: &[u8]) -> [u8; LONGEST_SIDE]
+    requires { ⌜ length (now side) ≤ longest-side ⌝ }
+    ensures { λ r. ⌜ r ≡ padded (now (side .entry)) ⌝ }
 {
+    let mut bytes = no_side();
     let mut i: usize = 0;
     while i < side.len() {
-        dst[i] = side[i];
+        bytes[i] = side[i];
         i += 1;
     }
+    bytes
 }
 
 // The situation of these sides and sets.
@@ -174,10 +183,8 @@ fn situation_of(l: &[u8], r: &[u8], sets: [u32; FIELDS]) -> Situation
     requires { ⌜ (length (now l) ≤ longest-side) × (length (now r) ≤ longest-side) ⌝ }
     ensures { λ s. ⌜ s ≡ as-struct (record { left = now (l .entry); right = now (r .entry); sets = sets }) ⌝ }
 {
-    let mut left = no_side();
-    let mut right = no_side();
-    copy_in(&mut left, l);
-    copy_in(&mut right, r);
+    let left = padded_side(l);
+    let right = padded_side(r);
     Situation { left, right, sets }
 }
 
