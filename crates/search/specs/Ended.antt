@@ -1,10 +1,11 @@
 -- What the whole search ends with, for all sides, tables and buffers: the end, the count, the bytes written, the answer buffer. The working
--- buffer is all zero then.
+-- buffer is all zero then. And what an end says in document 01's numbers.
 use Prim.Native.Nat.{ℕ, _-_, _/_, _<_, min}
 use mathlib.Core.Path.{_≡_}
 use mathlib.Core.List.{List}
 use lib.ListN.{length}
 use Rattle.paper.specs.Numbers.{situation-bytes, most-room}
+use Rattle.paper.specs.Outcome.{Outcome}
 use Rattle.situations.specs.Coded.{Coded, Tables}
 use Rattle.search.specs.Lent.{Lent}
 use Rattle.search.specs.Records.{Earlier, text-at, answer-given, buffer-after}
@@ -21,6 +22,45 @@ use Rattle.search.specs.declared.search.Status.the-variants as Status-as
 -- "Room is one situation for each whole 144 bytes of working buffer, and at most 65,535"
 abbrev pub room-for : ℕ → ℕ
 room-for bytes = min (bytes / situation-bytes) most-room
+
+-- document 01's number of an end
+abbrev pub end-number : Ended → ℕ
+end-number (Ended-as.Clash n written) = 0
+end-number (Ended-as.NoClash n) = 1
+end-number (Ended-as.NoRoom n) = 18
+end-number (Ended-as.SideTooLong n) = 19
+end-number (Ended-as.AnswerTooShort n) = 20
+end-number (Ended-as.TextTooLong n) = 21
+
+-- the situations entered
+abbrev pub end-count : Ended → ℕ
+end-count (Ended-as.Clash n written) = n
+end-count (Ended-as.NoClash n) = n
+end-count (Ended-as.NoRoom n) = n
+end-count (Ended-as.SideTooLong n) = n
+end-count (Ended-as.AnswerTooShort n) = n
+end-count (Ended-as.TextTooLong n) = n
+
+-- the answer bytes written
+abbrev pub end-written : Ended → ℕ
+end-written (Ended-as.Clash n written) = written
+end-written (Ended-as.NoClash n) = 0
+end-written (Ended-as.NoRoom n) = 0
+end-written (Ended-as.SideTooLong n) = 0
+end-written (Ended-as.AnswerTooShort n) = 0
+end-written (Ended-as.TextTooLong n) = 0
+
+-- the outcome that an end tells, with both buffers as they are afterwards
+abbrev pub told-end : Ended → List ℕ → List ℕ → Outcome
+told-end r answer work =
+    record {
+      number = end-number r;
+      count = end-count r;
+      place = 0;
+      written = end-written r;
+      answer = answer;
+      work = work;
+    }
 
 -- the end of a clash, by what became of its records
 abbrev pub clash-end : ℕ → Given → Ended

@@ -9,7 +9,7 @@ use lib.ListN.{length, getD, drop}
 use Rattle.paper.specs.Lists.{upto, any, only, keep, each}
 use Rattle.paper.specs.Numbers.{fields, longest-text}
 use Rattle.paper.specs.Outcome.{value-record}
-use Rattle.search.specs.Slots.{Slot, slot-at, number-bytes, Holds}
+use Rattle.search.specs.Slots.{Slot, slot-at, number-width, number-bytes, Holds}
 use Rattle.search.specs.Run.{text-back}
 use Rattle.search.specs.declared.records.Back.{Back}
 use Rattle.search.specs.declared.records.Given.{Given}
@@ -36,11 +36,17 @@ pub record Steps-back (ss : List Slot) (i f : ℕ) (back : Back) : Type 0 where
   pub text : text-at ss i f ≡ text-at ss (back .parent) f ++ only (back .puts) (back .step)
 
 -- "`VA`, field byte, length in two bytes (low first)"
+abbrev pub record-mark : ℕ → List ℕ
+record-mark f = 86 ∷ 65 ∷ f ∷ []
+
+abbrev pub mark-bytes : ℕ
+mark-bytes = 3
+
 abbrev pub record-head : ℕ → ℕ → List ℕ
-record-head f n = (86 ∷ 65 ∷ f ∷ []) ++ number-bytes n
+record-head f n = record-mark f ++ number-bytes n
 
 abbrev pub head-bytes : ℕ
-head-bytes = 5
+head-bytes = mark-bytes + number-width
 
 -- the record of a text has room in the buffer, and its length two bytes
 pub record Record-fits (text buffer : List ℕ) : Type 0 where

@@ -6,7 +6,7 @@ use mathlib.Core.List.{List, [], _∷_, _++_}
 use lib.Dec.{leb, ltb}
 use lib.ListN.{length}
 use Rattle.paper.specs.Lists.{any}
-use Rattle.paper.specs.Search.{Child, long, child}
+use Rattle.paper.specs.Search.{Child, long, child, End, found, used-up, no-room, too-long}
 use Rattle.situations.specs.Coded.{Coded, Tables, finished-coded, same-coded, children-coded, given-coded}
 use Rattle.search.specs.Slots.{Slot, slot-at}
 use Rattle.search.specs.declared.search.Status.{Status}
@@ -23,6 +23,13 @@ is-going Found = false
 is-going UsedUp = false
 is-going NoRoom = false
 is-going TooLong = false
+
+-- how the paper's search ends, as the code says it
+abbrev pub status-of : {S M : Type 0} → End S M → Status
+status-of (found e) = Found
+status-of used-up = UsedUp
+status-of no-room = NoRoom
+status-of too-long = TooLong
 
 -- "no room gives 18; otherwise it is entered, and a finished one ends the search at once"
 unfoldable pub enter-slot : ℕ → List Slot → Slot → Running

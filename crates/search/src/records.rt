@@ -17,13 +17,15 @@ ghost use Rattle.paper.specs.Outcome.{value-record};
 ghost use Rattle.situations.specs.Coded.{given-coded};
 ghost use Rattle.search.specs.Slots.{slot-at};
 ghost use Rattle.search.specs.Records.{Way-to, Steps-back, Record-fits, Record-written, Records-fit, Answered};
-ghost use Rattle.search.specs.Records.{text-at, record-head, head-bytes, in-front, text-above, value-records};
+ghost use Rattle.search.specs.Records.{text-at, record-mark, mark-bytes, record-head, head-bytes, in-front, text-above, value-records};
 
 // how many fields a sheet may name, and so an answer may have
 const SHEET_FIELDS: usize = 8;
 
-// Mark, field and length of a record.
-const HEAD: usize = 5;
+// Mark and field of a record, and its length.
+const MARK: usize = 3;
+
+const HEAD: usize = MARK + NUMBER;
 
 // "a text above 65,535 characters"
 const LONGEST_TEXT: usize = 65535;
@@ -107,15 +109,23 @@ fn write_text(out: &mut [u8], work: &[u8], last: usize, f: u8)
     }
 }
 
+// "`VA`, field byte"
+fn write_mark(out: &mut [u8], f: u8)
+    requires { ⌜ length (now out) ≡ mark-bytes ⌝ }
+    ensures { λ _. ⌜ now (out .exit) ≡ record-mark f ⌝ }
+{
+    out[0] = b'V';
+    out[1] = b'A';
+    out[2] = f;
+}
+
 // "`VA`, field byte, length in two bytes (low first)"
 fn write_head(out: &mut [u8], f: u8, n: usize)
     requires { ⌜ (length (now out) ≡ head-bytes) × (n ≤ longest-text) ⌝ }
     ensures { λ _. ⌜ now (out .exit) ≡ record-head f n ⌝ }
 {
-    out[0] = b'V';
-    out[1] = b'A';
-    out[2] = f;
-    put_number(&mut out[3..3 + NUMBER], n as u64);
+    write_mark(&mut out[0..MARK], f);
+    put_number(&mut out[MARK..HEAD], n as u64);
 }
 
 // The record of the field f, into the front of what is lent. How many bytes it has.

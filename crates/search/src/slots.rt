@@ -10,7 +10,7 @@ ghost use Prim.Native.Nat.{ℕ, _+_, _*_, _<_, _≤_};
 ghost use lib.ListN.{length, replicate};
 ghost use Rattle.paper.specs.Lists.{each};
 ghost use Rattle.paper.specs.Numbers.{set-fields, longest-side, situation-bytes};
-ghost use Rattle.situations.specs.Laid.{as-struct};
+ghost use Rattle.situations.specs.Laid.{as-struct, Short};
 ghost use Rattle.search.specs.LowFirst.{number-of};
 ghost use Rattle.search.specs.Slots.{mask-width, mask-bytes, number-width, origin-width, struct-key, origin-bytes, key-bytes, held-bytes, sets-bytes, Slot, slot-bytes, slot-at, part, Holds};
 
@@ -129,7 +129,7 @@ fn sets_of(from: &[u8]) -> [u32; FIELDS]
 
 fn read_slot(slot: &[u8]) -> Situation
     requires { ⌜ length (now slot) ≡ held-bytes ⌝ }
-    ensures { λ r. ⌜ ((s : Slot) → length (as-struct (s .at) .left) ≡ longest-side → length (as-struct (s .at) .right) ≡ longest-side → length (s .at .sets) ≡ set-fields → now (slot .entry) ≡ slot-bytes s → r ≡ as-struct (s .at)) ⌝ }
+    ensures { λ r. ⌜ ((s : Slot) → Short (s .at) → now (slot .entry) ≡ slot-bytes s → r ≡ as-struct (s .at)) ⌝ }
 {
     let left = side_of(&slot[0..RIGHT]);
     let right = side_of(&slot[RIGHT..SETS]);
