@@ -42,8 +42,9 @@ pub mod Reached
 pub mod Plain
 -- from bytes to bytes
 pub mod Asked
-pub mod Rows
 pub mod QuestionSearched
+pub mod TextLength
+pub mod Rows
 pub mod AnswerRoom
 pub mod Demand2
 pub mod Demand3

@@ -86,6 +86,10 @@ module _ {ℓ} {A : Type ℓ} where
   pub only-mem : (b : Bool) (y : A) → b ≡ true → List·Memᴰ y (only b y)
   only-mem b y e = rw e (List·Memᴰ·head refl)
 
+  pub length-only : (b : Bool) (x : A) → length (only b x) ≤ 1
+  length-only true x = omega arith
+  length-only false x = omega arith
+
   -- keep: the members that pass
   pub mem-keep : (p : A → Bool) {x : A} (l : List A) → List·Memᴰ x (keep p l) → List·Memᴰ x l × (p x ≡ true)
   mem-keep p [] d = absurd (List·Memᴰ·not-nil d)
