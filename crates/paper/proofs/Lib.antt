@@ -43,6 +43,7 @@ pub mod Plain
 -- from bytes to bytes
 pub mod Asked
 pub mod QuestionSearched
+pub mod TokenTotal
 pub mod TextLength
 pub mod Rows
 pub mod AnswerRoom
