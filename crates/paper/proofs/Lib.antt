@@ -48,4 +48,5 @@ pub mod TextLength
 pub mod Rows
 pub mod AnswerRoom
 pub mod Demand2
+pub mod ShutOut
 pub mod Demand3
