@@ -1,6 +1,6 @@
 -- Demand 2, from bytes to bytes: for all sheets, working buffers and answer buffers, lists of bytes, the outcome of 01 meets it.
--- What it says stands in specs/Demands: clash carries texts that solve the question, no clash means that there are none, and the
--- refusals 18, 19, 20 and the count are those of the search.
+-- What it says stands in specs/Demands: clash carries texts that solve the question, no clash means that there are none, the
+-- refusals 18, 19, 20 and the count are those of the search, and 21 is never given.
 -- Follows from the rows of the table of answers, from the laws of good sheets, and from the laws of the search of a question.
 use Prim.Native.Nat.{ℕ}
 use native.Mathlib.Omega.{arith}
