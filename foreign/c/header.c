@@ -1,6 +1,7 @@
 /*
  * Tries what bradovusc.h itself defines: the texts of the numbers, the signs, the walk over records, null pointers of length 0, the
- * version. C99, and C++11 too. Prints what does not hold, and how many checks there were; the exit status is 0 if all hold.
+ * version, the lengths of buffers. C99, and C++11 too. Prints what does not hold, and how many checks there were; the exit status is 0
+ * if all hold.
  */
 #include <stdio.h>
 #include <stdlib.h>
@@ -186,6 +187,8 @@ int main(void) {
     char version[64];
     snprintf(version, sizeof version, "%d.%d.%d", BRADOVUSC_VERSION_MAJOR, BRADOVUSC_VERSION_MINOR, BRADOVUSC_VERSION_PATCH);
     check(strcmp(version, BRADOVUSC_VERSION) == 0, "the version's string", 0);
+    check(BRADOVUSC_WORK_BYTES(455) == 65520, "455 situations of work", 455);
+    check(BRADOVUSC_ANSWER_BYTES(455) == 3680, "an answer buffer for them", 455);
     try_texts();
     try_signs();
     try_records();

@@ -5,17 +5,18 @@
 //! [`clash`] answers it in memory that the caller lends.
 //!
 //! ```
-//! use bradovusc::{clash, texts, Answer, SITUATION_BYTES};
+//! use bradovusc::{answer_bytes, clash, texts, SITUATION_BYTES};
 //!
 //! // Field 0, any digits, is the left side; field 1, the digit 4, the right one.
 //! let sheet = b"PA\x00\x04\x44\x41\x00\x09PA\x01\x01\x04LE\x01\x40RI\x01\x41";
 //! let mut work = [0; 455 * SITUATION_BYTES];
-//! let mut answer = [0; 4096];
-//! let Answer::Clash { count, written } = clash(sheet, &mut work, &mut answer) else {
-//!     panic!("both rules can make the label 4");
-//! };
-//! assert_eq!(count, 6);
-//! let texts: Vec<String> = texts(&answer[..written]).map(|text| text.to_string()).collect();
+//! let mut answer = [0; answer_bytes(455)];
+//! let given = clash(sheet, &mut work, &mut answer);
+//! assert_eq!(given.clashes(), Some(true));
+//! assert_eq!(given.to_string(), "clash");
+//! assert_eq!(given.count(), 6);
+//! let texts: Vec<String> =
+//!     texts(&answer[..given.written()]).map(|text| text.to_string()).collect();
 //! assert_eq!(texts, ["4", "4"]);
 //! ```
 
@@ -45,9 +46,18 @@ pub fn value(sign: char) -> Option<u8> {
     (0..).zip(SIGNS).find(|&(_, &each)| char::from(each) == sign).map(|(value, _)| value)
 }
 
+/// Fields 0 to 7.
+const FIELDS: usize = 8;
+
 /// A record of the answer buffer before its characters: `VA`, the field, the length in two bytes
 /// (low first).
 const RECORD_HEAD: usize = 5;
+
+/// An answer buffer of so many bytes is always long enough, where the working buffer has room for
+/// these situations: a text has fewer characters than the search has situations.
+pub const fn answer_bytes(situations: usize) -> usize {
+    FIELDS * (RECORD_HEAD + situations)
+}
 
 /// What is wrong with a sheet.
 #[derive(Clone, Copy, Debug, PartialEq, Eq)]
@@ -145,6 +155,15 @@ impl Answer {
             | Answer::SideTooLong { count }
             | Answer::AnswerTooShort { count }
             | Answer::TextTooLong { count } => count,
+        }
+    }
+
+    /// The bytes written to the answer buffer; 0 for all but [`Answer::Clash`].
+    pub fn written(self) -> usize {
+        if let Answer::Clash { written, .. } = self {
+            written
+        } else {
+            0
         }
     }
 

@@ -3,7 +3,7 @@
 
 use std::collections::BTreeSet;
 
-use bradovusc::{clash, Answer};
+use bradovusc::{answer_bytes, clash, Answer, SITUATION_BYTES};
 use second::make::{case, long, Dice};
 use second::Outcome;
 
@@ -11,8 +11,8 @@ use second::Outcome;
 fn library(sheet: &[u8], work: &mut [u8], answer: &mut [u8]) -> Outcome {
     let given = clash(sheet, work, answer);
     let place = if let Answer::Refused { place, .. } = given { place } else { 0 };
-    let written = if let Answer::Clash { written, .. } = given { written } else { 0 };
-    Outcome { number: given.number() as u8, count: given.count(), place, written }
+    let (number, count, written) = (given.number() as u8, given.count(), given.written());
+    Outcome { number, count, place, written }
 }
 
 #[test]
@@ -27,6 +27,21 @@ fn generated_cases() {
     }
     // 21 needs a text longer than any way can be.
     assert!(seen.into_iter().eq([0, 1, 11, 12, 13, 14, 15, 16, 17, 18, 19, 20]));
+}
+
+#[test]
+fn an_answer_buffer_that_is_always_long_enough() {
+    let mut dice = Dice::new(41);
+    let mut too_short = 0;
+    for _ in 0..4000 {
+        let mut case = case(&mut dice);
+        let given = case.run(library).outcome.number;
+        case.answer = answer_bytes(case.work as usize / SITUATION_BYTES) as u32;
+        let now = case.run(library).outcome.number;
+        assert_eq!(now, if given == 20 { 0 } else { given }, "{case:?}");
+        too_short += usize::from(given == 20);
+    }
+    assert!(too_short > 40);
 }
 
 #[test]

@@ -53,7 +53,7 @@ fn a_sheet_at_fault_in_words() {
     for fault in FAULTS {
         let answer = Answer::Refused { fault, place: 13 };
         assert_eq!(answer.to_string(), format!("{fault}, in the record at offset 13"));
-        assert_eq!((answer.number(), answer.count()), (fault.number(), 0));
+        assert_eq!((answer.number(), answer.count(), answer.written()), (fault.number(), 0, 0));
         assert_eq!(answer.clashes(), None);
     }
 }
@@ -61,6 +61,7 @@ fn a_sheet_at_fault_in_words() {
 #[test]
 fn what_is_decided() {
     assert!(OTHERS.iter().all(|answer| answer.count() == 7));
+    assert_eq!(OTHERS.map(Answer::written), [9, 0, 0, 0, 0, 0]);
     let decided = OTHERS.map(Answer::clashes);
     assert_eq!(decided, [Some(true), Some(false), None, None, Some(true), Some(true)]);
 }
