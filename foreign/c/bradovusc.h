@@ -132,10 +132,10 @@ static inline int bradovusc_value(int sign) {
 
 /*
  * The working buffer. A situation of the search takes 144 bytes. Room is counted in whole situations, at most 65,535; bytes beyond
- * that are no use. Where no field stands more than once in the two sides together, (1 + L) * (1 + R) situations are always enough:
- * L adds, over the left side, one for each character and each field without a pattern, and for a field with a pattern the number of
- * its reachable place sets; R does so for the right side. Other questions may need any number. The program `clash` lends 455
- * situations. The buffer need not be cleared beforehand.
+ * that are no use. Where no field stands more than once in the two sides together, (1 + L) * (1 + R) situations are always enough,
+ * unless that is above 65,535: L adds, over the left side, one for each character and each field without a pattern, and for a field
+ * with a pattern the number of its reachable place sets; R does so for the right side. Other questions may need any number. The
+ * program `clash` lends 455 situations. The buffer need not be cleared beforehand.
  */
 #define BRADOVUSC_SITUATION_BYTES 144
 #define BRADOVUSC_MOST_SITUATIONS 65535
