@@ -2,6 +2,9 @@ pub mod Tests
 pub mod Lists
 pub mod Made
 pub mod Known
+pub mod KnownLengths
+pub mod KnownBounds
+pub mod KnownPrinted
 -- the search over any situations
 pub mod Grown
 pub mod Ended
@@ -43,6 +46,7 @@ pub mod Plain
 -- from bytes to bytes
 pub mod Asked
 pub mod Rows
+pub mod Demand1
 pub mod QuestionSearched
 pub mod AnswerRoom
 pub mod Demand2
