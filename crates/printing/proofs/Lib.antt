@@ -1,3 +1,4 @@
 pub mod Decimal
+pub mod Making
 pub mod Putting
 pub mod Walked

@@ -10,8 +10,8 @@ use lib.ListN.{length, getD, take, drop, length-append, length-map, length-drop,
 use lib.Seq.{take-suc, take-nil, drop-nil, drop-drop, getD-drop}
 use Rattle.paper.specs.Printed.{sign, space, newline, first-line, value-lines}
 use Rattle.paper.proofs.Lists.{map-append}
-use Rattle.printing.specs.Lines.{Puts, in-digits, in-decimal, numbers-line, value-line, record-head, text-length}
-use Rattle.printing.proofs.Decimal.{byte-at-most}
+use Rattle.printing.specs.Lines.{Puts, in-digits, in-decimal, numbers-line, value-line, record-head, text-length, longest-first-line}
+use Rattle.printing.proofs.Decimal.{decimal-at-most, byte-at-most}
 use Rattle.printing.proofs.Putting.{puts-none, puts-then}
 
 -- a sign behind each part, or before the next
@@ -23,6 +23,11 @@ pub numbers-line-parts : (number count place : ℕ)
     ≡ (in-decimal number ++ (space ∷ [])) ++ (in-decimal count ++ (space ∷ [])) ++ (in-decimal place ++ (newline ∷ []))
 unfolding numbers-line in-digits
 numbers-line-parts number count place = signs-behind (in-decimal number) (in-decimal count) (in-decimal place) space newline
+
+pub numbers-line-length : (number count place : ℕ) → length (numbers-line number count place) ≤ longest-first-line
+numbers-line-length number count place =
+    rw (numbers-line-parts number count place)
+    (simp length-append (omega (arith, decimal-at-most number, decimal-at-most count, decimal-at-most place)))
 
 pub value-line-parts : (f : ℕ) (text : List ℕ) → value-line f text ≡ (in-decimal f ++ (space ∷ [])) ++ map sign text ++ (newline ∷ [])
 unfolding value-line in-digits
@@ -37,7 +42,7 @@ pub signs-more : (text : List ℕ) (i : ℕ) → i < length text → map sign (t
 signs-more text i h = rw (add-one, take-suc text i 0, map-append sign)
 
 -- a part that would go past the end goes to the end
-take-min : (n : ℕ) (l : List ℕ) → take (min n (length l)) l ≡ take n l
+pub take-min : (n : ℕ) (l : List ℕ) → take (min n (length l)) l ≡ take n l
 take-min zero l = rw zero-min
 take-min (suc n) [] = take-nil (min (suc n) 0)
 take-min (suc n) (x ∷ l) = rw suc-min-suc (ap (λ (t : List ℕ). x ∷ t) (take-min n l))

@@ -1,11 +1,10 @@
 // Bytes put into a lent buffer from a place on. Each function hands back the place behind what it put.
 ghost use mathlib.Core.List.{[], _∷_, _++_, map};
 ghost use mathlib.Core.Path.{_≡_};
-ghost use Prim.Native.Nat.{ℕ, _+_, _*_, _%_, _<_, _≤_, min};
+ghost use Prim.Native.Nat.{_+_, _*_, _%_, _<_, _≤_, min};
 ghost use lib.ListN.{length};
-ghost use Rattle.paper.specs.Printed.{value-lines};
 ghost use Rattle.paper.specs.Printed.{sign as sign-of};
-ghost use Rattle.printing.specs.Lines.{Puts, in-digits, in-decimal, numbers-line, value-line, longest-first-line, record-head, text-length};
+ghost use Rattle.printing.specs.Lines.{Puts, Puts-lines, in-digits, in-decimal, numbers-line, value-line, longest-first-line, record-head, text-length};
 
 // 20 digits are enough for every number of 64 bits.
 const DIGITS: usize = 20;
@@ -121,7 +120,7 @@ fn text_length(records: &[u8], from: usize) -> usize
 // "a line for each `VA`": no line is longer than its record.
 pub fn value_lines(out: &mut [u8], at: usize, records: &[u8]) -> usize
     requires { ⌜ at + length (now records) ≤ length (now out) ⌝ }
-    ensures { λ r. ⌜ ((n : ℕ) → length (now (records .entry)) ≤ n → Puts (now (out .entry)) (now (out .exit)) at r (value-lines n (now (records .entry)))) ⌝ }
+    ensures { λ r. ⌜ Puts-lines (now (out .entry)) (now (out .exit)) at r (now (records .entry)) ⌝ }
 {
     let mut end = at;
     let mut from = 0;

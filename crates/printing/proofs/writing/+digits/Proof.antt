@@ -43,8 +43,11 @@ digits-digit-requires t c κs = search needs
 digits-put-requires : (t : ℕ) → digits-lts.Need-put-requires (calls t) (digits-at t) digits.Post
 digits-put-requires t c κs =
     let args = c .before .before .before .before .before .args in
-    omega (arith, c .before .before .before .before .before .pre .1,
-    ap length (one-digit (args .most) (args .n) (c .before .before .before .if1 .left) (c .before .before .if2 .taken)))
+    omega (
+      arith,
+      c .before .before .before .before .before .pre .1,
+      ap length (one-digit (args .most) (args .n) (c .before .before .before .if1 .left) (c .before .before .if2 .taken)),
+    )
 
 digits-same-length : (t : ℕ) → digits-lts.Need-same-length (calls t) (digits-at t) digits.Post
 digits-same-length t c = search needs
@@ -87,15 +90,15 @@ digits-returns-3 t c =
 pub +digits-spec : {M : Type 1} → statement M
 +digits-spec =
     close μ-digits (λ t.
-      digits-lts.spec (calls t) (digits-at t) digits.Post
-      (digits-returns t)
-      (digits-digit-requires t)
-      (digits-put-requires t)
-      (digits-same-length t)
-      (digits-returns-2 t)
-      (digits-sub-digits t)
-      (digits-digits-requires t)
-      (digits-digit-requires-2 t)
-      (digits-put-requires-2 t)
-      (digits-same-length-2 t)
-      (digits-returns-3 t))
+    digits-lts.spec (calls t) (digits-at t) digits.Post
+    (digits-returns t)
+    (digits-digit-requires t)
+    (digits-put-requires t)
+    (digits-same-length t)
+    (digits-returns-2 t)
+    (digits-sub-digits t)
+    (digits-digits-requires t)
+    (digits-digit-requires-2 t)
+    (digits-put-requires-2 t)
+    (digits-same-length-2 t)
+    (digits-returns-3 t))

@@ -92,7 +92,7 @@ same-length : tie.Need-same-length Inv-loop μ-loop
 same-length c = search needs
 
 returns : tie.Need-returns Inv-loop μ-loop
-returns c n h = all-put (c .before .loop .inv .3 n h) (omega arith)
+returns c = record { within = omega arith; lines = λ n h. all-put (c .before .loop .inv .3 n h) (omega arith) }
 
 pub value-lines-spec : {M : Type 1} → statement M
 value-lines-spec =
