@@ -59,9 +59,7 @@ module _ (sheet : List ℕ) (s : Sheet) (e : s ≡ sheet-of (read-sheet sheet)) 
 pub promised : (sheet work answer : List ℕ) (o : Outcome) → o ≡ outcome sheet work answer
     → (o ≡ outcome sheet work answer) × (Demand1 sheet work answer o × (Demand2 sheet work answer o × Demand3 sheet work o))
 promised sheet work answer o e =
-    (
-      e,
-      subst (Demand1 sheet work answer) (sym e) (demand-1 sheet work answer),
-      subst (Demand2 sheet work answer) (sym e) (demand-2 sheet work answer),
-      subst (Demand3 sheet work) (sym e) (demand-3 sheet work answer),
-    )
+    let one = subst (Demand1 sheet work answer) (sym e) (demand-1 sheet work answer) in
+    let two = subst (Demand2 sheet work answer) (sym e) (demand-2 sheet work answer) in
+    let three = subst (Demand3 sheet work) (sym e) (demand-3 sheet work answer) in
+    (e, (one, (two, three)))
