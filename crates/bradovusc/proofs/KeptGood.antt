@@ -97,7 +97,7 @@ module _ (q : Question) (few : (f : ℕ) → Few (held-by q f)) where
   unfolding acceptor
   good-moved s (strikes-left e) g = good-strike-all (front-field (s .left)) s (known-front (s .left) (g .left)) g
   good-moved s (strikes-right e) g = good-strike-all (front-field (s .right)) s (known-front (s .right) (g .right)) g
-  good-moved s (puts {c = c} h) g =
+  good-moved s (puts {c = c} h l r) g =
       good-put-all c (front-fields (s .left) (s .right)) s h (known-fronts (s .left) (s .right) (g .left) (g .right)) g
 
   -- every child of a good situation is good

@@ -15,6 +15,7 @@ ghost use mathlib.Core.Path.{_≡_};
 ghost use Prim.Native.Nat.{_-_, _/_, _<_, min};
 ghost use Rattle.paper.specs.Numbers.{situation-bytes, most-room};
 ghost use Rattle.paper.specs.Outcome.{outcome};
+ghost use Rattle.paper.specs.Buffers.{Demand1};
 ghost use Rattle.paper.specs.Demands.{Demand2, Demand3};
 ghost use Rattle.bradovusc.specs.Entry.{told, as-numbers, Asks, Clash-told, Over, Concluded};
 ghost use Rattle.bradovusc.specs.Records.{Way-to};
@@ -47,6 +48,7 @@ pub enum Answer {
 // Can the two rules of the sheet make the same label?
 pub fn clash(sheet: &[u8], work: &mut [u8], answer: &mut [u8]) -> Answer
     ensures whole { λ r. ⌜ told r (now (answer .exit)) (now (work .exit)) ≡ outcome (now (sheet .entry)) (now (work .entry)) (now (answer .entry)) ⌝ }
+    ensures demand1 { λ r. ⌜ Demand1 (now (sheet .entry)) (now (work .entry)) (now (answer .entry)) (told r (now (answer .exit)) (now (work .exit))) ⌝ }
     ensures demand2 { λ r. ⌜ Demand2 (now (sheet .entry)) (now (work .entry)) (now (answer .entry)) (told r (now (answer .exit)) (now (work .exit))) ⌝ }
     ensures demand3 { λ r. ⌜ Demand3 (now (sheet .entry)) (now (work .entry)) (told r (now (answer .exit)) (now (work .exit))) ⌝ }
 {

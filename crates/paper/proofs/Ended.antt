@@ -4,7 +4,7 @@ use Prim.Native.Nat.{ℕ}
 use mathlib.Core.Path.{_≡_, refl, sym}
 use mathlib.Core.Logic.{_⊎_, inl, inr}
 use mathlib.Core.Bool.{Bool, true, false}
-use mathlib.Core.List.{List, [], _∷_, _++_, List·Memᴰ, List·Memᴰ·not-nil}
+use mathlib.Core.List.{List, [], _∷_, _++_, List·Memᴰ}
 use lib.ListN.{length}
 use Rattle.paper.specs.Search.{Child, long, child, Entry, End, found, used-up, no-room, too-long}
 use Rattle.paper.specs.Leads.{situations}
@@ -55,14 +55,6 @@ module _ {S M : Type 0} (finished : S → Bool) (children : S → List (Child S 
   outcome-grown (no-start z) = inr (z, refl)
   outcome-grown (full g u r c) = inl g
   outcome-grown (over g u c) = inl g
-
-  pub outcome-unfinished : {x : End S M} {l : List (Entry S M)} → Outcome x l
-      → ((e : Entry S M) → x ≡ found e → ⊥) → Unfinished finished l
-  outcome-unfinished (found-last {e = f} g u t) n = absurd (n f refl)
-  outcome-unfinished (all-taken g u c) n = u
-  outcome-unfinished (no-start z) n = λ e d. absurd (List·Memᴰ·not-nil d)
-  outcome-unfinished (full g u r c) n = u
-  outcome-unfinished (over g u c) n = u
 
   pub outcome-found : {e : Entry S M} {l : List (Entry S M)} → Outcome (found e) l
       → (m : List (Entry S M)) × (l ≡ m ++ (e ∷ [])) × (finished (e .at) ≡ true) × Unfinished finished m

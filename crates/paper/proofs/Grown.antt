@@ -1,16 +1,16 @@
 -- How the entries of a search grow, as a relation without a test, and what that alone says of them: the count, that they are
--- different, the first one, ways and parents, and that what holds of the first and goes over to children holds of all.
+-- different, the first one, ways, and that what holds of the first and goes over to children holds of all.
 -- Follows by induction on the growth.
 use Prim.Native.Nat.{ℕ, _≤_, _<_}
 use native.Mathlib.Omega.{arith}
-use mathlib.Core.Path.{_≡_, refl, sym, ap, _∙_, subst}
-use mathlib.Core.Logic.{_⊎_, inl, inr, ⊎-elim}
-use mathlib.Core.List.{List, [], _∷_, _++_, append-assoc}
+use mathlib.Core.Path.{_≡_, refl, sym, ap, subst}
+use mathlib.Core.Logic.{_⊎_, ⊎-elim}
+use mathlib.Core.List.{List, [], _∷_, _++_}
 use mathlib.Core.List.{List·Memᴰ, List·Memᴰ·append-cases, List·Memᴰ·not-nil, List·Memᴰ·eq-of-singleton}
 use lib.ListN.{length, length-append}
 use Rattle.paper.proofs.Lists.{NoDup, none, more, nodup-snoc, map-append}
 use Rattle.paper.specs.Search.{Child, child, Entry}
-use Rattle.paper.specs.Leads.{Leads, start, step, Parent, situations}
+use Rattle.paper.specs.Leads.{Leads, start, step, situations}
 
 -- the first entry
 abbrev pub first-entry : {S M : Type 0} → S → Entry S M
@@ -77,39 +77,3 @@ module _ {S M : Type 0} (children : S → List (Child S M)) (room : ℕ) (s₀ :
       (λ l e x h. omega (arith, length-append l (x ∷ [])))
       (λ l p m s d h c. omega (arith, length-append l (child-entry p m s ∷ [])))
       g
-
-  pub grown-parent : {l : List (Entry S M)} → Grown l → (e : Entry S M) → List·Memᴰ e l
-      → (e ≡ first-entry s₀) ⊎ Parent children l e
-  grown-parent g =
-      grown-every (λ l e. (e ≡ first-entry s₀) ⊎ Parent children l e) (inl refl)
-      (λ l e x h. ⊎-elim inl (λ (r : Parent children l e). inr (later-more l e x r)) h)
-      (λ l p m s d h c. inr (newest l p m s d c))
-      g
-    where
-      later-more : (l : List (Entry S M)) (e x : Entry S M) → Parent children l e → Parent children (l ++ (x ∷ [])) e
-      later-more l e x r =
-          record {
-            earlier = r .earlier;
-            later = r .later ++ (x ∷ []);
-            parent = r .parent;
-            move = r .move;
-            in-order =
-                ap (λ (k : List (Entry S M)). k ++ (x ∷ [])) (r .in-order) ∙ append-assoc (r .earlier) (e ∷ r .later) (x ∷ []);
-            is-earlier = r .is-earlier;
-            is-child = r .is-child;
-            is-way = r .is-way;
-          }
-
-      newest : (l : List (Entry S M)) (p : Entry S M) (m : M) (s : S) → List·Memᴰ p l
-          → List·Memᴰ (child m s) (children (p .at)) → Parent children (l ++ (child-entry p m s ∷ [])) (child-entry p m s)
-      newest l p m s d c =
-          record {
-            earlier = l;
-            later = [];
-            parent = p;
-            move = m;
-            in-order = refl;
-            is-earlier = d;
-            is-child = c;
-            is-way = refl;
-          }

@@ -2,6 +2,9 @@ pub mod Tests
 pub mod Lists
 pub mod Made
 pub mod Known
+pub mod KnownLengths
+pub mod KnownBounds
+pub mod KnownPrinted
 -- the search over any situations
 pub mod Grown
 pub mod Ended
@@ -42,8 +45,12 @@ pub mod Reached
 pub mod Plain
 -- from bytes to bytes
 pub mod Asked
-pub mod Rows
 pub mod QuestionSearched
+pub mod TokenTotal
+pub mod TextLength
+pub mod Rows
+pub mod Demand1
 pub mod AnswerRoom
 pub mod Demand2
+pub mod ShutOut
 pub mod Demand3

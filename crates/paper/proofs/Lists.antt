@@ -12,7 +12,7 @@ use mathlib.Core.List.{Memᴰ·cast, Memᴰ·append-left, Memᴰ·append-right}
 use lib.Dec.{eqb}
 use lib.ListN.{length}
 use Rattle.paper.specs.Lists.{from, upto, any, all, only, keep, same-by, each, member}
-use Rattle.paper.proofs.Tests.{by-bool, true-false, eqb-true, eqb-false, eq-eqb, and-left, and-right, both-true, and-is-false}
+use Rattle.paper.proofs.Tests.{by-bool, true-false, eqb-true, eqb-false, eq-eqb, and-left, and-right, both-true}
 use Rattle.paper.proofs.Tests.{or-is-true, left-true, right-true, or-left-false, or-right-false, both-false}
 
 pub cons-eq {ℓ} : {A : Type ℓ} {x y : A} {l m : List A} → x ≡ y → l ≡ m → x ∷ l ≡ y ∷ m
@@ -64,15 +64,6 @@ module _ {ℓ} {A : Type ℓ} where
   every-all p [] h = refl
   every-all p (y ∷ l) h = both-true (h y (List·Memᴰ·head refl)) (every-all p l (λ x d. h x (List·Memᴰ·tail d)))
 
-  -- all fails: a member fails
-  pub all-false : (p : A → Bool) (l : List A) → all p l ≡ false → (x : A) × List·Memᴰ x l × (p x ≡ false)
-  all-false p [] e = absurd (true-false refl e)
-  all-false p (y ∷ l) e =
-      ⊎-elim
-      (λ h. (y, List·Memᴰ·head refl, h))
-      (λ h. let r = all-false p l h in (r .0, List·Memᴰ·tail (r .1), r .2))
-      (and-is-false (p y) (all p l) e)
-
   pub all-append : (p : A → Bool) (l m : List A) → all p (l ++ m) ≡ (all p l && all p m)
   all-append p [] m = refl
   all-append p (x ∷ l) m = ap (λ (b : Bool). p x && b) (all-append p l m) ∙ sym (and-assoc (p x) (all p l) (all p m))
@@ -85,6 +76,10 @@ module _ {ℓ} {A : Type ℓ} where
 
   pub only-mem : (b : Bool) (y : A) → b ≡ true → List·Memᴰ y (only b y)
   only-mem b y e = rw e (List·Memᴰ·head refl)
+
+  pub length-only : (b : Bool) (x : A) → length (only b x) ≤ 1
+  length-only true x = omega arith
+  length-only false x = omega arith
 
   -- keep: the members that pass
   pub mem-keep : (p : A → Bool) {x : A} (l : List A) → List·Memᴰ x (keep p l) → List·Memᴰ x l × (p x ≡ true)
@@ -185,18 +180,6 @@ module _ {ℓ} {A : Type ℓ} where
       last y d (List·Memᴰ·head e) = Memᴰ·cast (sym e) d
       last y d (List·Memᴰ·tail e) = absurd (List·Memᴰ·not-nil e)
 
-  pub nodup-left : (l m : List A) → NoDup (l ++ m) → NoDup l
-  nodup-left [] m n = none
-  nodup-left (x ∷ l) m (more n nl) = more (λ d. n (Memᴰ·append-left m d)) (nodup-left l m nl)
-
-  pub nodup-right : (l : List A) {m : List A} → NoDup (l ++ m) → NoDup m
-  nodup-right [] n = n
-  nodup-right (x ∷ l) (more n nl) = nodup-right l nl
-
-  pub nodup-apart : (l : List A) {m : List A} → NoDup (l ++ m) → (x : A) → List·Memᴰ x l → List·Memᴰ x m → ⊥
-  nodup-apart (y ∷ l) (more n nl) x (List·Memᴰ·head e) k = n (Memᴰ·append-right l (Memᴰ·cast (sym e) k))
-  nodup-apart (y ∷ l) (more n nl) x (List·Memᴰ·tail d) k = nodup-apart l nl x d k
-
   pub nodup-only : (b : Bool) (x : A) → NoDup (only b x)
   nodup-only true x = more List·Memᴰ·not-nil none
   nodup-only false x = none
@@ -238,12 +221,6 @@ module _ {ℓ} {A : Type ℓ} where
   pub pigeonhole-lt : {l : List A} (m : List A) {x : A} → NoDup l → ((y : A) → List·Memᴰ y l → List·Memᴰ y m)
       → List·Memᴰ x m → (List·Memᴰ x l → ⊥) → length l < length m
   pigeonhole-lt {l} m {x} nl h k n = pigeonhole m (more n nl) (mem-cons-by (λ (z : A). List·Memᴰ z m) k h)
-
-pub nodup-map {ℓ κ} : {A : Type ℓ} {B : Type κ} (f : A → B) {l : List A}
-    → ((x y : A) → f x ≡ f y → x ≡ y) → NoDup l → NoDup (map f l)
-nodup-map f inj none = none
-nodup-map f inj (more {x = x} {l = l} n nl) =
-    more (λ d. let r = mem-map f l d in n (Memᴰ·cast (inj x (r .0) (r .2)) (r .1))) (nodup-map f inj nl)
 
 pub length-from : (a n : ℕ) → length (from a n) ≡ n
 length-from a zero = refl

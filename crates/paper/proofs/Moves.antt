@@ -8,11 +8,12 @@ use mathlib.Core.Bool.{Bool, true, false, cond, not, _&&_}
 use mathlib.Core.List.{List, [], _∷_, _++_, map, List·Memᴰ, List·Memᴰ·head, List·Memᴰ·not-nil, List·Memᴰ·append-cases, List·Memᴰ·eq-of-singleton, Memᴰ·append-left, Memᴰ·append-right}
 use lib.Dec.{eqb}
 use Rattle.paper.specs.Lists.{any, keep, only, upto}
-use Rattle.paper.proofs.Tests.{by-bool, true-false, both-true, not-is-true, left-true, right-true, eqb-same}
+use Rattle.paper.proofs.Tests.{by-bool, true-false, both-true, and-left, and-right, not-is-true, left-true, right-true, eqb-same}
 use Rattle.paper.proofs.Lists.{NoDup, none, more, nodup-append, nodup-keep, mem-only, only-mem, mem-keep, keep-mem, mem-map, map-mem, mem-upto, upto-mem, any-true, mem-any, any-append, each-mem}
 use Rattle.paper.specs.Search.{child, long}
 use Rattle.paper.specs.Equation.{chr, fld, Side, is-field, stands-in}
 use Rattle.paper.specs.Situation.{Acceptor, Situation, Kind, is-finished, is-dead, is-open, Move, strike-left, strike-right, put, front-field, front-fields, set-of, trimmed, kind, moved, front-may-end, front-takes, open-moves, moves-of, side-above, kept, child-by, children}
+use Rattle.paper.specs.Children.{ChildOf}
 use Rattle.paper.proofs.Children.{child-of}
 
 -- the field in front of the right side, if it is not the one in front of the left
@@ -63,11 +64,11 @@ module _ {P : Type 0} (A : Acceptor P) where
   abbrev puts-of : Situation P → List Move
   puts-of s = map put (keep (fronts-take s) (upto (A .characters)))
 
-  -- what each move of an open situation rests on, as far as it bears on the solutions of its child
+  -- what each move of an open situation rests on
   pub data Opened (s : Situation P) : Move → Type 0 where
     strikes-left : front-may-end A s (front-field (s .left)) ≡ true → Opened s strike-left
     strikes-right : front-may-end A s (front-field (s .right)) ≡ true → Opened s strike-right
-    puts : {c : ℕ} → c < A .characters → Opened s (put c)
+    puts : {c : ℕ} → c < A .characters → front-takes A s c (s .left) ≡ true → front-takes A s c (s .right) ≡ true → Opened s (put c)
 
   pub move-opened : {m : Move} (s : Situation P) → List·Memᴰ m (open-moves A s) → Opened s m
   unfolding open-moves
@@ -81,7 +82,10 @@ module _ {P : Type 0} (A : Acceptor P) where
       let (e, q) = mem-only (front-may-end A s (other-front (s .left) (s .right))) i in
       subst (Opened s) (sym q) (strikes-right (other-ends e)))
       (λ (i : List·Memᴰ m (puts-of s)). let (c, k, q) = mem-map put (keep (fronts-take s) (upto (A .characters))) i in
-      subst (Opened s) (sym q) (puts (mem-upto (A .characters) ((mem-keep (fronts-take s) (upto (A .characters)) k) .0))))
+      let (below, both) = mem-keep (fronts-take s) (upto (A .characters)) k in
+      let l = front-takes A s c (s .left) in
+      let r = front-takes A s c (s .right) in
+      subst (Opened s) (sym q) (puts (mem-upto (A .characters) below) (and-left l r both) (and-right l r both)))
       (List·Memᴰ·append-cases (strikes-of-right s) j))
       (List·Memᴰ·append-cases (strikes-of-left s) d)
     where
@@ -116,6 +120,9 @@ module _ {P : Type 0} (A : Acceptor P) where
   move-open is-finished s d = absurd (List·Memᴰ·not-nil d)
   move-open is-dead s d = absurd (List·Memᴰ·not-nil d)
   move-open is-open s d = d
+
+  pub child-opened : {m : Move} {t : Situation P} (s : Situation P) → ChildOf A s m t → Opened s m
+  child-opened s c = move-opened s (move-open (kind A s) s (c .is-move))
 
   -- a child is what its move makes, trimmed
   pub child-made : {m : Move} {u : Situation P} (limit : ℕ) (s : Situation P) → List·Memᴰ (child m u) (children A limit s)

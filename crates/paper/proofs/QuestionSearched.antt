@@ -23,7 +23,7 @@ use Rattle.paper.specs.Decides.{Decides}
 use Rattle.paper.specs.Way.{search-from, texts-of}
 use Rattle.paper.specs.Question.{Question, held-by, Solution, acceptor}
 use Rattle.paper.specs.Outcome.{room-of, searched, count-of, how-of}
-use Rattle.paper.specs.Demands.{entered, equal-fronts, LeftOut}
+use Rattle.paper.specs.Demands.{entered, equal-characters-in-front, LeftOut}
 use Rattle.paper.proofs.Accepts.{question-decides}
 use Rattle.paper.proofs.Same.{situation-equal, situation-same}
 use Rattle.paper.proofs.Sound.{sound}
@@ -31,15 +31,15 @@ use Rattle.paper.proofs.Complete.{complete}
 use Rattle.paper.proofs.Children.{child-of, long-of}
 
 -- After trimming no two equal characters are in front.
-trim-fronts : (l r : Side) → equal-fronts (trim l r .l) (trim l r .r) ≡ false
+trim-fronts : (l r : Side) → equal-characters-in-front (trim l r .l) (trim l r .r) ≡ false
 trim-fronts [] r = refl
 trim-fronts (fld f ∷ l) r = refl
 trim-fronts (chr a ∷ l) [] = refl
 trim-fronts (chr a ∷ l) (fld g ∷ r) = refl
 trim-fronts (chr a ∷ l) (chr b ∷ r) =
-    cond-by (λ (t : Sides). equal-fronts (t .l) (t .r) ≡ false) (eqb a b) (λ _. trim-fronts l r) (λ n. n)
+    cond-by (λ (t : Sides). equal-characters-in-front (t .l) (t .r) ≡ false) (eqb a b) (λ _. trim-fronts l r) (λ n. n)
 
-trimmed-fronts : {P : Type 0} (A : Acceptor P) (s : Situation P) → equal-fronts (trimmed A s .left) (trimmed A s .right) ≡ false
+trimmed-fronts : {P : Type 0} (A : Acceptor P) (s : Situation P) → equal-characters-in-front (trimmed A s .left) (trimmed A s .right) ≡ false
 unfolding trimmed
 trimmed-fronts A s = trim-fronts (s .left) (s .right)
 
@@ -93,16 +93,24 @@ module _ (q : Question) where
     first-entered h =
         let (l, e) = Searched.first-entered _ _ _ equal same (room-of work) first h in (situations l, ap situations e)
 
-    -- "Trimming drops equal characters from both fronts while there are any."
-    pub entered-trimmed : (s : Situation PlaceSet) → List·Memᴰ s (entered q work) → equal-fronts (s .left) (s .right) ≡ false
-    unfolding searched search-from question
-    entered-trimmed s d =
+    -- What holds of the trimmed question, and of every child of a situation of which it holds, holds of every situation entered.
+    pub every-entered : (W : Situation PlaceSet → Type 0) → W first
+        → ((s : Situation PlaceSet) (m : Move) (t : Situation PlaceSet) → W s → ChildOf (acceptor q) s m t → W t)
+        → (s : Situation PlaceSet) → List·Memᴰ s (entered q work) → W s
+    unfolding searched search-from
+    every-entered W h on s d =
         let (e, i, p) = mem-map at all d in
         rw p
-        (Searched.every-entry _ _ _ equal same (room-of work) first (λ (t : Situation PlaceSet). equal-fronts (t .left) (t .right) ≡ false)
+        (Searched.every-entry _ _ _ equal same (room-of work) first W h
+        (λ t m u w k. on t m u w (child-of (acceptor q) longest-side t k)) e i)
+
+    -- "Trimming drops equal characters from both fronts while there are any."
+    pub entered-trimmed : (s : Situation PlaceSet) → List·Memᴰ s (entered q work) → equal-characters-in-front (s .left) (s .right) ≡ false
+    unfolding question
+    entered-trimmed =
+        every-entered (λ (s : Situation PlaceSet). equal-characters-in-front (s .left) (s .right) ≡ false)
         (trimmed-fronts (acceptor q) _)
-        (λ t m u h k. let c = child-of (acceptor q) longest-side t k in rw (c .makes) (trimmed-fronts (acceptor q) (moved (acceptor q) t m)))
-        e i)
+        (λ s m t h c. rw (c .makes) (trimmed-fronts (acceptor q) (moved (acceptor q) s m)))
 
     -- "no room gives 18"
     pub no-room-left : how-of (searched q (room-of work)) ≡ no-room

@@ -4,25 +4,26 @@
 -- Follows from the laws of tails, by cases on the two fronts.
 use Prim.Native.Nat.{ℕ, _≤_, _<_}
 use native.Mathlib.Omega.{arith}
-use mathlib.Core.Path.{_≡_, refl, sym, _∙_, subst}
+use mathlib.Core.Path.{_≡_, refl, sym, _∙_}
 use mathlib.Core.Logic.{⊎-elim}
-use mathlib.Core.Bool.{Bool, true, false, cond, not, _&&_}
-use mathlib.Core.List.{List, [], _∷_, _++_, map, List·Memᴰ, List·Memᴰ·not-nil, List·Memᴰ·append-cases}
+use mathlib.Core.Bool.{true, false, cond, not}
+use mathlib.Core.List.{List, [], _∷_, _++_, map, List·Memᴰ}
 use lib.Dec.{eqb, ltb}
 use lib.ListN.{length, getD, set, length-set, length-map, List·getD-eq-default}
 use lib.Seq.{getD-set-same, getD-set-other}
-use Rattle.paper.specs.Lists.{any, only, keep, upto}
-use Rattle.paper.proofs.Tests.{by-bool, cond-by, cond-true, cond-false, true-false, not-true, not-is-true, and-left, and-right, right-true, or-left-false, or-right-false, both-false, ltb-true, ltb-false, eqb-true, eqb-same, eqb-false, eqb-symmetric}
-use Rattle.paper.proofs.Lists.{cons-eq, any-append, length-from, mem-only, mem-keep, mem-map, mem-upto}
+use Rattle.paper.specs.Lists.{upto}
+use Rattle.paper.proofs.Tests.{by-bool, cond-by, cond-true, cond-false, true-false, not-true, not-is-true, right-true, or-left-false, or-right-false, both-false, ltb-true, ltb-false, eqb-true, eqb-same, eqb-false, eqb-symmetric}
+use Rattle.paper.proofs.Lists.{cons-eq, any-append, length-from}
 use Rattle.paper.specs.Search.{Child, child, long}
 use Rattle.paper.specs.Equation.{chr, fld, Side, is-field, stands-in}
-use Rattle.paper.specs.Situation.{Acceptor, Situation, Sides, trim, Kind, is-finished, is-dead, is-open, strike-in, put-in, front-field, Move, strike-left, strike-right, put, trimmed, kind, strike, put-before, moved, front-may-end, front-takes, open-moves, moves-of, children, question}
+use Rattle.paper.specs.Situation.{Acceptor, Situation, Sides, trim, strike-in, put-in, Move, strike-left, strike-right, put, trimmed, strike, put-before, moved, front-takes, children, question}
 use Rattle.paper.specs.Plain.{Reaches}
 use Rattle.paper.proofs.Tails.{whole, tail-rest, tail-length, tail-stands, tail-once, front-once, stands-front, stands-left, stands-right, Plain, swap-plain}
 use Rattle.paper.proofs.Standings.{Fresh, Stands, Reached}
 use Rattle.paper.proofs.Made.{getD-map-upto}
 use Rattle.paper.specs.Children.{ChildOf}
 use Rattle.paper.proofs.Children.{child-of, long-of}
+use Rattle.paper.proofs.Moves.{Opened, strikes-left, strikes-right, puts, child-opened}
 
 -- a field that doesn't stand in a side changes nothing there
 strike-none : (f : ℕ) (side : Side) → stands-in f side ≡ false → strike-in f side ≡ side
@@ -251,56 +252,12 @@ module _ {P : Type 0} {A : Acceptor P} {reach : ℕ → List P} (R : Reaches A r
         )
         (given-right S (given-left R S h v (after-left S sets c h b p)) u (after-left (swap-plain S) sets c k b q))
 
-    -- what a move must meet for that: a character that both fronts take
-    abbrev Allowed : Situation P → Move → Type 0
-    Allowed s strike-left = Unit {0}
-    Allowed s strike-right = Unit {0}
-    Allowed s (put c) = (c < A .characters) × (front-takes A s c (s .left) ≡ true) × (front-takes A s c (s .right) ≡ true)
-
-    moved-reached : (s : Situation P) (m : Move) → Reached-at s → Allowed s m → Reached-at (trimmed A (moved A s m))
-    moved-reached s strike-left h a =
+    moved-reached : {m : Move} (s : Situation P) → Reached-at s → Opened A s m → Reached-at (trimmed A (moved A s m))
+    moved-reached s h (strikes-left e) =
         trimmed-reached (moved A s strike-left) (strike-left-reached (s .sets) (s .left) (s .right) h)
-    moved-reached s strike-right h a =
+    moved-reached s h (strikes-right e) =
         trimmed-reached (moved A s strike-right) (strike-right-reached (s .sets) (s .left) (s .right) h)
-    moved-reached s (put c) h a = put-reached (s .sets) c (s .left) (s .right) h (a .0) (a .1) (a .2)
-
-    -- c is a character that both fronts take
-    abbrev both-take : Situation P → ℕ → Bool
-    both-take s c = front-takes A s c (s .left) && front-takes A s c (s .right)
-
-    put-allowed : (s : Situation P) (m : Move) → List·Memᴰ m (map put (keep (both-take s) (upto (A .characters)))) → Allowed s m
-    put-allowed s m d =
-        let r = mem-map put (keep (both-take s) (upto (A .characters))) d in
-        let k = mem-keep (both-take s) (upto (A .characters)) (r .1) in
-        let c = r .0 in
-        subst (Allowed s) (sym (r .2)) (
-          mem-upto (A .characters) (k .0),
-          and-left (front-takes A s c (s .left)) (front-takes A s c (s .right)) (k .1),
-          and-right (front-takes A s c (s .left)) (front-takes A s c (s .right)) (k .1),
-        )
-
-    open-allowed :
-        (s : Situation P) (b b′ : Bool) (m : Move)
-        → List·Memᴰ m (only b strike-left ++ (only b′ strike-right ++ map put (keep (both-take s) (upto (A .characters)))))
-        → Allowed s m
-    open-allowed s b b′ m d =
-        ⊎-elim
-        (λ k. subst (Allowed s) (sym (mem-only b k .1)) tt)
-        (λ k. ⊎-elim
-        (λ i. subst (Allowed s) (sym (mem-only b′ i .1)) tt)
-        (λ i. put-allowed s m i)
-        (List·Memᴰ·append-cases (only b′ strike-right) k))
-        (List·Memᴰ·append-cases (only b strike-left) d)
-
-    moves-allowed : (κ : Kind) (s : Situation P) (m : Move) → List·Memᴰ m (moves-of A κ s) → Allowed s m
-    unfolding open-moves
-    moves-allowed is-finished s m d = absurd (List·Memᴰ·not-nil d)
-    moves-allowed is-dead s m d = absurd (List·Memᴰ·not-nil d)
-    moves-allowed is-open s m d =
-        open-allowed s
-        (front-may-end A s (front-field (s .left)))
-        (front-may-end A s (keep (λ (g : ℕ). not (any (eqb g) (front-field (s .left)))) (front-field (s .right))))
-        m d
+    moved-reached s h (puts {c = c} b p q) = put-reached (s .sets) c (s .left) (s .right) h b p q
 
     module _ (limit : ℕ) where
       -- a child is reached; it is too long only if the question is
@@ -309,7 +266,7 @@ module _ {P : Type 0} {A : Acceptor P} {reach : ℕ → List P} (R : Reaches A r
       Kept (child m t) = Reached-at t
 
       made-reached : (s : Situation P) (m : Move) (t : Situation P) → Reached-at s → ChildOf A s m t → Reached-at t
-      made-reached s m t h c = rw (c .makes) (moved-reached s m h (moves-allowed (kind A s) s m (c .is-move)))
+      made-reached s m t h c = rw (c .makes) (moved-reached s h (child-opened A s c))
 
       pub children-kept : (s : Situation P) (k : Child (Situation P) Move) → Reached-at s → List·Memᴰ k (children A limit s) → Kept k
       children-kept s long h d =

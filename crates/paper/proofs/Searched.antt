@@ -1,25 +1,25 @@
 -- The laws of the search over any situations (document 01, "The search"), from the first situation s₀, in a room of any size.
 -- The test `same` is asked to be equality; of `finished` and `children` nothing is asked.
--- First the laws of every search, then what each end says, then a larger room, then what bounds a
--- search. Follows from how the entries grow (`Grown`), from what each end says of them (`Ended`, `Ends`), and
--- from how two rooms compare (`Room`).
+-- First the laws of every search, then what each end says, then a larger room (`larger-room`, which waits for request K11 and is used
+-- nowhere before), then what bounds a search. Follows from how the entries grow (`Grown`), from what each end says of them (`Ended`,
+-- `Ends`), and from how two rooms compare (`Room`).
 use Prim.Native.Nat.{ℕ, _≤_, _<_}
 use native.Mathlib.Omega.{arith}
 use mathlib.Core.Path.{_≡_, refl, sym, ap, _∙_, subst}
 use mathlib.Core.Logic.{_⊎_, ⊎-elim}
 use mathlib.Core.Bool.{Bool, true, false}
 use mathlib.Core.List.{List, [], _∷_, _++_}
-use mathlib.Core.List.{List·Memᴰ, List·Memᴰ·head, List·Memᴰ·append-cases, List·Memᴰ·eq-of-singleton, List·Memᴰ·not-nil}
+use mathlib.Core.List.{List·Memᴰ, List·Memᴰ·head, List·Memᴰ·not-nil}
 use mathlib.Core.List.{Memᴰ·append-right, Memᴰ·cast}
 use lib.ListN.{length, length-map}
 use Rattle.paper.proofs.Tests.{true-false}
 use Rattle.paper.proofs.Lists.{NoDup, none, mem-map, mem-length, pigeonhole, pigeonhole-lt}
 use Rattle.paper.specs.Search.{Child, long, child, Entry, End, found, used-up, no-room, too-long, State, ended}
 use Rattle.paper.specs.Search.{search, how, entries, count}
-use Rattle.paper.specs.Leads.{Leads, start, step, Parent, situations}
+use Rattle.paper.specs.Leads.{Leads, start, step, situations}
 use Rattle.paper.proofs.Grown.{first-entry, Grown, grown-count, grown-first, grown-different}
-use Rattle.paper.proofs.Grown.{grown-by, grown-leads, grown-way, grown-parent}
-use Rattle.paper.proofs.Ended.{Left-out, Has-long, Outcome, outcome-grown, outcome-unfinished}
+use Rattle.paper.proofs.Grown.{grown-by, grown-leads, grown-way}
+use Rattle.paper.proofs.Ended.{Left-out, Has-long, Outcome, outcome-grown}
 use Rattle.paper.proofs.Ended.{outcome-found, outcome-used-up, outcome-no-room, outcome-too-long}
 use Rattle.paper.proofs.Ends.{search-ends}
 use Rattle.paper.proofs.Room.{search-alike}
@@ -86,10 +86,6 @@ module _
     pub way-below-count : (e : Entry S M) → List·Memᴰ e the-entries → length (e .way) < the-count
     way-below-count e d = grown-way children room s₀ (grown-with d) e d
 
-    -- Every entry but the first has its parent among the earlier ones.
-    pub parent-earlier : (e : Entry S M) → List·Memᴰ e the-entries → (e ≡ first-entry s₀) ⊎ Parent children the-entries e
-    parent-earlier e d = grown-parent children room s₀ (grown-with d) e d
-
     -- What holds of the first situation, and of every child of one of which it holds, holds of every entry's situation.
     pub every-entry {κ} : (P : S → Type κ) → P s₀
         → ((s : S) (m : M) (t : S) → P s → List·Memᴰ (child m t) (children s) → P t)
@@ -107,11 +103,6 @@ module _
 
     pub found-finished : (e : Entry S M) → the-end ≡ found e → finished (e .at) ≡ true
     found-finished e h = found-is-last e h .2
-
-    -- Where none is found, no entry is finished.
-    pub none-finished : ((e : Entry S M) → the-end ≡ found e → ⊥)
-        → (e : Entry S M) → List·Memᴰ e the-entries → finished (e .at) ≡ false
-    none-finished n = outcome-unfinished finished children room s₀ outcome n
 
     -- "When all are used up the answer is 1": then no entry is finished,
     pub used-up-unfinished : the-end ≡ used-up → (e : Entry S M) → List·Memᴰ e the-entries → finished (e .at) ≡ false

@@ -83,7 +83,7 @@ module _ {P : Type 0} (A : Acceptor P) {Holds : ℕ → List ℕ → Type 0} (D 
       by : {n : Move} → Opened A s n → Spelled A (moved A s n) texts → Spelled A s (λ (f : ℕ). given A f s n ++ texts f)
       by (strikes-left e) y = spelled-strike A (s .left) s texts e y
       by (strikes-right e) y = spelled-strike A (s .right) s texts e y
-      by (puts {c = c} h) y = spelled-put c s texts h y
+      by (puts {c = c} h l r) y = spelled-put c s texts h y
 
   -- the same along a way; a way has its last move first, and the moves `ms` come behind it
   along-spelled : (limit : ℕ) {s t : Situation P} {way : List Move} (ms : List Move) → Leads (children A limit) s way t

@@ -33,10 +33,6 @@ pub not-true : (b : Bool) → (b ≡ true → ⊥) → b ≡ false
 not-true true n = absurd (n refl)
 not-true false n = refl
 
-pub not-false : (b : Bool) → (b ≡ false → ⊥) → b ≡ true
-not-false true n = refl
-not-false false n = absurd (n refl)
-
 -- two tests that pass together are the same
 pub same-tests : (a b : Bool) → (a ≡ true → b ≡ true) → (b ≡ true → a ≡ true) → a ≡ b
 same-tests true b f g = sym (f refl)
@@ -69,10 +65,6 @@ and-right false b e = absurd (true-false e refl)
 
 pub both-true : {a b : Bool} → a ≡ true → b ≡ true → a && b ≡ true
 both-true {a} {b} p q = rw p q
-
-pub and-is-false : (a b : Bool) → a && b ≡ false → (a ≡ false) ⊎ (b ≡ false)
-and-is-false true b e = inr e
-and-is-false false b e = inl refl
 
 pub left-false : (a b : Bool) → a ≡ false → a && b ≡ false
 left-false a b e = rw e

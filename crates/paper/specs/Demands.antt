@@ -11,39 +11,53 @@ use lib.ListN.{length, take, drop}
 use Rattle.paper.specs.Lists.{each, member}
 use Rattle.paper.specs.Numbers.{characters, longest-side, longest-text, most-room}
 use Rattle.paper.specs.Places.{PlaceSet, reachable-sets}
-use Rattle.paper.specs.Search.{End, found, used-up, no-room, too-long, entries}
+use Rattle.paper.specs.Search.{Entry, End, found, used-up, no-room, too-long, entries}
 use Rattle.paper.specs.Leads.{situations}
 use Rattle.paper.specs.Equation.{chr, fld, Side, Texts, stands-in}
 use Rattle.paper.specs.Situation.{Situation, Move, question}
 use Rattle.paper.specs.Children.{ChildOf}
+use Rattle.paper.specs.Way.{texts-of}
 use Rattle.paper.specs.Plain.{plain, plain-bound}
 use Rattle.paper.specs.Question.{Question, held-by, Solution, acceptor}
 use Rattle.paper.specs.Sheet.{Fault, refused, asked, read-sheet}
-use Rattle.paper.specs.Outcome.{Outcome, room-of, searched, standing, value-record, records, some-text-too-long, how-of}
+use Rattle.paper.specs.Outcome.{Outcome, room-of, searched, standing, value-record, how-of}
 
 -- a good sheet, and what it asks
 abbrev pub Good : List ℕ → Question → Type 0
 Good sheet q = read-sheet sheet ≡ asked q
 
--- "a text for each field standing in the sides; the texts make both sides the same label and each fits its pattern"
-pub record Solved (sheet : List ℕ) : Type 0 where
+-- how the search of the question ends, in the room that the working buffer has
+abbrev pub end-of : Question → List ℕ → End (Situation PlaceSet) Move
+end-of q work = how-of (searched q (room-of work))
+
+-- "A field's text is the characters put before it on the way": the texts that the way to an entry spells
+abbrev pub spelt : Question → Entry (Situation PlaceSet) Move → Texts
+spelt q e = texts-of (acceptor q) (q .left) (q .right) e
+
+-- "a text for each field standing in the sides; the texts make both sides the same label and each fits its pattern": the search finds an
+-- entry, and the texts are those that its way spells
+pub record Solved (sheet work : List ℕ) : Type 0 where
   pub question : Question
   pub good : Good sheet question
-  pub texts : Texts
-  pub solution : Solution question texts
+  pub entry : Entry (Situation PlaceSet) Move
+  pub is-found : end-of question work ≡ found entry
+  pub solution : Solution question (spelt question entry)
+
+abbrev pub texts-found : {sheet work : List ℕ} → Solved sheet work → Texts
+texts-found s = spelt (s .question) (s .entry)
 
 -- the answer records of texts: for each field standing in the sides, by rising number, one directly behind the other
 abbrev pub records-of : Question → Texts → List ℕ
 records-of q texts = each (λ (f : ℕ). value-record f (texts f)) (standing q)
 
 -- "Clash carries a text for each field standing in the sides": the first bytes of the answer buffer, as many as are written, are the
--- records of texts that solve the question. No field that stands is left out, and each text is short enough for the two bytes of its length.
+-- records of the texts found. No field that stands is left out, and each text is short enough for the two bytes of its length.
 -- The rest of the buffer is unchanged.
-pub record Clash (sheet answer : List ℕ) (o : Outcome) : Type 0 where
-  pub solved : Solved sheet
-  pub written : take (o .written) (o .answer) ≡ records-of (solved .question) (solved .texts)
+pub record Clash (sheet work answer : List ℕ) (o : Outcome) : Type 0 where
+  pub solved : Solved sheet work
+  pub written : take (o .written) (o .answer) ≡ records-of (solved .question) (texts-found solved)
   pub each-field : (f : ℕ) → stands-in f (solved .question .left ++ solved .question .right) ≡ true → List·Memᴰ f (standing (solved .question))
-  pub lengths : (f : ℕ) → List·Memᴰ f (standing (solved .question)) → length (solved .texts f) ≤ longest-text
+  pub lengths : (f : ℕ) → List·Memᴰ f (standing (solved .question)) → length (texts-found solved f) ≤ longest-text
   pub rest : drop (o .written) (o .answer) ≡ drop (o .written) answer
   pub fits : o .written ≤ length answer
   pub same-length : length (o .answer) ≡ length answer
@@ -86,59 +100,53 @@ pub record TooLong (sheet work : List ℕ) : Type 0 where
   pub is-child : ChildOf (acceptor question) parent move long
   pub above : (longest-side < length (long .left)) ⊎ (longest-side < length (long .right))
 
--- 20, "answer buffer too short": there are such texts, and their records have more bytes than the buffer
-pub record TooShort (sheet answer : List ℕ) : Type 0 where
-  pub solved : Solved sheet
-  pub short : length answer < length (records-of (solved .question) (solved .texts))
+-- 20, "answer buffer too short": the records of the texts found have more bytes than the buffer
+pub record TooShort (sheet work answer : List ℕ) : Type 0 where
+  pub solved : Solved sheet work
+  pub short : length answer < length (records-of (solved .question) (texts-found solved))
 
--- 21, "a text above 65,535 characters": there are such texts, and one of them is longer
-pub record TextTooLong (sheet : List ℕ) : Type 0 where
-  pub solved : Solved sheet
-  pub field : ℕ
-  pub stands : List·Memᴰ field (standing (solved .question))
-  pub above : longest-text < length (solved .texts field)
-
--- the number for each end of the search; where it finds a finished situation, "21 comes before 20"
+-- the number for each end of the search; where it finds a finished situation, 0 if the records fit into the answer buffer
 abbrev pub number-of : Question → List ℕ → End (Situation PlaceSet) Move → ℕ
-number-of q answer (found e) = cond (some-text-too-long q e) 21 (cond (leb (length (records q e)) (length answer)) 0 20)
+number-of q answer (found e) = cond (leb (length (records-of q (spelt q e))) (length answer)) 0 20
 number-of q answer used-up = 1
 number-of q answer no-room = 18
 number-of q answer too-long = 19
 
 -- two equal characters in front
-abbrev pub equal-fronts : Side → Side → Bool
-equal-fronts [] r = false
-equal-fronts (fld f ∷ l) r = false
-equal-fronts (chr a ∷ l) [] = false
-equal-fronts (chr a ∷ l) (fld g ∷ r) = false
-equal-fronts (chr a ∷ l) (chr b ∷ r) = eqb a b
+abbrev pub equal-characters-in-front : Side → Side → Bool
+equal-characters-in-front [] r = false
+equal-characters-in-front (fld f ∷ l) r = false
+equal-characters-in-front (chr a ∷ l) [] = false
+equal-characters-in-front (chr a ∷ l) (fld g ∷ r) = false
+equal-characters-in-front (chr a ∷ l) (chr b ∷ r) = eqb a b
 
 -- "Refusals 18, 19, 20 come exactly where 01's search order says, and otherwise a good sheet gets clash or no clash, with the count of that
 -- order": the number is that of the search's end, the count that of the situations entered, of which the trimmed question is the first. Each is
 -- trimmed to the last.
 pub record InOrder (q : Question) (work answer : List ℕ) (o : Outcome) : Type 0 where
-  pub number : o .number ≡ number-of q answer (how-of (searched q (room-of work)))
+  pub number : o .number ≡ number-of q answer (end-of q work)
   pub count : o .count ≡ length (entered q work)
   pub first :
       0 < room-of work
       → (later : List (Situation PlaceSet)) × (entered q work ≡ question (acceptor q) (q .left) (q .right) ∷ later)
-  pub all-trimmed : (s : Situation PlaceSet) → List·Memᴰ s (entered q work) → equal-fronts (s .left) (s .right) ≡ false
+  pub all-trimmed : (s : Situation PlaceSet) → List·Memᴰ s (entered q work) → equal-characters-in-front (s .left) (s .right) ≡ false
 
 -- Demand 2.
 pub record Demand2 (sheet work answer : List ℕ) (o : Outcome) : Type 0 where
   -- "Clash carries a text for each field standing in the sides; the texts make both sides the same label and each fits its pattern."
-  pub clash : o .number ≡ 0 → Clash sheet answer o
+  pub clash : o .number ≡ 0 → Clash sheet work answer o
   -- "No clash is given only if no such texts exist, of any length."
   pub no-clash : o .number ≡ 1 → NoClash sheet
   -- "Refusals 18, 19, 20 come exactly where 01's search order says, and otherwise a good sheet gets clash or no clash, with the
   -- count of that order."
   pub in-order : (q : Question) → Good sheet q → InOrder q work answer o
-  pub good-number : (q : Question) → Good sheet q → member (o .number) (0 ∷ 1 ∷ 18 ∷ 19 ∷ 20 ∷ 21 ∷ []) ≡ true
+  pub good-number : (q : Question) → Good sheet q → member (o .number) (0 ∷ 1 ∷ 18 ∷ 19 ∷ 20 ∷ []) ≡ true
   -- Giving up is neither clash nor no clash: what each refusal of the search says.
   pub no-room : o .number ≡ 18 → NoRoom sheet work o
   pub too-long : o .number ≡ 19 → TooLong sheet work
-  pub too-short : o .number ≡ 20 → TooShort sheet answer
-  pub text-too-long : o .number ≡ 21 → TextTooLong sheet
+  pub too-short : o .number ≡ 20 → TooShort sheet work answer
+  -- 21, "a text above 65,535 characters", is never given.
+  pub text-too-long : o .number ≡ 21 → ⊥
   -- A sheet that is not good gets none of these numbers, and no situation is entered.
   pub not-good : (x : Fault) (at : ℕ) → read-sheet sheet ≡ refused x at → (11 ≤ o .number) × (o .number ≤ 17) × (o .count ≡ 0)
   -- Whatever the sheet, the count is never above the room.

@@ -1,4 +1,4 @@
-//! `second`: like the program `clash` of document 01.
+//! `second`: like the program `clash`.
 //!
 //! - `second`: 65,520 bytes of work and 4,096 of answer
 //! - `second WORK ANSWER`: with these lengths of the two buffers
