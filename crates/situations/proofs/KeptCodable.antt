@@ -97,7 +97,7 @@ module _ (q : Question) (few : (f : ℕ) → Few (held-by q f)) where
   unfolding acceptor
   codable-moved s (strikes-left e) g = codable-strike-all (front-field (s .left)) s (known-front (s .left) (g .left)) g
   codable-moved s (strikes-right e) g = codable-strike-all (front-field (s .right)) s (known-front (s .right) (g .right)) g
-  codable-moved s (puts {c = c} h) g =
+  codable-moved s (puts {c = c} h l r) g =
       codable-put-all c (front-fields (s .left) (s .right)) s h (known-fronts (s .left) (s .right) (g .left) (g .right)) g
 
   -- every child of a codable situation is codable

@@ -64,7 +64,7 @@ module _ (q : Question) where
   unfolding acceptor
   opened-known s (strikes-left e) = tt
   opened-known s (strikes-right e) = tt
-  opened-known s (puts h) = h
+  opened-known s (puts h l r) = h
 
   -- the moves that lead somewhere are known
   pub way-known : {s t : Situation PlaceSet} {way : List Move} → Leads (children (acceptor q) longest-side) s way t → Known-way way
