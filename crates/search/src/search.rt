@@ -147,7 +147,7 @@ fn offer(work: &mut [u8], room: usize, run: Run, parent: usize, step: u8, child:
     }
 }
 
-// Child 3: "for each character c from 0 to 42"
+// Child 3: "for each character c from 0 to 42". Most are not taken: that is seen before a child is made.
 fn offer_puts(
     work: &mut [u8],
     room: usize,
@@ -164,8 +164,12 @@ fn offer_puts(
     let mut now = run;
     let mut c: usize = 0;
     while c < CHARACTERS {
-        let child = situations::put(s, c as u8, left, right);
-        now = offer(work, room, now, parent, c as u8, child);
+        let m = left.followers & left.row[c];
+        let n = right.followers & right.row[c];
+        if situations::both_take(left.token, m, right.token, n, c as u8) {
+            let child = situations::put(s, c as u8, left, right);
+            now = offer(work, room, now, parent, c as u8, child);
+        }
         c += 1;
     }
     now

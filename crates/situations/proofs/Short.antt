@@ -4,7 +4,7 @@
 use Prim.Native.Nat.{ℕ, zero, suc, _<_, _≤_}
 use native.Mathlib.Omega.{arith}
 use mathlib.Core.Path.{_≡_, refl, subst, _∙_}
-use mathlib.Core.Bool.{Bool, true, false, cond, _&&_, _||_, not}
+use mathlib.Core.Bool.{Bool, true, false, cond, _&&_, _||_, not, and-false}
 use mathlib.Core.List.{List, [], _∷_}
 use lib.Dec.{leb, eqb, ltb}
 use lib.ListN.{length, drop, length-drop, length-set}
@@ -161,3 +161,9 @@ question-short l r h k p q =
       left-tokens = all-drop is-token n l p;
       right-tokens = all-drop is-token n r q;
     }
+
+-- a character that is not taken makes no child
+pub put-not-taken : (k : Coded) (l r : Front) (c : ℕ) (b : Bool) → b ≡ (takes-next (l .token) (set-by l c) c && takes-next (r .token) (set-by r c) c) → b ≡ false
+    → put-of k l r c ≡ dropped
+unfolding put-of
+put-not-taken k l r c b e f = rw (← e, f, and-false (ltb c characters))

@@ -153,7 +153,8 @@ fn takes(b: u8, next: u32, c: u8) -> bool
     next != 0
 }
 
-fn both_take(a: u8, m: u32, b: u8, n: u32, c: u8) -> bool
+// Do both tokens in front take c, where their fields' sets after c are m and n?
+pub fn both_take(a: u8, m: u32, b: u8, n: u32, c: u8) -> bool
     ensures { λ r. ⌜ r ≡ (takes-next a m c && takes-next b n c) ⌝ }
 {
     if takes(a, m, c) {

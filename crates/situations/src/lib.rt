@@ -2,6 +2,7 @@
 mod children;
 mod sides;
 
+pub use children::both_take;
 pub use children::front_with;
 pub use children::put;
 pub use children::strike_left;

@@ -4,6 +4,7 @@ use native.Mathlib.Omega.{arith}
 use native.Mathlib.Nat.{le-refl}
 use mathlib.Core.Path.{_≡_, refl, ap, _∙_}
 use mathlib.Core.List.{List}
+use mathlib.Core.Logic.{⊎-elim}
 use lib.ListN.{length}
 use borrow.Author.Needs.{needs}
 use Rattle.paper.specs.Lists.{each, upto}
@@ -13,8 +14,8 @@ use Rattle.situations.specs.Coded.{Coded, as-child, put-of}
 use Rattle.situations.specs.Laid.{child-of}
 use Rattle.situations.specs.declared.Front.{Front}
 use Rattle.search.specs.Lent.{Offers}
-use Rattle.search.specs.Run.{offer-slots}
-use Rattle.situations.proofs.Short.{put-short}
+use Rattle.search.specs.Run.{Running, offer-slots}
+use Rattle.situations.proofs.Short.{put-short, put-not-taken}
 use Rattle.search.proofs.search.Children.{held-is}
 use Rattle.search.proofs.search.Offers.{lent-more}
 use Rattle.search.proofs.search.offer_puts.Statement.{statement}
@@ -37,6 +38,24 @@ loop-holds : tie.Need-loop-holds Inv-loop μ-loop
 loop-holds c =
     (omega arith, refl, record { within = c .before .pre .0 .within; more = le-refl _; lent = λ R k l e h. l })
 
+element-copy-out-m : tie.Need-element-copy-out-m Inv-loop μ-loop
+element-copy-out-m c = search needs
+
+mul-m : tie.Need-mul-m Inv-loop μ-loop
+mul-m c = search needs
+
+mul-n : tie.Need-mul-n Inv-loop μ-loop
+mul-n c = search needs
+
+element-copy-out-n : tie.Need-element-copy-out-n Inv-loop μ-loop
+element-copy-out-n c = search needs
+
+cast-both-take : tie.Need-cast-both-take Inv-loop μ-loop
+cast-both-take c = search needs
+
+both-take-requires : tie.Need-both-take-requires Inv-loop μ-loop
+both-take-requires c κs = search needs
+
 cast-put : tie.Need-cast-put Inv-loop μ-loop
 cast-put c = search needs
 
@@ -48,7 +67,7 @@ cast-offer c = search needs
 
 offer-requires : tie.Need-offer-requires Inv-loop μ-loop
 offer-requires c κs =
-    let j = c .before .before .before in
+    let j = c .before .before .before .before .before .before .before in
     let p = j .before .before in
     let v = j .loop .inv .2 in (
       record { fits = omega arith; most = p .pre .0 .most; within = v .within; numbered = p .pre .0 .numbered },
@@ -63,25 +82,41 @@ loop-less c = search needs
 
 loop-again : tie.Need-loop-again Inv-loop μ-loop
 loop-again c =
-    let o = c .before .before in
-    let t = o .before .before in
-    let j = t .before .before in
+    let j = c .before .before .before .before .before in
     let i = j .loop .c in
     let v = j .loop .inv .2 in
-    let a = j .before .before .args in (
+    let a = j .before .before .args in
+    let b = c .before .both-take in
+    let more = lent-more (a .room) (a .parent) in
+    let done : Running → Coded → Running =
+    λ R k. offer-slots (a .room) (a .parent) R (each (by-character k (a .t6) (a .t7)) (upto i)) in
+    ⊎-elim
+    (λ w. (
       omega arith,
-      o .offer .kept .0 ∙ j .loop .inv .1,
+      rw (w .6) (w .3 .kept .0 ∙ j .loop .inv .1),
       record {
-        within = o .offer .ensures .within;
-        more = omega (arith, v .more, o .offer .ensures .more);
+        within = rw (w .7) (w .3 .ensures .within);
+        more = rw (w .7) (omega (arith, v .more, w .3 .ensures .more));
         lent = λ R k l e h.
-            lent-more (a .room) (a .parent) R (by-character k (a .left) (a .right)) i
-            (o .offer .ensures .lent (offer-slots (a .room) (a .parent) R (each (by-character k (a .left) (a .right)) (upto i))) (put-of k (a .left) (a .right) i)
-            (v .lent R k l e h)
-            (t .put .ensures ∙ ap (λ (x : Coded). child-of (put-of x (a .left) (a .right) i)) (held-is h e))
-            (λ u f. put-short (a .left) (a .right) i h f));
+            more R (by-character k (a .t6) (a .t7)) i
+            (rw (w .6, w .7)
+            (w .3 .ensures .lent (done R k) (put-of k (a .t6) (a .t7) i) (v .lent R k l e h)
+            (w .1 .ensures ∙ ap (λ (x : Coded). child-of (put-of x (a .t6) (a .t7) i)) (held-is h e))
+            (λ u f. put-short (a .t6) (a .t7) i h f)));
       },
-    )
+    ))
+    (λ w. (
+      omega arith,
+      rw (w .1) (j .loop .inv .1),
+      record {
+        within = rw (w .2) (v .within);
+        more = rw (w .2) (v .more);
+        lent = λ R k l e h.
+            more R (by-character k (a .t6) (a .t7)) i
+            (rw (w .1, w .2, put-not-taken k (a .t6) (a .t7) i (b .result) (b .ensures) (w .0 .left)) (v .lent R k l e h));
+      },
+    ))
+    (c .if1 .came)
 
 same-length : tie.Need-same-length Inv-loop μ-loop
 same-length c = c .before .loop .inv .1
@@ -99,6 +134,12 @@ offer-puts-spec =
     Inv-loop
     μ-loop
     loop-holds
+    mul-m
+    element-copy-out-m
+    mul-n
+    element-copy-out-n
+    cast-both-take
+    both-take-requires
     cast-put
     put-requires
     cast-offer
