@@ -25,7 +25,7 @@ use Rattle.paper.proofs.Parts.{takes-within}
 use Rattle.paper.proofs.Rising.{Rising, none, more, rising-first, rising-after, leaf-after}
 use Rattle.patterns.specs.Masks.{places, mask, mask-of, in-mask, comes-next, takes-at, follow-masks, taking-mask, taking-masks, last-mask, followers-of}
 use Rattle.patterns.proofs.MaskOf.{in-mask-of, mask-of-same, mask-of-and}
-use Rattle.patterns.proofs.Tables.{getD-table}
+use Rattle.patterns.proofs.Filling.{getD-table}
 
 -- some place of the set passes: all places can be tried
 any-member : (f : ℕ → Bool) (n : ℕ) (s : PlaceSet) → ((q : ℕ) → List·Memᴰ q s → q < n) → any (λ (q : ℕ). member q s && f q) (upto n) ≡ any f s

@@ -6,18 +6,14 @@ use native.Mathlib.Numerals.{add-one}
 use native.Mathlib.Omega.{arith}
 use mathlib.Core.Path.{_≡_, refl, sym, ap, ap₂, _∙_}
 use mathlib.Core.List.{List, [], _∷_, _++_, map, append-nil, append-assoc}
-use mathlib.Core.Bool.{Bool, false, cond, _&&_, _||_, and-comm}
-use lib.Dec.{eqb}
 use lib.Bits.{bitOr}
 use lib.ListN.{length, getD, set, drop, replicate, length-map, length-set, drop-of-length-le}
 use lib.Seq.{drop-cons, set-at, getD-at}
 use Rattle.paper.proofs.Made.{upto-snoc}
 use Rattle.paper.specs.Lists.{from, upto}
-use Rattle.paper.specs.Pattern.{takes, range}
 use Rattle.paper.proofs.Lists.{cons-eq, length-from, map-append}
-use Rattle.patterns.specs.Masks.{places, mask-of, in-mask, table}
-use Rattle.patterns.specs.Reading.{or-at, link-at, mark-at}
-use Rattle.patterns.proofs.MaskOf.{mask-of-same, mask-of-or, mask-of-cond, mask-of-none, in-mask-of}
+use Rattle.patterns.specs.Masks.{table}
+use Rattle.patterns.specs.Reading.{or-at, Ors}
 
 -- the last number of a row
 pub length-table : (f : ℕ → ℕ) (n : ℕ) → length (table f n) ≡ n
@@ -78,7 +74,7 @@ module _ (f : ℕ → ℕ) (d₀ : List ℕ) where
       split = l .is ∙ ap (λ (r : List ℕ). table f i ++ r) (drop-cons d₀ i 0 h)
 
       -- what is still to be replaced
-      pub filling-read : getD d i 0 ≡ getD d₀ i 0
+      filling-read : getD d i 0 ≡ getD d₀ i 0
       filling-read = rw split (getD-at (table f i) (getD d₀ i 0) (drop (suc i) d₀) 0 i (length-table f i))
 
       pub filling-more : (x : ℕ) → x ≡ f i → Filling f d₀ (set d i x) (i + 1)
@@ -91,40 +87,26 @@ module _ (f : ℕ → ℕ) (d₀ : List ℕ) where
                 (sym (append-assoc (table f i) (f i ∷ []) (drop (suc i) d₀)));
           }
 
--- Tables of masks of tests.
-module _ (t : ℕ → ℕ → Bool) where
-  abbrev pub masks : ℕ → List ℕ
-  masks n = table (λ (i : ℕ). mask-of (λ (q : ℕ). t i q)) n
+-- Filling a table of n sets with its own and further ones together.
+module _ (n : ℕ) (more : ℕ → ℕ) (d₀ : List ℕ) where
+  pub record Orring (d : List ℕ) (i : ℕ) : Type 0 where
+    pub at : i ≤ n
+    pub filling : length d₀ ≡ n → Filling (or-at d₀ more) d₀ d i
 
-  pub masks-joined : (u : ℕ → ℕ → Bool) (n : ℕ) (l m : List ℕ) → l ≡ masks n → m ≡ table (λ (i : ℕ). mask-of (λ (q : ℕ). u i q)) n
-      → table (or-at l m) n ≡ table (λ (i : ℕ). mask-of (λ (q : ℕ). t i q || u i q)) n
-  masks-joined u n l m e f =
-      table-same (or-at l m) (λ (i : ℕ). mask-of (λ (q : ℕ). t i q || u i q)) n
-      (λ i h.
-      ap₂ bitOr
-      (ap (λ (d : List ℕ). getD d i 0) e ∙ getD-table (λ (i : ℕ). mask-of (λ (q : ℕ). t i q)) n i h)
-      (ap (λ (d : List ℕ). getD d i 0) f ∙ getD-table (λ (i : ℕ). mask-of (λ (q : ℕ). u i q)) n i h)
-      ∙ mask-of-or (λ (q : ℕ). t i q) (λ (q : ℕ). u i q))
+  pub orring-none : Orring d₀ 0
+  orring-none = record { at = zero-le; filling = λ e. filling-none (or-at d₀ more) d₀ }
 
-  pub masks-linked : (l f : ℕ → Bool) (d : List ℕ) (last first : ℕ) → d ≡ masks places → last ≡ mask-of l → first ≡ mask-of f
-      → table (link-at d last first) places ≡ table (λ (i : ℕ). mask-of (λ (q : ℕ). t i q || (l i && f q))) places
-  masks-linked l f d last first e el ef =
-      table-same (link-at d last first) (λ (i : ℕ). mask-of (λ (q : ℕ). t i q || (l i && f q))) places
-      (λ i h.
-      ap₂ bitOr
-      (ap (λ (d : List ℕ). getD d i 0) e ∙ getD-table (λ (i : ℕ). mask-of (λ (q : ℕ). t i q)) places i h)
-      (ap₂ (λ (b : Bool) (m : ℕ). cond b m 0) (ap (λ (m : ℕ). in-mask m i) el ∙ in-mask-of l i h) ef ∙ mask-of-cond f (l i))
-      ∙ mask-of-or (λ (q : ℕ). t i q) (λ (q : ℕ). l i && f q))
+  module _ (d : List ℕ) (i : ℕ) (l : Orring d i) where
+    pub orring-more : i < n → (x : ℕ) → x ≡ more i → Orring (set d i (bitOr (getD d i 0) x)) (i + 1)
+    orring-more h x e =
+        record {
+          at = omega arith;
+          filling = λ long.
+              let f = l .filling long in
+              let k : i < length d₀ = omega arith in
+              filling-more (or-at d₀ more) d₀ d i f k (bitOr (getD d i 0) x) (ap₂ bitOr (filling-read (or-at d₀ more) d₀ d i f k) e);
+        }
 
-pub masks-none : (n : ℕ) → replicate n 0 ≡ masks (λ (i q : ℕ). false) n
-masks-none n = sym (table-same (λ (i : ℕ). mask-of (λ (q : ℕ). false)) (λ (i : ℕ). 0) n (λ i h. mask-of-none) ∙ table-none n)
-
--- one place, for the characters from lo to hi
-pub masks-marked : (o lo hi set n : ℕ) → set ≡ mask-of (λ (q : ℕ). eqb o q)
-    → table (mark-at lo hi set) n ≡ masks (λ (c q : ℕ). eqb o q && takes (range lo hi) c) n
-masks-marked o lo hi set n e =
-    table-same (mark-at lo hi set) (λ (c : ℕ). mask-of (λ (q : ℕ). eqb o q && takes (range lo hi) c)) n
-    (λ c h.
-    let t = takes (range lo hi) c in
-    ap (λ (m : ℕ). cond t m 0) e ∙ mask-of-cond (λ (q : ℕ). eqb o q) t
-    ∙ mask-of-same (λ (q : ℕ). t && eqb o q) (λ (q : ℕ). eqb o q && t) (λ q l. and-comm t (eqb o q)))
+    pub orring-all : n ≤ i → Ors n more d₀ d
+    orring-all h long =
+        filling-all (or-at d₀ more) d₀ d i (l .filling long) (omega arith) ∙ ap (table (or-at d₀ more)) long
