@@ -4,23 +4,25 @@ use Prim.Native.Nat.{ℕ, _+_, _≤_, _<_}
 use native.Mathlib.Omega.{arith}
 use mathlib.Core.Path.{_≡_, refl, sym, ap, ap₂, _∙_}
 use mathlib.Core.Bool.{true, _&&_}
-use mathlib.Core.List.{List, [], _∷_, List·Memᴰ, List·Memᴰ·head, List·Memᴰ·tail}
+use mathlib.Core.List.{List, [], _∷_, map, map-map, List·Memᴰ, List·Memᴰ·head, List·Memᴰ·tail}
 use lib.Dec.{leb, ltb}
 use lib.ListN.{length, take, length-map}
 use lib.Seq.{take-at}
-use Rattle.paper.specs.Lists.{all}
+use Rattle.paper.specs.Lists.{all, upto}
 use Rattle.paper.specs.Numbers.{characters, fields, field-token, sheet-side, longest-side}
 use Rattle.paper.specs.Places.{PlaceSet}
 use Rattle.paper.specs.Search.{End, found, used-up, no-room, too-long}
 use Rattle.paper.specs.Situation.{Situation, Move}
 use Rattle.paper.specs.Equation.{Token, chr, fld, Side}
-use Rattle.paper.specs.Question.{Question}
+use Rattle.paper.specs.Question.{Question, held-by}
 use Rattle.paper.specs.Sheet.{asked, read-sheet, is-token}
 use Rattle.paper.specs.Outcome.{outcome, room-of, searched, cleared, how-of}
 use Rattle.paper.proofs.Tests.{lt-ltb, le-leb, both-true, left-true, right-true}
 use Rattle.paper.proofs.Asked.{InRange, GoodSide, GoodQuestion, asked-good}
+use Rattle.patterns.specs.Worked.{worked-out}
+use Rattle.patterns.specs.declared.PlaceTables.{PlaceTables}
 use Rattle.sheets.specs.Read.{side-bytes, sheet-of}
-use Rattle.sheets.specs.Tables.{follow-sets, taking-sets, last-sets}
+use Rattle.sheets.specs.Tables.{follow-of, taking-of, last-of}
 use Rattle.sheets.specs.declared.Sheet.{Sheet}
 use Rattle.bradovusc.specs.Coded.{Coded, Tables}
 use Rattle.bradovusc.specs.Codes.{code-token, code-side, tables-of, status-of}
@@ -77,12 +79,14 @@ module _ (sheet : List ℕ) (q : Question) (g : read-sheet sheet ≡ asked q) wh
   unfolding question-coded
   start-sets first e = ap (λ (s : Struct.Situation). s .sets) e
 
-  -- the tables of the fields
-  pub tables-read : (follow taking : List (List ℕ)) (last : List ℕ)
-      → follow ≡ follow-sets (read-sheet sheet) → taking ≡ taking-sets (read-sheet sheet) → last ≡ last-sets (read-sheet sheet)
+  -- the tables of the fields, from the sheet that was read
+  pub tables-read : (s : Sheet) → s ≡ sheet-of (asked q) → (follow taking : List (List ℕ)) (last : List ℕ)
+      → follow ≡ map follow-of (s .fields) → taking ≡ map taking-of (s .fields) → last ≡ map last-of (s .fields)
       → _≡_ {A = Tables} (record { follow = follow; taking = taking; last = last }) (tables-of q)
   unfolding tables-of
-  tables-read follow taking last a b c = rw (a, b, c, g)
+  tables-read s e follow taking last a b c =
+      let worked : ℕ → PlaceTables = λ (f : ℕ). worked-out (held-by q f) in
+      rw (a, b, c, e, map-map follow-of worked (upto fields), map-map taking-of worked (upto fields), map-map last-of worked (upto fields))
 
   module _ (room : ℕ) where
     pub some-slot : run q good room .status ≡ Found → 0 < length (run q good room .slots)
@@ -116,10 +120,10 @@ module _ (sheet : List ℕ) (q : Question) (g : read-sheet sheet ≡ asked q) wh
       rw (g, w, h .answer, h .buffer, s, n) (concluded-told q good (room-of work) work answer)
 
   -- the search in the lent buffer, with the tables that were read
-  pub lent-run : (follow taking : List (List ℕ)) (last : List ℕ)
-      → follow ≡ follow-sets (read-sheet sheet) → taking ≡ taking-sets (read-sheet sheet) → last ≡ last-sets (read-sheet sheet)
+  pub lent-run : (s : Sheet) → s ≡ sheet-of (asked q) → (follow taking : List (List ℕ)) (last : List ℕ)
+      → follow ≡ map follow-of (s .fields) → taking ≡ map taking-of (s .fields) → last ≡ map last-of (s .fields)
       → (room : ℕ) {work : List ℕ} {r : Run} → Lent work r (slot-search (record { follow = follow; taking = taking; last = last }) room start) → Lent work r (run q good room)
-  lent-run follow taking last a b c room h = rw (tables-read follow taking last a b c) at h
+  lent-run s e follow taking last a b c room h = rw (tables-read s e follow taking last a b c) at h
 
 pub asked-lengths : {sheet : List ℕ} {s : Sheet} → Asks sheet s → (s .«left_len» ≤ sheet-side) × (s .«right_len» ≤ sheet-side)
 asked-lengths {sheet} a = rw (a .is) (good sheet (a .question) (a .good) .left .short, good sheet (a .question) (a .good) .right .short)

@@ -69,9 +69,10 @@ fn searched(sheet: &[u8], question: Sheet, work: &mut [u8], answer: &mut [u8]) -
     let left = question.left;
     let right = question.right;
     let first = situation::question(left, question.left_len, right, question.right_len);
-    let follow = sheets::follow_sets(sheet);
-    let taking = sheets::taking_sets(sheet);
-    let last = sheets::last_sets(sheet);
+    let fields = question.fields;
+    let follow = sheets::follow_sets(fields);
+    let taking = sheets::taking_sets(fields);
+    let last = sheets::last_sets(fields);
     let room = room_of(work.len());
     let run = search::search(work, room, first, follow, taking, last);
     let sets = first.sets;

@@ -1,4 +1,4 @@
--- The bytes of a side: filling its room from the front, and the tokens' bytes, which are the sheet's. A good sheet is its sides' bytes.
+-- The bytes of a side: filling its room from the front, and the tokens' bytes, which are the sheet's.
 -- Follows from the laws of `set`, `take` and `++`, and from what a token is.
 use Prim.Native.Nat.{ℕ, suc, _+_, _-_, _≤_, _<_}
 use native.Mathlib.Omega.{arith}
@@ -10,14 +10,11 @@ use lib.ListN.{length, getD, take, drop, set, replicate, length-map, length-drop
 use lib.Seq.{take-suc, length-take-le, set-at}
 use Rattle.paper.specs.Lists.{all}
 use Rattle.paper.specs.Numbers.{characters, fields, field-token}
-use Rattle.paper.specs.Sheet.{body, is-token, token, read-sheet}
+use Rattle.paper.specs.Sheet.{body, is-token, token}
 use Rattle.paper.proofs.Tests.{by-bool, and-left, and-right, leb-true}
 use Rattle.paper.proofs.Lists.{cons-eq}
-use Rattle.sheets.specs.declared.Found.the-variants.{Good}
-use Rattle.sheets.specs.declared.Sheet.{Sheet}
-use Rattle.sheets.specs.declared.walk.Records.{Records}
-use Rattle.sheets.specs.Walk.{Tokens-stand, Parts-stand}
-use Rattle.sheets.specs.Read.{token-byte, side-bytes, sheet-of}
+use Rattle.sheets.specs.Walk.{Tokens-stand}
+use Rattle.sheets.specs.Read.{token-byte}
 
 -- one more byte of the side
 pub filled : (side : List ℕ) (n i : ℕ) → i < length side → length side ≤ n →
@@ -42,15 +39,3 @@ bytes-of-tokens (b ∷ l) e =
 pub side-length : (s : List ℕ) (start len : ℕ) → Tokens-stand s start len → length (map token (body s start len)) ≡ len
 side-length s start len t =
     rw (length-map (body s start len) token, length-take-le len (drop start s) (rw length-drop (omega (arith, t .within))))
-
--- a good sheet is its sides' bytes
-pub sheet-asked : (s : List ℕ) (r : Records) (left right : List ℕ) (parts : Parts-stand s r)
-    → left ≡ side-bytes (map token (body s (r .left) (r .«left_len»)))
-    → right ≡ side-bytes (map token (body s (r .right) (r .«right_len»)))
-    → _≡_ {A = Sheet}
-    (record { found = Good; place = 0; left = left; «left_len» = r .«left_len»; right = right; «right_len» = r .«right_len» })
-    (sheet-of (read-sheet s))
-sheet-asked s r left right parts e f =
-    let left-length = side-length s (r .left) (r .«left_len») (parts .left-stands) in
-    let right-length = side-length s (r .right) (r .«right_len») (parts .right-stands) in
-    rw (parts .reads, left-length, right-length, e, f)

@@ -1,4 +1,5 @@
--- What the sheet reader hands on (document 01, "Checks on the sheet"): the fault with its place, or the tokens of the sides.
+-- What the sheet reader hands on (document 01, "Checks on the sheet"): the fault with its place, or the tokens of the sides and
+-- what is worked out of the fields' patterns.
 use Prim.Native.Nat.{ℕ, _+_, _-_}
 use mathlib.Core.List.{List, _++_, map}
 use lib.ListN.{length, replicate}
@@ -6,6 +7,7 @@ use Rattle.paper.specs.Numbers.{field-token, sheet-side}
 use Rattle.paper.specs.Equation.{Token, chr, fld, Side}
 use Rattle.paper.specs.Sheet.{Reading, refused, asked}
 use Rattle.sheets.specs.Faults.{as-fault}
+use Rattle.sheets.specs.Tables.{field-tables}
 use Rattle.sheets.specs.declared.Found.the-variants.{Good, Refused}
 use Rattle.sheets.specs.declared.Sheet.{Sheet}
 
@@ -31,6 +33,7 @@ sheet-of (refused x at) =
       «left_len» = 0;
       right = replicate sheet-side 0;
       «right_len» = 0;
+      fields = field-tables (refused x at);
     }
 sheet-of (asked q) =
     record {
@@ -40,4 +43,5 @@ sheet-of (asked q) =
       «left_len» = length (q .left);
       right = side-bytes (q .right);
       «right_len» = length (q .right);
+      fields = field-tables (asked q);
     }

@@ -4,7 +4,11 @@ mod numbers;
 mod tables;
 mod walk;
 
+use crate::cursor::Cursor;
+pub use crate::numbers::FIELDS;
 use crate::numbers::SHEET_SIDE;
+use crate::walk::Sides;
+use patterns::PlaceTables;
 pub use tables::follow_sets;
 pub use tables::last_sets;
 pub use tables::taking_sets;
@@ -60,26 +64,41 @@ pub struct Sheet {
     pub left_len: usize,
     pub right: [u8; SHEET_SIDE],
     pub right_len: usize,
+    // what is worked out of each field's pattern; the fields of a sheet with a fault are open
+    pub fields: [PlaceTables; FIELDS],
 }
 
-// Reads a sheet.
+// Reads a sheet, in one walk.
 pub fn read(s: &[u8]) -> Sheet
     ensures { λ r. ⌜ r ≡ sheet-of (read-sheet (now (s .entry))) ⌝ }
 {
-    let r = walk::read_records(s);
-    let found = r.found;
+    let p = walk::read_patterns(s, Cursor::start());
+    let found = p.found;
+    let next = p.next;
     if let Found::Refused(x) = found {
-        return refuse(x, r.place);
+        return refuse(x, next.at);
     }
-    let left = tokens(s, r.left, r.left_len);
-    let right = tokens(s, r.right, r.right_len);
-    Sheet {
-        found: Found::Good,
-        place: 0,
-        left,
-        left_len: r.left_len,
-        right,
-        right_len: r.right_len,
+    match walk::read_sides(s, next) {
+        Sides::Fault(x, place) => refuse(x, place),
+        Sides::Read {
+            left,
+            left_len,
+            right,
+            right_len,
+        } => {
+            let left_side = tokens(s, left, left_len);
+            let right_side = tokens(s, right, right_len);
+            let fields = p.fields;
+            Sheet {
+                found: Found::Good,
+                place: 0,
+                left: left_side,
+                left_len,
+                right: right_side,
+                right_len,
+                fields,
+            }
+        }
     }
 }
 
@@ -87,6 +106,7 @@ pub fn read(s: &[u8]) -> Sheet
 fn refuse(x: Fault, place: usize) -> Sheet
     ensures { λ r. ⌜ r ≡ sheet-of (refused (fault-of x) place) ⌝ }
 {
+    let fields = walk::all_open();
     Sheet {
         found: Found::Refused(x),
         place,
@@ -94,6 +114,7 @@ fn refuse(x: Fault, place: usize) -> Sheet
         left_len: 0,
         right: [0; SHEET_SIDE],
         right_len: 0,
+        fields,
     }
 }
 

@@ -36,18 +36,22 @@ start-is c =
 -- the search in the lent buffer is over
 abbrev is-over : (c : tie.After-search) → Over (c .search .last .0) (c .search .result)
 is-over c =
-    let a = c .before .before .before .before .before .before .before .before .before .before .before .before .pre in
+    let read = c .before .before .before in
+    let question = read .before .before .before .before in
+    let a = question .before .before .before .before .before .before .pre in
     over _ (a .question) (a .good) (c .before .before .room-of .result)
-    (lent-run _ (a .question) (a .good) _ _ _ (c .before .before .before .before .before .follow-sets .ensures) (c .before .before .before .before .taking-sets .ensures) (c .before .before .before .last-sets .ensures) _
-    (c .search .ensures .lent (start _ (a .question) (a .good)) (start-is (c .before .before .before .before .before .before)) (start-short _ (a .question) (a .good))))
+    (lent-run _ (a .question) (a .good) _ (a .is) _ _ _
+    (read .before .before .follow-sets .ensures) (read .before .taking-sets .ensures) (read .last-sets .ensures) _
+    (c .search .ensures .lent (start _ (a .question) (a .good)) (start-is question) (start-short _ (a .question) (a .good))))
 
 search-requires : tie.Need-search-requires
 search-requires c κs =
-    let a = c .before .before .before .before .before .before .before .before .before .before .before .pre in (
+    let question = c .before .before .before .before .before .before in
+    let a = question .before .before .before .before .before .before .pre in (
       (omega (arith, c .before .room-of .ensures), omega (arith, c .before .room-of .ensures)),
       record {
         at = start _ (a .question) (a .good);
-        is = start-is (c .before .before .before .before .before);
+        is = start-is question;
         short = start-short _ (a .question) (a .good);
       },
     )
@@ -69,7 +73,7 @@ unfolding room-of
 returns c =
     let f = c .before .before .before .before .before .before in
     let s = f .before .before .before .before .before .before in
-    let t = s .before .before .before .before .before .before in
+    let t = s .before .before .before .before .before .before .before in
     let a = t .before .before .before .before .before .before .pre in
     searched-told _ (a .question) (a .good) _ _ _ _ _ _ _
     (start-sets _ (a .question) (a .good) _ (start-is t))
