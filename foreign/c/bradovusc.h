@@ -6,7 +6,7 @@
  *
  * The static library libexported.a, for x86-64 Linux, defines the one function below. It keeps nothing from one call to the next,
  * asks for no memory, and touches nothing but what it is lent, so calls in several threads don't meet. It takes at most about
- * 150 KiB of stack.
+ * 32 KiB of stack.
  */
 #ifndef BRADOVUSC_H
 #define BRADOVUSC_H

@@ -9,11 +9,10 @@ use lib.Seq.{ext-getD}
 use Rattle.paper.specs.Lists.{upto}
 use Rattle.paper.specs.Numbers.{fields}
 use Rattle.paper.specs.Pattern.{Held, any-text}
-use Rattle.paper.specs.Sheet.{Reading, LE, body, token, left-read, read-sheet}
+use Rattle.paper.specs.Sheet.{Reading, body, token, read-sheet}
 use Rattle.paper.proofs.Lists.{length-from}
 use Rattle.paper.proofs.Made.{getD-map-upto}
 use Rattle.patterns.specs.Worked.{worked-out}
-use Rattle.patterns.specs.declared.PlaceTables.{PlaceTables}
 use Rattle.sheets.specs.declared.Found.the-variants.{Good}
 use Rattle.sheets.specs.declared.Sheet.{Sheet}
 use Rattle.sheets.specs.declared.walk.Patterns.{Patterns}

@@ -5,7 +5,7 @@ mod tables;
 mod walk;
 
 use crate::cursor::Cursor;
-pub use crate::numbers::FIELDS;
+use crate::numbers::FIELDS;
 use crate::numbers::SHEET_SIDE;
 use crate::walk::Sides;
 use patterns::PlaceTables;
