@@ -1,7 +1,6 @@
 -- Tables: f 0, f 1, .. . What stands at a place, equal tables, and filling a list place by place: after i stores it is the table's
--- first i numbers and the rest of what it was.
+-- first i numbers and the rest of what it was. A table that is added to is filled so (`Adding`).
 use Prim.Native.Nat.{ℕ, zero, suc, _+_, _≤_, _<_, zero-le}
-use native.Mathlib.Nat.{zero-add}
 use native.Mathlib.Numerals.{add-one}
 use native.Mathlib.Omega.{arith}
 use mathlib.Core.Path.{_≡_, refl, sym, ap, ap₂, _∙_}
@@ -9,29 +8,24 @@ use mathlib.Core.List.{List, [], _∷_, _++_, map, append-nil, append-assoc}
 use lib.Bits.{bitOr}
 use lib.ListN.{length, getD, set, drop, replicate, length-map, length-set, drop-of-length-le}
 use lib.Seq.{drop-cons, set-at, getD-at}
-use Rattle.paper.proofs.Made.{upto-snoc}
+use Rattle.paper.proofs.Made.{upto-snoc, getD-map-upto}
 use Rattle.paper.specs.Lists.{from, upto}
 use Rattle.paper.proofs.Lists.{cons-eq, length-from, map-append}
 use Rattle.patterns.specs.Masks.{table}
 use Rattle.patterns.specs.Reading.{or-at, Ors}
 
--- the last number of a row
 pub length-table : (f : ℕ → ℕ) (n : ℕ) → length (table f n) ≡ n
 unfolding table
 length-table f n = length-map (upto n) f ∙ length-from 0 n
 
+-- the last number of a row
 table-suc : (f : ℕ → ℕ) (n : ℕ) → table f (suc n) ≡ table f n ++ (f n ∷ [])
 unfolding table
 table-suc f n = ap (map f) (upto-snoc n) ∙ map-append f (upto n) (n ∷ [])
 
-getD-from : (f : ℕ → ℕ) (a n i : ℕ) → i < n → getD (map f (from a n)) i 0 ≡ f (a + i)
-getD-from f a zero i h = absurd (omega arith)
-getD-from f a (suc n) zero h = ap f (omega arith)
-getD-from f a (suc n) (suc i) h = getD-from f (suc a) n i (omega arith) ∙ ap f (omega arith)
-
 pub getD-table : (f : ℕ → ℕ) (n i : ℕ) → i < n → getD (table f n) i 0 ≡ f i
 unfolding table
-getD-table f n i h = getD-from f 0 n i h ∙ ap f (zero-add i)
+getD-table f n i h = getD-map-upto f 0 n i h
 
 pub table-same : (f g : ℕ → ℕ) (n : ℕ) → ((i : ℕ) → i < n → f i ≡ g i) → table f n ≡ table g n
 unfolding table

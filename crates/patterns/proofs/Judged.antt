@@ -12,7 +12,7 @@ use Rattle.paper.proofs.Tests.{true-false, not-true, cond-true, cond-false, le-
 use Rattle.paper.proofs.Parts.{last-within}
 use Rattle.paper.specs.Pattern.{Pattern, pattern}
 use Rattle.paper.specs.Places.{leaves, takes-empty, may-be-last, ends-at}
-use Rattle.paper.specs.Written.{Part, no-pattern, part, read-part, Judged, not-one-pattern, too-many-leaves, judged, judge-part, judge}
+use Rattle.paper.specs.Written.{Part, no-pattern, part, read-part, not-one-pattern, too-many-leaves, judged, judge-part, judge}
 use Rattle.patterns.specs.Masks.{places, mask-of, table, follow-masks, taking-mask, taking-masks, last-mask}
 use Rattle.patterns.specs.Worked.{worked-of}
 use Rattle.patterns.specs.Reading.{Reads, Working, working, Works, Read-as}

@@ -50,7 +50,7 @@ takes-at (pattern p) q c = leaf-takes p 1 q c
 
 -- "For every field and every place, the set of places that may follow is worked out once from the pattern."
 unfoldable pub follow-masks : Held → List ℕ
-follow-masks h = table (λ (i : ℕ). mask-of (λ (q : ℕ). comes-next h i q)) places
+follow-masks h = masks (λ (i q : ℕ). comes-next h i q) places
 
 -- for every character, the set of places that take it
 unfoldable pub taking-mask : Held → ℕ → ℕ

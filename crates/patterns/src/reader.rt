@@ -11,7 +11,7 @@ ghost use mathlib.Core.List.{List};
 ghost use Prim.Native.Nat.{ℕ, _+_, _^_, _<_};
 ghost use lib.ListN.{length, getD};
 ghost use Rattle.paper.specs.Numbers.{then-code};
-ghost use Rattle.paper.specs.Pattern.{range, leaf, empty, then, either};
+ghost use Rattle.paper.specs.Pattern.{empty, then, either};
 ghost use Rattle.paper.specs.Written.{read-range};
 ghost use Rattle.patterns.specs.Reading.{working, Read-as, Reading-of, Single, Leaf-read, Joined, Repeated};
 

@@ -14,7 +14,6 @@ use Rattle.patterns.specs.Worked.{worked-out}
 use Rattle.sheets.specs.Faults.{fault-of}
 use Rattle.sheets.specs.declared.Found.{Found}
 use Rattle.sheets.specs.declared.Found.the-variants.{Good, Refused}
-use Rattle.sheets.specs.declared.cursor.Cursor.{Cursor}
 use Rattle.sheets.specs.declared.cursor.Mark as Code
 use Rattle.sheets.specs.declared.cursor.Mark.the-variants as Code-mark
 use Rattle.sheets.specs.declared.cursor.PatternRecord.{PatternRecord}
