@@ -12,7 +12,7 @@ use Rattle.paper.proofs.Made.{upto-snoc, getD-map-upto}
 use Rattle.paper.specs.Lists.{from, upto}
 use Rattle.paper.proofs.Lists.{cons-eq, length-from, map-append}
 use Rattle.patterns.specs.Masks.{table}
-use Rattle.patterns.specs.Reading.{or-at, Ors}
+use Rattle.patterns.specs.Reading.{or-at, Adds}
 
 pub length-table : (f : ℕ → ℕ) (n : ℕ) → length (table f n) ≡ n
 unfolding table
@@ -81,18 +81,18 @@ module _ (f : ℕ → ℕ) (d₀ : List ℕ) where
                 (sym (append-assoc (table f i) (f i ∷ []) (drop (suc i) d₀)));
           }
 
--- Filling a table of n sets with its own and further ones together.
+-- Adding further sets to those of a table of n, place by place.
 module _ (n : ℕ) (more : ℕ → ℕ) (d₀ : List ℕ) where
-  pub record Orring (d : List ℕ) (i : ℕ) : Type 0 where
+  pub record Adding (d : List ℕ) (i : ℕ) : Type 0 where
     pub at : i ≤ n
     pub filling : length d₀ ≡ n → Filling (or-at d₀ more) d₀ d i
 
-  pub orring-none : Orring d₀ 0
-  orring-none = record { at = zero-le; filling = λ e. filling-none (or-at d₀ more) d₀ }
+  pub adding-none : Adding d₀ 0
+  adding-none = record { at = zero-le; filling = λ e. filling-none (or-at d₀ more) d₀ }
 
-  module _ (d : List ℕ) (i : ℕ) (l : Orring d i) where
-    pub orring-more : i < n → (x : ℕ) → x ≡ more i → Orring (set d i (bitOr (getD d i 0) x)) (i + 1)
-    orring-more h x e =
+  module _ (d : List ℕ) (i : ℕ) (l : Adding d i) where
+    pub adding-more : i < n → (x : ℕ) → x ≡ more i → Adding (set d i (bitOr (getD d i 0) x)) (i + 1)
+    adding-more h x e =
         record {
           at = omega arith;
           filling = λ long.
@@ -101,6 +101,6 @@ module _ (n : ℕ) (more : ℕ → ℕ) (d₀ : List ℕ) where
               filling-more (or-at d₀ more) d₀ d i f k (bitOr (getD d i 0) x) (ap₂ bitOr (filling-read (or-at d₀ more) d₀ d i f k) e);
         }
 
-    pub orring-all : n ≤ i → Ors n more d₀ d
-    orring-all h long =
+    pub adding-all : n ≤ i → Adds n more d₀ d
+    adding-all h long =
         filling-all (or-at d₀ more) d₀ d i (l .filling long) (omega arith) ∙ ap (table (or-at d₀ more)) long

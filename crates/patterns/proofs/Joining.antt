@@ -1,5 +1,5 @@
--- Joining masks of tests to a table of masks (`Joins`): none, one after the other, by `or`, and to an empty table. What `link` and `mark` do to
--- a table is such a joining. Follows from the laws of `mask-of`: `or` of masks is `||` of tests.
+-- Joining masks of tests to a table of masks (`Joins`): none, one after the other, by adding sets, and to an empty table. What `link` and `mark`
+-- add is joined so. Follows from the laws of `mask-of`: `or` of masks is `||` of tests.
 use Prim.Native.Nat.{ℕ, _<_}
 use mathlib.Core.Path.{_≡_, sym, ap, ap₂, _∙_}
 use mathlib.Core.Bool.{Bool, false, cond, _&&_, _||_, and-comm, or-false, or-assoc}
@@ -8,13 +8,13 @@ use lib.Dec.{eqb}
 use lib.Bits.{bitOr}
 use lib.ListN.{length, getD, replicate}
 use Rattle.paper.specs.Pattern.{takes, range}
-use Rattle.patterns.specs.Masks.{places, mask-of, in-mask, table, masks}
-use Rattle.patterns.specs.Reading.{or-at, Ors, Joins}
+use Rattle.patterns.specs.Masks.{places, mask-of, in-mask, masks}
+use Rattle.patterns.specs.Reading.{or-at, Adds, Joins}
 use Rattle.patterns.proofs.MaskOf.{mask-of-same, mask-of-or, mask-of-cond, mask-of-none, in-mask-of}
 use Rattle.patterns.proofs.Filling.{length-table, getD-table, table-same, table-none}
 
 module _ (n : ℕ) where
-  pub masks-same : (t u : ℕ → ℕ → Bool) → ((i q : ℕ) → t i q ≡ u i q) → masks t n ≡ masks u n
+  masks-same : (t u : ℕ → ℕ → Bool) → ((i q : ℕ) → t i q ≡ u i q) → masks t n ≡ masks u n
   masks-same t u h =
       table-same (λ (i : ℕ). mask-of (λ (q : ℕ). t i q)) (λ (i : ℕ). mask-of (λ (q : ℕ). u i q)) n
       (λ i l. mask-of-same (λ (q : ℕ). t i q) (λ (q : ℕ). u i q) (λ q k. h i q))
@@ -38,8 +38,8 @@ module _ (n : ℕ) where
             f .joined v e ∙ masks-same (λ (i q : ℕ). v i q || t i q) (λ (i q : ℕ). v i q || u i q) (λ i q. ap (λ (b : Bool). v i q || b) (h i q));
       }
 
-  -- the sets g 0, g 1, .. are the masks
-  pub joins-or : (t : ℕ → ℕ → Bool) (d c : List ℕ) (g : ℕ → ℕ) → Ors n g d c → ((i : ℕ) → i < n → g i ≡ mask-of (λ (q : ℕ). t i q)) → Joins t n d c
+  -- the sets that are added, g 0, g 1, .. , are the masks
+  joins-or : (t : ℕ → ℕ → Bool) (d c : List ℕ) (g : ℕ → ℕ) → Adds n g d c → ((i : ℕ) → i < n → g i ≡ mask-of (λ (q : ℕ). t i q)) → Joins t n d c
   joins-or t d c g o h =
       record {
         joined = λ u e.
@@ -58,7 +58,7 @@ module _ (n : ℕ) where
 
 -- what is first follows what is last
 pub joins-linked : (l f : ℕ → Bool) (d c : List ℕ) (last first : ℕ) → last ≡ mask-of l → first ≡ mask-of f
-    → Ors places (λ (i : ℕ). cond (in-mask last i) first 0) d c → Joins (λ (i q : ℕ). l i && f q) places d c
+    → Adds places (λ (i : ℕ). cond (in-mask last i) first 0) d c → Joins (λ (i q : ℕ). l i && f q) places d c
 joins-linked l f d c last first el ef o =
     joins-or places (λ (i q : ℕ). l i && f q) d c (λ (i : ℕ). cond (in-mask last i) first 0) o
     (λ i h.
@@ -66,7 +66,7 @@ joins-linked l f d c last first el ef o =
 
 -- one place takes the characters from lo to hi
 pub joins-marked : (p lo hi set n : ℕ) (d c : List ℕ) → set ≡ mask-of (λ (q : ℕ). eqb p q)
-    → Ors n (λ (c : ℕ). cond (takes (range lo hi) c) set 0) d c → Joins (λ (c q : ℕ). eqb p q && takes (range lo hi) c) n d c
+    → Adds n (λ (c : ℕ). cond (takes (range lo hi) c) set 0) d c → Joins (λ (c q : ℕ). eqb p q && takes (range lo hi) c) n d c
 joins-marked p lo hi set n d c e o =
     joins-or n (λ (c q : ℕ). eqb p q && takes (range lo hi) c) d c (λ (c : ℕ). cond (takes (range lo hi) c) set 0) o
     (λ c h.

@@ -17,7 +17,7 @@ use Rattle.paper.proofs.Tests.{by-bool, cond-true, cond-false, true-false, same
 use Rattle.paper.proofs.Tests.{and-left, and-right, both-true, left-false, right-false}
 use Rattle.paper.proofs.Tests.{leb-true, le-leb, lt-leb, lt-ltb, le-ltb, eqb-true, eqb-false, eq-eqb, neq-eqb}
 use Rattle.patterns.specs.Masks.{places, in-mask}
-use Rattle.patterns.specs.Reading.{Ors, Reads, Working, working, Joins, Works, Read-as, Reading-of, Single, Leaf-read, Joined, Repeated}
+use Rattle.patterns.specs.Reading.{Adds, Reads, Working, working, Joins, Works, Read-as, Reading-of, Single, Leaf-read, Joined, Repeated}
 use Rattle.patterns.specs.declared.reader.Reading.{Reading}
 use Rattle.patterns.proofs.Behind.{Leaves-behind, behind}
 use Rattle.patterns.proofs.Joining.{joins-none, joins-more, joins-same, joins-linked}
@@ -195,7 +195,7 @@ pub record First (s : List ℕ) (o : ℕ) (w v : Working) (a : Reading) : Type 0
 
 -- the tables once what is first in a part follows what is last in the part before it
 pub record Linked (v z : Working) (a c : Reading) : Type 0 where
-  pub follow : Ors places (λ (i : ℕ). cond (in-mask (a .last) i) (c .first) 0) (v .follow) (z .follow)
+  pub follow : Adds places (λ (i : ℕ). cond (in-mask (a .last) i) (c .first) 0) (v .follow) (z .follow)
   pub taking : z .taking ≡ v .taking
 
 -- what is first in one part follows what is last in another

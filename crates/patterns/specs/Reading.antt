@@ -18,9 +18,10 @@ use Rattle.patterns.specs.declared.reader.Reading.{Reading}
 abbrev pub or-at : List ℕ → (ℕ → ℕ) → ℕ → ℕ
 or-at sets more i = bitOr (getD sets i 0) (more i)
 
--- the sets `more 0`, `more 1`, .. are put to those of a table of n
-abbrev pub Ors : ℕ → (ℕ → ℕ) → List ℕ → List ℕ → Type 0
-Ors n more d e = length d ≡ n → e ≡ table (or-at d more) n
+-- the sets `more 0`, `more 1`, .. are added to those of a table of n. (That an array behind a reference has its n elements is known by its type,
+-- but it is no fact about the list that stands for it here.)
+abbrev pub Adds : ℕ → (ℕ → ℕ) → List ℕ → List ℕ → Type 0
+Adds n more d e = length d ≡ n → e ≡ table (or-at d more) n
 
 pub record Reads (p : Pattern) (rest : List ℕ) (o : ℕ) (r : Reading) : Type 0 where
   pub ok : r .ok ≡ true

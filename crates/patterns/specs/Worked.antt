@@ -1,5 +1,4 @@
 -- What is worked out once of a pattern (document 01, "Places"): its tables of masks, and what the bytes of a pattern come to, for any bytes.
-use Prim.Native.Nat.{ℕ}
 use lib.ListN.{replicate}
 use Rattle.paper.specs.Numbers.{characters}
 use Rattle.paper.specs.Pattern.{Held, pattern}

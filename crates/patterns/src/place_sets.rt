@@ -6,7 +6,7 @@ ghost use lib.Dec.{eqb};
 ghost use Rattle.paper.specs.Numbers.{characters};
 ghost use Rattle.paper.specs.Pattern.{takes, range};
 ghost use Rattle.patterns.specs.Masks.{places, mask-of, in-mask, table};
-ghost use Rattle.patterns.specs.Reading.{Ors};
+ghost use Rattle.patterns.specs.Reading.{Adds};
 
 // "31 leaves and the start make 32 places".
 pub const PLACES: usize = 32;
@@ -38,7 +38,7 @@ pub fn when(b: bool, set: u32) -> u32
 
 // Lets every place of `first` follow every place of `last`.
 pub fn link(follow: &mut [u32; PLACES], last: u32, first: u32)
-    ensures { λ _. ⌜ Ors places (λ (i : ℕ). cond (in-mask last i) first 0) (now (follow .entry)) (now (follow .exit)) ⌝ }
+    ensures { λ _. ⌜ Adds places (λ (i : ℕ). cond (in-mask last i) first 0) (now (follow .entry)) (now (follow .exit)) ⌝ }
 {
     let mut i = 0;
     while i < PLACES {
@@ -47,7 +47,7 @@ pub fn link(follow: &mut [u32; PLACES], last: u32, first: u32)
     }
 }
 
-// Lets every place follow itself alone.
+// Every place is followed by itself alone.
 pub fn stay() -> [u32; PLACES]
     ensures { λ r. ⌜ r ≡ table (λ (i : ℕ). mask-of (λ (q : ℕ). eqb i q)) places ⌝ }
 {
@@ -73,7 +73,7 @@ fn between(lo: u8, c: usize, hi: u8) -> bool
 
 // Lets the set take the characters from lo to hi.
 pub fn mark(taking: &mut [u32; CHARACTERS], lo: u8, hi: u8, set: u32)
-    ensures { λ _. ⌜ Ors characters (λ (c : ℕ). cond (takes (range lo hi) c) set 0) (now (taking .entry)) (now (taking .exit)) ⌝ }
+    ensures { λ _. ⌜ Adds characters (λ (c : ℕ). cond (takes (range lo hi) c) set 0) (now (taking .entry)) (now (taking .exit)) ⌝ }
 {
     let mut c = 0;
     while c < CHARACTERS {

@@ -1,7 +1,7 @@
 -- What the pattern reader's verdict says of the bytes that it judged. Follows from the cases of `worked-of`.
 use Prim.Native.Nat.{ℕ}
 use native.Mathlib.Omega.{arith}
-use mathlib.Core.Path.{_≡_, refl, ap, _∙_}
+use mathlib.Core.Path.{_≡_, refl, ap}
 use Rattle.paper.specs.Pattern.{Pattern, pattern}
 use Rattle.paper.specs.Written.{Judged, not-one-pattern, too-many-leaves, judged}
 use Rattle.patterns.specs.Worked.{worked-out, worked-of}

@@ -6,7 +6,7 @@ mod walk;
 
 use crate::cursor::Cursor;
 use crate::numbers::FIELD_TOKEN;
-pub use crate::numbers::FIELDS;
+use crate::numbers::FIELDS;
 use crate::walk::Sides;
 use inner::FIELD_CODE;
 use inner::LONGEST_SIDE;

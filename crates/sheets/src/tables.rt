@@ -45,7 +45,8 @@ pub fn last_sets(fields: [PlaceTables; FIELDS]) -> [u32; FIELDS]
     let mut f = 0;
     while f < FIELDS {
         let tables = fields[f];
-        sets[f] = tables.last;
+        let last = tables.last;
+        sets[f] = last;
         f += 1;
     }
     sets

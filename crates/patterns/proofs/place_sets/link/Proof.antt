@@ -1,11 +1,11 @@
--- `place_sets::link` meets its contract. The loop puts the linked sets to the list, place by place (`Orring`).
+-- `place_sets::link` meets its contract. The loop adds the linked sets, place by place (`Adding`).
 use borrow.Author.Needs.{needs}
 use Prim.Native.Nat.{ℕ, _-_}
 use native.Mathlib.Omega.{arith}
 use mathlib.Core.Path.{ap, _∙_}
 use mathlib.Core.Bool.{Bool, cond}
 use Rattle.patterns.specs.Masks.{places, in-mask}
-use Rattle.patterns.proofs.Filling.{Orring, orring-none, orring-more, orring-all}
+use Rattle.patterns.proofs.Filling.{Adding, adding-none, adding-more, adding-all}
 use Rattle.patterns.proofs.place_sets.link.Statement.{statement}
 use Rattle.patterns.proofs.place_sets.link.Tie as tie
 
@@ -13,13 +13,13 @@ abbrev linked : ℕ → ℕ → ℕ → ℕ
 linked last first i = cond (in-mask last i) first 0
 
 abbrev Inv-loop : tie.InvT-loop
-Inv-loop follow₀ last first i₀ follow i = Orring places (linked last first) follow₀ follow i
+Inv-loop follow₀ last first i₀ follow i = Adding places (linked last first) follow₀ follow i
 
 abbrev μ-loop : tie.MeasureT-loop
 μ-loop follow₀ last first i₀ follow i = places - i
 
 loop-holds : tie.Need-loop-holds Inv-loop μ-loop
-loop-holds c = let a = c .args in orring-none places (linked (a .last) (a .first)) (a .follow .now)
+loop-holds c = let a = c .args in adding-none places (linked (a .last) (a .first)) (a .follow .now)
 
 mul-follow : tie.Need-mul-follow Inv-loop μ-loop
 mul-follow c = search needs
@@ -49,14 +49,14 @@ loop-again : tie.Need-loop-again Inv-loop μ-loop
 loop-again c =
     let l = c .before .before .before .before .loop in
     let a = c .before .before .before .before .before .args in
-    orring-more places (linked (a .last) (a .first)) (a .follow .now) (l .follow) (l .i) (l .inv) (omega arith) (c .when .result)
+    adding-more places (linked (a .last) (a .first)) (a .follow .now) (l .follow) (l .i) (l .inv) (omega arith) (c .when .result)
     (c .when .ensures ∙ ap (λ (b : Bool). cond b (a .first) 0) (c .before .holds .ensures))
 
 returns : tie.Need-returns Inv-loop μ-loop
 returns c =
     let l = c .before .loop in
     let a = c .before .before .args in
-    orring-all places (linked (a .last) (a .first)) (a .follow .now) (l .follow) (l .i) (l .inv) (omega arith)
+    adding-all places (linked (a .last) (a .first)) (a .follow .now) (l .follow) (l .i) (l .inv) (omega arith)
 
 pub link-spec : {M : Type 1} → statement M
 link-spec =

@@ -1,4 +1,4 @@
--- `place_sets::mark` meets its contract. The loop puts the set to those of the characters from lo to hi (`Orring`).
+-- `place_sets::mark` meets its contract. The loop adds the set at the characters from lo to hi (`Adding`).
 use borrow.Author.Needs.{needs}
 use Prim.Native.Nat.{ℕ, _-_}
 use native.Mathlib.Omega.{arith}
@@ -6,7 +6,7 @@ use mathlib.Core.Path.{ap, _∙_}
 use mathlib.Core.Bool.{Bool, cond}
 use Rattle.paper.specs.Numbers.{characters}
 use Rattle.paper.specs.Pattern.{takes, range}
-use Rattle.patterns.proofs.Filling.{Orring, orring-none, orring-more, orring-all}
+use Rattle.patterns.proofs.Filling.{Adding, adding-none, adding-more, adding-all}
 use Rattle.patterns.proofs.place_sets.mark.Statement.{statement}
 use Rattle.patterns.proofs.place_sets.mark.Tie as tie
 
@@ -14,13 +14,13 @@ abbrev marked : ℕ → ℕ → ℕ → ℕ → ℕ
 marked lo hi set c = cond (takes (range lo hi) c) set 0
 
 abbrev Inv-loop : tie.InvT-loop
-Inv-loop taking₀ lo hi set c₀ taking c = Orring characters (marked lo hi set) taking₀ taking c
+Inv-loop taking₀ lo hi set c₀ taking c = Adding characters (marked lo hi set) taking₀ taking c
 
 abbrev μ-loop : tie.MeasureT-loop
 μ-loop taking₀ lo hi set c₀ taking c = characters - c
 
 loop-holds : tie.Need-loop-holds Inv-loop μ-loop
-loop-holds c = let a = c .args in orring-none characters (marked (a .lo) (a .hi) (a .set)) (a .taking .now)
+loop-holds c = let a = c .args in adding-none characters (marked (a .lo) (a .hi) (a .set)) (a .taking .now)
 
 mul-taking : tie.Need-mul-taking Inv-loop μ-loop
 mul-taking c = search needs
@@ -50,14 +50,14 @@ loop-again : tie.Need-loop-again Inv-loop μ-loop
 loop-again c =
     let l = c .before .before .before .before .loop in
     let a = c .before .before .before .before .before .args in
-    orring-more characters (marked (a .lo) (a .hi) (a .set)) (a .taking .now) (l .taking) (l .c) (l .inv) (omega arith) (c .when .result)
+    adding-more characters (marked (a .lo) (a .hi) (a .set)) (a .taking .now) (l .taking) (l .c) (l .inv) (omega arith) (c .when .result)
     (c .when .ensures ∙ ap (λ (b : Bool). cond b (a .set) 0) (c .before .between .ensures))
 
 returns : tie.Need-returns Inv-loop μ-loop
 returns c =
     let l = c .before .loop in
     let a = c .before .before .args in
-    orring-all characters (marked (a .lo) (a .hi) (a .set)) (a .taking .now) (l .taking) (l .c) (l .inv) (omega arith)
+    adding-all characters (marked (a .lo) (a .hi) (a .set)) (a .taking .now) (l .taking) (l .c) (l .inv) (omega arith)
 
 pub mark-spec : {M : Type 1} → statement M
 mark-spec =
