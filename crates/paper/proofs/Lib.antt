@@ -1,6 +1,7 @@
 pub mod Tests
 pub mod Lists
 pub mod Made
+-- values known by hand
 pub mod Known
 pub mod KnownLengths
 pub mod KnownBounds
@@ -46,8 +47,8 @@ pub mod Plain
 -- from bytes to bytes
 pub mod Asked
 pub mod Rows
-pub mod Demand1
 pub mod QuestionSearched
 pub mod AnswerRoom
+pub mod Demand1
 pub mod Demand2
 pub mod Demand3
