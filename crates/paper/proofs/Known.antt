@@ -138,6 +138,10 @@ known-rooms =
     answer-row (LE [] ++ RI []) 144 20 0 1 [] ∷
     -- both sides empty, a byte less
     answer-row (LE [] ++ RI []) 143 20 18 0 [] ∷
+    -- `A` and `B` in one situation, to the byte: it is taken, and none waits
+    answer-row (LE (A ∷ []) ++ RI (B ∷ [])) 144 20 1 1 [] ∷
+    -- xA and Bx, x with pattern 68 65 0 42, in two situations, to the byte: the child of the second is entered already
+    answer-row (PA 0 (68 ∷ 65 ∷ 0 ∷ 42 ∷ []) ++ LE (x ∷ A ∷ []) ++ RI (B ∷ x ∷ [])) 288 20 1 2 [] ∷
     -- both sides empty, no answer buffer
     answer-row (LE [] ++ RI []) 150 0 0 1 [] ∷
     -- sheet S, an answer buffer of 12 bytes
@@ -157,6 +161,9 @@ known-searches =
     answer-row (LE (x ∷ A ∷ A ∷ A ∷ []) ++ RI (y ∷ A ∷ A ∷ [])) 1000 20 0 6 (VA 0 [] ++ VA 1 (A ∷ [])) ∷
     -- x one of 5 to 7, x and y: the lowest character is put first
     answer-row (PA 0 (65 ∷ 5 ∷ 7 ∷ []) ++ LE (x ∷ []) ++ RI (y ∷ [])) 1200 20 0 6 (VA 0 (5 ∷ []) ++ VA 1 (5 ∷ [])) ∷
+    -- x and x, open, then with the pattern `A`: equal fields in front are not dropped, and c is put once
+    answer-row (LE (x ∷ []) ++ RI (x ∷ [])) 600 20 0 2 (VA 0 []) ∷
+    answer-row (PA 0 (A ∷ []) ++ LE (x ∷ []) ++ RI (x ∷ [])) 600 20 0 3 (VA 0 (A ∷ [])) ∷
     -- 16 times x, `BB` and `AA`, open: a left side of 48 tokens
     answer-row (LE (replicate 16 x ++ B ∷ B ∷ []) ++ RI (A ∷ A ∷ [])) 600 20 1 3 [] ∷
     -- 16 times x, `BBB` and `AA`, open: a left side of 49 tokens
@@ -300,6 +307,7 @@ known-records =
     fault-row (LE (72 ∷ [])) 17 0 ∷
     fault-row (LE (255 ∷ [])) 17 0 ∷
     fault-row (LE (A ∷ 43 ∷ [])) 17 0 ∷
+    fault-row (PA 0 (0 ∷ []) ++ LE (43 ∷ [])) 17 5 ∷
     fault-row (LE (A ∷ []) ++ RI (43 ∷ [])) 17 4 ∷
     []
 

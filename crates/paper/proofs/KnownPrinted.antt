@@ -1,6 +1,6 @@
 -- Lines that the program `clash` prints (document 01, "The program"), known by hand, as text. The checker computes them.
 --   decimals-known, lines-known : numbers in decimal; the lines of an outcome, from its numbers and the records in its answer buffer
---   sheet-S-printed, longest-sheet-printed : the lines for sheet S, and for the longest good sheet and one byte more
+--   sheets-printed : the lines for whole sheets, with what the program reads and lends
 --   program-never-20 : the answer buffer that the program lends is always long enough
 use Prim.Native.Nat.{ℕ}
 use Prim.Native.Char.{code}
@@ -9,7 +9,7 @@ use native.Mathlib.Omega.{arith}
 use mathlib.Core.Path.{_≡_, refl}
 use mathlib.Core.List.{List, [], _∷_, _++_, map}
 use lib.ListN.{take, replicate, length-replicate}
-use Rattle.paper.specs.Lists.{upto}
+use Rattle.paper.specs.Lists.{upto, each}
 use Rattle.paper.specs.Numbers.{program-input, program-work, program-answer}
 use Rattle.paper.specs.Places.{set-after, may-end}
 use Rattle.paper.specs.Written.{judge}
@@ -61,22 +61,29 @@ pub lines-known :
 unfolding printed-of
 lines-known = refl
 
-pub sheet-S-printed : printed sheet-S ≡ ascii "0 6 0\n0 4\n1 4\n"
-unfolding set-after may-end judge enter offer take-next search trimmed strike put-before open-moves child-by children question search-from texts-of acceptor marked pattern-record side-record read-end read-right read-sheet outcome room-of searched standing value-record records some-text-too-long clash count-of how-of printed-of printed
-sheet-S-printed = refl
-
 -- eight patterns of 96 bytes, two sides of 24 tokens: 854 bytes
-abbrev longest : ℕ → List ℕ
-longest f = PA f (replicate 95 68 ++ 0 ∷ [])
+abbrev longest-pattern : ℕ → List ℕ
+longest-pattern f = PA f (replicate 95 68 ++ 0 ∷ [])
 
 abbrev longest-sheet : List ℕ
-longest-sheet =
-    longest 0 ++ longest 1 ++ longest 2 ++ longest 3 ++ longest 4 ++ longest 5 ++ longest 6 ++ longest 7
-    ++ LE (replicate 24 10) ++ RI (replicate 24 10)
+longest-sheet = each longest-pattern (upto 8) ++ LE (replicate 24 10) ++ RI (replicate 24 10)
 
-pub longest-sheet-printed : map printed (longest-sheet ∷ (longest-sheet ++ 0 ∷ []) ∷ []) ≡ map ascii ("0 1 0\n" ∷ "12 0 854\n" ∷ [])
-unfolding judge enter take-next search trimmed question search-from acceptor marked pattern-record side-record read-end read-right read-sheet outcome room-of searched standing records some-text-too-long clash count-of how-of printed-of printed
-longest-sheet-printed = refl
+-- sheet S; xy and 24 times `A`, open, which takes more situations than 4,096 bytes have; the longest good sheet, and one byte more
+pub sheets-printed :
+    map printed
+    (sheet-S ∷
+    (LE (64 ∷ 65 ∷ []) ++ RI (replicate 24 10)) ∷
+    longest-sheet ∷
+    (longest-sheet ++ 0 ∷ []) ∷
+    [])
+    ≡ map ascii
+    ("0 6 0\n0 4\n1 4\n" ∷
+    "0 51 0\n0 \n1 AAAAAAAAAAAAAAAAAAAAAAAA\n" ∷
+    "0 1 0\n" ∷
+    "12 0 854\n" ∷
+    [])
+unfolding set-after may-end judge enter offer take-next search trimmed strike put-before open-moves child-by children question search-from texts-of acceptor marked pattern-record side-record read-end read-right read-sheet outcome room-of searched standing value-record records some-text-too-long clash count-of how-of printed-of printed
+sheets-printed = refl
 
 -- The answer buffer that the program lends is long enough, whatever is found in 455 situations.
 pub program-never-20 : (input : List ℕ)

@@ -1,6 +1,7 @@
 pub mod Tests
 pub mod Lists
 pub mod Made
+-- values known by hand
 pub mod Known
 pub mod KnownLengths
 pub mod KnownBounds
@@ -49,8 +50,8 @@ pub mod QuestionSearched
 pub mod TokenTotal
 pub mod TextLength
 pub mod Rows
-pub mod Demand1
 pub mod AnswerRoom
+pub mod Demand1
 pub mod Demand2
 pub mod ShutOut
 pub mod Demand3
