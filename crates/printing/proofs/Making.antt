@@ -5,7 +5,7 @@ use native.Mathlib.Nat.{zero-add, min-le-left, min-le-right}
 use native.Mathlib.Omega.{arith}
 use mathlib.Core.Path.{_≡_, refl, sym, ap, _∙_}
 use mathlib.Core.List.{List}
-use lib.ListN.{length, take, length-take}
+use lib.ListN.{length, take, length-take, length-append}
 use Rattle.paper.specs.Numbers.{program-input}
 use Rattle.paper.specs.Outcome.{Outcome, outcome}
 use Rattle.paper.specs.Printed.{printed-of, printed}
@@ -27,20 +27,18 @@ pub lines-put : (t : Numbers) (a : List ℕ) {d e f : List ℕ} {first end : ℕ
 lines-put t a {d} {e} {f} {first} {end} p q h =
     let lines = rw (take-min (t .written) a) at q in
     let all : Puts d f 0 end (lines-of t a) = puts-then p (lines .lines (t .written) (rw length-take (min-le-left (t .written) (length a)))) in
-    record {
-      bytes =
-          puts-in-front all
-          (omega (
-            arith,
-            all .behind,
-            lines .within,
-            length-take (t .written) a,
-            min-le-right (t .written) (length a),
-            p .behind,
-            numbers-line-length (t .number) (t .count) (t .place),
-          ));
-      many = rw zero-add at (all .behind);
-    }
+    let room : end ≤ length d =
+    omega (
+      arith,
+      lines .within,
+      length-take (t .written) a,
+      min-le-right (t .written) (length a),
+      p .behind,
+      numbers-line-length (t .number) (t .count) (t .place),
+    ) in
+    let many : end ≡ length (lines-of t a) = rw zero-add at (all .behind) in
+    let bytes = puts-in-front all (rw many at room) in
+    record { bytes = bytes; many = many; within = rw (bytes, length-append) (omega (arith, many)) }
 
 -- the lines of an answer that tells the outcome
 lines-told : (a : Answer) (answer work : List ℕ) → lines-of (as-numbers a) answer ≡ printed-of (told a answer work)

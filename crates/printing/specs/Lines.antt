@@ -59,10 +59,12 @@ pub record Puts-lines (d e : List ℕ) (at end : ℕ) (records : List ℕ) : Typ
 abbrev pub in-front : List ℕ → List ℕ → List ℕ
 in-front bytes buffer = bytes ++ drop (length bytes) buffer
 
--- the lines l stand in front of the buffer, and n is their length
+-- The lines l stand in front of the buffer, and n is their length. The third part follows from the other two; with it a caller may take
+-- the part that they stand in.
 pub record Prints (l before after : List ℕ) (n : ℕ) : Type 0 where
   pub bytes : after ≡ in-front l before
   pub many : n ≡ length l
+  pub within : n ≤ length after
 
 -- the lines of an answer's numbers and answer buffer
 abbrev pub lines-of : Numbers → List ℕ → List ℕ
