@@ -3,62 +3,51 @@
 use Prim.Native.Nat.{ℕ, _+_, _≤_, _<_, min}
 use native.Mathlib.Nat.{zero-add, min-le-left, min-le-right}
 use native.Mathlib.Omega.{arith}
-use mathlib.Core.Path.{_≡_, refl, subst}
-use mathlib.Core.List.{List, _++_}
-use lib.ListN.{length, take, length-take}
+use mathlib.Core.Path.{_≡_, refl, sym, ap, _∙_}
+use mathlib.Core.List.{List}
+use lib.ListN.{length, take, length-take, length-append}
 use Rattle.paper.specs.Numbers.{program-input}
 use Rattle.paper.specs.Outcome.{Outcome, outcome}
-use Rattle.paper.specs.Printed.{value-lines, printed-of, printed}
+use Rattle.paper.specs.Printed.{printed-of, printed}
 use Rattle.paper.proofs.Tests.{le-leb, lt-leb}
 use Rattle.bradovusc.specs.Entry.{as-numbers, told}
 use Rattle.bradovusc.specs.declared.Answer.{Answer}
 use Rattle.bradovusc.specs.declared.Numbers.{Numbers}
-use Rattle.printing.specs.Lines.{Puts, Puts-lines, Prints, Makes, numbers-line, longest-first-line, lined-as, lined, no-work, no-answer}
+use Rattle.printing.specs.Lines.{Puts, Puts-lines, Prints, numbers-line, longest-first-line, lines-of, lined-as, lined, no-work, no-answer}
 use Rattle.printing.specs.declared.Made.the-variants.{Bytes, NoRoom}
 use Rattle.printing.proofs.Putting.{puts-then, puts-in-front}
 use Rattle.printing.proofs.Walked.{numbers-line-length, take-min}
 
-printed-parts : (o : Outcome)
-    → printed-of o ≡ numbers-line (o .number) (o .count) (o .place) ++ value-lines (o .written) (take (o .written) (o .answer))
+-- the first line and the records' lines
+pub lines-put : (t : Numbers) (a : List ℕ) {d e f : List ℕ} {first end : ℕ}
+    → Puts d e 0 first (numbers-line (t .number) (t .count) (t .place))
+    → Puts-lines e f first end (take (min (t .written) (length a)) a)
+    → longest-first-line + length a ≤ length d
+    → Prints (lines-of t a) d f end
+lines-put t a {d} {e} {f} {first} {end} p q h =
+    let lines = rw (take-min (t .written) a) at q in
+    let all : Puts d f 0 end (lines-of t a) = puts-then p (lines .lines (t .written) (rw length-take (min-le-left (t .written) (length a)))) in
+    let room : end ≤ length d =
+    omega (
+      arith,
+      lines .within,
+      length-take (t .written) a,
+      min-le-right (t .written) (length a),
+      p .behind,
+      numbers-line-length (t .number) (t .count) (t .place),
+    ) in
+    let many : end ≡ length (lines-of t a) = rw zero-add at (all .behind) in
+    let bytes = puts-in-front all (rw many at room) in
+    record { bytes = bytes; many = many; within = rw (bytes, length-append) (omega (arith, many)) }
+
+-- the lines of an answer that tells the outcome
+lines-told : (a : Answer) (answer work : List ℕ) → lines-of (as-numbers a) answer ≡ printed-of (told a answer work)
 unfolding printed-of numbers-line
-printed-parts o = refl
+lines-told a answer work = refl
 
-module _ {d e f : List ℕ} {first end : ℕ} where
-  -- the first line and the records' lines
-  prints : (o : Outcome) → Puts d e 0 first (numbers-line (o .number) (o .count) (o .place))
-      → Puts-lines e f first end (take (min (o .written) (length (o .answer))) (o .answer))
-      → longest-first-line + length (o .answer) ≤ length d
-      → Prints (printed-of o) d f end
-  prints o p q h =
-      let w = o .written in
-      let a = o .answer in
-      let lines = rw (take-min w a) at q in
-      let all : Puts d f 0 end (printed-of o) =
-      rw (printed-parts o) (puts-then p (lines .lines w (rw length-take (min-le-left w (length a))))) in
-      record {
-        bytes =
-            puts-in-front all
-            (omega (
-              arith,
-              all .behind,
-              lines .within,
-              length-take w a,
-              min-le-right w (length a),
-              p .behind,
-              numbers-line-length (o .number) (o .count) (o .place),
-            ));
-        many = rw zero-add at (all .behind);
-      }
-
-  -- by an answer that tells the outcome, and its numbers
-  pub makes : (a : Answer) (numbers : Numbers) {answer work : List ℕ} {o : Outcome} → told a answer work ≡ o → numbers ≡ as-numbers a
-      → Puts d e 0 first (numbers-line (numbers .number) (numbers .count) (numbers .place))
-      → Puts-lines e f first end (take (min (numbers .written) (length answer)) answer)
-      → longest-first-line + length answer ≤ length d
-      → Makes o d f end answer work
-  makes a numbers {answer} {work} {o} whole named p q h =
-      subst (λ (o : Outcome). Makes o d f end answer work) whole
-      (record { prints = prints (told a answer work) (rw named at p) (rw named at q) h; answer-after = refl; work-after = refl })
+module _ (a : Answer) {numbers : Numbers} {answer work : List ℕ} {o : Outcome} (whole : told a answer work ≡ o) (named : numbers ≡ as-numbers a) where
+  printed-lines : lines-of numbers answer ≡ printed-of o
+  printed-lines = rw named (lines-told a answer work) ∙ ap printed-of whole
 
 -- by whether the longest lines have room
 module _ (sheet work answer out : List ℕ) where
@@ -66,19 +55,31 @@ module _ (sheet work answer out : List ℕ) where
   unfolding lined
   no-room h = rw (lt-leb (longest-first-line + length answer) (length out) h)
 
-  pub with-room : {out′ answer′ work′ : List ℕ} {n : ℕ} → longest-first-line + length answer ≤ length out
-      → Makes (outcome sheet work answer) out out′ n answer′ work′
+  pub with-room : (a : Answer) {numbers : Numbers} {out′ answer′ work′ : List ℕ} {n : ℕ} → longest-first-line + length answer ≤ length out
+      → told a answer′ work′ ≡ outcome sheet work answer
+      → numbers ≡ as-numbers a
+      → Prints (lines-of numbers answer′) out out′ n
       → lined-as (Bytes n) out′ answer′ work′ ≡ lined sheet work answer out
   unfolding lined
-  with-room h m =
-      rw (le-leb (longest-first-line + length answer) (length out) h, m .prints .bytes, m .prints .many, m .answer-after, m .work-after)
+  with-room a h whole named p =
+      rw (
+        le-leb (longest-first-line + length answer) (length out) h,
+        p .bytes,
+        p .many,
+        printed-lines a whole named,
+        ap (λ (o : Outcome). o .answer) whole,
+        ap (λ (o : Outcome). o .work) whole,
+      )
 
 -- what the program prints, by its buffers
 printed-program : (input : List ℕ) → printed input ≡ printed-of (outcome (take program-input input) no-work no-answer)
 unfolding printed no-work no-answer
 printed-program input = refl
 
-pub program-prints : (input : List ℕ) {sheet work answer d e answer′ work′ : List ℕ} {n : ℕ}
+pub program-prints : (input : List ℕ) (a : Answer) {numbers : Numbers} {sheet work answer d e answer′ work′ : List ℕ} {n : ℕ}
     → sheet ≡ take program-input input → work ≡ no-work → answer ≡ no-answer
-    → Makes (outcome sheet work answer) d e n answer′ work′ → Prints (printed input) d e n
-program-prints input {sheet} {work} {answer} s w a m = rw (printed-program input) ((rw (s, w, a) at m) .prints)
+    → told a answer′ work′ ≡ outcome sheet work answer
+    → numbers ≡ as-numbers a
+    → Prints (lines-of numbers answer′) d e n → Prints (printed input) d e n
+program-prints input a {sheet = sheet} s w b whole named p =
+    rw (printed-program input, ← s, ← w, ← b, ← printed-lines a whole named) p

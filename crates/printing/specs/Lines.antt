@@ -4,11 +4,12 @@ use mathlib.Core.Path.{_≡_}
 use mathlib.Core.List.{List, [], _∷_, _++_, map}
 use mathlib.Core.Bool.{cond}
 use lib.Dec.{leb}
-use lib.ListN.{length, getD, drop, replicate}
+use lib.ListN.{length, getD, take, drop, replicate}
 use lib.Seq.{sets}
 use Rattle.paper.specs.Numbers.{program-work, program-answer}
 use Rattle.paper.specs.Outcome.{Outcome, outcome}
 use Rattle.paper.specs.Printed.{digits, decimal, first-line, sign, space, newline, value-lines, printed-of}
+use Rattle.bradovusc.specs.declared.Numbers.{Numbers}
 use Rattle.printing.specs.declared.Made.{Made}
 use Rattle.printing.specs.declared.Made.the-variants.{Bytes, NoRoom}
 
@@ -58,16 +59,17 @@ pub record Puts-lines (d e : List ℕ) (at end : ℕ) (records : List ℕ) : Typ
 abbrev pub in-front : List ℕ → List ℕ → List ℕ
 in-front bytes buffer = bytes ++ drop (length bytes) buffer
 
--- the lines l stand in front of the buffer, and n is their length
+-- The lines l stand in front of the buffer, and n is their length. The third part follows from the other two; with it a caller may take
+-- the part that they stand in.
 pub record Prints (l before after : List ℕ) (n : ℕ) : Type 0 where
   pub bytes : after ≡ in-front l before
   pub many : n ≡ length l
+  pub within : n ≤ length after
 
--- the lines of an outcome, and both buffers as the outcome has them
-pub record Makes (o : Outcome) (before after : List ℕ) (n : ℕ) (answer work : List ℕ) : Type 0 where
-  pub prints : Prints (printed-of o) before after n
-  pub answer-after : answer ≡ o .answer
-  pub work-after : work ≡ o .work
+-- the lines of an answer's numbers and answer buffer
+abbrev pub lines-of : Numbers → List ℕ → List ℕ
+lines-of told answer =
+    numbers-line (told .number) (told .count) (told .place) ++ value-lines (told .written) (take (told .written) answer)
 
 -- what is said of the lines, and the three buffers afterwards
 pub record Lined : Type 0 where

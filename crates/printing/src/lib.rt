@@ -2,14 +2,11 @@
 mod writing;
 
 ghost use mathlib.Core.Path.{_≡_};
-ghost use Prim.Native.Nat.{_+_, _≤_};
 ghost use lib.ListN.{length};
-ghost use Rattle.paper.specs.Outcome.{outcome};
 ghost use Rattle.paper.specs.Printed.{printed as printed-for};
-ghost use Rattle.printing.specs.Lines.{longest-first-line, no-work, no-answer, Prints, Makes, lined-as, lined};
-use writing::first_line;
+ghost use Rattle.printing.specs.Lines.{no-work, no-answer, Prints, lined-as, lined};
 use writing::least;
-use writing::value_lines;
+use writing::put_lines;
 
 // "`clash` reads the first 1,024 bytes of standard input, lends 65,520 bytes of work (455 situations) and 4,096 of answer."
 pub const INPUT: usize = 1024;
@@ -34,10 +31,11 @@ pub enum Made {
 pub fn printed(input: &[u8], out: &mut [u8; PRINTED]) -> usize
     ensures { λ r. ⌜ Prints (printed-for (now (input .entry))) (now (out .entry)) (now (out .exit)) r ⌝ }
 {
+    let n = least(INPUT, input.len());
     let mut work = zeroed_work();
     let mut answer = zeroed_answer();
-    let n = least(INPUT, input.len());
-    make(&input[0..n], &mut work, &mut answer, out)
+    let told = bradovusc::in_numbers(bradovusc::clash(&input[0..n], &mut work, &mut answer));
+    put_lines(out, told, &answer)
 }
 
 fn zeroed_work() -> [u8; WORK]
@@ -62,15 +60,6 @@ pub fn lines(sheet: &[u8], work: &mut [u8], answer: &mut [u8], out: &mut [u8]) -
     if out.len() - FIRST_LINE < answer.len() {
         return Made::NoRoom;
     }
-    Made::Bytes(make(sheet, work, answer, out))
-}
-
-fn make(sheet: &[u8], work: &mut [u8], answer: &mut [u8], out: &mut [u8]) -> usize
-    requires { ⌜ longest-first-line + length (now answer) ≤ length (now out) ⌝ }
-    ensures { λ r. ⌜ Makes (outcome (now (sheet .entry)) (now (work .entry)) (now (answer .entry))) (now (out .entry)) (now (out .exit)) r (now (answer .exit)) (now (work .exit)) ⌝ }
-{
     let told = bradovusc::in_numbers(bradovusc::clash(sheet, work, answer));
-    let first = first_line(out, told.number, told.count, told.place);
-    let written = least(told.written, answer.len());
-    value_lines(out, first, &answer[0..written])
+    Made::Bytes(put_lines(out, told, answer))
 }

@@ -1,10 +1,11 @@
 // Bytes put into a lent buffer from a place on. Each function hands back the place behind what it put.
+use bradovusc::Numbers;
 ghost use mathlib.Core.List.{[], _∷_, _++_, map};
 ghost use mathlib.Core.Path.{_≡_};
 ghost use Prim.Native.Nat.{_+_, _*_, _%_, _<_, _≤_, min};
 ghost use lib.ListN.{length};
 ghost use Rattle.paper.specs.Printed.{sign as sign-of};
-ghost use Rattle.printing.specs.Lines.{Puts, Puts-lines, in-digits, in-decimal, numbers-line, value-line, longest-first-line, record-head, text-length};
+ghost use Rattle.printing.specs.Lines.{Puts, Puts-lines, Prints, lines-of, in-digits, in-decimal, numbers-line, value-line, longest-first-line, record-head, text-length};
 
 // 20 digits are enough for every number of 64 bits.
 const DIGITS: usize = 20;
@@ -55,7 +56,7 @@ fn number_and(out: &mut [u8], at: usize, n: usize, sign: u8) -> usize
 }
 
 // "answer, count and place in decimal, one space between"
-pub fn first_line(out: &mut [u8], number: usize, count: usize, place: usize) -> usize
+fn first_line(out: &mut [u8], number: usize, count: usize, place: usize) -> usize
     requires { ⌜ longest-first-line ≤ length (now out) ⌝ }
     ensures { λ r. ⌜ Puts (now (out .entry)) (now (out .exit)) 0 r (numbers-line number count place) ⌝ }
 {
@@ -118,7 +119,7 @@ fn text_length(records: &[u8], from: usize) -> usize
 }
 
 // "a line for each `VA`": no line is longer than its record.
-pub fn value_lines(out: &mut [u8], at: usize, records: &[u8]) -> usize
+fn value_lines(out: &mut [u8], at: usize, records: &[u8]) -> usize
     requires { ⌜ at + length (now records) ≤ length (now out) ⌝ }
     ensures { λ r. ⌜ Puts-lines (now (out .entry)) (now (out .exit)) at r (now (records .entry)) ⌝ }
 {
@@ -131,4 +132,14 @@ pub fn value_lines(out: &mut [u8], at: usize, records: &[u8]) -> usize
         from = to;
     }
     end
+}
+
+// The first line, and a line for each record that was written.
+pub fn put_lines(out: &mut [u8], told: Numbers, answer: &[u8]) -> usize
+    requires { ⌜ longest-first-line + length (now answer) ≤ length (now out) ⌝ }
+    ensures { λ r. ⌜ Prints (lines-of told (now (answer .entry))) (now (out .entry)) (now (out .exit)) r ⌝ }
+{
+    let first = first_line(out, told.number, told.count, told.place);
+    let written = least(told.written, answer.len());
+    value_lines(out, first, &answer[0..written])
 }

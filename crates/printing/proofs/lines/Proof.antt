@@ -1,4 +1,4 @@
--- `lines` meets its contract: without room nothing is changed, with room `make` does all. Follows from `no-room` and `with-room`.
+-- `lines` meets its contract: without room nothing is changed, with room the entry is asked. Follows from `no-room` and `with-room`.
 use native.Mathlib.Omega.{arith}
 use Rattle.printing.proofs.Making.{no-room, with-room}
 use borrow.Author.Needs.{needs}
@@ -18,8 +18,14 @@ returns-2 c =
     let args = c .before .before .before .before .before .before .args in
     no-room (args .sheet .now) (args .work .now) (args .answer .now) (args .out .now) (omega arith)
 
-make-requires : tie.Need-make-requires
-make-requires c κs = search needs
+clash-requires : tie.Need-clash-requires
+clash-requires c κs = search needs
+
+in-numbers-requires : tie.Need-in-numbers-requires
+in-numbers-requires c κs = search needs
+
+put-lines-requires : tie.Need-put-lines-requires
+put-lines-requires c κs = search needs
 
 same-length : tie.Need-same-length
 same-length c = search needs
@@ -32,9 +38,12 @@ same-length-3 c = search needs
 
 returns-3 : tie.Need-returns-3
 returns-3 c =
-    let at-make = c .before .before .before .before .before .before in
-    let args = at-make .before .before .before .before .before .before .before .before .before .before .args in
-    with-room (args .sheet .now) (args .work .now) (args .answer .now) (args .out .now) (omega arith) (at-make .make .ensures)
+    let at-put = c .before .before in
+    let at-numbers = at-put .before .before .before in
+    let at-clash = at-numbers .before .before .before .before .before in
+    let args = at-clash .before .before .before .before .before .before .before .before .before .args in
+    with-room (args .sheet .now) (args .work .now) (args .answer .now) (args .out .now) (at-clash .clash .result) (omega arith)
+    (at-clash .clash .ensures .0) (at-numbers .in-numbers .ensures) (at-put .put-lines .ensures)
 
 pub lines-spec : {M : Type 1} → statement M
 lines-spec =
@@ -43,7 +52,9 @@ lines-spec =
     returns
     sub-if2
     returns-2
-    make-requires
+    clash-requires
+    in-numbers-requires
+    put-lines-requires
     same-length
     same-length-2
     same-length-3
