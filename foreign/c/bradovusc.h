@@ -6,7 +6,7 @@
  *
  * The static library libexported.a, for x86-64 Linux, defines one function, bradovusc_clash. It keeps nothing from one call to the
  * next, asks for no memory, and touches nothing but what it is lent, so calls in several threads don't meet. It takes at most about
- * 150 KiB of stack. All else is in this header: bradovusc_ask calls it with any buffers, bradovusc_text says a number in words,
+ * 40 KiB of stack. All else is in this header: bradovusc_ask calls it with any buffers, bradovusc_text says a number in words,
  * bradovusc_next walks the texts of a clash, bradovusc_sign and bradovusc_value go between values and signs.
  *
  * The header is C99 and C++11. The rules in full: docs/RULES.md.

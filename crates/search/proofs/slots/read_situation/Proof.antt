@@ -1,4 +1,4 @@
--- `read_situation` reads the situation of the slot i. Follows from what `Holds-slots` says.
+-- `read_situation` reads the situation of the slot i. Follows from what `Holds` says.
 use Prim.Native.Nat.{_*_}
 use native.Mathlib.Nat.{add-sub-cancel-left}
 use Rattle.paper.specs.Numbers.{situation-bytes}
