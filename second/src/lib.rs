@@ -12,6 +12,7 @@
 pub mod cases;
 pub mod make;
 pub mod pattern;
+pub mod printed;
 pub mod scan;
 pub mod search;
 pub mod sheet;

@@ -8,9 +8,9 @@ use Rattle.paper.specs.Buffers.{Demand1}
 use Rattle.paper.specs.Demands.{Demand2, Demand3}
 use Rattle.paper.specs.Outcome.{Outcome, outcome}
 use Rattle.paper.specs.Sheet.{Fault, cut-short, wrong-mark, wrong-field, wrong-length, not-one-pattern, too-many-leaves, wrong-token, Reading, refused, asked, read-sheet}
-use Rattle.paper.proofs.Demand1.{demand-1}
-use Rattle.paper.proofs.Demand2.{demand-2}
-use Rattle.paper.proofs.Demand3.{demand-3}
+use Rattle.paper.proofs.demands.Demand1.{demand-1}
+use Rattle.paper.proofs.demands.Demand2.{demand-2}
+use Rattle.paper.proofs.demands.Demand3.{demand-3}
 use Rattle.sheets.specs.Faults.{fault-of, as-fault}
 use Rattle.sheets.specs.Read.{sheet-of}
 use Rattle.sheets.specs.declared.Fault as Code

@@ -13,8 +13,8 @@ use Rattle.paper.specs.Equation.{Token, chr, fld, Side}
 use Rattle.paper.specs.Question.{Question, held-by}
 use Rattle.paper.specs.Sheet.{asked, read-sheet}
 use Rattle.paper.specs.Outcome.{outcome, room-of}
-use Rattle.paper.proofs.Tests.{neq-eqb, false-not, both-true}
-use Rattle.paper.proofs.Asked.{InRange, GoodQuestion, asked-good}
+use Rattle.paper.proofs.base.Tests.{neq-eqb, false-not, both-true}
+use Rattle.paper.proofs.sheets.Asked.{InRange, GoodQuestion, asked-good}
 use Rattle.patterns.specs.Worked.{worked-out}
 use Rattle.patterns.specs.declared.PlaceTables.{PlaceTables}
 use Rattle.inner.specs.Inner.{no-token, is-token, token-code, side-code, tokens, padded}

@@ -9,8 +9,8 @@ use lib.Dec.{eqb}
 use lib.ListN.{length, getD, take, replicate}
 use Rattle.paper.specs.Lists.{all}
 use Rattle.paper.specs.Numbers.{longest-side}
-use Rattle.paper.proofs.Lists.{cons-eq}
-use Rattle.paper.proofs.Tests.{cond-by, both-true, and-left, and-right, not-is-true, false-not, eqb-true}
+use Rattle.paper.proofs.base.Lists.{cons-eq}
+use Rattle.paper.proofs.base.Tests.{cond-by, both-true, and-left, and-right, not-is-true, false-not, eqb-true}
 use Rattle.inner.specs.Inner.{no-token, is-token, front, tokens, padded}
 
 -- as many bytes as there are tokens

@@ -8,8 +8,8 @@ use lib.Dec.{leb, eqb, eqb·zero-suc}
 use lib.Bits.{bitOr}
 use lib.ListN.{length, set, replicate}
 use Rattle.paper.specs.Numbers.{characters, most-leaves}
-use Rattle.paper.proofs.Tests.{true-false, not-true, cond-true, cond-false, le-leb, lt-leb}
-use Rattle.paper.proofs.Parts.{last-within}
+use Rattle.paper.proofs.base.Tests.{true-false, not-true, cond-true, cond-false, le-leb, lt-leb}
+use Rattle.paper.proofs.places.Parts.{last-within}
 use Rattle.paper.specs.Pattern.{Pattern, pattern}
 use Rattle.paper.specs.Places.{leaves, takes-empty, may-be-last, ends-at}
 use Rattle.paper.specs.Written.{Part, no-pattern, part, read-part, not-one-pattern, too-many-leaves, judged, judge-part, judge}

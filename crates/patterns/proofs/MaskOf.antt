@@ -10,7 +10,7 @@ use mathlib.Core.List.{_++_}
 use lib.Dec.{eqb, eqb·zero-suc, eqb·suc-zero, eqb·suc-suc}
 use lib.Bits.{bitAnd, bitOr, and-step, or-step}
 use Rattle.paper.specs.Lists.{from, upto, only, keep}
-use Rattle.paper.proofs.Tests.{eq-eqb, neq-eqb}
+use Rattle.paper.proofs.base.Tests.{eq-eqb, neq-eqb}
 use Rattle.paper.specs.Places.{PlaceSet}
 use Rattle.patterns.specs.Masks.{places, mask, mask-of, in-mask}
 

@@ -13,9 +13,9 @@ use Rattle.paper.specs.Numbers.{characters, empty-code, range-code, then-code, 
 use Rattle.paper.specs.Pattern.{takes, char, range, Pattern, leaf, empty, then, either}
 use Rattle.paper.specs.Places.{leaves, may-be-first, may-be-last}
 use Rattle.paper.specs.Written.{Part, no-pattern, part, read-range, two-parts, read-part}
-use Rattle.paper.proofs.Tests.{by-bool, cond-true, cond-false, true-false, same-tests}
-use Rattle.paper.proofs.Tests.{and-left, and-right, both-true, left-false, right-false}
-use Rattle.paper.proofs.Tests.{leb-true, le-leb, lt-leb, lt-ltb, le-ltb, eqb-true, eqb-false, eq-eqb, neq-eqb}
+use Rattle.paper.proofs.base.Tests.{by-bool, cond-true, cond-false, true-false, same-tests}
+use Rattle.paper.proofs.base.Tests.{and-left, and-right, both-true, left-false, right-false}
+use Rattle.paper.proofs.base.Tests.{leb-true, le-leb, lt-leb, lt-ltb, le-ltb, eqb-true, eqb-false, eq-eqb, neq-eqb}
 use Rattle.patterns.specs.Masks.{places, in-mask}
 use Rattle.patterns.specs.Reading.{Adds, Reads, Working, working, Joins, Works, Read-as, Reading-of, Single, Leaf-read, Joined, Repeated}
 use Rattle.patterns.specs.declared.reader.Reading.{Reading}

@@ -10,8 +10,8 @@ use lib.Dec.{ltb}
 use lib.ListN.{length, length-append}
 use borrow.Author.Tests.{lt-ltb, le-ltb}
 use Rattle.paper.specs.Printed.{digits}
-use Rattle.paper.proofs.Tests.{by-bool}
-use Rattle.printing.specs.Lines.{in-digits, in-decimal}
+use Rattle.paper.proofs.base.Tests.{by-bool}
+use Rattle.printing.specs.Writing.{in-digits, in-decimal}
 
 -- a number of one digit
 pub one-digit : (k n : ℕ) → (k ≡ 0 → ⊥) → n < 10 → in-digits k n ≡ (48 + n % 10) ∷ []

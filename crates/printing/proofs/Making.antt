@@ -3,17 +3,18 @@
 use Prim.Native.Nat.{ℕ, _+_, _≤_, _<_, min}
 use native.Mathlib.Nat.{zero-add, min-le-left, min-le-right}
 use native.Mathlib.Omega.{arith}
-use mathlib.Core.Path.{_≡_, refl, sym, ap, _∙_}
+use mathlib.Core.Path.{_≡_, refl, ap, _∙_}
 use mathlib.Core.List.{List}
 use lib.ListN.{length, take, length-take, length-append}
 use Rattle.paper.specs.Numbers.{program-input}
 use Rattle.paper.specs.Outcome.{Outcome, outcome}
 use Rattle.paper.specs.Printed.{printed-of, printed}
-use Rattle.paper.proofs.Tests.{le-leb, lt-leb}
+use Rattle.paper.proofs.base.Tests.{le-leb, lt-leb}
 use Rattle.bradovusc.specs.Entry.{as-numbers, told}
 use Rattle.bradovusc.specs.declared.Answer.{Answer}
 use Rattle.bradovusc.specs.declared.Numbers.{Numbers}
-use Rattle.printing.specs.Lines.{Puts, Puts-lines, Prints, numbers-line, longest-first-line, lines-of, lined-as, lined, no-work, no-answer}
+use Rattle.printing.specs.Lines.{Prints, longest-first-line, lined-as, lined, no-work, no-answer}
+use Rattle.printing.specs.Writing.{Puts, Puts-lines, numbers-line, lines-of}
 use Rattle.printing.specs.declared.Made.the-variants.{Bytes, NoRoom}
 use Rattle.printing.proofs.Putting.{puts-then, puts-in-front}
 use Rattle.printing.proofs.Walked.{numbers-line-length, take-min}
@@ -38,16 +39,16 @@ lines-put t a {d} {e} {f} {first} {end} p q h =
     ) in
     let many : end ≡ length (lines-of t a) = rw zero-add at (all .behind) in
     let bytes = puts-in-front all (rw many at room) in
-    record { bytes = bytes; many = many; within = rw (bytes, length-append) (omega (arith, many)) }
+    record { bytes = bytes; many = many; within = rw (bytes, length-append (lines-of t a)) (omega (arith, many)) }
 
 -- the lines of an answer that tells the outcome
 lines-told : (a : Answer) (answer work : List ℕ) → lines-of (as-numbers a) answer ≡ printed-of (told a answer work)
 unfolding printed-of numbers-line
 lines-told a answer work = refl
 
-module _ (a : Answer) {numbers : Numbers} {answer work : List ℕ} {o : Outcome} (whole : told a answer work ≡ o) (named : numbers ≡ as-numbers a) where
-  printed-lines : lines-of numbers answer ≡ printed-of o
-  printed-lines = rw named (lines-told a answer work) ∙ ap printed-of whole
+printed-lines : (a : Answer) {numbers : Numbers} {answer work : List ℕ} {o : Outcome} → told a answer work ≡ o → numbers ≡ as-numbers a
+    → lines-of numbers answer ≡ printed-of o
+printed-lines a {answer = answer} {work = work} whole named = rw named (lines-told a answer work) ∙ ap printed-of whole
 
 -- by whether the longest lines have room
 module _ (sheet work answer out : List ℕ) where

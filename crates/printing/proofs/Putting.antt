@@ -2,11 +2,12 @@
 -- stores one after the other.
 use Prim.Native.Nat.{ℕ, suc, _+_, _≤_}
 use native.Mathlib.Nat.{add-zero, add-suc, suc-add, zero-add, add-assoc}
-use mathlib.Core.Path.{_≡_, refl, sym, ap, _∙_}
+use mathlib.Core.Path.{_≡_, refl, sym, _∙_}
 use mathlib.Core.List.{List, [], _∷_, _++_}
-use lib.ListN.{length, set, drop, length-append}
+use lib.ListN.{length, set, length-append}
 use lib.Seq.{sets, sets-eq}
-use Rattle.printing.specs.Lines.{Puts, in-front}
+use Rattle.printing.specs.Lines.{in-front}
+use Rattle.printing.specs.Writing.{Puts}
 
 sets-append : (d : List ℕ) (at : ℕ) (l m : List ℕ) → sets d at (l ++ m) ≡ sets (sets d at l) (at + length l) m
 sets-append d at [] m = rw add-zero

@@ -8,9 +8,10 @@ use mathlib.Core.Path.{_≡_, refl, sym, ap, _∙_}
 use mathlib.Core.List.{List, [], _∷_, _++_, map, append-assoc, append-nil}
 use lib.ListN.{length, getD, take, drop, length-append, length-map, length-drop, length-take}
 use lib.Seq.{take-suc, take-nil, drop-nil, drop-drop, getD-drop}
-use Rattle.paper.specs.Printed.{sign, space, newline, first-line, value-lines}
-use Rattle.paper.proofs.Lists.{map-append}
-use Rattle.printing.specs.Lines.{Puts, in-digits, in-decimal, numbers-line, value-line, record-head, text-length, longest-first-line}
+use Rattle.paper.specs.Printed.{sign, space, newline, value-lines}
+use Rattle.paper.proofs.base.Lists.{map-append}
+use Rattle.printing.specs.Lines.{longest-first-line}
+use Rattle.printing.specs.Writing.{Puts, in-digits, in-decimal, most-digits, numbers-line, value-line, record-head, text-length}
 use Rattle.printing.proofs.Decimal.{decimal-at-most, byte-at-most}
 use Rattle.printing.proofs.Putting.{puts-none, puts-then}
 
@@ -24,6 +25,10 @@ pub numbers-line-parts : (number count place : ℕ)
 unfolding numbers-line in-digits
 numbers-line-parts number count place = signs-behind (in-decimal number) (in-decimal count) (in-decimal place) space newline
 
+-- a number of at most 20 digits, and a sign behind it
+pub number-length : (n s : ℕ) → length (in-decimal n ++ (s ∷ [])) ≤ most-digits + 1
+number-length n s = rw length-append (omega (arith, decimal-at-most n))
+
 pub numbers-line-length : (number count place : ℕ) → length (numbers-line number count place) ≤ longest-first-line
 numbers-line-length number count place =
     rw (numbers-line-parts number count place)
@@ -33,7 +38,7 @@ pub value-line-parts : (f : ℕ) (text : List ℕ) → value-line f text ≡ (in
 unfolding value-line in-digits
 value-line-parts f text = ap (λ (l : List ℕ). l ++ (newline ∷ [])) (sym (append-assoc (in-decimal f) (space ∷ []) (map sign text)))
 
--- "no line is longer than its record"
+-- no line is longer than its record
 pub value-line-length : (f : ℕ) (text : List ℕ) → f < 256 → length (value-line f text) ≤ record-head + length text
 value-line-length f text h = rw (value-line-parts f text) (simp (length-append, length-map) (omega (arith, byte-at-most f h)))
 

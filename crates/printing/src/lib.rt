@@ -2,9 +2,9 @@
 mod writing;
 
 ghost use mathlib.Core.Path.{_≡_};
-ghost use lib.ListN.{length};
 ghost use Rattle.paper.specs.Printed.{printed as printed-for};
 ghost use Rattle.printing.specs.Lines.{no-work, no-answer, Prints, lined-as, lined};
+use writing::DIGITS;
 use writing::least;
 use writing::put_lines;
 
@@ -16,7 +16,7 @@ const WORK: usize = 65520;
 const ANSWER: usize = 4096;
 
 // Three numbers of at most 20 digits, a sign behind each.
-pub const FIRST_LINE: usize = 63;
+pub const FIRST_LINE: usize = 3 * (DIGITS + 1);
 
 // No later line is longer than its record.
 pub const PRINTED: usize = FIRST_LINE + ANSWER;

@@ -5,10 +5,11 @@ ghost use mathlib.Core.Path.{_≡_};
 ghost use Prim.Native.Nat.{_+_, _*_, _%_, _<_, _≤_, min};
 ghost use lib.ListN.{length};
 ghost use Rattle.paper.specs.Printed.{sign as sign-of};
-ghost use Rattle.printing.specs.Lines.{Puts, Puts-lines, Prints, lines-of, in-digits, in-decimal, numbers-line, value-line, longest-first-line, record-head, text-length};
+ghost use Rattle.printing.specs.Lines.{Prints, longest-first-line};
+ghost use Rattle.printing.specs.Writing.{Puts, Puts-lines, lines-of, in-digits, in-decimal, numbers-line, value-line, record-head, text-length};
 
 // 20 digits are enough for every number of 64 bits.
-const DIGITS: usize = 20;
+pub const DIGITS: usize = 20;
 
 // `VA`, field byte, length in two bytes
 const RECORD_HEAD: usize = 5;

@@ -13,10 +13,10 @@ use lib.Seq.{getD-at}
 use Rattle.paper.specs.Lists.{any}
 use Rattle.paper.specs.Search.{Child, long, child, Entry, End, found, used-up, no-room, too-long, State, going, ended, entered, enter, offer, offer-all, take-next, turns, search, how, entries}
 use Rattle.paper.specs.Leads.{situations}
-use Rattle.paper.proofs.Tests.{by-bool, ltb-true, ltb-false, lt-ltb, le-ltb}
-use Rattle.paper.proofs.Lists.{map-append}
-use Rattle.paper.proofs.Room.{ended-turns}
-use Rattle.paper.proofs.Searched.{settled, found-is-last}
+use Rattle.paper.proofs.base.Tests.{by-bool, ltb-true, ltb-false, lt-ltb, le-ltb}
+use Rattle.paper.proofs.base.Lists.{map-append}
+use Rattle.paper.proofs.search.Room.{ended-turns}
+use Rattle.paper.proofs.search.Searched.{settled, found-is-last}
 use Rattle.situations.specs.Coded.{Coded, Tables, finished-coded, same-coded, children-coded}
 use Rattle.search.specs.Slots.{Slot, no-slot, slot-at}
 use Rattle.search.specs.Run.{Running, is-going, status-of, enter-slot, offer-slot, offer-slots, take-slot, slot-turns, slot-search}

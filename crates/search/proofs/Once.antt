@@ -7,10 +7,10 @@ use native.Mathlib.Omega.{arith}
 use mathlib.Core.Path.{_≡_, refl, sym, ap, _∙_, subst}
 use mathlib.Core.List.{List, [], _∷_, List·Memᴰ}
 use lib.ListN.{length, getD, length-map, List·getD-map}
-use Rattle.paper.proofs.Lists.{NoDup, more, mem-any}
-use Rattle.paper.proofs.Made.{getD-mem}
-use Rattle.paper.proofs.Searched.{entries-different}
-use Rattle.paper.proofs.Tests.{true-false}
+use Rattle.paper.proofs.base.Lists.{NoDup, more, mem-any}
+use Rattle.paper.proofs.base.Made.{getD-mem}
+use Rattle.paper.proofs.search.Searched.{entries-different}
+use Rattle.paper.proofs.base.Tests.{true-false}
 use Rattle.search.specs.Buckets.{Entered-at}
 use Rattle.situations.specs.Coded.{Coded, Tables, same-coded, finished-coded, children-coded}
 use Rattle.search.specs.Run.{slot-search}

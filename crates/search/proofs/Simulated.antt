@@ -21,12 +21,12 @@ use Rattle.paper.specs.Situation.{Situation, Move, same-situation, finished, ch
 use Rattle.paper.specs.Way.{text-along, texts-of, search-from}
 use Rattle.paper.specs.Question.{Question, held-by, acceptor}
 use Rattle.paper.specs.Outcome.{searched, count-of, how-of}
-use Rattle.paper.proofs.Made.{getD-mem}
-use Rattle.paper.proofs.Asked.{GoodHeld, GoodQuestion}
-use Rattle.paper.proofs.Same.{situation-equal, situation-same}
-use Rattle.paper.proofs.PlaceSets.{same-equal, equal-same}
-use Rattle.paper.proofs.Searched as Searched
-use Rattle.paper.proofs.Mapped.{code-entry, code-end, Simulates, search-how, search-entries, search-count}
+use Rattle.paper.proofs.base.Made.{getD-mem}
+use Rattle.paper.proofs.sheets.Asked.{GoodHeld, GoodQuestion}
+use Rattle.paper.proofs.equations.Same.{situation-equal, situation-same}
+use Rattle.paper.proofs.places.PlaceSets.{same-equal, equal-same}
+use Rattle.paper.proofs.search.Searched as Searched
+use Rattle.paper.proofs.search.Mapped.{code-entry, code-end, Simulates, search-how, search-entries, search-count}
 use Rattle.patterns.proofs.Masks.{Few}
 use Rattle.inner.specs.Inner.{side-code, move-code}
 use Rattle.situations.specs.Coded.{Coded, finished-coded, same-coded, children-coded, question-coded, given-coded}

@@ -11,7 +11,7 @@ use lib.ListN.{length, set, replicate, length-set}
 use Rattle.paper.specs.Numbers.{fields}
 use Rattle.paper.specs.Pattern.{Held, any-text, pattern}
 use Rattle.paper.specs.Sheet.{Fault, fault, PA, LE, bytes-left, marked, pattern-record, refused, left-read, pattern-read, read-records}
-use Rattle.paper.proofs.Tests.{by-bool, true-false}
+use Rattle.paper.proofs.base.Tests.{by-bool, true-false}
 use Rattle.patterns.specs.Worked.{worked-out}
 use Rattle.patterns.specs.declared.PlaceTables.{PlaceTables}
 use Rattle.sheets.specs.declared.cursor.PatternRecord.{PatternRecord}

@@ -10,8 +10,8 @@ use Rattle.paper.specs.Lists.{upto}
 use Rattle.paper.specs.Numbers.{fields}
 use Rattle.paper.specs.Pattern.{Held, any-text}
 use Rattle.paper.specs.Sheet.{Reading, LE, body, token, left-read, read-sheet}
-use Rattle.paper.proofs.Lists.{length-from}
-use Rattle.paper.proofs.Made.{getD-map-upto}
+use Rattle.paper.proofs.base.Lists.{length-from}
+use Rattle.paper.proofs.base.Made.{getD-map-upto}
 use Rattle.inner.specs.Inner.{side-code, padded}
 use Rattle.patterns.specs.Worked.{worked-out}
 use Rattle.patterns.specs.declared.PlaceTables.{PlaceTables}

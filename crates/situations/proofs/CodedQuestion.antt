@@ -12,8 +12,8 @@ use Rattle.paper.specs.Places.{first-set}
 use Rattle.paper.specs.Equation.{Side, stands-in}
 use Rattle.paper.specs.Situation.{trimmed, question}
 use Rattle.paper.specs.Question.{Question, acceptor}
-use Rattle.paper.proofs.Tests.{eqb-symmetric}
-use Rattle.paper.proofs.Lists.{cons-eq, map-append}
+use Rattle.paper.proofs.base.Tests.{eqb-symmetric}
+use Rattle.paper.proofs.base.Lists.{cons-eq, map-append}
 use Rattle.patterns.specs.Masks.{mask}
 use Rattle.inner.specs.Inner.{field-code, token-code, side-code}
 use Rattle.situations.specs.Coded.{first-mask, first-masks, question-coded}

@@ -15,10 +15,10 @@ use Rattle.paper.specs.Places.{PlaceSet, set-after, same-set}
 use Rattle.paper.specs.Equation.{chr, fld, Side}
 use Rattle.paper.specs.Situation.{Situation, front-field, set-of, front-may-end, front-takes}
 use Rattle.paper.specs.Question.{Question, held-by, acceptor}
-use Rattle.paper.proofs.Tests.{by-bool, same-tests, lt-ltb, neq-eqb, eq-eqb, eqb-true, eqb-false}
-use Rattle.paper.proofs.Lists.{cons-eq}
-use Rattle.paper.proofs.PlaceSets.{same-equal, equal-same}
-use Rattle.paper.proofs.Made.{getD-map-upto}
+use Rattle.paper.proofs.base.Tests.{by-bool, same-tests, lt-ltb, neq-eqb, eq-eqb, eqb-true, eqb-false}
+use Rattle.paper.proofs.base.Lists.{cons-eq}
+use Rattle.paper.proofs.places.PlaceSets.{same-equal, equal-same}
+use Rattle.paper.proofs.base.Made.{getD-map-upto}
 use Rattle.patterns.proofs.Masks.{Masked, Few, mask-same, mask-empty, mask-may-end, mask-after, taking-at}
 use Rattle.patterns.specs.Masks.{mask, follow-masks, taking-masks, last-mask}
 use Rattle.inner.specs.Inner.{field-code, no-token, side-code, field-of, front}

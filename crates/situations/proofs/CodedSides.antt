@@ -13,10 +13,10 @@ use Rattle.paper.specs.Lists.{any, only, keep, same-by, member}
 use Rattle.paper.specs.Numbers.{characters, set-fields}
 use Rattle.paper.specs.Equation.{Token, chr, fld, Side, is-field}
 use Rattle.paper.specs.Situation.{Acceptor, Sides, trim, same-token, Kind, is-finished, is-dead, is-open, kind-of, strike-in, put-in, front-field, front-fields, kind-finished}
-use Rattle.paper.proofs.Tests.{by-bool, cond-by, true-false, not-true, same-tests, neq-eqb, eq-eqb, eqb-true, eqb-symmetric, lt-leb, le-leb, lt-ltb, le-ltb}
-use Rattle.paper.proofs.Lists.{cons-eq, map-append, any-append, NoDup, none, more, member-true}
-use Rattle.paper.proofs.Asked.{InRange}
-use Rattle.paper.proofs.Moves.{front-fields-different}
+use Rattle.paper.proofs.base.Tests.{by-bool, cond-by, true-false, not-true, same-tests, neq-eqb, eq-eqb, eqb-true, eqb-symmetric, lt-leb, le-leb, lt-ltb, le-ltb}
+use Rattle.paper.proofs.base.Lists.{cons-eq, map-append, any-append, NoDup, none, more, member-true}
+use Rattle.paper.proofs.sheets.Asked.{InRange}
+use Rattle.paper.proofs.equations.Moves.{front-fields-different}
 use Rattle.inner.specs.Inner as Inner
 use Rattle.inner.specs.Inner.{field-code, no-token, token-code, side-code, is-char, field-of, front}
 use Rattle.situations.specs.Coded.{none as no-tokens, strike-codes, put-codes, alike-in-front, dead-sides}

@@ -7,7 +7,7 @@ use mathlib.Core.List.{List, [], _∷_}
 use lib.Dec.{eqb}
 use lib.ListN.{length, getD}
 use Rattle.paper.specs.Numbers.{longest-side}
-use Rattle.paper.proofs.Tests.{cond-by, true-false, le-leb, lt-leb}
+use Rattle.paper.proofs.base.Tests.{cond-by, true-false, le-leb, lt-leb}
 use Rattle.inner.specs.Inner.{no-token, is-char, front, tokens}
 use Rattle.situations.specs.Coded.{none, dropped, above, made, dead-sides, judged-sides}
 

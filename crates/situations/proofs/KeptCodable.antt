@@ -15,11 +15,11 @@ use Rattle.paper.specs.Search.{child}
 use Rattle.paper.specs.Equation.{chr, fld, Side, stands-in}
 use Rattle.paper.specs.Situation.{Situation, Move, front-field, front-fields, trimmed, strike, strike-all, put-before, put-before-all, moved, children, question}
 use Rattle.paper.specs.Question.{Question, held-by, acceptor}
-use Rattle.paper.proofs.Tests.{by-bool, cond-by, ltb-true, ltb-false}
-use Rattle.paper.proofs.Lists.{length-from}
-use Rattle.paper.proofs.Made.{getD-map-upto}
-use Rattle.paper.proofs.Moves.{other-is-front, Opened, strikes-left, strikes-right, puts, move-opened, child-made}
-use Rattle.paper.proofs.Question.{asked}
+use Rattle.paper.proofs.base.Tests.{by-bool, cond-by, ltb-true, ltb-false}
+use Rattle.paper.proofs.base.Lists.{length-from}
+use Rattle.paper.proofs.base.Made.{getD-map-upto}
+use Rattle.paper.proofs.equations.Moves.{other-is-front, Opened, strikes-left, strikes-right, puts, move-opened, child-made}
+use Rattle.paper.proofs.equations.Question.{asked}
 use Rattle.patterns.proofs.Masks.{Masked, Few, masked-first, masked-none, masked-after}
 use Rattle.situations.proofs.CodedSides.{Known-side, known-strike, known-put, known-trim}
 use Rattle.situations.proofs.CodedSets.{Codable, masked-set}

@@ -12,9 +12,9 @@ use lib.ListN.{length, set}
 use lib.Seq.{set-out}
 use Rattle.paper.specs.Lists.{upto, member}
 use Rattle.paper.specs.Numbers.{set-fields}
-use Rattle.paper.proofs.Lists.{any-append, map-append}
-use Rattle.paper.proofs.Made.{from-snoc}
-use Rattle.paper.proofs.Tests.{cond-by, le-leb, lt-leb, ltb-false}
+use Rattle.paper.proofs.base.Lists.{any-append, map-append}
+use Rattle.paper.proofs.base.Made.{from-snoc}
+use Rattle.paper.proofs.base.Tests.{cond-by, le-leb, lt-leb, ltb-false}
 use Rattle.patterns.specs.Masks.{followers-of, mask-of, in-mask}
 use Rattle.inner.specs.Inner.{field-code, no-token, field-of}
 use Rattle.situations.specs.Coded.{with-set, first-mask}

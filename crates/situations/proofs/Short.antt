@@ -10,8 +10,8 @@ use lib.Dec.{leb, eqb, ltb}
 use lib.ListN.{length, drop, length-drop, length-set}
 use Rattle.paper.specs.Lists.{all, only, keep}
 use Rattle.paper.specs.Numbers.{characters, set-fields, longest-side}
-use Rattle.paper.proofs.Lists.{all-true, every-all, all-append, mem-keep}
-use Rattle.paper.proofs.Tests.{cond-by, both-true, and-left, and-right, or-left-false, or-right-false, not-is-false, false-not, leb-true, ltb-true, neq-eqb}
+use Rattle.paper.proofs.base.Lists.{all-true, every-all, all-append, mem-keep}
+use Rattle.paper.proofs.base.Tests.{cond-by, both-true, and-left, and-right, or-left-false, or-right-false, not-is-false, false-not, leb-true, ltb-true, neq-eqb}
 use Rattle.inner.specs.Inner.{field-code, no-token, is-token, is-field, field-of, front}
 use Rattle.inner.proofs.Tokens.{tokens-length, all-tokens, tokens-padded}
 use Rattle.situations.specs.Coded.{Coded, Settled, dropped, above, made, strike-codes, put-codes, alike-in-front, dead-sides}

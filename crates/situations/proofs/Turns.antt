@@ -10,7 +10,7 @@ use lib.Dec.{leb, eqb}
 use lib.ListN.{length, getD, take, drop, length-drop, drop-of-length-le}
 use lib.Seq.{take-suc, drop-cons, take-all, length-take-le}
 use Rattle.paper.specs.Lists.{only, keep}
-use Rattle.paper.proofs.Tests.{cond-by}
+use Rattle.paper.proofs.base.Tests.{cond-by}
 use Rattle.inner.specs.Inner.{field-code, no-token, is-char, tokens}
 use Rattle.situations.specs.Coded.{strike-codes, put-codes, alike-in-front}
 

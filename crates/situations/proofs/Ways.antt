@@ -11,9 +11,9 @@ use Rattle.paper.specs.Leads.{Leads, start, step}
 use Rattle.paper.specs.Situation.{Acceptor, Situation, Move, strike-left, strike-right, put, trimmed, moved, children}
 use Rattle.paper.specs.Question.{Question, acceptor}
 use Rattle.paper.specs.Way.{given, text-along}
-use Rattle.paper.proofs.Tests.{lt-ltb, eqb-symmetric}
-use Rattle.paper.proofs.Lists.{cons-eq}
-use Rattle.paper.proofs.Moves.{Opened, strikes-left, strikes-right, puts, move-opened, child-made}
+use Rattle.paper.proofs.base.Tests.{lt-ltb, eqb-symmetric}
+use Rattle.paper.proofs.base.Lists.{cons-eq}
+use Rattle.paper.proofs.equations.Moves.{Opened, strikes-left, strikes-right, puts, move-opened, child-made}
 use Rattle.inner.specs.Inner.{field-code, side-code, move-code, front}
 use Rattle.situations.specs.Coded.{given-coded}
 use Rattle.situations.specs.Coding.{situation-code}

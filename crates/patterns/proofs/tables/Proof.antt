@@ -5,7 +5,7 @@ use native.Mathlib.Omega.{arith}
 use mathlib.Core.Path.{sym, ap, _∙_}
 use lib.ListN.{length}
 use Rattle.paper.specs.Written.{read-part}
-use Rattle.paper.proofs.Tests.{not-is-true, not-is-false}
+use Rattle.paper.proofs.base.Tests.{not-is-true, not-is-false}
 use Rattle.patterns.specs.Reading.{Working, working, Read-as}
 use Rattle.patterns.specs.Worked.{worked-of}
 use Rattle.patterns.proofs.Judged.{unworked, judge-bad, judge-left, judge-many, judge-good}

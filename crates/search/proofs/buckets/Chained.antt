@@ -9,7 +9,7 @@ use lib.Dec.{leb}
 use lib.ListN.{length, getD}
 use Rattle.paper.specs.Lists.{any}
 use Rattle.paper.specs.Numbers.{situation-bytes}
-use Rattle.paper.proofs.Tests.{by-bool, true-false, not-true, leb-true, leb-false, eqb-true, eq-eqb}
+use Rattle.paper.proofs.base.Tests.{by-bool, true-false, not-true, leb-true, leb-false, eqb-true, eq-eqb}
 use Rattle.situations.specs.Coded.{Coded, same-coded}
 use Rattle.search.specs.Buckets.{buckets, bucket, in-bucket, newest, link, older-at, newest-at, Kept, Sought, Entered-at}
 use Rattle.search.specs.Slots.{key, Slot, slot-at, no-slot}

@@ -8,7 +8,7 @@ use lib.Dec.{eqb}
 use lib.ListN.{length, getD, drop, drop-of-length-le}
 use lib.Seq.{drop-cons}
 use Rattle.paper.specs.Numbers.{longest-side}
-use Rattle.paper.proofs.Tests.{eq-eqb, neq-eqb}
+use Rattle.paper.proofs.base.Tests.{eq-eqb, neq-eqb}
 use Rattle.inner.specs.Inner.{no-token}
 use Rattle.search.specs.Buckets.{mixed, hash-from, hash-side, hash}
 use Rattle.search.specs.Slots.{right-at, sets-at, sets-bytes, part}

@@ -9,7 +9,7 @@ use lib.ListN.{length, replicate, length-append, length-replicate, getD-replicat
 use lib.Seq.{getD-at}
 use borrow.Rule.Slice.PartMut.{putMid}
 use Rattle.paper.specs.Numbers.{situation-bytes}
-use Rattle.paper.proofs.Tests.{by-bool, ltb-true, ltb-false, eqb-true, eqb-false}
+use Rattle.paper.proofs.base.Tests.{by-bool, ltb-true, ltb-false, eqb-true, eqb-false}
 use Rattle.situations.specs.Coded.{Coded}
 use Rattle.situations.specs.Laid.{Short}
 use Rattle.search.specs.Buckets.{older-at, newest-at, link, newest, buckets, bucket, in-bucket, Linked, Links-put, Kept}

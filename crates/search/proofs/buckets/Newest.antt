@@ -5,7 +5,7 @@ use native.Mathlib.Omega.{arith}
 use mathlib.Core.Path.{_≡_, refl}
 use mathlib.Core.Bool.{Bool, true, false}
 use lib.Dec.{ltb}
-use Rattle.paper.proofs.Tests.{by-bool, ltb-true, ltb-false}
+use Rattle.paper.proofs.base.Tests.{by-bool, ltb-true, ltb-false}
 use Rattle.search.specs.Buckets.{newest}
 
 module _ (p : ℕ → Bool) where

@@ -8,7 +8,7 @@ use mathlib.Core.Path.{_≡_, refl, ap, sym, _∙_}
 use mathlib.Core.List.{List, [], _∷_, _++_, append-assoc, append-nil}
 use lib.ListN.{length, getD, take, drop, set}
 use lib.Seq.{take-all, take-suc-set, drop-cons}
-use Rattle.paper.proofs.Lists.{cons-eq}
+use Rattle.paper.proofs.base.Lists.{cons-eq}
 use Rattle.search.specs.LowFirst.{low-first, number-of}
 
 -- the number is back

@@ -5,7 +5,7 @@ use mathlib.Core.Path.{_≡_}
 use mathlib.Core.Bool.{true, false}
 use mathlib.Core.List.{List}
 use lib.ListN.{length}
-use Rattle.paper.proofs.Tests.{le-leb, lt-leb}
+use Rattle.paper.proofs.base.Tests.{le-leb, lt-leb}
 use Rattle.search.specs.Records.{text-above, value-records, in-front, answer-given, buffer-after, Answered}
 use Rattle.search.specs.declared.records.Given.the-variants.{TextTooLong, TooShort, Written}
 

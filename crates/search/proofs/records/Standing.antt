@@ -12,8 +12,8 @@ use lib.ListN.{length, getD, length-append}
 use Rattle.paper.specs.Lists.{from, upto, any, only, keep, each}
 use Rattle.paper.specs.Numbers.{fields, longest-text}
 use Rattle.paper.specs.Outcome.{value-record}
-use Rattle.paper.proofs.Tests.{lt-leb, le-leb, leb-true, neq-eqb, not-is-false, false-not}
-use Rattle.paper.proofs.Lists.{any-false, keep-mem, upto-mem}
+use Rattle.paper.proofs.base.Tests.{lt-leb, le-leb, leb-true, neq-eqb, not-is-false, false-not}
+use Rattle.paper.proofs.base.Lists.{any-false, keep-mem, upto-mem}
 use Rattle.search.specs.Records.{head-bytes, standing-fields, text-above, value-records}
 use Rattle.search.proofs.records.Records.{length-record}
 

@@ -10,8 +10,8 @@ use lib.Dec.{eqb}
 use lib.ListN.{length, getD, drop, drop-of-length-le}
 use lib.Seq.{drop-cons}
 use Rattle.paper.specs.Lists.{same-by}
-use Rattle.paper.proofs.Tests.{eqb-true, eqb-same, eq-eqb, neq-eqb}
-use Rattle.paper.proofs.Lists.{same-by-equal, same-by-same}
+use Rattle.paper.proofs.base.Tests.{eqb-true, eqb-same, eq-eqb, neq-eqb}
+use Rattle.paper.proofs.base.Lists.{same-by-equal, same-by-same}
 
 -- two lists are compared from the place i on: the next elements are the same, they differ, or there is none
 pub same-next : (i : ℕ) (a b : List ℕ) → i < length a → length a ≡ length b → getD a i 0 ≡ getD b i 0 → same-by eqb (drop i a) (drop i b) ≡ same-by eqb (drop (i + 1) a) (drop (i + 1) b)

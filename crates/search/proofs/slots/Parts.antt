@@ -10,7 +10,7 @@ use lib.Dec.{ltb}
 use lib.ListN.{length, getD, take, drop, set, length-take, length-drop, List·getD-append}
 use lib.Seq.{take-suc, drop-cons, set-at, take-at, drop-at, length-take-le, ext-getD, getD-take, getD-drop, take-take, drop-drop}
 use borrow.Rule.Slice.PartMut.{putMid, postOf, drop-put}
-use Rattle.paper.proofs.Tests.{by-bool, ltb-true, ltb-false}
+use Rattle.paper.proofs.base.Tests.{by-bool, ltb-true, ltb-false}
 
 module _ {ℓ} {A : Type ℓ} where
   -- one more element of a copy

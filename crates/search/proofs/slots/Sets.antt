@@ -10,7 +10,7 @@ use lib.ListN.{length, getD, take, drop}
 use lib.Seq.{take-suc, drop-drop, take-length, drop-length, length-take-le}
 use borrow.Rule.Slice.PartMut.{putMid}
 use Rattle.paper.specs.Lists.{each}
-use Rattle.paper.proofs.Lists.{cons-eq}
+use Rattle.paper.proofs.base.Lists.{cons-eq}
 use Rattle.search.specs.Slots.{mask-width, mask-bytes}
 use Rattle.search.proofs.numbers.Bytes.{same-number}
 use Rattle.search.proofs.slots.Parts.{part-back}

@@ -10,7 +10,7 @@ use lib.ListN.{length, length-append, length-replicate}
 use lib.Seq.{take-at, drop-at}
 use Rattle.paper.specs.Lists.{each, same-by}
 use Rattle.paper.specs.Numbers.{longest-side}
-use Rattle.paper.proofs.Tests.{and-left, and-right, both-true, same-tests}
+use Rattle.paper.proofs.base.Tests.{and-left, and-right, both-true, same-tests}
 use Rattle.inner.specs.Inner.{padded}
 use Rattle.situations.specs.Coded.{Coded, same-coded}
 use Rattle.situations.specs.Laid.{held, as-struct, Short}

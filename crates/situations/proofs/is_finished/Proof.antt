@@ -4,7 +4,7 @@ use mathlib.Core.Path.{_≡_}
 use lib.ListN.{length, getD}
 use borrow.Author.Needs.{needs}
 use Rattle.paper.specs.Numbers.{longest-side}
-use Rattle.paper.proofs.Tests.{eq-eqb, neq-eqb}
+use Rattle.paper.proofs.base.Tests.{eq-eqb, neq-eqb}
 use Rattle.inner.specs.Inner.{no-token}
 use Rattle.situations.proofs.Judged.{none-tokens}
 use Rattle.situations.proofs.is_finished.Statement.{statement}

@@ -9,7 +9,7 @@ use mathlib.Core.Path.{_≡_, refl, ap}
 use mathlib.Core.Bool.{true}
 use lib.ListN.{length, getD, drop, length-drop}
 use Rattle.paper.specs.Numbers.{then-code, or-code}
-use Rattle.paper.proofs.Tests.{not-is-true, not-is-false}
+use Rattle.paper.proofs.base.Tests.{not-is-true, not-is-false}
 use Rattle.patterns.specs.Reading.{Working, working, Reading-of}
 use Rattle.patterns.proofs.Readings.{to-end, as-nothing, as-none, First, as-no-first, as-many, second-within, second-room}
 use Rattle.patterns.proofs.Readings.{as-then, as-or, as-no-second}

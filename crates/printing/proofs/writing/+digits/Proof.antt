@@ -1,14 +1,13 @@
 -- `digits` meets its contract. It calls itself for the digits before the last, and the measure is the number of digits that it may put.
 -- Follows from the laws of `digits` and of bytes put one behind the other.
-use Prim.Native.Nat.{ℕ, _+_, _*_, _-_, _/_, _%_, _<_, _≤_}
+use Prim.Native.Nat.{ℕ, _<_}
 use native.Mathlib.Omega.{arith}
-use mathlib.Core.Path.{_≡_, ap}
-use mathlib.Core.List.{[], _∷_, _++_}
-use lib.ListN.{length, length-append}
+use mathlib.Core.Path.{ap}
+use lib.ListN.{length}
 use borrow.Author.Needs.{needs}
 use borrow.Fn.Kinds.{In}
 use borrow.Fn.PlainCycle.{Measures, is, falls, and}
-use Rattle.printing.specs.Lines.{in-digits}
+use Rattle.printing.specs.Writing.{in-digits}
 use Rattle.printing.proofs.Decimal.{one-digit, more-digits, one-more-digit}
 use Rattle.printing.proofs.Putting.{puts-none, puts-then}
 use Rattle.printing.proofs.writing.digits.Reads as digits

@@ -8,7 +8,7 @@ use lib.ListN.{length, take}
 use lib.Seq.{take-all}
 use borrow.Author.Needs.{needs}
 use Rattle.paper.specs.Printed.{sign}
-use Rattle.printing.specs.Lines.{Puts}
+use Rattle.printing.specs.Writing.{Puts}
 use Rattle.printing.proofs.Putting.{puts-none, puts-then}
 use Rattle.printing.proofs.Walked.{signs-more}
 use Rattle.printing.proofs.writing.spell.Statement.{statement}

@@ -6,7 +6,7 @@ use mathlib.Core.Path.{_≡_, refl, _∙_}
 use lib.ListN.{length, getD}
 use borrow.Author.Needs.{needs}
 use Rattle.paper.specs.Printed.{value-lines}
-use Rattle.printing.specs.Lines.{record-head}
+use Rattle.printing.specs.Writing.{record-head}
 use Rattle.printing.proofs.Walked.{Underway, none-put, one-put, all-put, text, text-part, text-within, text-long, value-line-length}
 use Rattle.printing.proofs.writing.value_lines.Statement.{statement}
 use Rattle.printing.proofs.writing.value_lines.Tie as tie

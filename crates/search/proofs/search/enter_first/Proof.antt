@@ -4,7 +4,7 @@ use native.Mathlib.Omega.{arith}
 use mathlib.Core.Path.{sym, _∙_}
 use lib.ListN.{length}
 use borrow.Author.Needs.{needs}
-use Rattle.paper.proofs.Tests.{le-leb}
+use Rattle.paper.proofs.base.Tests.{le-leb}
 use Rattle.search.specs.Run.{enter-slot}
 use Rattle.search.proofs.search.Keys.{key-put, bucket-put}
 use Rattle.search.proofs.search.enter_first.Statement.{statement}

@@ -3,7 +3,7 @@
 use mathlib.Core.Path.{_≡_, sym, ap, _∙_}
 use mathlib.Core.Bool.{true, false}
 use borrow.Author.Needs.{needs}
-use Rattle.paper.proofs.Tests.{not-is-true, not-is-false}
+use Rattle.paper.proofs.base.Tests.{not-is-true, not-is-false}
 use Rattle.situations.specs.declared.Child.{Child}
 use Rattle.search.specs.Run.{is-going}
 use Rattle.situations.proofs.Short.{fate-dropped, fate-above, fate-made}

@@ -5,7 +5,7 @@ use mathlib.Core.Path.{_≡_, refl, sym, _∙_}
 use mathlib.Core.List.{List}
 use lib.ListN.{length}
 use borrow.Author.Needs.{needs}
-use Rattle.paper.proofs.Tests.{le-leb}
+use Rattle.paper.proofs.base.Tests.{le-leb}
 use Rattle.situations.specs.Coded.{Coded}
 use Rattle.situations.specs.Laid.{as-struct, Short}
 use Rattle.search.specs.Buckets.{Kept, Entered-at}

@@ -7,7 +7,7 @@ use mathlib.Core.Bool.{true, false}
 use mathlib.Core.List.{[]}
 use lib.ListN.{length}
 use borrow.Author.Needs.{needs}
-use Rattle.paper.proofs.Tests.{not-is-true, not-is-false}
+use Rattle.paper.proofs.base.Tests.{not-is-true, not-is-false}
 use Rattle.situations.specs.Coded.{Coded, Tables}
 use Rattle.search.specs.Lent.{Lent, tables}
 use Rattle.search.specs.Run.{Running, is-going, enter-slot, slot-search}

@@ -3,7 +3,7 @@ use Prim.Native.Nat.{_<_}
 use native.Mathlib.Omega.{arith}
 use lib.ListN.{length}
 use borrow.Author.Needs.{needs}
-use Rattle.paper.proofs.Tests.{lt-ltb}
+use Rattle.paper.proofs.base.Tests.{lt-ltb}
 use Rattle.search.specs.Run.{take-slot}
 use Rattle.search.specs.Slots.{slot-at}
 use Rattle.search.proofs.search.take.Statement.{statement}

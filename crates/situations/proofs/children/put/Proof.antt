@@ -2,7 +2,7 @@
 use mathlib.Core.Path.{sym, _∙_}
 use borrow.Author.Needs.{needs}
 use Rattle.paper.specs.Numbers.{characters}
-use Rattle.paper.proofs.Tests.{lt-ltb, le-ltb}
+use Rattle.paper.proofs.base.Tests.{lt-ltb, le-ltb}
 use Rattle.situations.specs.Coded.{put-of}
 use Rattle.situations.proofs.children.put.Statement.{statement}
 use Rattle.situations.proofs.children.put.Tie as tie

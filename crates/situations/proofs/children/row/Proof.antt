@@ -2,7 +2,7 @@
 use native.Mathlib.Omega.{arith}
 use borrow.Author.Needs.{needs}
 use Rattle.paper.specs.Numbers.{set-fields}
-use Rattle.paper.proofs.Tests.{lt-ltb, le-ltb}
+use Rattle.paper.proofs.base.Tests.{lt-ltb, le-ltb}
 use Rattle.inner.specs.Inner.{field-of}
 use Rattle.situations.specs.Coded.{row-at}
 use Rattle.situations.proofs.children.row.Statement.{statement}

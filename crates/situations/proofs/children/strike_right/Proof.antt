@@ -2,7 +2,7 @@
 use mathlib.Core.Path.{refl, sym, _∙_}
 use mathlib.Core.Bool.{false}
 use borrow.Author.Needs.{needs}
-use Rattle.paper.proofs.Tests.{eq-eqb, neq-eqb, right-false}
+use Rattle.paper.proofs.base.Tests.{eq-eqb, neq-eqb, right-false}
 use Rattle.situations.specs.Coded.{may-end-at, right-strike}
 use Rattle.situations.proofs.children.strike_right.Statement.{statement}
 use Rattle.situations.proofs.children.strike_right.Tie as tie

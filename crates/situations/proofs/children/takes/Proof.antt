@@ -1,6 +1,6 @@
 -- `children::takes` meets its contract. Follows from the tests on the token, as the definition makes them.
 use native.Mathlib.Omega.{arith}
-use Rattle.paper.proofs.Tests.{lt-leb, le-leb, le-ltb, lt-ltb}
+use Rattle.paper.proofs.base.Tests.{lt-leb, le-leb, le-ltb, lt-ltb}
 use Rattle.inner.specs.Inner.{field-code, no-token}
 use Rattle.situations.specs.Coded.{takes-next}
 use Rattle.situations.proofs.children.takes.Statement.{statement}

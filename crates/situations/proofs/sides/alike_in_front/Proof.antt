@@ -5,7 +5,7 @@ use native.Mathlib.Omega.{arith}
 use mathlib.Core.Path.{_≡_}
 use lib.Dec.{eqb}
 use lib.ListN.{length, drop, getD}
-use Rattle.paper.proofs.Tests.{eq-eqb, neq-eqb, lt-ltb, le-ltb, left-false, right-false}
+use Rattle.paper.proofs.base.Tests.{eq-eqb, neq-eqb, lt-ltb, le-ltb, left-false, right-false}
 use Rattle.inner.specs.Inner.{field-code, is-char}
 use Rattle.situations.specs.Coded.{alike-in-front}
 use Rattle.situations.proofs.Turns.{alike-more, alike-left-ends, alike-right-ends, alike-stops}

@@ -2,7 +2,7 @@
 use mathlib.Core.Path.{_≡_}
 use mathlib.Core.Bool.{true, false}
 use borrow.Author.Needs.{needs}
-use Rattle.paper.proofs.Tests.{lt-ltb, le-ltb}
+use Rattle.paper.proofs.base.Tests.{lt-ltb, le-ltb}
 use Rattle.inner.specs.Inner.{field-code, front, is-char}
 use Rattle.situations.proofs.Judged.{none-true, none-false, dead-by-right, dead-by-left}
 use Rattle.situations.proofs.sides.is_dead.Statement.{statement}

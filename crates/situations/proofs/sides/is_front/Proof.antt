@@ -1,5 +1,5 @@
 -- `sides::is_front` meets its contract: each way out by its tests.
-use Rattle.paper.proofs.Tests.{le-leb, lt-leb, eq-eqb, neq-eqb}
+use Rattle.paper.proofs.base.Tests.{le-leb, lt-leb, eq-eqb, neq-eqb}
 use Rattle.inner.specs.Inner.{field-code}
 use Rattle.situations.proofs.sides.is_front.Statement.{statement}
 use Rattle.situations.proofs.sides.is_front.Tie as tie

@@ -6,7 +6,7 @@ use mathlib.Core.Path.{_≡_}
 use lib.ListN.{length, drop, getD}
 use borrow.Author.Needs.{needs}
 use Rattle.paper.specs.Numbers.{longest-side}
-use Rattle.paper.proofs.Tests.{eq-eqb, neq-eqb}
+use Rattle.paper.proofs.base.Tests.{eq-eqb, neq-eqb}
 use Rattle.inner.specs.Inner.{no-token, tokens}
 use Rattle.inner.proofs.Tokens.{tokens-part}
 use Rattle.situations.proofs.Turns.{tokens-more, tokens-end, tokens-none}

@@ -8,7 +8,7 @@ use lib.Dec.{eqb}
 use lib.ListN.{length, take, getD}
 use borrow.Author.Needs.{needs}
 use Rattle.paper.specs.Numbers.{longest-side}
-use Rattle.paper.proofs.Tests.{eq-eqb, neq-eqb, true-not, false-not}
+use Rattle.paper.proofs.base.Tests.{eq-eqb, neq-eqb, true-not, false-not}
 use Rattle.situations.specs.Coded.{strike-codes}
 use Rattle.situations.specs.Laid.{In-front, widest-side}
 use Rattle.situations.proofs.InFront.{in-front-none, in-front-taken, in-front-left, in-front-part}

@@ -13,7 +13,7 @@ use Rattle.paper.specs.Numbers.{fields}
 use Rattle.paper.specs.Pattern.{Pattern}
 use Rattle.paper.specs.Written.{Judged, judge, judged}
 use Rattle.paper.specs.Sheet.{read, body, byte-at, pattern-judged, pattern-record}
-use Rattle.paper.proofs.Tests.{or-left-false, leb-false}
+use Rattle.paper.proofs.base.Tests.{or-left-false, leb-false}
 use Rattle.patterns.specs.Worked.{worked-of}
 use Rattle.sheets.proofs.Verdicts.{told-not-one, told-too-many, told-good}
 use Rattle.sheets.proofs.cursor.Cursor.pattern.Statement.{statement}
