@@ -159,15 +159,19 @@ known-searches =
     answer-row (LE (B ∷ []) ++ RI (x ∷ y ∷ [])) 1000 20 0 5 (VA 0 [] ++ VA 1 (B ∷ [])) ∷
     -- x`AAA` and y`AA`, open: the left front is struck first
     answer-row (LE (x ∷ A ∷ A ∷ A ∷ []) ++ RI (y ∷ A ∷ A ∷ [])) 1000 20 0 6 (VA 0 [] ++ VA 1 (A ∷ [])) ∷
-    -- x one of 5 to 7, x and y: the lowest character is put first
-    answer-row (PA 0 (65 ∷ 5 ∷ 7 ∷ []) ++ LE (x ∷ []) ++ RI (y ∷ [])) 1200 20 0 6 (VA 0 (5 ∷ []) ++ VA 1 (5 ∷ [])) ∷
+    -- x one digit, x and y: the lowest character is put first
+    answer-row (PA 0 (65 ∷ 0 ∷ 9 ∷ []) ++ LE (x ∷ []) ++ RI (y ∷ [])) 1200 20 0 6 (VA 0 (0 ∷ []) ++ VA 1 (0 ∷ [])) ∷
     -- x and x, open, then with the pattern `A`: equal fields in front are not dropped, and c is put once
     answer-row (LE (x ∷ []) ++ RI (x ∷ [])) 600 20 0 2 (VA 0 []) ∷
     answer-row (PA 0 (A ∷ []) ++ LE (x ∷ []) ++ RI (x ∷ [])) 600 20 0 3 (VA 0 (A ∷ [])) ∷
+    -- x any number of `A`, x and xy`B`: the set of a field that is gone is not kept
+    answer-row (PA 0 (68 ∷ A ∷ []) ++ LE (x ∷ []) ++ RI (x ∷ y ∷ B ∷ [])) 1000 20 1 3 [] ∷
     -- 16 times x, `BB` and `AA`, open: a left side of 48 tokens
     answer-row (LE (replicate 16 x ++ B ∷ B ∷ []) ++ RI (A ∷ A ∷ [])) 600 20 1 3 [] ∷
     -- 16 times x, `BBB` and `AA`, open: a left side of 49 tokens
     answer-row (LE (replicate 16 x ++ B ∷ B ∷ B ∷ []) ++ RI (A ∷ A ∷ [])) 600 20 19 2 [] ∷
+    -- 16 times x, `BB` and `AAA`, open: a left side of 48 tokens and a right side of one
+    answer-row (LE (replicate 16 x ++ B ∷ B ∷ []) ++ RI (A ∷ A ∷ A ∷ [])) 600 20 19 3 [] ∷
     -- `AA` and 16 times x, `BB`, open: a right side of 48 tokens
     answer-row (LE (A ∷ A ∷ []) ++ RI (replicate 16 x ++ B ∷ B ∷ [])) 600 20 1 3 [] ∷
     -- `AA` and 16 times x, `BBB`, open: a right side of 49 tokens
@@ -212,6 +216,13 @@ known-patterns =
     -- `A` any number of times
     answer-row (against (68 ∷ A ∷ []) []) 600 20 0 2 (VA 0 []) ∷
     answer-row (against (68 ∷ A ∷ []) (A ∷ A ∷ [])) 600 20 0 4 (VA 0 (A ∷ A ∷ [])) ∷
+    -- what may be empty: both of two, the first, the second, one of two
+    answer-row (against (66 ∷ 68 ∷ A ∷ 68 ∷ B ∷ []) []) 600 20 0 2 (VA 0 []) ∷
+    answer-row (against (66 ∷ 68 ∷ A ∷ B ∷ []) []) 600 20 1 1 [] ∷
+    answer-row (against (66 ∷ 68 ∷ A ∷ B ∷ []) (B ∷ [])) 600 20 0 3 (VA 0 (B ∷ [])) ∷
+    answer-row (against (66 ∷ A ∷ 68 ∷ B ∷ []) []) 600 20 1 1 [] ∷
+    answer-row (against (66 ∷ A ∷ 68 ∷ B ∷ []) (A ∷ [])) 600 20 0 3 (VA 0 (A ∷ [])) ∷
+    answer-row (against (67 ∷ A ∷ 64 ∷ []) []) 600 20 0 2 (VA 0 []) ∷
     -- bytes that are no code
     fault-row (judged-only (43 ∷ [])) 15 0 ∷
     fault-row (judged-only (63 ∷ [])) 15 0 ∷
