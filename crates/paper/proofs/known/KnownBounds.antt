@@ -58,8 +58,8 @@ known-bounds =
     (LE (10 ∷ []) ++ RI (10 ∷ 11 ∷ []), 6) ∷
     -- x and `AA`, open
     (LE (64 ∷ []) ++ RI (10 ∷ 10 ∷ []), 6) ∷
-    -- `A`x and y`B`z, x the empty text
-    (PA 0 (64 ∷ []) ++ LE (10 ∷ 64 ∷ []) ++ RI (65 ∷ 11 ∷ 66 ∷ []), 12) ∷
+    -- `A`x and y`B`z, x the empty text, y `A` then `B`
+    (PA 0 (64 ∷ []) ++ PA 1 (66 ∷ 10 ∷ 11 ∷ []) ++ LE (10 ∷ 64 ∷ []) ++ RI (65 ∷ 11 ∷ 66 ∷ []), 18) ∷
     -- x`A` and nothing, x `A` then `B` then `A`
     (PA 0 (66 ∷ 66 ∷ 10 ∷ 11 ∷ 10 ∷ []) ++ LE (64 ∷ 10 ∷ []) ++ RI [], 6) ∷
     -- nothing and x, x one or two of `A` and `B`
