@@ -57,10 +57,6 @@ below-same (suc n) t u h =
     (below-same n (λ (q : ℕ). t (suc q)) (λ (q : ℕ). u (suc q)) (λ q l. h (suc q) (omega arith)))
     ∙ sym (below-suc n u)
 
-digit-lt : (b : Bool) → digit b < 2
-digit-lt true = omega arith
-digit-lt false = omega arith
-
 pub below-none : (n : ℕ) → below n (λ (q : ℕ). false) ≡ 0
 below-none zero = refl
 below-none (suc n) = rw (below-suc n (λ (q : ℕ). false), below-none n) refl
