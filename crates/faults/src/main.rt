@@ -11,5 +11,5 @@
 //  95 to 104  good sheets: both sides empty, 24 tokens a side, a pattern for each field, one of 31 leaves, one of 96 bytes, 95 deep
 // 105 to 166  x with a pattern and y open: each operator under the others, ranges, 31 leaves, and patterns with a fault
 fn main() {
-    stream::answer_all();
+    stream::answer_all(stream::Shown::Bytes);
 }
