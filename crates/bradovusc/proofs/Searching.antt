@@ -14,7 +14,7 @@ use Rattle.paper.specs.Question.{Question, held-by}
 use Rattle.paper.specs.Sheet.{asked, read-sheet}
 use Rattle.paper.specs.Outcome.{outcome, room-of}
 use Rattle.paper.proofs.base.Tests.{neq-eqb, false-not, both-true}
-use Rattle.paper.proofs.sheets.Asked.{InRange, GoodQuestion, asked-good}
+use Rattle.paper.proofs.sheets.Asked.{InRange, GoodQuestion, sheet-good}
 use Rattle.patterns.specs.Worked.{worked-out}
 use Rattle.patterns.specs.declared.PlaceTables.{PlaceTables}
 use Rattle.inner.specs.Inner.{no-token, is-token, token-code, side-code, tokens, padded}
@@ -53,7 +53,7 @@ codes-are-tokens (t ∷ side) h =
 
 module _ (sheet : List ℕ) (q : Question) (g : read-sheet sheet ≡ asked q) where
   good : GoodQuestion q
-  good = asked-good sheet g
+  good = sheet-good sheet q g
 
   left-read : tokens (padded (side-code (q .left))) ≡ side-code (q .left)
   left-read = tokens-padded (side-code (q .left)) (codes-are-tokens (q .left) (good .left .tokens))

@@ -7,6 +7,7 @@ ghost use mathlib.Core.Path.{_≡_};
 ghost use Rattle.paper.specs.Buffers.{Demand1};
 ghost use Rattle.paper.specs.Demands.{Demand2, Demand3};
 ghost use Rattle.paper.specs.Outcome.{outcome};
+ghost use Rattle.paper.specs.Sheet.{read-sheet};
 ghost use Rattle.bradovusc.specs.Entry.{told, as-numbers, answer-of, Asks};
 
 // The answer to a sheet. specs/Entry.antt gives each its number, count, place and written length.
@@ -30,9 +31,9 @@ pub enum Answer {
 // Can the two rules of the sheet make the same label?
 pub fn clash(sheet: &[u8], work: &mut [u8], answer: &mut [u8]) -> Answer
     ensures whole { λ r. ⌜ told r (now (answer .exit)) (now (work .exit)) ≡ outcome (now (sheet .entry)) (now (work .entry)) (now (answer .entry)) ⌝ }
-    ensures demand1 { λ r. ⌜ Demand1 (now (sheet .entry)) (now (work .entry)) (now (answer .entry)) (told r (now (answer .exit)) (now (work .exit))) ⌝ }
-    ensures demand2 { λ r. ⌜ Demand2 (now (sheet .entry)) (now (work .entry)) (now (answer .entry)) (told r (now (answer .exit)) (now (work .exit))) ⌝ }
-    ensures demand3 { λ r. ⌜ Demand3 (now (sheet .entry)) (now (work .entry)) (told r (now (answer .exit)) (now (work .exit))) ⌝ }
+    ensures demand1 { λ r. ⌜ Demand1 (read-sheet (now (sheet .entry))) (now (work .entry)) (now (answer .entry)) (told r (now (answer .exit)) (now (work .exit))) ⌝ }
+    ensures demand2 { λ r. ⌜ Demand2 (read-sheet (now (sheet .entry))) (now (work .entry)) (now (answer .entry)) (told r (now (answer .exit)) (now (work .exit))) ⌝ }
+    ensures demand3 { λ r. ⌜ Demand3 (read-sheet (now (sheet .entry))) (now (work .entry)) (told r (now (answer .exit)) (now (work .exit))) ⌝ }
 {
     let question = sheets::read(sheet);
     let found = question.found;

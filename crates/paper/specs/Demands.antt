@@ -1,6 +1,7 @@
--- Demands 2 and 3 as statements about any outcome o for a sheet, a working buffer and an answer buffer, lists of bytes. That the outcome of 01
--- (`Outcome.outcome`) meets them, for all lists, is proved in `Demand2` and `Demand3`. What a solution is says `Equation.Solves`, which knows
--- of no search.
+-- Demands 2 and 3 as statements about any outcome o for a reading, a working buffer and an answer buffer, lists of bytes. A reading is a fault
+-- or a question, however it was written; a sheet's is `read-sheet sheet`. That the outcome of 01 (`Outcome.outcome-of`, for a sheet
+-- `Outcome.outcome`) meets them, for all lists, is proved in `Demand2` and `Demand3`. What a solution is says `Equation.Solves`, which knows of
+-- no search.
 use Prim.Native.Nat.{ℕ, _≤_, _<_}
 use mathlib.Core.Path.{_≡_}
 use mathlib.Core.Logic.{_⊎_}
@@ -19,12 +20,12 @@ use Rattle.paper.specs.Children.{ChildOf}
 use Rattle.paper.specs.Way.{texts-of}
 use Rattle.paper.specs.Plain.{plain, plain-bound}
 use Rattle.paper.specs.Question.{Question, held-by, Solution, acceptor}
-use Rattle.paper.specs.Sheet.{Fault, refused, asked, read-sheet}
+use Rattle.paper.specs.Sheet.{Fault, Reading, refused, asked}
 use Rattle.paper.specs.Outcome.{Outcome, room-of, searched, standing, value-record, how-of}
 
--- a good sheet, and what it asks
-abbrev pub Good : List ℕ → Question → Type 0
-Good sheet q = read-sheet sheet ≡ asked q
+-- a good reading, and what it asks
+abbrev pub Good : Reading → Question → Type 0
+Good r q = r ≡ asked q
 
 -- how the search of the question ends, in the room that the working buffer has
 abbrev pub end-of : Question → List ℕ → End (Situation PlaceSet) Move
@@ -36,14 +37,14 @@ spelt q e = texts-of (acceptor q) (q .left) (q .right) e
 
 -- "a text for each field standing in the sides; the texts make both sides the same label and each fits its pattern": the search finds an
 -- entry, and the texts are those that its way spells
-pub record Solved (sheet work : List ℕ) : Type 0 where
+pub record Solved (r : Reading) (work : List ℕ) : Type 0 where
   pub question : Question
-  pub good : Good sheet question
+  pub good : Good r question
   pub entry : Entry (Situation PlaceSet) Move
   pub is-found : end-of question work ≡ found entry
   pub solution : Solution question (spelt question entry)
 
-abbrev pub texts-found : {sheet work : List ℕ} → Solved sheet work → Texts
+abbrev pub texts-found : {r : Reading} {work : List ℕ} → Solved r work → Texts
 texts-found s = spelt (s .question) (s .entry)
 
 -- the answer records of texts: for each field standing in the sides, by rising number, one directly behind the other
@@ -53,8 +54,8 @@ records-of q texts = each (λ (f : ℕ). value-record f (texts f)) (standing q)
 -- "Clash carries a text for each field standing in the sides": the first bytes of the answer buffer, as many as are written, are the
 -- records of the texts found. No field that stands is left out, and each text is short enough for the two bytes of its length.
 -- The rest of the buffer is unchanged.
-pub record Clash (sheet work answer : List ℕ) (o : Outcome) : Type 0 where
-  pub solved : Solved sheet work
+pub record Clash (r : Reading) (work answer : List ℕ) (o : Outcome) : Type 0 where
+  pub solved : Solved r work
   pub written : take (o .written) (o .answer) ≡ records-of (solved .question) (texts-found solved)
   pub each-field : (f : ℕ) → stands-in f (solved .question .left ++ solved .question .right) ≡ true → List·Memᴰ f (standing (solved .question))
   pub lengths : (f : ℕ) → List·Memᴰ f (standing (solved .question)) → length (texts-found solved f) ≤ longest-text
@@ -63,9 +64,9 @@ pub record Clash (sheet work answer : List ℕ) (o : Outcome) : Type 0 where
   pub same-length : length (o .answer) ≡ length answer
 
 -- "no such texts exist, of any length"
-pub record NoClash (sheet : List ℕ) : Type 0 where
+pub record NoClash (r : Reading) : Type 0 where
   pub question : Question
-  pub good : Good sheet question
+  pub good : Good r question
   pub none : (texts : Texts) → Solution question texts → ⊥
 
 -- the situations that the search enters, in their order, in the room that the working buffer has
@@ -83,16 +84,16 @@ pub record LeftOut (q : Question) (work : List ℕ) : Type 0 where
   pub is-child : ChildOf (acceptor q) parent move left-out
   pub not-entered : List·Memᴰ left-out (entered q work) → ⊥
 
-pub record NoRoom (sheet work : List ℕ) (o : Outcome) : Type 0 where
+pub record NoRoom (r : Reading) (work : List ℕ) (o : Outcome) : Type 0 where
   pub question : Question
-  pub good : Good sheet question
+  pub good : Good r question
   pub full : o .count ≡ room-of work
   pub left-out : (room-of work ≡ 0) ⊎ LeftOut question work
 
 -- 19, "a side above 48 tokens": a situation entered has a child with such a side
-pub record TooLong (sheet work : List ℕ) : Type 0 where
+pub record TooLong (r : Reading) (work : List ℕ) : Type 0 where
   pub question : Question
-  pub good : Good sheet question
+  pub good : Good r question
   pub parent : Situation PlaceSet
   pub move : Move
   pub long : Situation PlaceSet
@@ -101,8 +102,8 @@ pub record TooLong (sheet work : List ℕ) : Type 0 where
   pub above : (longest-side < length (long .left)) ⊎ (longest-side < length (long .right))
 
 -- 20, "answer buffer too short": the records of the texts found have more bytes than the buffer
-pub record TooShort (sheet work answer : List ℕ) : Type 0 where
-  pub solved : Solved sheet work
+pub record TooShort (r : Reading) (work answer : List ℕ) : Type 0 where
+  pub solved : Solved r work
   pub short : length answer < length (records-of (solved .question) (texts-found solved))
 
 -- the number for each end of the search; where it finds a finished situation, 0 if the records fit into the answer buffer
@@ -132,24 +133,24 @@ pub record InOrder (q : Question) (work answer : List ℕ) (o : Outcome) : Type 
   pub all-trimmed : (s : Situation PlaceSet) → List·Memᴰ s (entered q work) → equal-characters-in-front (s .left) (s .right) ≡ false
 
 -- Demand 2.
-pub record Demand2 (sheet work answer : List ℕ) (o : Outcome) : Type 0 where
+pub record Demand2 (r : Reading) (work answer : List ℕ) (o : Outcome) : Type 0 where
   -- "Clash carries a text for each field standing in the sides; the texts make both sides the same label and each fits its pattern."
-  pub clash : o .number ≡ 0 → Clash sheet work answer o
+  pub clash : o .number ≡ 0 → Clash r work answer o
   -- "No clash is given only if no such texts exist, of any length."
-  pub no-clash : o .number ≡ 1 → NoClash sheet
+  pub no-clash : o .number ≡ 1 → NoClash r
   -- "Refusals 18, 19, 20 come exactly where 01's search order says, and otherwise a good sheet gets clash or no clash, with the
   -- count of that order."
-  pub in-order : (q : Question) → Good sheet q → InOrder q work answer o
-  pub good-number : (q : Question) → Good sheet q → member (o .number) (0 ∷ 1 ∷ 18 ∷ 19 ∷ 20 ∷ []) ≡ true
+  pub in-order : (q : Question) → Good r q → InOrder q work answer o
+  pub good-number : (q : Question) → Good r q → member (o .number) (0 ∷ 1 ∷ 18 ∷ 19 ∷ 20 ∷ []) ≡ true
   -- Giving up is neither clash nor no clash: what each refusal of the search says.
-  pub no-room : o .number ≡ 18 → NoRoom sheet work o
-  pub too-long : o .number ≡ 19 → TooLong sheet work
-  pub too-short : o .number ≡ 20 → TooShort sheet work answer
+  pub no-room : o .number ≡ 18 → NoRoom r work o
+  pub too-long : o .number ≡ 19 → TooLong r work
+  pub too-short : o .number ≡ 20 → TooShort r work answer
   -- 21, "a text above 65,535 characters", is never given.
   pub text-too-long : o .number ≡ 21 → ⊥
-  -- A sheet that is not good gets none of these numbers, and no situation is entered.
-  pub not-good : (x : Fault) (at : ℕ) → read-sheet sheet ≡ refused x at → (11 ≤ o .number) × (o .number ≤ 17) × (o .count ≡ 0)
-  -- Whatever the sheet, the count is never above the room.
+  -- A reading that is not good gets none of these numbers, and no situation is entered.
+  pub not-good : (x : Fault) (at : ℕ) → r ≡ refused x at → (11 ≤ o .number) × (o .number ≤ 17) × (o .count ≡ 0)
+  -- Whatever the reading, the count is never above the room.
   pub count-within : o .count ≤ room-of work
 
 -- "(1 + L) times (1 + R)": "L adds, over the left side, one for each character and, for each field, the number of its reachable place
@@ -158,11 +159,11 @@ abbrev pub bound-of : Question → ℕ
 bound-of q = plain-bound (λ (f : ℕ). reachable-sets characters (held-by q f)) (q .left) (q .right)
 
 -- Demand 3.
-pub record Demand3 (sheet work : List ℕ) (o : Outcome) : Type 0 where
+pub record Demand3 (r : Reading) (work : List ℕ) (o : Outcome) : Type 0 where
   -- "If no field of a good sheet stands more than once in the two sides together, the count is at most (1 + L) times (1 + R)."
-  pub bounded : (q : Question) → Good sheet q → plain (q .left) (q .right) ≡ true → o .count ≤ bound-of q
+  pub bounded : (q : Question) → Good r q → plain (q .left) (q .right) ≡ true → o .count ≤ bound-of q
   -- "With working room, as 01 counts it (never above 65,535), for that many situations, the answer for such a sheet is never 18 or 19."
   pub room-counted : room-of work ≤ most-room
   pub enough-room :
-      (q : Question) → Good sheet q → plain (q .left) (q .right) ≡ true → bound-of q ≤ room-of work
+      (q : Question) → Good r q → plain (q .left) (q .right) ≡ true → bound-of q ≤ room-of work
       → (o .number ≡ 18 → ⊥) × (o .number ≡ 19 → ⊥)

@@ -1,5 +1,5 @@
--- Demand 1: for all sheets, working buffers and answer buffers, lists of bytes, the outcome of 01 meets it. What it says stands in
--- specs/Buffers: one of the numbered answers, and what place, count and both buffers are for each.
+-- Demand 1: for every reading and all buffers, lists of bytes, the outcome of 01 meets it. A sheet's is an instance: from bytes to bytes. What it
+-- says stands in specs/Buffers: one of the numbered answers, and what place, count and both buffers are for each.
 -- Follows from the definition of the outcome, test by test.
 use Prim.Native.Nat.{ℕ}
 use native.Mathlib.Omega.{arith}
@@ -30,23 +30,23 @@ fault-numbered not-one-pattern = (refl, false≢true)
 fault-numbered too-many-leaves = (refl, false≢true)
 fault-numbered wrong-token = (refl, false≢true)
 
-module _ (sheet work answer : List ℕ) where
-  abbrev Met : Outcome → Type 0
-  Met o = Demand1 sheet work answer o
-
-  fault-met : (x : Fault) (at : ℕ) → read-sheet sheet ≡ refused x at → Met (outcome-of (refused x at) work answer)
-  fault-met x at e =
+module _ (work answer : List ℕ) where
+  fault-met : (x : Fault) (at : ℕ) → Demand1 (refused x at) work answer (outcome-of (refused x at) work answer)
+  fault-met x at =
       let (numbered, not-search) = fault-numbered x in
       record {
         numbered = numbered;
         no-byte = λ _. record { written = refl; unchanged = refl };
         after-search = λ h. absurd (not-search h);
         after-fault = λ _. record { count = refl; unchanged = refl };
-        first-fault = λ y from e′. (cc, cc);
+        first-fault = λ y from e. (cc, cc);
       }
 
-  module _ (q : Question) (g : read-sheet sheet ≡ asked q) where
-    no-fault : (x : Fault) (at : ℕ) → read-sheet sheet ≡ refused x at → ⊥
+  module _ (q : Question) where
+    abbrev Met : Outcome → Type 0
+    Met o = Demand1 (asked q) work answer o
+
+    no-fault : (x : Fault) (at : ℕ) → asked q ≡ refused x at → ⊥
     no-fault x at e = let z : _≡_ {A = ℕ} 0 1 = cc in omega arith
 
     without-met : (n c : ℕ) → member n (search-numbers ++ sheet-numbers) ≡ true → (member n sheet-numbers ≡ true → ⊥) → Met (without-bytes n c work answer)
@@ -78,11 +78,12 @@ module _ (sheet work answer : List ℕ) where
     answered-met c no-room = without-met 18 c refl false≢true
     answered-met c too-long = without-met 19 c refl false≢true
 
-  reading-met : (r : Reading) → read-sheet sheet ≡ r → Met (outcome-of r work answer)
-  reading-met (refused x at) e = fault-met x at e
-  reading-met (asked q) e = answered-met q e (count-of (searched q (room-of work))) (how-of (searched q (room-of work)))
+-- For every reading and all buffers.
+pub demand-1 : (r : Reading) (work answer : List ℕ) → Demand1 r work answer (outcome-of r work answer)
+demand-1 (refused x at) work answer = fault-met work answer x at
+demand-1 (asked q) work answer = answered-met work answer q (count-of (searched q (room-of work))) (how-of (searched q (room-of work)))
 
-  -- For all sheets and buffers.
-  pub demand-1 : Demand1 sheet work answer (outcome sheet work answer)
-  unfolding outcome
-  demand-1 = reading-met (read-sheet sheet) refl
+-- For all sheets and buffers.
+pub sheet-demand-1 : (sheet work answer : List ℕ) → Demand1 (read-sheet sheet) work answer (outcome sheet work answer)
+unfolding outcome
+sheet-demand-1 sheet = demand-1 (read-sheet sheet)

@@ -20,43 +20,43 @@ use Rattle.paper.specs.Search.{enter, offer, take-next, search}
 use Rattle.paper.specs.Situation.{trimmed, strike, put-before, open-moves, child-by, children, question}
 use Rattle.paper.specs.Way.{search-from, texts-of}
 use Rattle.paper.specs.Question.{Question, acceptor}
-use Rattle.paper.specs.Sheet.{marked, pattern-record, side-record, read-end, read-right, read-sheet}
+use Rattle.paper.specs.Sheet.{marked, pattern-record, side-record, Reading, read-end, read-right, read-sheet}
 use Rattle.paper.specs.Outcome.{Outcome, outcome, room-of, searched, standing, value-record, records, some-text-too-long, cleared, clash, count-of, how-of}
 use Rattle.paper.specs.Demands.{Good, Solved, texts-found, records-of, Clash, Demand2}
 use Rattle.paper.proofs.base.Tests.{le-leb}
 use Rattle.paper.proofs.known.Known.{sheet-S}
 use Rattle.paper.proofs.sheets.Rows.{by-reading}
-use Rattle.paper.proofs.demands.Demand2.{demand-2}
+use Rattle.paper.proofs.demands.Demand2.{sheet-demand-2}
 
 -- the records of the texts found
-abbrev solved-records : {sheet work : List ℕ} → Solved sheet work → List ℕ
+abbrev solved-records : {r : Reading} {work : List ℕ} → Solved r work → List ℕ
 solved-records s = records-of (s .question) (texts-found s)
 
-same-records : {sheet work : List ℕ} (s t : Solved sheet work) → solved-records s ≡ solved-records t
+same-records : {r : Reading} {work : List ℕ} (s t : Solved r work) → solved-records s ≡ solved-records t
 same-records s t =
     let p : s .question ≡ t .question = cc in
     let q : s .entry ≡ t .entry = cc in
     rw (p, q)
 
-module _ (sheet work answer : List ℕ) where
+module _ (r : Reading) (work answer : List ℕ) where
   -- at a clash the bytes written and the answer buffer are settled by the texts found
-  clash-written : (o : Outcome) (c : Clash sheet work answer o) → o .written ≡ length (solved-records (c .solved))
+  clash-written : (o : Outcome) (c : Clash r work answer o) → o .written ≡ length (solved-records (c .solved))
   clash-written o c = rw (← (c .written)) (sym (length-take-le (o .written) (o .answer) (rw (c .same-length) (c .fits))))
 
-  clash-answer : (o : Outcome) (c : Clash sheet work answer o)
+  clash-answer : (o : Outcome) (c : Clash r work answer o)
       → o .answer ≡ solved-records (c .solved) ++ drop (length (solved-records (c .solved))) answer
   clash-answer o c =
       sym (take-append-drop (o .written) (o .answer)) ∙ rw (c .written, c .rest, clash-written o c)
 
-  -- Two outcomes that meet demand 2 for the same sheet and buffers have the same number, count and bytes.
-  module _ (o p : Outcome) (d : Demand2 sheet work answer o) (e : Demand2 sheet work answer p) where
-    pub same-number : (q : Question) → Good sheet q → o .number ≡ p .number
+  -- Two outcomes that meet demand 2 for the same reading and buffers have the same number, count and bytes.
+  module _ (o p : Outcome) (d : Demand2 r work answer o) (e : Demand2 r work answer p) where
+    pub same-number : (q : Question) → Good r q → o .number ≡ p .number
     same-number q g = d .in-order q g .number ∙ sym (e .in-order q g .number)
 
     pub same-count : o .count ≡ p .count
     same-count =
-        by-reading sheet
-        (λ x at r. d .not-good x at r .2 ∙ sym (e .not-good x at r .2))
+        by-reading r
+        (λ x at f. d .not-good x at f .2 ∙ sym (e .not-good x at f .2))
         (λ q g. d .in-order q g .count ∙ sym (e .in-order q g .count))
 
     pub same-bytes : o .number ≡ 0 → p .number ≡ 0 → (o .written ≡ p .written) × (o .answer ≡ p .answer)
@@ -87,14 +87,14 @@ computed : Computed
 unfolding set-after may-end judge enter offer take-next search trimmed strike put-before open-moves child-by children question search-from texts-of acceptor marked pattern-record side-record read-end read-right read-sheet outcome room-of searched standing value-record records some-text-too-long clash count-of how-of
 computed = record { of-AB = refl; of-S = λ answer h. rw (le-leb 12 (length answer) h) }
 
-module _ (F : List ℕ → List ℕ → List ℕ → Outcome) (meets : (sheet work answer : List ℕ) → Demand2 sheet work answer (F sheet work answer)) where
+module _ (F : List ℕ → List ℕ → List ℕ → Outcome) (meets : (sheet work answer : List ℕ) → Demand2 (read-sheet sheet) work answer (F sheet work answer)) where
   -- a number below 11 in the outcome of 01 is F's too
   searched-number : (sheet work answer : List ℕ) → outcome sheet work answer .number < 11
       → F sheet work answer .number ≡ outcome sheet work answer .number
   searched-number sheet work answer h =
-      by-reading sheet
-      (λ x at r. let low = demand-2 sheet work answer .not-good x at r .0 in absurd (omega arith))
-      (same-number sheet work answer (F sheet work answer) (outcome sheet work answer) (meets sheet work answer) (demand-2 sheet work answer))
+      by-reading (read-sheet sheet)
+      (λ x at r. let low = sheet-demand-2 sheet work answer .not-good x at r .0 in absurd (omega arith))
+      (same-number (read-sheet sheet) work answer (F sheet work answer) (outcome sheet work answer) (meets sheet work answer) (sheet-demand-2 sheet work answer))
 
   sheet-S-clashes : (answer : List ℕ) → 12 ≤ length answer → F sheet-S six-situations answer .number ≡ 0
   sheet-S-clashes answer h =
@@ -119,9 +119,9 @@ module _ (F : List ℕ → List ℕ → List ℕ → Outcome) (meets : (sheet wo
   sheet-S-written answer h =
       let e = computed .of-S answer h in
       rw e at
-      (same-bytes sheet-S six-situations answer (F sheet-S six-situations answer) (outcome sheet-S six-situations answer)
-      (meets sheet-S six-situations answer) (demand-2 sheet-S six-situations answer) (sheet-S-clashes answer h) (rw e))
+      (same-bytes (read-sheet sheet-S) six-situations answer (F sheet-S six-situations answer) (outcome sheet-S six-situations answer)
+      (meets sheet-S six-situations answer) (sheet-demand-2 sheet-S six-situations answer) (sheet-S-clashes answer h) (rw e))
 
   pub search-count : (sheet work answer : List ℕ) → F sheet work answer .count ≡ outcome sheet work answer .count
   search-count sheet work answer =
-      same-count sheet work answer (F sheet work answer) (outcome sheet work answer) (meets sheet work answer) (demand-2 sheet work answer)
+      same-count (read-sheet sheet) work answer (F sheet work answer) (outcome sheet work answer) (meets sheet work answer) (sheet-demand-2 sheet work answer)

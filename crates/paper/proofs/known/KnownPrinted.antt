@@ -88,7 +88,8 @@ sheets-printed = refl
 -- The answer buffer that the program lends is long enough, whatever is found in 455 situations.
 pub program-never-20 : (input : List ℕ)
     → outcome (take program-input input) (replicate program-work 0) (replicate program-answer 0) .number ≡ 20 → ⊥
+unfolding outcome
 program-never-20 input =
     let work : List ℕ = replicate program-work 0 in
-    answer-enough (take program-input input) work (replicate program-answer 0)
+    answer-enough (read-sheet (take program-input input)) work (replicate program-answer 0)
     (omega (arith, program-room work (length-replicate {A = ℕ} program-work 0), length-replicate {A = ℕ} program-answer 0))

@@ -16,7 +16,8 @@ use Rattle.paper.specs.Places.{PlaceSet}
 use Rattle.paper.specs.Search.{Entry, found}
 use Rattle.paper.specs.Situation.{Situation, Move}
 use Rattle.paper.specs.Question.{Question}
-use Rattle.paper.specs.Outcome.{room-of, standing, value-record, outcome}
+use Rattle.paper.specs.Sheet.{Reading}
+use Rattle.paper.specs.Outcome.{room-of, standing, value-record, outcome-of}
 use Rattle.paper.specs.Demands.{end-of, spelt, records-of}
 use Rattle.paper.proofs.base.Lists.{length-only, length-from}
 use Rattle.paper.proofs.sheets.QuestionSearched.{count-in-room}
@@ -53,10 +54,10 @@ module _ (q : Question) (work : List ℕ) (e : Entry (Situation PlaceSet) Move) 
       let each-record = each-short (λ (f : ℕ). value-record f (spelt q e f)) (record-head + room-of work) record-short (standing q) in
       omega (arith, each-record, mul-le-mul-right (record-head + room-of work) few)
 
-pub answer-enough : (sheet work answer : List ℕ) → fields * (record-head + room-of work) ≤ length answer
-    → outcome sheet work answer .number ≡ 20 → ⊥
-answer-enough sheet work answer h n = too-short (in-row sheet work answer 20 n)
+pub answer-enough : (r : Reading) (work answer : List ℕ) → fields * (record-head + room-of work) ≤ length answer
+    → outcome-of r work answer .number ≡ 20 → ⊥
+answer-enough r work answer h n = too-short (in-row r work answer 20 n)
   where
-    too-short : Row sheet work answer (outcome sheet work answer) 20 → ⊥
+    too-short : Row r work answer (outcome-of r work answer) 20 → ⊥
     too-short (faulty x at e low high z) = omega arith
     too-short (is-too-short q e g end k) = omega (arith, records-short q work e end)

@@ -1,5 +1,7 @@
--- Good sheets: what every question has that a sheet asks.
---   asked-good : read-sheet sheet ≡ asked q → GoodQuestion q
+-- Good questions: what every question has that a sheet asks.
+--   sheet-good       : read-sheet sheet ≡ asked q → GoodQuestion q
+--   fields-known     : a field that stands in the sides of a good question is one of the fields
+--   fields-have-sets : and a situation has a place set for it
 -- The tokens are 01's characters and fields, a side has at most 24 of them, there is a pattern or any text for each field, and a pattern has at
 -- most 31 leaves, of which each takes some character and nothing but characters.
 -- Follows from the checks on the records, test by test, and from the laws of judged patterns.
@@ -12,7 +14,7 @@ use mathlib.Core.List.{List, [], _∷_, _++_, List·Memᴰ}
 use lib.Dec.{leb, ltb, eqb}
 use lib.ListN.{length, getD, drop, set, replicate, length-set, length-map, length-take, length-replicate}
 use Rattle.paper.specs.Lists.{all}
-use Rattle.paper.specs.Numbers.{characters, fields, field-token, pattern-bytes, most-leaves, sheet-side}
+use Rattle.paper.specs.Numbers.{characters, fields, set-fields, field-token, pattern-bytes, most-leaves, sheet-side}
 use Rattle.paper.proofs.base.Tests.{cond-by, true-false, and-right, or-is-true, ltb-true, ltb-false, eqb-true}
 use Rattle.paper.proofs.base.Lists.{all-true, any-true, any-append, mem-map}
 use Rattle.paper.specs.Pattern.{Held, any-text, pattern}
@@ -49,6 +51,10 @@ pub record GoodQuestion (q : Question) : Type 0 where
   pub left : GoodSide (q .left)
   pub right : GoodSide (q .right)
   pub held : GoodFields (q .held)
+
+-- a reading whose question, if it asks one, is good
+abbrev pub GoodReading : Reading → Type 0
+GoodReading r = (q : Question) → r ≡ asked q → GoodQuestion q
 
 -- Sides.
 token-in-range : (b : ℕ) → is-token b ≡ true → InRange (token b)
@@ -162,9 +168,9 @@ records-ask (suc n) s at least held h =
     (λ _. behind-asks at held (read-records n s) (pattern-record s at least) (records-ask n s) h (pattern-good s at least))
     (λ _. cond-by Asks (marked LE s at) (λ _. left-asks s at held (side-record s at) h (side-good s at)) (λ _. tt)))
 
-pub asked-good : (sheet : List ℕ) {q : Question} → read-sheet sheet ≡ asked q → GoodQuestion q
+pub sheet-good : (sheet : List ℕ) → GoodReading (read-sheet sheet)
 unfolding read-sheet
-asked-good sheet e = subst Asks e (records-ask (suc (length sheet)) sheet 0 0 (replicate fields any-text) open-fields)
+sheet-good sheet q e = subst Asks e (records-ask (suc (length sheet)) sheet 0 0 (replicate fields any-text) open-fields)
 
 -- Every field that stands in the sides is one of the fields.
 standing-known : (f : ℕ) (side : Side) → GoodSide side → stands-in f side ≡ true → f < fields
@@ -175,9 +181,12 @@ standing-known f side g e =
     known (chr c) h k = absurd (true-false k refl)
     known (fld h) i k = rw (eqb-true f h k) i
 
-pub fields-known : (sheet : List ℕ) (q : Question) → read-sheet sheet ≡ asked q
-    → (f : ℕ) → stands-in f (q .left ++ q .right) ≡ true → f < fields
-fields-known sheet q a f e =
-    let g : GoodQuestion q = asked-good sheet a in
-    ⊎-elim (standing-known f (q .left) (g .left)) (standing-known f (q .right) (g .right))
-    (or-is-true (stands-in f (q .left)) (stands-in f (q .right)) (sym (any-append (is-field f) (q .left) (q .right)) ∙ e))
+module _ (q : Question) (g : GoodQuestion q) (f : ℕ) (e : stands-in f (q .left ++ q .right) ≡ true) where
+  pub fields-known : f < fields
+  fields-known =
+      ⊎-elim (standing-known f (q .left) (g .left)) (standing-known f (q .right) (g .right))
+      (or-is-true (stands-in f (q .left)) (stands-in f (q .right)) (sym (any-append (is-field f) (q .left) (q .right)) ∙ e))
+
+  -- A situation has a place set for each of them.
+  pub fields-have-sets : f < set-fields
+  fields-have-sets = omega (arith, fields-known)

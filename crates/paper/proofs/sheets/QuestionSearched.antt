@@ -7,7 +7,7 @@ use mathlib.Core.Bool.{true, false}
 use mathlib.Core.List.{List, [], _∷_, _++_, List·Memᴰ}
 use lib.Dec.{eqb}
 use lib.ListN.{length, length-map}
-use Rattle.paper.specs.Numbers.{fields, longest-side}
+use Rattle.paper.specs.Numbers.{set-fields, longest-side}
 use Rattle.paper.proofs.base.Tests.{cond-by}
 use Rattle.paper.proofs.base.Lists.{mem-map, map-mem}
 use Rattle.paper.specs.Places.{PlaceSet}
@@ -63,8 +63,8 @@ module _ (q : Question) where
   unfolding how-of searched acceptor
   found-solves room e h = sound (acceptor q) decides longest-side room (q .left) (q .right) e h
 
-  -- Where all are used up, no texts solve the question, if its fields are 01's.
-  pub used-up-unsolved : (room : ℕ) → ((f : ℕ) → stands-in f (q .left ++ q .right) ≡ true → f < fields)
+  -- Where all are used up, no texts solve the question, if its fields have place sets.
+  pub used-up-unsolved : (room : ℕ) → ((f : ℕ) → stands-in f (q .left ++ q .right) ≡ true → f < set-fields)
       → how-of (searched q room) ≡ used-up → (texts : Texts) → Solution q texts → ⊥
   unfolding how-of searched acceptor
   used-up-unsolved room known h = complete (acceptor q) decides longest-side room (q .left) (q .right) known h
