@@ -1,11 +1,10 @@
 -- A good sheet's question, searched: from what reading and the search promise to the whole outcome. Follows from `run-told` and the laws of
 -- good sheets.
-use Prim.Native.Nat.{ℕ, _+_}
+use Prim.Native.Nat.{ℕ}
 use native.Mathlib.Omega.{arith}
-use mathlib.Core.Path.{_≡_, refl, ap, _∙_}
-use mathlib.Core.Bool.{true, not}
+use mathlib.Core.Path.{_≡_, refl, _∙_}
+use mathlib.Core.Bool.{true}
 use mathlib.Core.List.{List, [], _∷_, map, map-map, List·Memᴰ, List·Memᴰ·head, List·Memᴰ·tail}
-use lib.Dec.{eqb}
 use lib.ListN.{length, replicate}
 use Rattle.paper.specs.Lists.{all, upto}
 use Rattle.paper.specs.Numbers.{set-fields}
@@ -19,7 +18,7 @@ use Rattle.patterns.specs.Worked.{worked-out}
 use Rattle.patterns.specs.declared.PlaceTables.{PlaceTables}
 use Rattle.inner.specs.Inner.{no-token, is-token, token-code, side-code, tokens, padded}
 use Rattle.inner.proofs.Tokens.{tokens-padded}
-use Rattle.situations.specs.Coded.{Tables, question-coded}
+use Rattle.situations.specs.Coded.{question-coded}
 use Rattle.situations.specs.Coding.{tables-of}
 use Rattle.search.specs.Ended.{room-for, ended-with, buffer-with, told-end}
 use Rattle.search.specs.Lent.{tables}

@@ -20,7 +20,7 @@ use Rattle.paper.specs.Question.{Question}
 use Rattle.paper.specs.Sheet.{Reading, read-sheet}
 use Rattle.paper.specs.Outcome.{Outcome, room-of, standing, outcome-of, outcome}
 use Rattle.paper.specs.Demands.{Good, end-of, Solved, Clash, NoClash, NoRoom, TooLong, TooShort, InOrder, Demand2}
-use Rattle.paper.proofs.sheets.Asked.{GoodReading, sheet-good, fields-known, fields-have-sets}
+use Rattle.paper.proofs.sheets.Asked.{AsksGood, sheet-good, fields-known, fields-have-sets}
 use Rattle.paper.proofs.sheets.QuestionSearched.{found-solves, used-up-unsolved, count-entered, count-in-room, first-entered, entered-trimmed}
 use Rattle.paper.proofs.sheets.QuestionSearched.{no-room-left, too-long-left}
 use Rattle.paper.proofs.sheets.TextLength.{text-short-enough}
@@ -28,7 +28,7 @@ use Rattle.paper.proofs.sheets.Rows.{found-records, Row, faulty, clashe
 use Rattle.paper.proofs.sheets.Rows.{good-outcome, number-of-search, refused-outcome, by-reading}
 
 -- For every reading whose question is good, and all buffers.
-pub demand-2 : (r : Reading) → GoodReading r → (work answer : List ℕ) → Demand2 r work answer (outcome-of r work answer)
+pub demand-2 : (r : Reading) → AsksGood r → (work answer : List ℕ) → Demand2 r work answer (outcome-of r work answer)
 unfolding standing
 demand-2 r good work answer =
     record {

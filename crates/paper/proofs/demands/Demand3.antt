@@ -21,12 +21,12 @@ use Rattle.paper.specs.Demands.{Good, bound-of, Demand3}
 use Rattle.paper.proofs.places.PlaceSets.{same-equal, equal-same}
 use Rattle.paper.proofs.places.Reachable.{reachable-first, reachable-after}
 use Rattle.paper.proofs.plain.Plain.{plain-count, plain-has-room, plain-not-long}
-use Rattle.paper.proofs.sheets.Asked.{GoodReading, sheet-good, fields-have-sets}
+use Rattle.paper.proofs.sheets.Asked.{AsksGood, sheet-good, fields-have-sets}
 use Rattle.paper.proofs.known.Known.{sheet-S}
 use Rattle.paper.proofs.sheets.Rows.{Row, faulty, has-no-room, is-too-long, in-row, good-outcome}
 
 -- For every reading whose question is good, and all buffers.
-pub demand-3 : (r : Reading) → GoodReading r → (work answer : List ℕ) → Demand3 r work (outcome-of r work answer)
+pub demand-3 : (r : Reading) → AsksGood r → (work answer : List ℕ) → Demand3 r work (outcome-of r work answer)
 unfolding acceptor room-of searched count-of how-of
 demand-3 r good work answer =
     record {

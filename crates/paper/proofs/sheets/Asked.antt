@@ -52,9 +52,9 @@ pub record GoodQuestion (q : Question) : Type 0 where
   pub right : GoodSide (q .right)
   pub held : GoodFields (q .held)
 
--- a reading whose question, if it asks one, is good
-abbrev pub GoodReading : Reading → Type 0
-GoodReading r = (q : Question) → r ≡ asked q → GoodQuestion q
+-- a reading whose question is good, if it asks one
+abbrev pub AsksGood : Reading → Type 0
+AsksGood r = (q : Question) → r ≡ asked q → GoodQuestion q
 
 -- Sides.
 token-in-range : (b : ℕ) → is-token b ≡ true → InRange (token b)
@@ -168,7 +168,7 @@ records-ask (suc n) s at least held h =
     (λ _. behind-asks at held (read-records n s) (pattern-record s at least) (records-ask n s) h (pattern-good s at least))
     (λ _. cond-by Asks (marked LE s at) (λ _. left-asks s at held (side-record s at) h (side-good s at)) (λ _. tt)))
 
-pub sheet-good : (sheet : List ℕ) → GoodReading (read-sheet sheet)
+pub sheet-good : (sheet : List ℕ) → AsksGood (read-sheet sheet)
 unfolding read-sheet
 sheet-good sheet q e = subst Asks e (records-ask (suc (length sheet)) sheet 0 0 (replicate fields any-text) open-fields)
 
