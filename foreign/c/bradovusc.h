@@ -4,9 +4,12 @@
  * A rule is fixed Code 39 characters with fields between them; a field may have a pattern. Two rules clash when one label can be
  * read by both. The two rules stand on a question sheet; the answer is a number, and after a clash a text for each field.
  *
- * The static library libexported.a, for x86-64 Linux, defines the one function below. It keeps nothing from one call to the next,
- * asks for no memory, and touches nothing but what it is lent, so calls in several threads don't meet. It takes at most about
- * 150 KiB of stack.
+ * The static library libexported.a, for x86-64 Linux, defines one function, bradovusc_clash. It keeps nothing from one call to the
+ * next, asks for no memory, and touches nothing but what it is lent, so calls in several threads don't meet. It takes at most about
+ * 40 KiB of stack. All else is in this header: bradovusc_ask calls it with any buffers, bradovusc_text says a number in words,
+ * bradovusc_next walks the texts of a clash, bradovusc_sign and bradovusc_value go between values and signs.
+ *
+ * The header is C99 and C++11. The rules in full: docs/RULES.md.
  */
 #ifndef BRADOVUSC_H
 #define BRADOVUSC_H
@@ -14,12 +17,18 @@
 #include <stddef.h>
 #include <stdint.h>
 
+/* The version of this header, of the library and of the Rust package. It rises where one of them, or a rule, changes for callers. */
+#define BRADOVUSC_VERSION_MAJOR 0
+#define BRADOVUSC_VERSION_MINOR 1
+#define BRADOVUSC_VERSION_PATCH 0
+#define BRADOVUSC_VERSION "0.1.0"
+
 #ifdef __cplusplus
 extern "C" {
 #endif
 
 /*
- * What the function returns.
+ * The number of an answer.
  *
  * 0 and 1 settle the question. So do 20 and 21: the rules clash, but the texts couldn't be written. 18 and 19 are neither yes nor
  * no. 11 to 17 say what is wrong with the sheet: the first fault met.
@@ -55,6 +64,60 @@ enum bradovusc_number {
     BRADOVUSC_TEXT_TOO_LONG = 21
 };
 
+/* The number in words. Never null. */
+static inline const char *bradovusc_text(uint32_t number) {
+    switch (number) {
+    case BRADOVUSC_CLASH:
+        return "clash";
+    case BRADOVUSC_NO_CLASH:
+        return "no clash";
+    case BRADOVUSC_CUT_SHORT:
+        return "the sheet is cut short";
+    case BRADOVUSC_WRONG_MARK:
+        return "a wrong mark, or bytes behind the right side";
+    case BRADOVUSC_WRONG_FIELD:
+        return "a wrong field number";
+    case BRADOVUSC_WRONG_LENGTH:
+        return "a wrong length";
+    case BRADOVUSC_NOT_ONE_PATTERN:
+        return "not one pattern";
+    case BRADOVUSC_TOO_MANY_LEAVES:
+        return "a pattern with too many leaves";
+    case BRADOVUSC_WRONG_TOKEN:
+        return "a wrong token";
+    case BRADOVUSC_NO_ROOM:
+        return "not decided: no room for a situation";
+    case BRADOVUSC_SIDE_TOO_LONG:
+        return "not decided: a side grew too long";
+    case BRADOVUSC_ANSWER_TOO_SHORT:
+        return "clash, but the answer buffer is too short for the texts";
+    case BRADOVUSC_TEXT_TOO_LONG:
+        return "clash, but a text is too long for its record";
+    default:
+        return "no number of an answer";
+    }
+}
+
+/* The signs of the 43 characters, by value. */
+#define BRADOVUSC_CHARACTERS 43
+static const char bradovusc_signs[BRADOVUSC_CHARACTERS + 1] = "0123456789ABCDEFGHIJKLMNOPQRSTUVWXYZ-. $/+%";
+
+/* The sign of a value; -1 where there is none. */
+static inline int bradovusc_sign(unsigned value) {
+    return value < BRADOVUSC_CHARACTERS ? bradovusc_signs[value] : -1;
+}
+
+/* The value of a sign; -1 where it is no character of Code 39. */
+static inline int bradovusc_value(int sign) {
+    int value;
+    for (value = 0; value < BRADOVUSC_CHARACTERS; value++) {
+        if (bradovusc_signs[value] == sign) {
+            return value;
+        }
+    }
+    return -1;
+}
+
 /*
  * The sheet. Every record begins with a mark of two letters:
  *
@@ -69,10 +132,10 @@ enum bradovusc_number {
 
 /*
  * The working buffer. A situation of the search takes 144 bytes. Room is counted in whole situations, at most 65,535; bytes beyond
- * that are no use. Where no field stands more than once in the two sides together, (1 + L) * (1 + R) situations are always enough:
- * L adds, over the left side, one for each character and each field without a pattern, and for a field with a pattern the number of
- * its reachable place sets; R does so for the right side. Other questions may need any number. The program `clash` lends 455
- * situations. The buffer need not be cleared beforehand.
+ * that are no use. Where no field stands more than once in the two sides together, (1 + L) * (1 + R) situations are always enough,
+ * unless that is above 65,535: L adds, over the left side, one for each character and each field without a pattern, and for a field
+ * with a pattern the number of its reachable place sets; R does so for the right side. Other questions may need any number. The
+ * program `clash` lends 455 situations. The buffer need not be cleared beforehand.
  */
 #define BRADOVUSC_SITUATION_BYTES 144
 #define BRADOVUSC_MOST_SITUATIONS 65535
@@ -85,8 +148,57 @@ enum bradovusc_number {
  *
  * A text has fewer characters than the search has situations, and there are at most 8 fields: so many bytes are always enough.
  */
+#define BRADOVUSC_FIELDS 8
 #define BRADOVUSC_RECORD_HEAD 5
-#define BRADOVUSC_ANSWER_BYTES(situations) ((size_t)8 * (BRADOVUSC_RECORD_HEAD + (size_t)(situations)))
+#define BRADOVUSC_ANSWER_BYTES(situations) ((size_t)BRADOVUSC_FIELDS * (BRADOVUSC_RECORD_HEAD + (size_t)(situations)))
+
+/*
+ * A walk over these records.
+ *
+ *   struct bradovusc_records texts = bradovusc_records_in(answer, written);
+ *   while (bradovusc_next(&texts)) {
+ *       .. texts.field, texts.values[0 .. texts.length - 1] ..
+ *   }
+ */
+struct bradovusc_records {
+    /* the field, and the values of its text: what the last bradovusc_next found. They stand in the answer buffer. */
+    unsigned field;
+    const uint8_t *values;
+    size_t length;
+    /* what is still to be walked */
+    const uint8_t *rest;
+    size_t rest_length;
+};
+
+/* From the first record on. `written` is what a clash has told; with 0 the pointer may be null. */
+static inline struct bradovusc_records bradovusc_records_in(const uint8_t *answer, size_t written) {
+    struct bradovusc_records records;
+    records.field = 0;
+    records.values = NULL;
+    records.length = 0;
+    records.rest = answer;
+    records.rest_length = written;
+    return records;
+}
+
+/* 1 and the next record, or 0: none is left, or the bytes left are not a whole record. No byte behind the `written` ones is read. */
+static inline int bradovusc_next(struct bradovusc_records *records) {
+    const uint8_t *head = records->rest;
+    size_t length;
+    if (records->rest_length < BRADOVUSC_RECORD_HEAD || head[0] != 'V' || head[1] != 'A') {
+        return 0;
+    }
+    length = head[3] + (size_t)256 * head[4];
+    if (records->rest_length - BRADOVUSC_RECORD_HEAD < length) {
+        return 0;
+    }
+    records->field = head[2];
+    records->values = head + BRADOVUSC_RECORD_HEAD;
+    records->length = length;
+    records->rest = records->values + length;
+    records->rest_length -= BRADOVUSC_RECORD_HEAD + length;
+    return 1;
+}
 
 /*
  * What is told beside the number, by its index in `told`. Fewer elements than these are filled as far as there are any; elements
@@ -115,6 +227,36 @@ enum bradovusc_told {
  */
 uint32_t bradovusc_clash(const uint8_t *sheet, size_t sheet_length, uint8_t *work, size_t work_length, uint8_t *answer,
                          size_t answer_length, uint64_t *told, size_t told_length);
+
+/* The same, but each of the four pointers may be null where its length is 0. */
+static inline uint32_t bradovusc_clash_or_null(const uint8_t *sheet, size_t sheet_length, uint8_t *work, size_t work_length,
+                                               uint8_t *answer, size_t answer_length, uint64_t *told, size_t told_length) {
+    uint8_t no_sheet = 0, no_work = 0, no_answer = 0;
+    uint64_t none_told = 0;
+    return bradovusc_clash(sheet == NULL && sheet_length == 0 ? &no_sheet : sheet, sheet_length,
+                           work == NULL && work_length == 0 ? &no_work : work, work_length,
+                           answer == NULL && answer_length == 0 ? &no_answer : answer, answer_length,
+                           told == NULL && told_length == 0 ? &none_told : told, told_length);
+}
+
+/* An answer: the number, and what is told beside it. */
+struct bradovusc_answer {
+    uint32_t number;
+    uint64_t count, place, written;
+};
+
+/* The same, with all four numbers at once. This is the one to call. */
+static inline struct bradovusc_answer bradovusc_ask(const uint8_t *sheet, size_t sheet_length, uint8_t *work, size_t work_length,
+                                                    uint8_t *answer, size_t answer_length) {
+    uint64_t told[BRADOVUSC_TOLD] = {0, 0, 0};
+    struct bradovusc_answer given;
+    given.number =
+        bradovusc_clash_or_null(sheet, sheet_length, work, work_length, answer, answer_length, told, BRADOVUSC_TOLD);
+    given.count = told[BRADOVUSC_COUNT];
+    given.place = told[BRADOVUSC_PLACE];
+    given.written = told[BRADOVUSC_WRITTEN];
+    return given;
+}
 
 #ifdef __cplusplus
 }

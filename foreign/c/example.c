@@ -1,46 +1,44 @@
 /*
  * Two rules: one makes labels of any digits, the other the label 4. Do they clash?
  *
- * The first line printed is number, count and place; after a clash follows a line for each field: its number and its text.
+ * The first line printed is number, count and place, and the number in words; after a clash follows a line for each field: its number
+ * and its text.
  */
 #include <inttypes.h>
 #include <stdio.h>
 
 #include "bradovusc.h"
 
-static const uint8_t sheet[] = {
+#if BRADOVUSC_VERSION_MAJOR != 0
+#error "written for version 0 of bradovusc.h"
+#endif
+
+static uint8_t sheet[] = {
     'P', 'A', 0, 4, 68, 65, 0, 9, /* field 0: any number of characters from 0 to 9 */
-    'P', 'A', 1, 1, 4,            /* field 1: the character 4 */
+    'P', 'A', 1, 1, 0,            /* field 1: one character; main puts it in */
     'L', 'E', 1, 64,              /* left side: field 0 */
     'R', 'I', 1, 65               /* right side: field 1 */
 };
+enum { CHARACTER_OF_FIELD_1 = 12 };
 
 static uint8_t work[BRADOVUSC_WORK_BYTES(455)];
 static uint8_t answer[BRADOVUSC_ANSWER_BYTES(455)];
 
-/* The characters of Code 39, by value. */
-static const char characters[] = "0123456789ABCDEFGHIJKLMNOPQRSTUVWXYZ-. $/+%";
-
-/* The records that a clash has written. */
-static void print_texts(const uint8_t *records, size_t written) {
-    size_t at = 0;
-    while (at < written) {
-        size_t end = at + BRADOVUSC_RECORD_HEAD + records[at + 3] + 256u * records[at + 4];
-        printf("%u ", (unsigned)records[at + 2]);
-        for (at += BRADOVUSC_RECORD_HEAD; at < end; at++) {
-            putchar(characters[records[at]]);
+static void print_texts(uint64_t written) {
+    struct bradovusc_records texts = bradovusc_records_in(answer, (size_t)written);
+    while (bradovusc_next(&texts)) {
+        printf("%u ", texts.field);
+        for (size_t i = 0; i < texts.length; i++) {
+            putchar(bradovusc_sign(texts.values[i]));
         }
         putchar('\n');
     }
 }
 
 int main(void) {
-    uint64_t told[BRADOVUSC_TOLD];
-    uint32_t number =
-        bradovusc_clash(sheet, sizeof sheet, work, sizeof work, answer, sizeof answer, told, BRADOVUSC_TOLD);
-    printf("%" PRIu32 " %" PRIu64 " %" PRIu64 "\n", number, told[BRADOVUSC_COUNT], told[BRADOVUSC_PLACE]);
-    if (number == BRADOVUSC_CLASH) {
-        print_texts(answer, told[BRADOVUSC_WRITTEN]);
-    }
+    sheet[CHARACTER_OF_FIELD_1] = (uint8_t)bradovusc_value('4');
+    struct bradovusc_answer given = bradovusc_ask(sheet, sizeof sheet, work, sizeof work, answer, sizeof answer);
+    printf("%" PRIu32 " %" PRIu64 " %" PRIu64 ": %s\n", given.number, given.count, given.place, bradovusc_text(given.number));
+    print_texts(given.written);
     return 0;
 }

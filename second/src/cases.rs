@@ -87,6 +87,11 @@ impl After {
         }
         line
     }
+
+    /// What the program `clash` prints.
+    pub fn lines(&self) -> String {
+        crate::lines(&self.outcome, &self.answer)
+    }
 }
 
 fn push_lent(line: &mut String, bytes: &[u8], fill: u8) {

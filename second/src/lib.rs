@@ -1,16 +1,18 @@
 //! Can two label rules make the same label?
 //!
 //! `answer` takes a question sheet and two lent buffers, one for work and one
-//! for the answer, as document 01 ("What is wanted and its exact rules") says.
+//! for the answer, and goes by the rules of docs/RULES.md.
 //! It keeps the situations in storage of its own and looks them up by hash.
 //! `scan::answer` does the same with the situations in the lent working buffer
 //! and a plain scan over them.
 //!
-//! Sentences in quotation marks in the comments are those of document 01.
+//! Sentences in quotation marks in the comments are those of the text in which
+//! the rules were first given; docs/RULES.md says the same in other words.
 
 pub mod cases;
 pub mod make;
 pub mod pattern;
+pub mod printed;
 pub mod scan;
 pub mod search;
 pub mod sheet;

@@ -6,7 +6,7 @@ use std::collections::{BTreeMap, BTreeSet};
 use second::cases::{After, Case};
 use second::make::{case, long, Dice};
 use second::pattern::{Pattern, Places, Rule, ONLY_START};
-use second::Outcome;
+use second::{printed, Outcome, CODE_39};
 
 fn cases(seed: u64, number: usize) -> Vec<Case> {
     let mut dice = Dice::new(seed);
@@ -39,6 +39,30 @@ fn the_long_ones_fill_the_room() {
         assert_eq!((after.outcome.number, after.outcome.count), (18, 455));
         assert_eq!(after, case.run(second::scan::answer));
     }
+}
+
+#[test]
+fn the_printed_cases_tell_printers_apart() {
+    let cases = printed::cases();
+    let outcomes: Vec<After> = cases.iter().map(|case| case.run(second::answer)).collect();
+    for number in [0, 1, 11, 12, 13, 14, 15, 16, 17, 18, 19, 20] {
+        assert!(outcomes.iter().any(|after| after.outcome.number == number), "{number}");
+    }
+    let every_sign = String::from_utf8(CODE_39.to_vec()).unwrap();
+    assert!(outcomes.iter().any(|after| after.lines().contains(&every_sign)));
+    // The first one, which the program `clash` is run on, has its end behind
+    // 512 bytes, a text above 255 characters and an empty last one, and wants
+    // all 455 situations.
+    let Case { work, answer, sheet } = cases[0].clone();
+    let lines = outcomes[0].lines();
+    assert!(lines.starts_with("0 455 0\n") && lines.ends_with("\n7 \n"));
+    assert!(lines.lines().any(|line| line.len() > 2 + 255));
+    let other = |work, answer, sheet: &[u8]| {
+        Case { work, answer, sheet: sheet.to_vec() }.run(second::answer).lines()
+    };
+    assert_eq!(other(work - 144, answer, &sheet), "18 454 0\n");
+    assert_eq!(other(work, 64, &sheet), "20 455 0\n");
+    assert_eq!(other(work, answer, &sheet[..512]), "11 0 473\n");
 }
 
 #[test]

@@ -1,14 +1,16 @@
--- From what reading a sheet hands on to the entry's promises: a refused sheet, a good one, and demands 2 and 3. Follows from the definition of the
+-- From what reading a sheet hands on to the entry's promises: a refused sheet, a good one, and demands 1, 2 and 3. Follows from the definition of the
 -- outcome and from the demands' theorems.
 use Prim.Native.Nat.{ℕ}
 use native.Mathlib.Omega.{arith}
 use mathlib.Core.Path.{_≡_, refl, sym, ap, _∙_, subst}
 use mathlib.Core.List.{List}
+use Rattle.paper.specs.Buffers.{Demand1}
 use Rattle.paper.specs.Demands.{Demand2, Demand3}
 use Rattle.paper.specs.Outcome.{Outcome, outcome}
 use Rattle.paper.specs.Sheet.{Fault, cut-short, wrong-mark, wrong-field, wrong-length, not-one-pattern, too-many-leaves, wrong-token, Reading, refused, asked, read-sheet}
-use Rattle.paper.proofs.Demand2.{demand-2}
-use Rattle.paper.proofs.Demand3.{demand-3}
+use Rattle.paper.proofs.demands.Demand1.{sheet-demand-1}
+use Rattle.paper.proofs.demands.Demand2.{sheet-demand-2}
+use Rattle.paper.proofs.demands.Demand3.{sheet-demand-3}
 use Rattle.sheets.specs.Faults.{fault-of, as-fault}
 use Rattle.sheets.specs.Read.{sheet-of}
 use Rattle.sheets.specs.declared.Fault as Code
@@ -53,8 +55,12 @@ module _ (sheet : List ℕ) (s : Sheet) (e : s ≡ sheet-of (read-sheet sheet)) 
           let f : Good ≡ Refused x = sym (ap (λ (t : Sheet). t .found) (e ∙ ap sheet-of k)) ∙ h in
           absurd (let z : _≡_ {A = ℕ} 0 1 = cc in omega arith)
 
--- The entry's three promises, from the first.
+-- The entry's four promises, from the first.
 pub promised : (sheet work answer : List ℕ) (o : Outcome) → o ≡ outcome sheet work answer
-    → (o ≡ outcome sheet work answer) × (Demand2 sheet work answer o × Demand3 sheet work o)
+    → (o ≡ outcome sheet work answer)
+    × (Demand1 (read-sheet sheet) work answer o × (Demand2 (read-sheet sheet) work answer o × Demand3 (read-sheet sheet) work o))
 promised sheet work answer o e =
-    (e, (subst (Demand2 sheet work answer) (sym e) (demand-2 sheet work answer), subst (Demand3 sheet work) (sym e) (demand-3 sheet work answer)))
+    let one = subst (Demand1 (read-sheet sheet) work answer) (sym e) (sheet-demand-1 sheet work answer) in
+    let two = subst (Demand2 (read-sheet sheet) work answer) (sym e) (sheet-demand-2 sheet work answer) in
+    let three = subst (Demand3 (read-sheet sheet) work) (sym e) (sheet-demand-3 sheet work answer) in
+    (e, (one, (two, three)))

@@ -1,26 +1,18 @@
--- What the library's answer says, in document 01's numbers; and what the answer is once the search over slots has ended.
-use Prim.Native.Nat.{ℕ, _-_, _<_}
+-- What the library's answer says, in document 01's numbers; and what the answer is once the search has ended.
+use Prim.Native.Nat.{ℕ}
 use mathlib.Core.Path.{_≡_}
 use mathlib.Core.List.{List}
-use lib.ListN.{length}
 use Rattle.paper.specs.Outcome.{Outcome}
 use Rattle.paper.specs.Question.{Question}
 use Rattle.paper.specs.Sheet.{fault-number, asked, read-sheet}
 use Rattle.sheets.specs.Faults.{fault-of}
 use Rattle.sheets.specs.Read.{sheet-of}
 use Rattle.sheets.specs.declared.Sheet.{Sheet}
-use Rattle.bradovusc.specs.Lent.{Lent}
-use Rattle.bradovusc.specs.Records.{Earlier, text-at, answer-given, buffer-after}
-use Rattle.bradovusc.specs.Run.{Running}
-use Rattle.bradovusc.specs.Slots.{Slot}
+use Rattle.search.specs.declared.Ended.{Ended}
+use Rattle.search.specs.declared.Ended.the-variants as Ended-as
 use Rattle.bradovusc.specs.declared.Answer.{Answer}
 use Rattle.bradovusc.specs.declared.Answer.the-variants.{Clash, NoClash, Refused, NoRoom, SideTooLong, AnswerTooShort, TextTooLong}
 use Rattle.bradovusc.specs.declared.Numbers.{Numbers}
-use Rattle.bradovusc.specs.declared.records.Given.{Given}
-use Rattle.bradovusc.specs.declared.records.Given.the-variants as Given-as
-use Rattle.bradovusc.specs.declared.search.Run.{Run}
-use Rattle.bradovusc.specs.declared.search.Status.{Status}
-use Rattle.bradovusc.specs.declared.search.Status.the-variants as Status-as
 
 -- "For an answer that is an enum, a definition gives this paper's number and values for each case."
 abbrev pub number-of : Answer → ℕ
@@ -75,52 +67,14 @@ told a answer work =
       work = work;
     }
 
--- the answer of a clash, by what became of its records
-abbrev pub clash-answer : ℕ → Given → Answer
-clash-answer n Given-as.TextTooLong = TextTooLong n
-clash-answer n Given-as.TooShort = AnswerTooShort n
-clash-answer n (Given-as.Written bytes) = Clash n bytes
-
--- the answer by how the search over slots ended; where it found a finished situation, that is in the last slot. `sets` are the first
--- situation's: they say which fields stand.
-abbrev pub answer-by : Status → List Slot → List ℕ → List ℕ → Answer
-answer-by Status-as.Found ss sets buffer =
-    clash-answer (length ss) (answer-given sets (text-at ss (length ss - 1)) buffer)
-answer-by Status-as.UsedUp ss sets buffer = NoClash (length ss)
-answer-by Status-as.NoRoom ss sets buffer = NoRoom (length ss)
-answer-by Status-as.TooLong ss sets buffer = SideTooLong (length ss)
-answer-by Status-as.Going ss sets buffer = NoRoom (length ss)
-
--- and the answer buffer
-abbrev pub buffer-by : Status → List Slot → List ℕ → List ℕ → List ℕ
-buffer-by Status-as.Found ss sets buffer = buffer-after sets (text-at ss (length ss - 1)) buffer
-buffer-by Status-as.UsedUp ss sets buffer = buffer
-buffer-by Status-as.NoRoom ss sets buffer = buffer
-buffer-by Status-as.TooLong ss sets buffer = buffer
-buffer-by Status-as.Going ss sets buffer = buffer
-
-unfoldable pub concluded : Running → List ℕ → List ℕ → Answer
-concluded R sets buffer = answer-by (R .status) (R .slots) sets buffer
-
-unfoldable pub concluded-buffer : Running → List ℕ → List ℕ → List ℕ
-concluded-buffer R sets buffer = buffer-by (R .status) (R .slots) sets buffer
-
--- what `found` promises: the answer of a clash from these slots, and the answer buffer
-pub record Clash-told (ss : List Slot) (n : ℕ) (sets before after : List ℕ) (r : Answer) : Type 0 where
-  pub answer : r ≡ clash-answer n (answer-given sets (text-at ss (n - 1)) before)
-  pub buffer : after ≡ buffer-after sets (text-at ss (n - 1)) before
-
--- the search in the buffer is over, and its slots lead back to the first
-pub record Over (work : List ℕ) (run : Run) : Type 0 where
-  pub search : Running
-  pub lent : Lent work run search
-  pub earlier : Earlier (search .slots)
-  pub some : search .status ≡ Status-as.Found → 0 < length (search .slots)
-
--- what `conclude` promises
-pub record Concluded (R : Running) (sets before after : List ℕ) (r : Answer) : Type 0 where
-  pub answer : r ≡ concluded R sets before
-  pub buffer : after ≡ concluded-buffer R sets before
+-- the answer by how the search ended
+abbrev pub answer-of : Ended → Answer
+answer-of (Ended-as.Clash n written) = Clash n written
+answer-of (Ended-as.NoClash n) = NoClash n
+answer-of (Ended-as.NoRoom n) = NoRoom n
+answer-of (Ended-as.SideTooLong n) = SideTooLong n
+answer-of (Ended-as.AnswerTooShort n) = AnswerTooShort n
+answer-of (Ended-as.TextTooLong n) = TextTooLong n
 
 -- the struct says what the sheet asks
 pub record Asks (sheet : List ℕ) (read : Sheet) : Type 0 where

@@ -1,10 +1,1 @@
-pub mod Buckets
-pub mod Coded
-pub mod Codes
 pub mod Entry
-pub mod Lent
-pub mod Made
-pub mod Records
-pub mod Run
-pub mod Slots
-pub mod Struct

@@ -1,30 +1,14 @@
 // Do two label rules clash? A question sheet and two lent buffers in, an answer out.
-mod buckets;
-mod records;
-mod search;
-mod situation;
-mod slots;
-
-use records::Given;
-use search::Run;
-use search::Status;
+use search::Ended;
 use sheets::Fault;
 use sheets::Found;
 use sheets::Sheet;
 ghost use mathlib.Core.Path.{_≡_};
-ghost use Prim.Native.Nat.{_-_, _/_, _<_, min};
-ghost use Rattle.paper.specs.Numbers.{situation-bytes, most-room};
-ghost use Rattle.paper.specs.Outcome.{outcome};
+ghost use Rattle.paper.specs.Buffers.{Demand1};
 ghost use Rattle.paper.specs.Demands.{Demand2, Demand3};
-ghost use Rattle.bradovusc.specs.Entry.{told, as-numbers, Asks, Clash-told, Over, Concluded};
-ghost use Rattle.bradovusc.specs.Records.{Way-to};
-
-// "Room is one situation for each whole 144 bytes of working buffer, and at most 65,535."
-const SITUATION_BYTES: usize = slots::SLOT;
-
-const MOST_ROOM: usize = 65535;
-
-const FIELDS: usize = situation::FIELDS;
+ghost use Rattle.paper.specs.Outcome.{outcome};
+ghost use Rattle.paper.specs.Sheet.{read-sheet};
+ghost use Rattle.bradovusc.specs.Entry.{told, as-numbers, answer-of, Asks};
 
 // The answer to a sheet. specs/Entry.antt gives each its number, count, place and written length.
 pub enum Answer {
@@ -47,8 +31,9 @@ pub enum Answer {
 // Can the two rules of the sheet make the same label?
 pub fn clash(sheet: &[u8], work: &mut [u8], answer: &mut [u8]) -> Answer
     ensures whole { λ r. ⌜ told r (now (answer .exit)) (now (work .exit)) ≡ outcome (now (sheet .entry)) (now (work .entry)) (now (answer .entry)) ⌝ }
-    ensures demand2 { λ r. ⌜ Demand2 (now (sheet .entry)) (now (work .entry)) (now (answer .entry)) (told r (now (answer .exit)) (now (work .exit))) ⌝ }
-    ensures demand3 { λ r. ⌜ Demand3 (now (sheet .entry)) (now (work .entry)) (told r (now (answer .exit)) (now (work .exit))) ⌝ }
+    ensures demand1 { λ r. ⌜ Demand1 (read-sheet (now (sheet .entry))) (now (work .entry)) (now (answer .entry)) (told r (now (answer .exit)) (now (work .exit))) ⌝ }
+    ensures demand2 { λ r. ⌜ Demand2 (read-sheet (now (sheet .entry))) (now (work .entry)) (now (answer .entry)) (told r (now (answer .exit)) (now (work .exit))) ⌝ }
+    ensures demand3 { λ r. ⌜ Demand3 (read-sheet (now (sheet .entry))) (now (work .entry)) (told r (now (answer .exit)) (now (work .exit))) ⌝ }
 {
     let question = sheets::read(sheet);
     let found = question.found;
@@ -61,62 +46,34 @@ pub fn clash(sheet: &[u8], work: &mut [u8], answer: &mut [u8]) -> Answer
     }
 }
 
-// A good sheet: its question is searched, and the working buffer is cleared.
+// A good sheet: its question is searched.
 fn searched(sheet: &[u8], question: Sheet, work: &mut [u8], answer: &mut [u8]) -> Answer
     requires { ⌜ Asks (now sheet) question ⌝ }
     ensures { λ r. ⌜ told r (now (answer .exit)) (now (work .exit)) ≡ outcome (now (sheet .entry)) (now (work .entry)) (now (answer .entry)) ⌝ }
 {
     let left = question.left;
     let right = question.right;
-    let first = situation::question(left, question.left_len, right, question.right_len);
-    let follow = sheets::follow_sets(sheet);
-    let taking = sheets::taking_sets(sheet);
-    let last = sheets::last_sets(sheet);
-    let room = room_of(work.len());
-    let run = search::search(work, room, first, follow, taking, last);
-    let sets = first.sets;
-    let r = conclude(answer, work, run, sets);
-    slots::clear(work);
-    r
+    let fields = question.fields;
+    let follow = sheets::follow_sets(fields);
+    let taking = sheets::taking_sets(fields);
+    let last = sheets::last_sets(fields);
+    let ended = search::run(left, right, follow, taking, last, work, answer);
+    answer_of(ended)
 }
 
-fn room_of(bytes: usize) -> usize
-    ensures { λ r. ⌜ r ≡ min (bytes / situation-bytes) most-room ⌝ }
+// The answer by how the search ended.
+fn answer_of(ended: Ended) -> Answer
+    ensures { λ r. ⌜ r ≡ answer-of ended ⌝ }
 {
-    let whole = bytes / SITUATION_BYTES;
-    if whole < MOST_ROOM { whole } else { MOST_ROOM }
-}
-
-// The answer once the search has ended. The first situation's sets say which fields stand.
-fn conclude(answer: &mut [u8], work: &[u8], run: Run, sets: [u32; FIELDS]) -> Answer
-    requires { ⌜ Over (now work) run ⌝ }
-    ensures { λ r. ⌜ ((o : Over (now (work .entry)) run) → Concluded (o .search) sets (now (answer .entry)) (now (answer .exit)) r) ⌝ }
-{
-    let count = run.entered;
-    let status = run.status;
-    match status {
-        Status::Found => found(answer, work, count, sets),
-        Status::UsedUp => Answer::NoClash { count },
-        Status::NoRoom => Answer::NoRoom { count },
-        Status::TooLong => Answer::SideTooLong { count },
-        Status::Going => Answer::NoRoom { count },
+    match ended {
+        Ended::Clash { count, written } => Answer::Clash { count, written },
+        Ended::NoClash { count } => Answer::NoClash { count },
+        Ended::NoRoom { count } => Answer::NoRoom { count },
+        Ended::SideTooLong { count } => Answer::SideTooLong { count },
+        Ended::AnswerTooShort { count } => Answer::AnswerTooShort { count },
+        Ended::TextTooLong { count } => Answer::TextTooLong { count },
     }
 }
-
-// The answer of a clash, whose finish is in the last slot.
-fn found(answer: &mut [u8], work: &[u8], count: usize, sets: [u32; FIELDS]) -> Answer
-    requires { ⌜ 0 < count ⌝ }
-    requires { ⌜ Way-to (now work) (count - 1) ⌝ }
-    ensures { λ r. ⌜ ((w : Way-to (now (work .entry)) (count - 1)) → Clash-told (w .slots) count sets (now (answer .entry)) (now (answer .exit)) r) ⌝ }
-{
-    let given = records::answer_clash(answer, work, count - 1, sets);
-    match given {
-        Given::TextTooLong => Answer::TextTooLong { count },
-        Given::TooShort => Answer::AnswerTooShort { count },
-        Given::Written(written) => Answer::Clash { count, written },
-    }
-}
-
 // An answer in document 01's numbers.
 pub struct Numbers {
     pub number: usize,

@@ -18,5 +18,5 @@
 // 15  sheet S, an answer buffer of 11 bytes
 // 16  sheet S, room 5
 fn main() {
-    stream::answer_all();
+    stream::answer_all(stream::Shown::Bytes);
 }

@@ -2,5 +2,5 @@
 //
 // The stored stream is what the second program's `sheets 1 20000` makes. tools/compare tries fresh ones.
 fn main() {
-    stream::answer_all();
+    stream::answer_all(stream::Shown::Bytes);
 }

@@ -1,49 +1,16 @@
-pub mod Tests
-pub mod Lists
-pub mod Made
-pub mod Known
+-- what every layer uses
+pub mod base
+-- known sheets and vectors: the checker computes them
+pub mod known
 -- the search over any situations
-pub mod Grown
-pub mod Ended
-pub mod Ends
-pub mod Room
-pub mod Searched
-pub mod Mapped
--- places
-pub mod Parts
-pub mod After
-pub mod PlacesDecide
-pub mod PlaceSets
-pub mod Rising
-pub mod Reachable
-pub mod NotStuck
-pub mod Judged
-pub mod Accepts
--- situations and their solutions
-pub mod Same
-pub mod Trimming
-pub mod Standing
-pub mod Labels
-pub mod Weight
-pub mod Solution
-pub mod Steps
-pub mod Children
-pub mod Moves
-pub mod Question
-pub mod Progress
-pub mod Spelled
-pub mod Answered
-pub mod Sound
-pub mod Complete
+pub mod search
+-- places decide the language; reachable place sets
+pub mod places
+-- word equations: situations, their children and solutions
+pub mod equations
 -- plain questions
-pub mod Tails
-pub mod Standings
-pub mod Reached
-pub mod Plain
--- from bytes to bytes
-pub mod Asked
-pub mod Rows
-pub mod QuestionSearched
-pub mod AnswerRoom
-pub mod Demand2
-pub mod Demand3
+pub mod plain
+-- good sheets and the whole outcome
+pub mod sheets
+-- what is promised of the whole
+pub mod demands

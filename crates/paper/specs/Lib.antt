@@ -21,4 +21,5 @@ pub mod Sheet
 pub mod Outcome
 pub mod Printed
 -- what is promised of the whole
+pub mod Buffers
 pub mod Demands

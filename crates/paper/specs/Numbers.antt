@@ -10,6 +10,10 @@ characters = 43
 abbrev pub fields : ℕ
 fields = 8
 
+-- the fields that a situation has place sets for: those that a sheet may name
+abbrev pub set-fields : ℕ
+set-fields = fields
+
 -- "A token is 0 to 42 (a character) or 64 to 71 (field 0 to 7)": the token of field 0
 abbrev pub field-token : ℕ
 field-token = 64

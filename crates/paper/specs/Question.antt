@@ -2,7 +2,7 @@
 use Prim.Native.Nat.{ℕ}
 use mathlib.Core.List.{List, []}
 use lib.ListN.{getD}
-use Rattle.paper.specs.Numbers.{characters, fields}
+use Rattle.paper.specs.Numbers.{characters, set-fields}
 use Rattle.paper.specs.Pattern.{Held, any-text, Holds}
 use Rattle.paper.specs.Places as Places
 use Rattle.paper.specs.Equation.{Side, Texts, Solves}
@@ -27,7 +27,7 @@ unfoldable pub acceptor : Question → Acceptor Places.PlaceSet
 acceptor q =
     record {
       characters = characters;
-      fields = fields;
+      fields = set-fields;
       first-set = λ (f : ℕ). Places.first-set;
       set-after = λ (f : ℕ). Places.set-after (held-by q f);
       may-end = λ (f : ℕ). Places.may-end (held-by q f);

@@ -12,8 +12,8 @@ use Rattle.paper.specs.Numbers.{characters, empty-code, range-code, then-code, 
 use Rattle.paper.specs.Pattern.{Pattern, then, either}
 use Rattle.paper.specs.Places.{leaves}
 use Rattle.paper.specs.Written.{Part, no-pattern, part, read-range, second-part, two-parts, many-part, read-part}
-use Rattle.paper.proofs.Tests.{cond-by}
-use Rattle.paper.proofs.Lists.{cons-eq}
+use Rattle.paper.proofs.base.Tests.{cond-by}
+use Rattle.paper.proofs.base.Lists.{cons-eq}
 
 -- What is left behind the pattern is a tail of the bytes, and the bytes before it are at least as many as the leaves.
 pub record Behind (s : List ℕ) (p : Pattern) (rest : List ℕ) : Type 0 where

@@ -7,10 +7,10 @@ use mathlib.Core.List.{List, [], _∷_}
 use lib.Bits.{bitOr}
 use lib.ListN.{getD}
 use Rattle.paper.specs.Lists.{upto, any}
-use Rattle.paper.proofs.Lists.{any-append}
+use Rattle.paper.proofs.base.Lists.{any-append}
 use Rattle.patterns.specs.Masks.{places, mask-of, in-mask, followers-of}
 use Rattle.patterns.proofs.MaskOf.{mask-of-same, mask-of-or, mask-of-cond, mask-of-none, mask-of-digits}
-use Rattle.paper.proofs.Made.{upto-snoc}
+use Rattle.paper.proofs.base.Made.{upto-snoc}
 
 module _ (masks : List ℕ) (m : ℕ) where
   -- may q follow the place i, and does i stand in the set?

@@ -1,6 +1,7 @@
 -- masks of tests, tables of them
 pub mod MaskOf
-pub mod Tables
+pub mod Filling
+pub mod Joining
 -- from masks back to place sets
 pub mod Masks
 -- reading a pattern's bytes

@@ -10,7 +10,7 @@ use mathlib.Core.List.{_++_}
 use lib.Dec.{eqb, eqb·zero-suc, eqb·suc-zero, eqb·suc-suc}
 use lib.Bits.{bitAnd, bitOr, and-step, or-step}
 use Rattle.paper.specs.Lists.{from, upto, only, keep}
-use Rattle.paper.proofs.Tests.{eq-eqb, neq-eqb}
+use Rattle.paper.proofs.base.Tests.{eq-eqb, neq-eqb}
 use Rattle.paper.specs.Places.{PlaceSet}
 use Rattle.patterns.specs.Masks.{places, mask, mask-of, in-mask}
 
@@ -56,10 +56,6 @@ below-same (suc n) t u h =
     ∙ ap₂ (λ (b : Bool) (m : ℕ). digit b + 2 * m) (h 0 (omega arith))
     (below-same n (λ (q : ℕ). t (suc q)) (λ (q : ℕ). u (suc q)) (λ q l. h (suc q) (omega arith)))
     ∙ sym (below-suc n u)
-
-digit-lt : (b : Bool) → digit b < 2
-digit-lt true = omega arith
-digit-lt false = omega arith
 
 pub below-none : (n : ℕ) → below n (λ (q : ℕ). false) ≡ 0
 below-none zero = refl

@@ -18,14 +18,14 @@ use Rattle.paper.specs.Lists.{from, upto, any, only, keep, member}
 use Rattle.paper.specs.Numbers.{most-leaves, characters}
 use Rattle.paper.specs.Pattern.{Held, any-text, pattern}
 use Rattle.paper.specs.Places.{leaves, leaf-takes, follows, ends-at, PlaceSet, leaf-places, first-set, set-after, may-end, is-empty}
-use Rattle.paper.proofs.Made.{any-same, keep-same, keep-none}
-use Rattle.paper.proofs.Tests.{by-bool, same-tests, and-left, and-right, both-true, eqb-true, eqb-false, neq-eqb, eqb-symmetric}
-use Rattle.paper.proofs.Lists.{cons-eq, mem-cons-by, any-true, mem-any, none-any, mem-keep, keep-mem, mem-from, from-mem, mem-upto, upto-mem, member-true, mem-member}
-use Rattle.paper.proofs.Parts.{takes-within}
-use Rattle.paper.proofs.Rising.{Rising, none, more, rising-first, rising-after, leaf-after}
+use Rattle.paper.proofs.base.Made.{any-same, keep-same, keep-none}
+use Rattle.paper.proofs.base.Tests.{by-bool, same-tests, and-left, and-right, both-true, eqb-true, eqb-false, neq-eqb, eqb-symmetric}
+use Rattle.paper.proofs.base.Lists.{cons-eq, mem-cons-by, any-true, mem-any, none-any, mem-keep, keep-mem, mem-from, from-mem, mem-upto, upto-mem, member-true, mem-member}
+use Rattle.paper.proofs.places.Parts.{takes-within}
+use Rattle.paper.proofs.places.Rising.{Rising, none, more, rising-first, rising-after, leaf-after}
 use Rattle.patterns.specs.Masks.{places, mask, mask-of, in-mask, comes-next, takes-at, follow-masks, taking-mask, taking-masks, last-mask, followers-of}
 use Rattle.patterns.proofs.MaskOf.{in-mask-of, mask-of-same, mask-of-and}
-use Rattle.patterns.proofs.Tables.{getD-table}
+use Rattle.patterns.proofs.Filling.{getD-table}
 
 -- some place of the set passes: all places can be tried
 any-member : (f : ℕ → Bool) (n : ℕ) (s : PlaceSet) → ((q : ℕ) → List·Memᴰ q s → q < n) → any (λ (q : ℕ). member q s && f q) (upto n) ≡ any f s

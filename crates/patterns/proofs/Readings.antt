@@ -4,23 +4,23 @@
 use Prim.Native.Nat.{ℕ, zero, suc, _+_, _-_, _≤_, _<_}
 use native.Mathlib.Omega.{arith}
 use mathlib.Core.Path.{_≡_, refl, sym, ap, _∙_, subst₂}
-use mathlib.Core.Bool.{Bool, true, false, _&&_}
+use mathlib.Core.Bool.{Bool, true, false, cond, _&&_}
 use mathlib.Core.List.{List, [], _∷_}
 use lib.Dec.{leb, ltb, eqb}
 use lib.ListN.{length, getD, take, drop, length-append, length-drop}
 use lib.Seq.{drop-at, take-all, drop-drop}
 use Rattle.paper.specs.Numbers.{characters, empty-code, range-code, then-code, or-code, many-code}
 use Rattle.paper.specs.Pattern.{takes, char, range, Pattern, leaf, empty, then, either}
-use Rattle.paper.specs.Places.{leaves}
+use Rattle.paper.specs.Places.{leaves, may-be-first, may-be-last}
 use Rattle.paper.specs.Written.{Part, no-pattern, part, read-range, two-parts, read-part}
-use Rattle.paper.proofs.Tests.{by-bool, cond-true, cond-false, true-false, same-tests}
-use Rattle.paper.proofs.Tests.{and-left, and-right, both-true, left-false, right-false}
-use Rattle.paper.proofs.Tests.{leb-true, le-leb, lt-leb, lt-ltb, le-ltb, eqb-true, eqb-false, eq-eqb, neq-eqb}
-use Rattle.patterns.specs.Masks.{mask-of}
-use Rattle.patterns.specs.Reading.{Reads, Read-as, Reading-of, Single, Joined, Repeated}
+use Rattle.paper.proofs.base.Tests.{by-bool, cond-true, cond-false, true-false, same-tests}
+use Rattle.paper.proofs.base.Tests.{and-left, and-right, both-true, left-false, right-false}
+use Rattle.paper.proofs.base.Tests.{leb-true, le-leb, lt-leb, lt-ltb, le-ltb, eqb-true, eqb-false, eq-eqb, neq-eqb}
+use Rattle.patterns.specs.Masks.{places, in-mask}
+use Rattle.patterns.specs.Reading.{Adds, Reads, Working, working, Joins, Works, Read-as, Reading-of, Single, Leaf-read, Joined, Repeated}
 use Rattle.patterns.specs.declared.reader.Reading.{Reading}
 use Rattle.patterns.proofs.Behind.{Leaves-behind, behind}
-use Rattle.patterns.proofs.Tables.{table-same}
+use Rattle.patterns.proofs.Joining.{joins-none, joins-more, joins-same, joins-linked}
 
 -- A range: the two bytes behind the 65.
 pub range-short : (s : List ℕ) → length s < 2 → read-range s ≡ no-pattern
@@ -65,41 +65,42 @@ by-front P (b ∷ s) h f (suc n) l = f n (omega arith)
 pub to-end : (k : ℕ) (s : List ℕ) → take (length s - k) (drop k s) ≡ drop k s
 to-end k s = take-all (length s - k) (drop k s) (rw (length-drop k s) (omega arith))
 
--- What a good reading tells: the pattern and where the bytes behind it stand.
-record Good (n : ℕ) (s : List ℕ) (o : ℕ) (a : Reading) : Type 0 where
+-- What a good reading tells: the pattern, where the bytes behind it stand, and what is joined to the tables.
+record Good (n : ℕ) (s : List ℕ) (o : ℕ) (w v : Working) (a : Reading) : Type 0 where
   read : Pattern
   rest : List ℕ
   is : read-part n s ≡ part read rest
   reads : Reads read rest o a
+  works : Works read o w v
   behind : drop (length s - a .left) s ≡ rest
   within : a .left ≤ length s
   room : a .next + a .left ≤ o + length s
 
-good-part : (n : ℕ) (s : List ℕ) (o : ℕ) (a : Reading) (x : Part) → read-part n s ≡ x → Leaves-behind s x → Read-as x o a
-    → a .ok ≡ true → Good n s o a
-good-part n s o a no-pattern e l h ok = absurd (true-false ok h)
-good-part n s o a (part p rest) e l h ok =
-    let whole : length s ≡ length (l .used) + length rest = ap length (l .whole) ∙ length-append (l .used) rest in
-    let left = h .left in
-    let next = h .next in
-    let enough = l .enough in
-    record {
-      read = p;
-      rest = rest;
-      is = e;
-      reads = h;
-      behind =
-          ap (drop (length s - a .left)) (l .whole) ∙ drop-at (l .used) rest (length s - a .left) (omega arith);
-      within = omega arith;
-      room = omega arith;
-    }
+module _ (n : ℕ) (s : List ℕ) (o : ℕ) (w v : Working) (a : Reading) where
+  good-part : (x : Part) → read-part n s ≡ x → Leaves-behind s x → Read-as x o w v a → a .ok ≡ true → Good n s o w v a
+  good-part no-pattern e l h ok = absurd (true-false ok h)
+  good-part (part p rest) e l h ok =
+      let whole : length s ≡ length (l .used) + length rest = ap length (l .whole) ∙ length-append (l .used) rest in
+      let left = h .0 .left in
+      let next = h .0 .next in
+      let enough = l .enough in
+      record {
+        read = p;
+        rest = rest;
+        is = e;
+        reads = h .0;
+        works = h .1;
+        behind = ap (drop (length s - a .left)) (l .whole) ∙ drop-at (l .used) rest (length s - a .left) (omega arith);
+        within = omega arith;
+        room = omega arith;
+      }
 
-good : (n : ℕ) (s : List ℕ) (o : ℕ) (a : Reading) → Read-as (read-part n s) o a → a .ok ≡ true → Good n s o a
-good n s o a h ok = good-part n s o a (read-part n s) refl (behind n s) h ok
+  good : Read-as (read-part n s) o w v a → a .ok ≡ true → Good n s o w v a
+  good h ok = good-part (read-part n s) refl (behind n s) h ok
 
-bad : (x : Part) (o : ℕ) (a : Reading) → Read-as x o a → a .ok ≡ false → x ≡ no-pattern
-bad no-pattern o a h e = refl
-bad (part p rest) o a h e = absurd (true-false (h .ok) e)
+bad : (x : Part) (o : ℕ) (w v : Working) (a : Reading) → Read-as x o w v a → a .ok ≡ false → x ≡ no-pattern
+bad no-pattern o w v a h e = refl
+bad (part p rest) o w v a h e = absurd (true-false (h .0 .ok) e)
 
 -- a character is the range from itself to itself
 char-range : (b c : ℕ) → takes (range b b) c ≡ takes (char b) c
@@ -111,32 +112,38 @@ char-range b c =
     eq-eqb b c (omega arith))
     (λ e. let l = eqb-true b c e in both-true (le-leb b c (omega arith)) (le-leb c b (omega arith)))
 
-char-reads : (b : ℕ) (rest : List ℕ) (o : ℕ) (r : Reading) → Reads (leaf (range b b)) rest o r → Reads (leaf (char b)) rest o r
-char-reads b rest o r h =
-    record {
-      ok = h .ok;
-      left = h .left;
-      next = h .next;
-      empty = h .empty;
-      first = h .first;
-      last = h .last;
-      follow = h .follow;
-      taking =
-          h .taking
-          ∙ table-same (λ (c : ℕ). mask-of (λ (q : ℕ). eqb o q && takes (range b b) c))
-          (λ (c : ℕ). mask-of (λ (q : ℕ). eqb o q && takes (char b) c)) characters
-          (λ c l. ap (λ (t : Bool). mask-of (λ (q : ℕ). eqb o q && t)) (char-range b c));
-    }
+-- The two patterns that have no part. No place follows their leaves, so what follows is left as it is.
+pub leaf-as : (lo hi left o : ℕ) (follow taking after : List ℕ) (r : Reading) → Leaf-read lo hi left o taking after r
+    → (rest : List ℕ) → length rest ≡ left → Read-as (part (leaf (range lo hi)) rest) o (working follow taking) (working follow after) r
+leaf-as lo hi left o follow taking after r h rest e = (h .reads rest e, record { follow = joins-none places follow; taking = h .takes })
+
+pub empty-as : (left o : ℕ) (follow taking : List ℕ) (r : Reading) → Single empty left o r
+    → (rest : List ℕ) → length rest ≡ left → Read-as (part empty rest) o (working follow taking) (working follow taking) r
+empty-as left o follow taking r h rest e =
+    (h rest e, record { follow = joins-none places follow; taking = joins-none characters taking })
+
+char-as : (b o : ℕ) (rest : List ℕ) (w v : Working) (r : Reading)
+    → Read-as (part (leaf (range b b)) rest) o w v r → Read-as (part (leaf (char b)) rest) o w v r
+char-as b o rest w v r h = (
+  record { ok = h .0 .ok; left = h .0 .left; next = h .0 .next; empty = h .0 .empty; first = h .0 .first; last = h .0 .last },
+  record {
+    follow = h .1 .follow;
+    taking = joins-same characters (λ c q. ap (λ (t : Bool). eqb o q && t) (char-range b c)) (h .1 .taking);
+  },
+)
 
 -- no byte, no pattern
-pub as-nothing : (s : List ℕ) (o : ℕ) (r : Reading) → length s ≡ 0 → r .ok ≡ false → Reading-of s o r
-as-nothing [] o r h z zero l = z
-as-nothing [] o r h z (suc n) l = z
-as-nothing (b ∷ s) o r h z zero l = absurd (omega arith)
-as-nothing (b ∷ s) o r h z (suc n) l = absurd (omega arith)
+pub as-nothing : (s : List ℕ) (o : ℕ) (w v : Working) (r : Reading) → length s ≡ 0 → r .ok ≡ false → Reading-of s o w v r
+as-nothing [] o w v r h z zero l = z
+as-nothing [] o w v r h z (suc n) l = z
+as-nothing (b ∷ s) o w v r h z zero l = absurd (omega arith)
+as-nothing (b ∷ s) o w v r h z (suc n) l = absurd (omega arith)
 
 -- A pattern by its first byte: r is a reading of the bytes s.
-module _ (s : List ℕ) (o : ℕ) (r : Reading) (h : 0 < length s) where
+module _ (s : List ℕ) (o : ℕ) (w v : Working) (r : Reading) (h : 0 < length s) where
+  abbrev reads-as : Part → Type 0
+  reads-as x = Read-as x o w v r
+
   read-other : (n : ℕ) (rest : List ℕ) (b : ℕ) → characters ≤ b → (b ≡ empty-code → ⊥) → (b ≡ range-code → ⊥)
       → (b ≡ then-code → ⊥) → (b ≡ or-code → ⊥) → (b ≡ many-code → ⊥) → read-part (suc n) (b ∷ rest) ≡ no-pattern
   read-other n rest b l e g t o m =
@@ -150,22 +157,21 @@ module _ (s : List ℕ) (o : ℕ) (r : Reading) (h : 0 < length s) where
       )
 
   pub as-char : first-byte s < characters
-      → Single (leaf (range (first-byte s) (first-byte s))) (length s - 1) o r → Reading-of s o r
+      → reads-as (part (leaf (range (first-byte s) (first-byte s))) (drop 1 s)) → Reading-of s o w v r
   as-char l f =
-      by-front (λ (x : Part). Read-as x o r) s h
-      (λ m k. rw (lt-ltb (first-byte s) characters l) (char-reads (first-byte s) (drop 1 s) o r (f (drop 1 s) (length-drop 1 s))))
+      by-front reads-as s h (λ m k. rw (lt-ltb (first-byte s) characters l) (char-as (first-byte s) o (drop 1 s) w v r f))
 
-  pub as-empty : first-byte s ≡ empty-code → Single empty (length s - 1) o r → Reading-of s o r
-  as-empty e f = by-front (λ (x : Part). Read-as x o r) s h (λ m k. rw e (f (drop 1 s) (length-drop 1 s)))
+  pub as-empty : first-byte s ≡ empty-code → reads-as (part empty (drop 1 s)) → Reading-of s o w v r
+  as-empty e f = by-front reads-as s h (λ m k. rw e f)
 
-  pub as-range : first-byte s ≡ range-code → Read-as (read-range (drop 1 s)) o r → Reading-of s o r
-  as-range e f = by-front (λ (x : Part). Read-as x o r) s h (λ m k. rw e f)
+  pub as-range : first-byte s ≡ range-code → reads-as (read-range (drop 1 s)) → Reading-of s o w v r
+  as-range e f = by-front reads-as s h (λ m k. rw e f)
 
   pub as-none : characters ≤ first-byte s → (first-byte s ≡ empty-code → ⊥) → (first-byte s ≡ range-code → ⊥)
       → (first-byte s ≡ then-code → ⊥) → (first-byte s ≡ or-code → ⊥) → (first-byte s ≡ many-code → ⊥)
-      → r .ok ≡ false → Reading-of s o r
+      → r .ok ≡ false → Reading-of s o w v r
   as-none l e g t o′ m z =
-      by-front (λ (x : Part). Read-as x o r) s h (λ k _. rw (read-other k (drop 1 s) (first-byte s) l e g t o′ m) z)
+      by-front reads-as s h (λ k _. rw (read-other k (drop 1 s) (first-byte s) l e g t o′ m) z)
 
 -- With no first part there is no pattern.
 no-first : (n : ℕ) (s : List ℕ) (b : ℕ) → then-code ≤ b → b ≤ many-code → read-part n s ≡ no-pattern
@@ -183,19 +189,31 @@ no-first n s b l m e =
     rw (g, e)))
 
 -- A pattern with parts: a is the reading of the first part, which stands behind the first byte.
-pub record First (s : List ℕ) (o : ℕ) (a : Reading) : Type 0 where
+pub record First (s : List ℕ) (o : ℕ) (w v : Working) (a : Reading) : Type 0 where
   pub some : 0 < length s
-  pub reads : Reading-of (drop 1 s) o a
+  pub reads : Reading-of (drop 1 s) o w v a
 
-module _ {s : List ℕ} {o : ℕ} {a : Reading} (f : First s o a) where
-  pub as-no-first : then-code ≤ first-byte s → first-byte s ≤ many-code → a .ok ≡ false → Reading-of s o a
-  as-no-first l m z =
-      by-front (λ (x : Part). Read-as x o a) s (f .some)
-      (λ n k. rw (no-first n (drop 1 s) (first-byte s) l m (bad (read-part n (drop 1 s)) o a (f .reads n k) z)) z)
+-- the tables once what is first in a part follows what is last in the part before it
+pub record Linked (v z : Working) (a c : Reading) : Type 0 where
+  pub follow : Adds places (λ (i : ℕ). cond (in-mask (a .last) i) (c .first) 0) (v .follow) (z .follow)
+  pub taking : z .taking ≡ v .taking
+
+-- what is first in one part follows what is last in another
+links : {v z : Working} {a c : Reading} {p q : Pattern} {s t : List ℕ} {i j : ℕ} → Linked v z a c → Reads p s i a → Reads q t j c
+    → Joins (λ (x y : ℕ). may-be-last p i x && may-be-first q j y) places (v .follow) (z .follow)
+links {v} {z} {a} {c} {p} {q} {s} {t} {i} {j} l x y =
+    joins-linked (λ (n : ℕ). may-be-last p i n) (λ (n : ℕ). may-be-first q j n) (v .follow) (z .follow) (a .last) (c .first) (x .last) (y .first) (l .follow)
+
+module _ {s : List ℕ} {o : ℕ} {w v : Working} {a : Reading} (f : First s o w v a) where
+  -- whatever became of the tables
+  pub as-no-first : (z : Working) → then-code ≤ first-byte s → first-byte s ≤ many-code → a .ok ≡ false → Reading-of s o w z a
+  as-no-first z l m e =
+      by-front (λ (x : Part). Read-as x o w z a) s (f .some)
+      (λ n k. rw (no-first n (drop 1 s) (first-byte s) l m (bad (read-part n (drop 1 s)) o w v a (f .reads n k) e)) e)
 
   module _ (ok : a .ok ≡ true) where
-    good-first : (n : ℕ) → length (drop 1 s) ≤ n → Good n (drop 1 s) o a
-    good-first n k = good n (drop 1 s) o a (f .reads n k) ok
+    good-first : (n : ℕ) → length (drop 1 s) ≤ n → Good n (drop 1 s) o w v a
+    good-first n k = good n (drop 1 s) o w v a (f .reads n k) ok
 
     -- where the second part begins, and that its places fit
     pub second-within : a .left < length s
@@ -207,53 +225,81 @@ module _ {s : List ℕ} {o : ℕ} {a : Reading} (f : First s o a) where
     pub second-room : a .next + a .left ≤ o + length s
     second-room = let r = good-first (length (drop 1 s)) (omega arith) .room in omega (arith, length-drop 1 s)
 
-    pub as-many : (r : Reading) → first-byte s ≡ many-code → Repeated a r → Reading-of s o r
-    as-many r e h =
-        by-front (λ (x : Part). Read-as x o r) s (f .some)
-        (λ n k. let g = good-first n k in rw (e, g .is) (h (g .read) (g .rest) o (g .reads)))
+    pub as-many : (z : Working) (r : Reading) → first-byte s ≡ many-code → Repeated a r → Linked v z a a → Reading-of s o w z r
+    as-many z r e h l =
+        by-front (λ (x : Part). Read-as x o w z r) s (f .some)
+        (λ n k.
+        let g = good-first n k in
+        rw (e, g .is) (
+          h (g .read) (g .rest) o (g .reads),
+          record { follow = joins-more places (g .works .follow) (links l (g .reads) (g .reads)); taking = rw (l .taking) (g .works .taking) },
+        ))
 
     -- c is the reading of the second part, which stands behind the first
-    module _ {c : Reading} (d : Reading-of (drop (length s - a .left) s) (a .next) c) where
-      second-is : (n : ℕ) (g : Good n (drop 1 s) o a) → drop (length s - a .left) s ≡ g .rest
+    module _ {z : Working} {c : Reading} (d : Reading-of (drop (length s - a .left) s) (a .next) v z c) where
+      second-is : (n : ℕ) (g : Good n (drop 1 s) o w v a) → drop (length s - a .left) s ≡ g .rest
       second-is n g =
           let w = g .within in
           let h = f .some in
           let e : length s - a .left ≡ 1 + (length (drop 1 s) - a .left) = omega (arith, length-drop 1 s) in
           ap (λ (k : ℕ). drop k s) e ∙ sym (drop-drop (length (drop 1 s) - a .left) 1 s) ∙ g .behind
 
-      at-second : (n : ℕ) → length (drop 1 s) ≤ n → (g : Good n (drop 1 s) o a)
-          → Read-as (read-part n (g .rest)) (o + leaves (g .read)) c
+      at-second : (n : ℕ) → length (drop 1 s) ≤ n → (g : Good n (drop 1 s) o w v a)
+          → Read-as (read-part n (g .rest)) (o + leaves (g .read)) v z c
       at-second n k g =
           let e = second-is n g in
           let l = g .reads .left in
           let w = g .within in
-          subst₂ (λ (l : List ℕ) (i : ℕ). Read-as (read-part n l) i c) e (g .reads .next) (d n (omega (arith, ap length e)))
+          subst₂ (λ (l : List ℕ) (i : ℕ). Read-as (read-part n l) i v z c) e (g .reads .next) (d n (omega (arith, ap length e)))
 
-      as-two : (op : Pattern → Pattern → Pattern) (r : Reading) (n : ℕ) → length (drop 1 s) ≤ n → c .ok ≡ true → Joined op a c r
-          → Read-as (two-parts op (read-part n (drop 1 s)) (λ (l : List ℕ). read-part n l)) o r
-      as-two op r n k okc h =
+      as-two : (op : Pattern → Pattern → Pattern) (y : Working) (r : Reading) → c .ok ≡ true → Joined op a c r
+          → ((p q : Pattern) (s t : List ℕ) → Reads p s o a → Reads q t (o + leaves p) c → Works p o w v → Works q (o + leaves p) v z → Works (op p q) o w y)
+          → (n : ℕ) → length (drop 1 s) ≤ n
+          → Read-as (two-parts op (read-part n (drop 1 s)) (λ (l : List ℕ). read-part n l)) o w y r
+      as-two op y r okc h j n k =
           let g = good-first n k in
-          let e = good n (g .rest) (o + leaves (g .read)) c (at-second n k g) okc in
-          rw (g .is, e .is) (h (g .read) (e .read) (g .rest) (e .rest) o (g .reads) (e .reads))
+          let e = good n (g .rest) (o + leaves (g .read)) v z c (at-second n k g) okc in
+          rw (g .is, e .is) (
+            h (g .read) (e .read) (g .rest) (e .rest) o (g .reads) (e .reads),
+            j (g .read) (e .read) (g .rest) (e .rest) (g .reads) (e .reads) (g .works) (e .works),
+          )
 
-      as-not-two : (op : Pattern → Pattern → Pattern) (n : ℕ) → length (drop 1 s) ≤ n → c .ok ≡ false
-          → Read-as (two-parts op (read-part n (drop 1 s)) (λ (l : List ℕ). read-part n l)) o c
-      as-not-two op n k z =
+      as-not-two : (op : Pattern → Pattern → Pattern) (y : Working) (n : ℕ) → length (drop 1 s) ≤ n → c .ok ≡ false
+          → Read-as (two-parts op (read-part n (drop 1 s)) (λ (l : List ℕ). read-part n l)) o w y c
+      as-not-two op y n k b =
           let g = good-first n k in
-          rw (g .is, bad (read-part n (g .rest)) (o + leaves (g .read)) c (at-second n k g) z) z
+          rw (g .is, bad (read-part n (g .rest)) (o + leaves (g .read)) v z c (at-second n k g) b) b
 
-      pub as-then : (r : Reading) → first-byte s ≡ then-code → c .ok ≡ true → Joined then a c r → Reading-of s o r
-      as-then r e okc h = by-front (λ (x : Part). Read-as x o r) s (f .some) (λ n k. rw e (as-two then r n k okc h))
+      pub as-then : (y : Working) (r : Reading) → first-byte s ≡ then-code → c .ok ≡ true → Joined then a c r → Linked z y a c → Reading-of s o w y r
+      as-then y r e okc h l =
+          by-front (λ (x : Part). Read-as x o w y r) s (f .some)
+          (λ n k.
+          rw e
+          (as-two then y r okc h
+          (λ p q s t m i b u.
+          record {
+            follow = joins-more places (joins-more places (b .follow) (u .follow)) (links l m i);
+            taking = rw (l .taking) (joins-more characters (b .taking) (u .taking));
+          })
+          n k))
 
-      pub as-or : (r : Reading) → first-byte s ≡ or-code → c .ok ≡ true → Joined either a c r → Reading-of s o r
-      as-or r e okc h = by-front (λ (x : Part). Read-as x o r) s (f .some) (λ n k. rw e (as-two either r n k okc h))
+      pub as-or : (r : Reading) → first-byte s ≡ or-code → c .ok ≡ true → Joined either a c r → Reading-of s o w z r
+      as-or r e okc h =
+          by-front (λ (x : Part). Read-as x o w z r) s (f .some)
+          (λ n k.
+          rw e
+          (as-two either z r okc h
+          (λ p q s t m i b u.
+          record { follow = joins-more places (b .follow) (u .follow); taking = joins-more characters (b .taking) (u .taking) })
+          n k))
 
-      pub as-no-second : then-code ≤ first-byte s → first-byte s ≤ or-code → c .ok ≡ false → Reading-of s o c
-      as-no-second l m z =
+      pub as-no-second : (y : Working) → then-code ≤ first-byte s → first-byte s ≤ or-code → c .ok ≡ false → Reading-of s o w y c
+      as-no-second y l m b =
           by-bool (eqb (first-byte s) then-code)
           (λ (t : eqb (first-byte s) then-code ≡ true).
-          by-front (λ (x : Part). Read-as x o c) s (f .some) (λ n k. rw (eqb-true (first-byte s) then-code t) (as-not-two then n k z)))
+          by-front (λ (x : Part). Read-as x o w y c) s (f .some)
+          (λ n k. rw (eqb-true (first-byte s) then-code t) (as-not-two then y n k b)))
           (λ (t : eqb (first-byte s) then-code ≡ false).
           let i : first-byte s ≡ then-code → ⊥ = eqb-false (first-byte s) then-code t in
           let e : first-byte s ≡ or-code = omega arith in
-          by-front (λ (x : Part). Read-as x o c) s (f .some) (λ n k. rw e (as-not-two either n k z)))
+          by-front (λ (x : Part). Read-as x o w y c) s (f .some) (λ n k. rw e (as-not-two either y n k b)))

@@ -1,2 +1,3 @@
 pub mod Masks
+pub mod Worked
 pub mod Reading

@@ -1,5 +1,5 @@
 -- Place sets as masks (document 01, "How to write each place"): "31 leaves and the start make 32 places: a place set is a 32-bit
--- mask; following places are gathered by or and shifts". What the public functions on a pattern's bytes give, for any bytes.
+-- mask; following places are gathered by or and shifts".
 --
 -- Masks are sums of powers of two, so that these definitions compute. The laws that lead from masks back to place sets are in
 -- proofs/Masks.antt.
@@ -7,14 +7,11 @@ use Prim.Native.Nat.{ℕ, suc, _+_, _/_, _%_, _^_}
 use mathlib.Core.Bool.{Bool, true, _&&_}
 use mathlib.Core.List.{List, [], _∷_, map}
 use lib.Dec.{eqb}
-use lib.ListN.{getD, replicate}
+use lib.ListN.{getD}
 use Rattle.paper.specs.Lists.{upto, any, keep}
 use Rattle.paper.specs.Numbers.{characters, most-leaves}
 use Rattle.paper.specs.Pattern.{Held, any-text, pattern}
 use Rattle.paper.specs.Places.{leaf-takes, follows, ends-at, PlaceSet}
-use Rattle.paper.specs.Written.{Judged, not-one-pattern, too-many-leaves, judged}
-use Rattle.patterns.specs.declared.Verdict.{Verdict}
-use Rattle.patterns.specs.declared.Verdict.the-variants.{NotOnePattern, TooManyLeaves, Good}
 
 -- "31 leaves and the start make 32 places"
 abbrev pub places : ℕ
@@ -37,6 +34,10 @@ in-mask m i = eqb (m / 2 ^ i % 2) 1
 unfoldable pub table : (ℕ → ℕ) → ℕ → List ℕ
 table f n = map f (upto n)
 
+-- the masks of the tests t 0, t 1, .. : n numbers
+abbrev pub masks : (ℕ → ℕ → Bool) → ℕ → List ℕ
+masks t n = table (λ (i : ℕ). mask-of (λ (q : ℕ). t i q)) n
+
 -- May the place q come next after the place i? The set of an open field never changes: after i comes i.
 abbrev pub comes-next : Held → ℕ → ℕ → Bool
 comes-next any-text i q = eqb i q
@@ -49,7 +50,7 @@ takes-at (pattern p) q c = leaf-takes p 1 q c
 
 -- "For every field and every place, the set of places that may follow is worked out once from the pattern."
 unfoldable pub follow-masks : Held → List ℕ
-follow-masks h = table (λ (i : ℕ). mask-of (λ (q : ℕ). comes-next h i q)) places
+follow-masks h = masks (λ (i q : ℕ). comes-next h i q) places
 
 -- for every character, the set of places that take it
 unfoldable pub taking-mask : Held → ℕ → ℕ
@@ -65,25 +66,3 @@ last-mask h = mask-of (λ (i : ℕ). ends-at h i)
 -- The places that may follow some place of the set with the mask m, by any list of masks. (The set after c is what of these takes c.)
 unfoldable pub followers-of : List ℕ → ℕ → ℕ
 followers-of masks m = mask-of (λ (q : ℕ). any (λ (i : ℕ). in-mask m i && in-mask (getD masks i 0) q) (upto places))
-
--- What `judge` answers for bytes that are judged so.
-abbrev pub verdict : Judged → Verdict
-verdict not-one-pattern = NotOnePattern
-verdict too-many-leaves = TooManyLeaves
-verdict (judged p) = Good
-
--- What the masks of bytes that are judged so are: those of the good pattern, else zeros.
-abbrev pub follow-sets-of : Judged → List ℕ
-follow-sets-of not-one-pattern = replicate places 0
-follow-sets-of too-many-leaves = replicate places 0
-follow-sets-of (judged p) = follow-masks (pattern p)
-
-abbrev pub taking-sets-of : Judged → List ℕ
-taking-sets-of not-one-pattern = replicate characters 0
-taking-sets-of too-many-leaves = replicate characters 0
-taking-sets-of (judged p) = taking-masks (pattern p)
-
-abbrev pub last-set-of : Judged → ℕ
-last-set-of not-one-pattern = 0
-last-set-of too-many-leaves = 0
-last-set-of (judged p) = last-mask (pattern p)

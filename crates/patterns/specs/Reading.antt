@@ -1,29 +1,27 @@
 -- What the private functions that read a pattern's bytes promise: the step between the code and the definitions of `Masks`.
--- `Reads p rest o r`: r tells of the pattern p, whose first leaf is the place o and behind which the bytes `rest` are left.
-use Prim.Native.Nat.{ℕ, _+_, _<_, _≤_}
+--   Reads p rest o r      r tells of the pattern p, whose first leaf is the place o and behind which the bytes `rest` are left
+--   Works p o w v         the lent tables w have become v: what follows the leaves of p and what these take is joined to them
+use Prim.Native.Nat.{ℕ, _+_, _≤_}
 use mathlib.Core.Path.{_≡_}
-use mathlib.Core.Bool.{true, false, cond}
-use mathlib.Core.List.{List, []}
+use mathlib.Core.Bool.{Bool, true, false, _||_}
+use mathlib.Core.List.{List}
 use lib.Bits.{bitOr}
-use lib.ListN.{length, getD, replicate}
+use lib.ListN.{length, getD}
 use Rattle.paper.specs.Numbers.{characters}
-use Rattle.paper.specs.Pattern.{takes, range, Pattern, many}
+use Rattle.paper.specs.Pattern.{range, Pattern, leaf, many}
 use Rattle.paper.specs.Places.{leaves, takes-empty, may-be-first, may-be-last, may-follow, leaf-takes}
-use Rattle.paper.specs.Written.{Part, no-pattern, part, read-part, Judged, not-one-pattern, too-many-leaves, judged}
-use Rattle.patterns.specs.Masks.{places, mask-of, in-mask, table}
+use Rattle.paper.specs.Written.{Part, no-pattern, part, read-part}
+use Rattle.patterns.specs.Masks.{places, mask-of, table, masks}
 use Rattle.patterns.specs.declared.reader.Reading.{Reading}
 
--- the sets of two tables together, at i
-abbrev pub or-at : List ℕ → List ℕ → ℕ → ℕ
-or-at sets more i = bitOr (getD sets i 0) (getD more i 0)
+-- the sets of a table and further ones together, at i
+abbrev pub or-at : List ℕ → (ℕ → ℕ) → ℕ → ℕ
+or-at sets more i = bitOr (getD sets i 0) (more i)
 
--- the followers of i, where every place of `first` may follow every place of `last` besides
-abbrev pub link-at : List ℕ → ℕ → ℕ → ℕ → ℕ
-link-at follow last first i = bitOr (getD follow i 0) (cond (in-mask last i) first 0)
-
--- the set, where the character c is one from lo to hi
-abbrev pub mark-at : ℕ → ℕ → ℕ → ℕ → ℕ
-mark-at lo hi set c = cond (takes (range lo hi) c) set 0
+-- the sets `more 0`, `more 1`, .. are added to those of a table of n. (That an array behind a reference has its n elements is known by its type,
+-- but it is no fact about the list that stands for it here.)
+abbrev pub Adds : ℕ → (ℕ → ℕ) → List ℕ → List ℕ → Type 0
+Adds n more d e = length d ≡ n → e ≡ table (or-at d more) n
 
 pub record Reads (p : Pattern) (rest : List ℕ) (o : ℕ) (r : Reading) : Type 0 where
   pub ok : r .ok ≡ true
@@ -32,21 +30,40 @@ pub record Reads (p : Pattern) (rest : List ℕ) (o : ℕ) (r : Reading) : Type 
   pub empty : r .empty ≡ takes-empty p
   pub first : r .first ≡ mask-of (λ (q : ℕ). may-be-first p o q)
   pub last : r .last ≡ mask-of (λ (q : ℕ). may-be-last p o q)
-  pub follow : r .follow ≡ table (λ (i : ℕ). mask-of (λ (q : ℕ). may-follow p o i q)) places
-  pub taking : r .taking ≡ table (λ (c : ℕ). mask-of (λ (q : ℕ). leaf-takes p o q c)) characters
+
+-- the lent tables: for every place what may follow, for every character what takes it
+pub record Working : Type 0 where
+  pub follow : List ℕ
+  pub taking : List ℕ
+
+abbrev pub working : List ℕ → List ℕ → Working
+working follow taking = record { follow = follow; taking = taking }
+
+-- the masks of the tests t are joined to those of d, whatever tests these are of
+pub record Joins (t : ℕ → ℕ → Bool) (n : ℕ) (d e : List ℕ) : Type 0 where
+  pub joined : (u : ℕ → ℕ → Bool) → d ≡ masks u n → e ≡ masks (λ (i q : ℕ). u i q || t i q) n
+
+pub record Works (p : Pattern) (o : ℕ) (w v : Working) : Type 0 where
+  pub follow : Joins (λ (i q : ℕ). may-follow p o i q) places (w .follow) (v .follow)
+  pub taking : Joins (λ (c q : ℕ). leaf-takes p o q c) characters (w .taking) (v .taking)
 
 -- what reading gives for the pattern at the front of the bytes, or for none
-abbrev pub Read-as : Part → ℕ → Reading → Type 0
-Read-as no-pattern o r = r .ok ≡ false
-Read-as (part p rest) o r = Reads p rest o r
+abbrev pub Read-as : Part → ℕ → Working → Working → Reading → Type 0
+Read-as no-pattern o w v r = r .ok ≡ false
+Read-as (part p rest) o w v r = Reads p rest o r × Works p o w v
 
 -- r is the reading of the bytes s, whatever more than enough turns are taken
-abbrev pub Reading-of : List ℕ → ℕ → Reading → Type 0
-Reading-of s o r = (n : ℕ) → length s ≤ n → Read-as (read-part n s) o r
+abbrev pub Reading-of : List ℕ → ℕ → Working → Working → Reading → Type 0
+Reading-of s o w v r = (n : ℕ) → length s ≤ n → Read-as (read-part n s) o w v r
 
 -- r is the reading of a pattern that has no part, with so many bytes left behind it
 abbrev pub Single : Pattern → ℕ → ℕ → Reading → Type 0
 Single p left o r = (rest : List ℕ) → length rest ≡ left → Reads p rest o r
+
+-- r is the reading of a leaf, and what it takes is joined to the table
+pub record Leaf-read (lo hi left o : ℕ) (taking after : List ℕ) (r : Reading) : Type 0 where
+  pub reads : Single (leaf (range lo hi)) left o r
+  pub takes : Joins (λ (c q : ℕ). leaf-takes (leaf (range lo hi)) o q c) characters taking after
 
 -- r is the reading of two patterns under an operator, of which a and b are the readings
 abbrev pub Joined : (Pattern → Pattern → Pattern) → Reading → Reading → Reading → Type 0
@@ -56,29 +73,3 @@ Joined op a b r =
 -- r is the reading of a pattern any number of times, of which a is the reading
 abbrev pub Repeated : Reading → Reading → Type 0
 Repeated a r = (p : Pattern) (rest : List ℕ) (o : ℕ) → Reads p rest o a → Reads (many p) rest o r
-
--- reading where there is no pattern
-unfoldable pub nothing : Reading
-nothing =
-    record {
-      ok = false;
-      left = 0;
-      next = 0;
-      empty = false;
-      first = 0;
-      last = 0;
-      follow = replicate places 0;
-      taking = replicate characters 0;
-    }
-
--- what reading all the bytes as one pattern gives, by how they are judged
-abbrev pub Whole-as : Judged → Reading → Type 0
-Whole-as not-one-pattern r = r ≡ nothing
-Whole-as too-many-leaves r = (r .ok ≡ true) × (places < r .next)
-Whole-as (judged p) r = Reads p [] 1 r × (r .next ≤ places)
-
--- what reading them as a good pattern gives
-abbrev pub Good-as : Judged → Reading → Type 0
-Good-as not-one-pattern r = r ≡ nothing
-Good-as too-many-leaves r = r ≡ nothing
-Good-as (judged p) r = Reads p [] 1 r

@@ -9,14 +9,22 @@ use place_sets::holds;
 use place_sets::place;
 use place_sets::stay;
 use place_sets::when;
-use reader::Reading;
 use reader::read;
 ghost use mathlib.Core.Path.{_≡_};
 ghost use Rattle.paper.specs.Pattern.{any-text};
 ghost use Rattle.paper.specs.Written.{judge};
-ghost use Rattle.patterns.specs.Masks.{follow-masks, taking-masks, last-mask, followers-of};
-ghost use Rattle.patterns.specs.Masks.{verdict, follow-sets-of, taking-sets-of, last-set-of};
-ghost use Rattle.patterns.specs.Reading.{Whole-as, Good-as};
+ghost use Rattle.patterns.specs.Masks.{followers-of};
+ghost use Rattle.patterns.specs.Worked.{worked-out, worked-of, refused-as};
+
+// What is worked out once of a pattern.
+pub struct PlaceTables {
+    // for every place the places that may follow
+    pub follow: [u32; PLACES],
+    // for every character the places that take it
+    pub taking: [u32; CHARACTERS],
+    // the places that may be the last one: "the start may, if the pattern takes the empty text"
+    pub last: u32,
+}
 
 // "15 bytes are not one pattern", "16 more than 31 leaves", or neither.
 pub enum Verdict {
@@ -25,93 +33,65 @@ pub enum Verdict {
     Good,
 }
 
+// How the bytes of a pattern are judged, and the tables of a good pattern, else zeros.
+pub struct Worked {
+    pub verdict: Verdict,
+    pub tables: PlaceTables,
+}
+
 // Every place.
 const ALL: u32 = 0xFFFF_FFFF;
 
-// "judged by themselves, as exactly one pattern that uses them all"
-fn whole(s: &[u8]) -> Reading
-    ensures { λ r. ⌜ Whole-as (judge (now (s .entry))) r ⌝ }
+// "judged by themselves, as exactly one pattern that uses them all", and worked out in the same walk.
+pub fn tables(s: &[u8]) -> Worked
+    ensures { λ r. ⌜ r ≡ worked-of (judge (now (s .entry))) ⌝ }
 {
-    let r = read(s, 1);
+    let mut follow = [0; PLACES];
+    let mut taking = [0; CHARACTERS];
+    let r = read(s, 1, &mut follow, &mut taking);
     if !r.ok {
-        return Reading::none();
+        return refused(Verdict::NotOnePattern);
     }
     if 0 < r.left {
-        return Reading::none();
-    }
-    r
-}
-
-// The verdict on the bytes of a pattern.
-pub fn judge(s: &[u8]) -> Verdict
-    ensures { λ r. ⌜ r ≡ verdict (judge (now (s .entry))) ⌝ }
-{
-    let r = whole(s);
-    if !r.ok {
-        return Verdict::NotOnePattern;
+        return refused(Verdict::NotOnePattern);
     }
     if PLACES < r.next {
-        return Verdict::TooManyLeaves;
+        return refused(Verdict::TooManyLeaves);
     }
-    Verdict::Good
-}
-
-// The good pattern that the bytes are, or none.
-fn good(s: &[u8]) -> Reading
-    ensures { λ r. ⌜ Good-as (judge (now (s .entry))) r ⌝ }
-{
-    let r = whole(s);
-    if r.next <= PLACES {
-        return r;
-    }
-    Reading::none()
-}
-
-// For every place of a good pattern the places that may follow; zeros where the bytes are none.
-pub fn follow_sets(s: &[u8]) -> [u32; PLACES]
-    ensures { λ r. ⌜ r ≡ follow-sets-of (judge (now (s .entry))) ⌝ }
-{
-    let r = good(s);
-    let mut follow = r.follow;
     follow[0] = r.first;
-    follow
+    let last = r.last | when(r.empty, place(0));
+    let tables = PlaceTables {
+        follow,
+        taking,
+        last,
+    };
+    Worked {
+        verdict: Verdict::Good,
+        tables,
+    }
 }
 
-// For every character the places of a good pattern that take it.
-pub fn taking_sets(s: &[u8]) -> [u32; CHARACTERS]
-    ensures { λ r. ⌜ r ≡ taking-sets-of (judge (now (s .entry))) ⌝ }
+fn refused(verdict: Verdict) -> Worked
+    ensures { λ r. ⌜ r ≡ refused-as verdict ⌝ }
 {
-    let r = good(s);
-    r.taking
-}
-
-// The places of a good pattern that may be the last one: "the start may, if the pattern takes the empty text".
-pub fn last_set(s: &[u8]) -> u32
-    ensures { λ r. ⌜ r ≡ last-set-of (judge (now (s .entry))) ⌝ }
-{
-    let r = good(s);
-    r.last | when(r.empty, place(0))
+    let tables = PlaceTables {
+        follow: [0; PLACES],
+        taking: [0; CHARACTERS],
+        last: 0,
+    };
+    Worked { verdict, tables }
 }
 
 // "An open field has one place set that never changes and may always end."
-pub fn open_follow_sets() -> [u32; PLACES]
-    ensures { λ r. ⌜ r ≡ follow-masks any-text ⌝ }
+pub fn open_tables() -> PlaceTables
+    ensures { λ r. ⌜ r ≡ worked-out any-text ⌝ }
 {
-    let mut follow = [0; PLACES];
-    stay(&mut follow);
-    follow
-}
-
-pub fn open_taking_sets() -> [u32; CHARACTERS]
-    ensures { λ r. ⌜ r ≡ taking-masks any-text ⌝ }
-{
-    [ALL; CHARACTERS]
-}
-
-pub fn open_last_set() -> u32
-    ensures { λ r. ⌜ r ≡ last-mask any-text ⌝ }
-{
-    ALL
+    let follow = stay();
+    PlaceTables {
+        follow,
+        taking: [ALL; CHARACTERS],
+        last: ALL,
+    }
 }
 
 // All places that may follow some place of the set. The set after a character is what of these takes it.

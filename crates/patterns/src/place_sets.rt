@@ -3,10 +3,10 @@ ghost use mathlib.Core.Path.{_≡_};
 ghost use mathlib.Core.Bool.{cond};
 ghost use Prim.Native.Nat.{ℕ, _<_};
 ghost use lib.Dec.{eqb};
-ghost use lib.ListN.{length};
+ghost use Rattle.paper.specs.Numbers.{characters};
 ghost use Rattle.paper.specs.Pattern.{takes, range};
 ghost use Rattle.patterns.specs.Masks.{places, mask-of, in-mask, table};
-ghost use Rattle.patterns.specs.Reading.{or-at, link-at, mark-at};
+ghost use Rattle.patterns.specs.Reading.{Adds};
 
 // "31 leaves and the start make 32 places".
 pub const PLACES: usize = 32;
@@ -36,22 +36,9 @@ pub fn when(b: bool, set: u32) -> u32
     if b { set } else { 0 }
 }
 
-// Joins the sets of `more` to those of `sets`, one by one.
-pub fn join(sets: &mut [u32], more: &[u32])
-    requires { ⌜ length (now sets) ≡ length (now more) ⌝ }
-    ensures { λ _. ⌜ now (sets .exit) ≡ table (or-at (now (sets .entry)) (now (more .entry))) (length (now (sets .entry))) ⌝ }
-{
-    let mut i = 0;
-    while i < sets.len() {
-        sets[i] = sets[i] | more[i];
-        i += 1;
-    }
-}
-
 // Lets every place of `first` follow every place of `last`.
-pub fn link(follow: &mut [u32], last: u32, first: u32)
-    requires { ⌜ length (now follow) ≡ places ⌝ }
-    ensures { λ _. ⌜ now (follow .exit) ≡ table (link-at (now (follow .entry)) last first) places ⌝ }
+pub fn link(follow: &mut [u32; PLACES], last: u32, first: u32)
+    ensures { λ _. ⌜ Adds places (λ (i : ℕ). cond (in-mask last i) first 0) (now (follow .entry)) (now (follow .exit)) ⌝ }
 {
     let mut i = 0;
     while i < PLACES {
@@ -60,16 +47,17 @@ pub fn link(follow: &mut [u32], last: u32, first: u32)
     }
 }
 
-// Lets every place follow itself alone.
-pub fn stay(follow: &mut [u32])
-    requires { ⌜ length (now follow) ≡ places ⌝ }
-    ensures { λ _. ⌜ now (follow .exit) ≡ table (λ (i : ℕ). mask-of (λ (q : ℕ). eqb i q)) places ⌝ }
+// Every place is followed by itself alone.
+pub fn stay() -> [u32; PLACES]
+    ensures { λ r. ⌜ r ≡ table (λ (i : ℕ). mask-of (λ (q : ℕ). eqb i q)) places ⌝ }
 {
+    let mut follow = [0; PLACES];
     let mut i = 0;
     while i < PLACES {
         follow[i] = place(i);
         i += 1;
     }
+    follow
 }
 
 // lo ≤ value ≤ hi
@@ -83,13 +71,13 @@ fn between(lo: u8, c: usize, hi: u8) -> bool
     }
 }
 
-// Lets the set, and no other place, take the characters from lo to hi.
-pub fn mark(taking: &mut [u32], lo: u8, hi: u8, set: u32)
-    ensures { λ _. ⌜ now (taking .exit) ≡ table (mark-at lo hi set) (length (now (taking .entry))) ⌝ }
+// Lets the set take the characters from lo to hi.
+pub fn mark(taking: &mut [u32; CHARACTERS], lo: u8, hi: u8, set: u32)
+    ensures { λ _. ⌜ Adds characters (λ (c : ℕ). cond (takes (range lo hi) c) set 0) (now (taking .entry)) (now (taking .exit)) ⌝ }
 {
     let mut c = 0;
-    while c < taking.len() {
-        taking[c] = when(between(lo, c, hi), set);
+    while c < CHARACTERS {
+        taking[c] = taking[c] | when(between(lo, c, hi), set);
         c += 1;
     }
 }

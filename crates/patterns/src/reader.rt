@@ -1,18 +1,19 @@
 // Reading a pattern that is written operator first, and working out its places on the way.
 use crate::place_sets::CHARACTERS;
 use crate::place_sets::PLACES;
-use crate::place_sets::join;
 use crate::place_sets::link;
 use crate::place_sets::mark;
 use crate::place_sets::place;
 use crate::place_sets::when;
 ghost use mathlib.Core.Path.{_≡_};
-ghost use Prim.Native.Nat.{_+_, _^_, _<_};
+ghost use mathlib.Core.Bool.{false};
+ghost use mathlib.Core.List.{List};
+ghost use Prim.Native.Nat.{ℕ, _+_, _^_, _<_};
 ghost use lib.ListN.{length, getD};
 ghost use Rattle.paper.specs.Numbers.{then-code};
-ghost use Rattle.paper.specs.Pattern.{range, leaf, empty, then, either};
+ghost use Rattle.paper.specs.Pattern.{empty, then, either};
 ghost use Rattle.paper.specs.Written.{read-range};
-ghost use Rattle.patterns.specs.Reading.{Read-as, Reading-of, Single, Joined, Repeated, nothing};
+ghost use Rattle.patterns.specs.Reading.{working, Read-as, Reading-of, Single, Leaf-read, Joined, Repeated};
 
 // "0 to 42: that character".
 const CHARACTER_END: u8 = CHARACTERS as u8;
@@ -26,7 +27,8 @@ const THEN_CODE: u8 = 66;
 
 const MANY_CODE: u8 = 68;
 
-// What the pattern at the front of some bytes comes to, where its first leaf is at a given place.
+// What the pattern at the front of some bytes comes to, where its first leaf is at a given place. Which places may follow its leaves, and
+// which characters these take, is joined to tables that are lent.
 pub struct Reading {
     // there is one
     pub ok: bool,
@@ -39,16 +41,12 @@ pub struct Reading {
     // the places that may be first, and last
     pub first: u32,
     pub last: u32,
-    // for every place the places that may follow
-    pub follow: [u32; PLACES],
-    // for every character the places that take it
-    pub taking: [u32; CHARACTERS],
 }
 
 impl Reading {
     // No pattern.
-    pub fn none() -> Self
-        ensures { λ r. ⌜ r ≡ nothing ⌝ }
+    fn none() -> Self
+        ensures { λ r. ⌜ r .ok ≡ false ⌝ }
     {
         Reading {
             ok: false,
@@ -57,8 +55,6 @@ impl Reading {
             empty: false,
             first: 0,
             last: 0,
-            follow: [0; PLACES],
-            taking: [0; CHARACTERS],
         }
     }
 
@@ -66,83 +62,69 @@ impl Reading {
     fn empty(left: usize, o: usize) -> Self
         ensures { λ r. ⌜ Single empty left o r ⌝ }
     {
-        let mut r = Reading::none();
-        r.ok = true;
-        r.left = left;
-        r.next = o;
-        r.empty = true;
-        r
+        Reading {
+            ok: true,
+            left,
+            next: o,
+            empty: true,
+            first: 0,
+            last: 0,
+        }
     }
 
     // "one character with lo ≤ value ≤ hi (a leaf)"
-    fn leaf(left: usize, o: usize, lo: u8, hi: u8) -> Self
+    fn leaf(taking: &mut [u32; CHARACTERS], left: usize, o: usize, lo: u8, hi: u8) -> Self
         requires { ⌜ o + 1 < 2 ^ 64 ⌝ }
-        ensures { λ r. ⌜ Single (leaf (range lo hi)) left o r ⌝ }
+        ensures { λ r. ⌜ Leaf-read lo hi left o (now (taking .entry)) (now (taking .exit)) r ⌝ }
     {
-        let mut r = Reading::none();
         let set = place(o);
-        let mut taking = r.taking;
-        mark(&mut taking, lo, hi, set);
-        r.ok = true;
-        r.left = left;
-        r.next = o + 1;
-        r.first = set;
-        r.last = set;
-        r.taking = taking;
-        r
+        mark(taking, lo, hi, set);
+        Reading {
+            ok: true,
+            left,
+            next: o + 1,
+            empty: false,
+            first: set,
+            last: set,
+        }
     }
 
     // "67 A B: A or B"
     fn or(self, b: Reading) -> Self
         ensures { λ r. ⌜ Joined either self b r ⌝ }
     {
-        let mut follow = self.follow;
-        let mut taking = self.taking;
-        let more_follow = b.follow;
-        let more_taking = b.taking;
-        join(&mut follow, &more_follow);
-        join(&mut taking, &more_taking);
         let mut r = b;
         r.empty = self.empty | b.empty;
         r.first = self.first | b.first;
         r.last = self.last | b.last;
-        r.follow = follow;
-        r.taking = taking;
         r
     }
 
-    // "66 A B: A then B": as A or B, but B may not be first unless A may be empty, A may not be last unless B may be,
-    // and what is first in B may follow what is last in A.
+    // "66 A B: A then B": B may not be first unless A may be empty, and A may not be last unless B may be.
     fn then(self, b: Reading) -> Self
         ensures { λ r. ⌜ Joined then self b r ⌝ }
     {
-        let mut r = self.or(b);
-        let mut follow = r.follow;
-        link(&mut follow, self.last, b.first);
+        let mut r = b;
         r.empty = self.empty & b.empty;
         r.first = self.first | when(self.empty, b.first);
         r.last = b.last | when(b.empty, self.last);
-        r.follow = follow;
         r
     }
 
-    // "68 A: A any number of times, none included": what is first in A may follow what is last in A.
+    // "68 A: A any number of times, none included"
     fn many(self) -> Self
         ensures { λ r. ⌜ Repeated self r ⌝ }
     {
         let mut r = self;
-        let mut follow = self.follow;
-        link(&mut follow, self.last, self.first);
         r.empty = true;
-        r.follow = follow;
         r
     }
 }
 
 // "65 lo hi: one character with lo ≤ value ≤ hi ≤ 42": what stands behind the 65.
-fn read_range(s: &[u8], o: usize) -> Reading
+fn read_range(s: &[u8], o: usize, taking: &mut [u32; CHARACTERS]) -> Reading
     requires { ⌜ o + 1 < 2 ^ 64 ⌝ }
-    ensures { λ r. ⌜ Read-as (read-range (now (s .entry))) o r ⌝ }
+    ensures { λ r. ⌜ ((follow : List ℕ) → Read-as (read-range (now (s .entry))) o (working follow (now (taking .entry))) (working follow (now (taking .exit))) r) ⌝ }
 {
     if s.len() < 2 {
         return Reading::none();
@@ -155,56 +137,64 @@ fn read_range(s: &[u8], o: usize) -> Reading
     if CHARACTER_END <= hi {
         return Reading::none();
     }
-    Reading::leaf(s.len() - 2, o, lo, hi)
+    Reading::leaf(taking, s.len() - 2, o, lo, hi)
 }
 
 // A pattern that has no part: a leaf or the empty text.
-fn read_single(s: &[u8], o: usize) -> Reading
+fn read_single(s: &[u8], o: usize, taking: &mut [u32; CHARACTERS]) -> Reading
     requires { ⌜ (o + length (now s) < 2 ^ 64) × (0 < length (now s)) × (getD (now s) 0 0 < then-code) ⌝ }
-    ensures { λ r. ⌜ Reading-of (now (s .entry)) o r ⌝ }
+    ensures { λ r. ⌜ ((follow : List ℕ) → Reading-of (now (s .entry)) o (working follow (now (taking .entry))) (working follow (now (taking .exit))) r) ⌝ }
 {
     let b = s[0];
     if b < CHARACTER_END {
-        return Reading::leaf(s.len() - 1, o, b, b);
+        return Reading::leaf(taking, s.len() - 1, o, b, b);
     }
     if b == EMPTY_CODE {
         return Reading::empty(s.len() - 1, o);
     }
     if b == RANGE_CODE {
-        return read_range(&s[1..], o);
+        return read_range(&s[1..], o, taking);
     }
     Reading::none()
 }
 
 // The pattern at the front of the bytes, its first leaf at the place o. "A or B, each again a pattern": reading, nullability
-// and follow sets go down the pattern together, and the bytes left fall at each call.
-pub fn read(s: &[u8], o: usize) -> Reading
+// and follow sets go down the pattern together, and the bytes left fall at each call. What is first in a part may follow what is
+// last in the part before it: in B after A, and in A after A, any number of times.
+pub fn read(
+    s: &[u8],
+    o: usize,
+    follow: &mut [u32; PLACES],
+    taking: &mut [u32; CHARACTERS],
+) -> Reading
     requires { ⌜ o + length (now s) < 2 ^ 64 ⌝ }
-    ensures { λ r. ⌜ Reading-of (now (s .entry)) o r ⌝ }
+    ensures { λ r. ⌜ Reading-of (now (s .entry)) o (working (now (follow .entry)) (now (taking .entry))) (working (now (follow .exit)) (now (taking .exit))) r ⌝ }
 {
     if s.len() == 0 {
         return Reading::none();
     }
     let b = s[0];
     if b < THEN_CODE {
-        return read_single(s, o);
+        return read_single(s, o, taking);
     }
     if MANY_CODE < b {
         return Reading::none();
     }
-    let first = read(&s[1..], o);
+    let first = read(&s[1..], o, follow, taking);
     if !first.ok {
         return first;
     }
     if b == MANY_CODE {
+        link(follow, first.last, first.first);
         return first.many();
     }
     let behind = s.len() - first.left;
-    let second = read(&s[behind..], first.next);
+    let second = read(&s[behind..], first.next, follow, taking);
     if !second.ok {
         return second;
     }
     if b == THEN_CODE {
+        link(follow, first.last, second.first);
         return first.then(second);
     }
     first.or(second)

@@ -1,56 +1,54 @@
--- The bytes of a side: filling its room from the front, and the tokens' bytes, which are the sheet's. A good sheet is its sides' bytes.
+-- The sides of a sheet by inner codes: filling a side's room from the front, and what a token's byte is below.
 -- Follows from the laws of `set`, `take` and `++`, and from what a token is.
 use Prim.Native.Nat.{ℕ, suc, _+_, _-_, _≤_, _<_}
 use native.Mathlib.Omega.{arith}
-use mathlib.Core.Path.{_≡_, refl}
-use mathlib.Core.Bool.{true}
-use mathlib.Core.List.{List, [], _∷_, _++_, map, append-assoc}
+use mathlib.Core.Path.{_≡_, sym, ap, _∙_}
+use mathlib.Core.Bool.{true, _&&_}
+use mathlib.Core.List.{List, _++_, map, map-map, append-assoc}
 use lib.Dec.{leb, ltb}
-use lib.ListN.{length, getD, take, drop, set, replicate, length-map, length-drop}
-use lib.Seq.{take-suc, length-take-le, set-at}
+use lib.ListN.{length, getD, take, set, replicate, length-map, List·getD-map}
+use lib.Seq.{take-suc, take-length, length-take-le, set-at}
 use Rattle.paper.specs.Lists.{all}
-use Rattle.paper.specs.Numbers.{characters, fields, field-token}
-use Rattle.paper.specs.Sheet.{body, is-token, token, read-sheet}
-use Rattle.paper.proofs.Tests.{by-bool, and-left, and-right, leb-true}
-use Rattle.paper.proofs.Lists.{cons-eq}
-use Rattle.sheets.specs.declared.Found.the-variants.{Good}
-use Rattle.sheets.specs.declared.Sheet.{Sheet}
-use Rattle.sheets.specs.declared.walk.Records.{Records}
-use Rattle.sheets.specs.Walk.{Tokens-stand, Parts-stand}
-use Rattle.sheets.specs.Read.{token-byte, side-bytes, sheet-of}
+use Rattle.paper.specs.Numbers.{characters, fields, field-token, longest-side}
+use Rattle.paper.specs.Sheet.{is-token, token}
+use Rattle.paper.proofs.base.Tests.{and-left, and-right, leb-true, ltb-true, le-ltb}
+use Rattle.paper.proofs.base.Lists.{all-true}
+use Rattle.paper.proofs.base.Made.{getD-mem}
+use Rattle.inner.specs.Inner.{no-token, token-code, side-code, padded}
+use Rattle.sheets.specs.Read.{code-of}
 
--- one more byte of the side
-pub filled : (side : List ℕ) (n i : ℕ) → i < length side → length side ≤ n →
-    set (take i side ++ replicate (n - i) 0) i (getD side i 0) ≡ take (suc i) side ++ replicate (n - suc i) 0
-filled side n i h k =
+-- one more code of the side, and all of them
+filled : (side : List ℕ) (d n i : ℕ) → i < length side → length side ≤ n →
+    set (take i side ++ replicate (n - i) d) i (getD side i 0) ≡ take (suc i) side ++ replicate (n - suc i) d
+filled side d n i h k =
     let e : n - i ≡ suc (n - suc i) = omega arith in
-    rw (e, set-at (take i side) 0 (replicate (n - suc i) 0) (getD side i 0) i (length-take-le i side (omega arith)), take-suc side i 0, append-assoc)
+    rw (e, set-at (take i side) d (replicate (n - suc i) d) (getD side i 0) i (length-take-le i side (omega arith)), take-suc side i 0, append-assoc)
 
--- a token's byte is the sheet's
-byte-of-token : (b : ℕ) → is-token b ≡ true → token-byte (token b) ≡ b
-byte-of-token b e =
-    by-bool (ltb b characters)
-    (λ c. rw c)
-    (λ c. let h : field-token ≤ b = leb-true field-token b (and-left (leb field-token b) (ltb b (field-token + fields)) (rw c at e)) in rw c (omega arith))
+pub coded-more : (side : List ℕ) (i : ℕ) → i < length side → length side ≤ longest-side →
+    set (take i (map code-of side) ++ replicate (longest-side - i) no-token) i (code-of (getD side i 0))
+    ≡ take (suc i) (map code-of side) ++ replicate (longest-side - suc i) no-token
+coded-more side i h k =
+    let l = length-map side code-of in
+    ap (set (take i (map code-of side) ++ replicate (longest-side - i) no-token) i) (sym (List·getD-map code-of side i 0))
+    ∙ filled (map code-of side) no-token longest-side i (omega (arith, l)) (omega (arith, l))
 
-pub bytes-of-tokens : (l : List ℕ) → all is-token l ≡ true → map token-byte (map token l) ≡ l
-bytes-of-tokens [] e = refl
-bytes-of-tokens (b ∷ l) e =
-    cons-eq (byte-of-token b (and-left (is-token b) (all is-token l) e)) (bytes-of-tokens l (and-right (is-token b) (all is-token l) e))
+pub coded-all : (side : List ℕ) (i : ℕ) → i ≡ length side → take i (map code-of side) ++ replicate (longest-side - i) no-token ≡ padded (map code-of side)
+coded-all side i e =
+    let l : i ≡ length (map code-of side) = e ∙ sym (length-map side code-of) in
+    rw (l, take-length (map code-of side))
 
--- a side that stands in the sheet is as long as its length byte says
-pub side-length : (s : List ℕ) (start len : ℕ) → Tokens-stand s start len → length (map token (body s start len)) ≡ len
-side-length s start len t =
-    rw (length-map (body s start len) token, length-take-le len (drop start s) (rw length-drop (omega (arith, t .within))))
+-- the codes of bytes are those of the tokens
+pub codes-of-tokens : (l : List ℕ) → side-code (map token l) ≡ map code-of l
+codes-of-tokens l = map-map token-code token l
 
--- a good sheet is its sides' bytes
-pub sheet-asked : (s : List ℕ) (r : Records) (left right : List ℕ) (parts : Parts-stand s r)
-    → left ≡ side-bytes (map token (body s (r .left) (r .«left_len»)))
-    → right ≡ side-bytes (map token (body s (r .right) (r .«right_len»)))
-    → _≡_ {A = Sheet}
-    (record { found = Good; place = 0; left = left; «left_len» = r .«left_len»; right = right; «right_len» = r .«right_len» })
-    (sheet-of (read-sheet s))
-sheet-asked s r left right parts e f =
-    let left-length = side-length s (r .left) (r .«left_len») (parts .left-stands) in
-    let right-length = side-length s (r .right) (r .«right_len») (parts .right-stands) in
-    rw (parts .reads, left-length, right-length, e, f)
+-- a token that is no character is one of a field's
+pub field-range : (b : ℕ) → is-token b ≡ true → characters ≤ b → (field-token ≤ b) × (b < field-token + fields)
+field-range b e h =
+    let field : leb field-token b && ltb b (field-token + fields) ≡ true = rw (le-ltb b characters h) at e in (
+      leb-true field-token b (and-left (leb field-token b) (ltb b (field-token + fields)) field),
+      ltb-true b (field-token + fields) (and-right (leb field-token b) (ltb b (field-token + fields)) field),
+    )
+
+-- each byte of a side is a token
+pub token-at : (side : List ℕ) (i : ℕ) → all is-token side ≡ true → i < length side → is-token (getD side i 0) ≡ true
+token-at side i e h = all-true is-token side e (getD-mem side 0 i h)

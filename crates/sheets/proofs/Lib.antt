@@ -1,6 +1,6 @@
 pub mod Verdicts
-pub mod Stand
 pub mod Reached
 pub mod Sides
 pub mod Bytes
-pub mod Filled
+pub mod Whole
+pub mod Spread

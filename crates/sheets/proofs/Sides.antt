@@ -8,7 +8,7 @@ use lib.ListN.{length}
 use Rattle.paper.specs.Pattern.{Held}
 use Rattle.paper.specs.Equation.{Side}
 use Rattle.paper.specs.Sheet.{Fault, fault, read, wrong-mark, LE, RI, bytes-left, marked, refused, asked, read-end, right-read, read-right, left-read}
-use Rattle.paper.proofs.Tests.{by-bool, lt-ltb, le-ltb}
+use Rattle.paper.proofs.base.Tests.{by-bool, lt-ltb, le-ltb}
 use Rattle.sheets.specs.Walk.{marked-side}
 
 module _ (s : List ℕ) (held : List Held) where

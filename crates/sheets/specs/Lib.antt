@@ -1,4 +1,4 @@
 pub mod Faults
+pub mod Tables
 pub mod Read
 pub mod Walk
-pub mod Tables

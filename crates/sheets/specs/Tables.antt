@@ -1,26 +1,27 @@
 -- What is worked out once of each field's pattern (document 01, "Places"), by field number: "For every field and every place, the set
--- of places that may follow", the places that take each character, and the places that may be the last one of a text. Zeros where the
--- sheet is refused.
+-- of places that may follow", the places that take each character, and the places that may be the last one of a text.
 use Prim.Native.Nat.{ℕ}
 use mathlib.Core.List.{List, map}
 use lib.ListN.{replicate}
 use Rattle.paper.specs.Lists.{upto}
-use Rattle.paper.specs.Numbers.{characters, fields}
-use Rattle.paper.specs.Pattern.{Held}
+use Rattle.paper.specs.Numbers.{fields}
+use Rattle.paper.specs.Pattern.{any-text}
 use Rattle.paper.specs.Question.{held-by}
 use Rattle.paper.specs.Sheet.{Reading, refused, asked}
-use Rattle.patterns.specs.Masks.{places, follow-masks, taking-masks, last-mask}
+use Rattle.patterns.specs.Worked.{worked-out}
+use Rattle.patterns.specs.declared.PlaceTables.{PlaceTables}
 
--- what is worked out of what each field may hold
-abbrev pub by-field : {A : Type 0} → (Held → A) → A → Reading → List A
-by-field work-out none (refused x at) = replicate fields none
-by-field work-out none (asked q) = map (λ (f : ℕ). work-out (held-by q f)) (upto fields)
+-- "A field without `PA` is open": those of a refused sheet are.
+abbrev pub field-tables : Reading → List PlaceTables
+field-tables (refused x at) = replicate fields (worked-out any-text)
+field-tables (asked q) = map (λ (f : ℕ). worked-out (held-by q f)) (upto fields)
 
-abbrev pub follow-sets : Reading → List (List ℕ)
-follow-sets r = by-field follow-masks (replicate places 0) r
+-- the parts of a field's tables
+abbrev pub follow-of : PlaceTables → List ℕ
+follow-of t = t .follow
 
-abbrev pub taking-sets : Reading → List (List ℕ)
-taking-sets r = by-field taking-masks (replicate characters 0) r
+abbrev pub taking-of : PlaceTables → List ℕ
+taking-of t = t .taking
 
-abbrev pub last-sets : Reading → List ℕ
-last-sets r = by-field last-mask 0 r
+abbrev pub last-of : PlaceTables → ℕ
+last-of t = t .last

@@ -4,25 +4,22 @@ use mathlib.Core.Path.{_≡_}
 use mathlib.Core.Bool.{Bool, true, false, cond}
 use mathlib.Core.List.{List, map}
 use lib.Dec.{ltb}
-use lib.ListN.{length, getD}
+use lib.ListN.{length, replicate}
 use Rattle.paper.specs.Lists.{all}
 use Rattle.paper.specs.Numbers.{fields, sheet-side}
 use Rattle.paper.specs.Pattern.{Pattern, Held, any-text, pattern}
-use Rattle.paper.specs.Written.{judge, judged}
 use Rattle.paper.specs.Equation.{Side}
-use Rattle.paper.specs.Sheet.{Mark, PA, LE, RI, Checked, fault, read, cut-short, wrong-mark, bytes-left, body, marked, is-token, token, pattern-record, side-record, refused, asked, left-read, read-sheet}
+use Rattle.paper.specs.Sheet.{Mark, PA, LE, RI, Checked, fault, read, cut-short, wrong-mark, bytes-left, body, marked, is-token, token, pattern-record, side-record, Reading, refused, asked, left-read, read-records}
+use Rattle.patterns.specs.Worked.{worked-out}
 use Rattle.sheets.specs.Faults.{fault-of}
 use Rattle.sheets.specs.declared.Found.{Found}
 use Rattle.sheets.specs.declared.Found.the-variants.{Good, Refused}
-use Rattle.sheets.specs.declared.cursor.Cursor.{Cursor}
 use Rattle.sheets.specs.declared.cursor.Mark as Code
 use Rattle.sheets.specs.declared.cursor.Mark.the-variants as Code-mark
 use Rattle.sheets.specs.declared.cursor.PatternRecord.{PatternRecord}
-use Rattle.sheets.specs.declared.cursor.PatternRecord.the-variants as Code-pattern
 use Rattle.sheets.specs.declared.cursor.SideRecord.{SideRecord}
 use Rattle.sheets.specs.declared.cursor.SideRecord.the-variants as Code-side
 use Rattle.sheets.specs.declared.walk.Patterns.{Patterns}
-use Rattle.sheets.specs.declared.walk.Records.{Records}
 use Rattle.sheets.specs.declared.walk.Sides.{Sides}
 use Rattle.sheets.specs.declared.walk.Sides.the-variants as Code-sides
 
@@ -35,22 +32,20 @@ mark-of Code-mark.RI = RI
 unfoldable pub pattern-next : List ℕ → ℕ → Bool
 pattern-next s at = cond (ltb (bytes-left s at) 2) false (marked PA s at)
 
--- where a field's pattern stands, behind its record's mark at the offset
-pub record Pattern-stands (s : List ℕ) (at least field start len : ℕ) (next : Cursor) : Type 0 where
+-- a pattern's record is read, and reading goes on behind it
+pub record Pattern-stands (s : List ℕ) (at least : ℕ) (r : PatternRecord) : Type 0 where
   pub its : Pattern
-  pub reads : pattern-record s at least ≡ read (record { field = field; its = its }) (next .at)
-  pub is-judged : judge (body s start len) ≡ judged its
-  pub some : 0 < len
-  pub known : field < fields
-  pub within : start + len ≤ length s
-  pub rises : next .least ≡ suc field
-  pub moves : at < next .at
-  pub goes-on : next .at ≤ length s
+  pub reads : pattern-record s at least ≡ read (record { field = r .field; its = its }) (r .next .at)
+  pub works : r .tables ≡ worked-out (pattern its)
+  pub known : r .field < fields
+  pub rises : r .next .least ≡ suc (r .field)
+  pub moves : at < r .next .at
+  pub goes-on : r .next .at ≤ length s
 
 -- what the checks on a pattern's record find
-abbrev pub Pattern-read : List ℕ → ℕ → ℕ → PatternRecord → Type 0
-Pattern-read s at least (Code-pattern.Fault x) = pattern-record s at least ≡ fault (fault-of x)
-Pattern-read s at least (Code-pattern.Read field start len next) = Pattern-stands s at least field start len next
+abbrev pub Pattern-read : List ℕ → ℕ → ℕ → Found → PatternRecord → Type 0
+Pattern-read s at least Good r = Pattern-stands s at least r
+Pattern-read s at least (Refused x) r = pattern-record s at least ≡ fault (fault-of x)
 
 -- A side behind its mark: fewer than two bytes, another mark, then the side.
 unfoldable pub marked-side : Mark → List ℕ → ℕ → Checked Side
@@ -74,30 +69,22 @@ abbrev pub Side-read : Mark → List ℕ → ℕ → SideRecord → Type 0
 Side-read m s at (Code-side.Fault x) = marked-side m s at ≡ fault (fault-of x)
 Side-read m s at (Code-side.Read start len next) = Side-stands m s at start len (next .at)
 
--- where the pattern of a field stands that may hold this: no bytes for an open field
-abbrev pub Stands-at : List ℕ → ℕ → ℕ → Held → Type 0
-Stands-at s start len any-text = len ≡ 0
-Stands-at s start len (pattern p) = (0 < len) × (judge (body s start len) ≡ judged p)
+-- what reading from the offset on gives, whatever more than enough turns are taken: before the first record every field is open
+abbrev pub Reads-from : List ℕ → ℕ → ℕ → Reading → Type 0
+Reads-from s at least x = (n : ℕ) → length s ≤ n + at → read-records (suc n) s at least (replicate fields any-text) ≡ x
 
--- where the patterns stand, by field
-pub record Fields-stand (s starts lens : List ℕ) (held : List Held) : Type 0 where
-  pub all-starts : length starts ≡ fields
-  pub all-lens : length lens ≡ fields
-  pub all-held : length held ≡ fields
-  pub within : (f : ℕ) → f < fields → getD starts f 0 + getD lens f 0 ≤ length s
-  pub stands : (f : ℕ) → f < fields → Stands-at s (getD starts f 0) (getD lens f 0) (getD held f any-text)
-
--- the patterns are read, up to the offset; the sides are left
-pub record Patterns-stand (s : List ℕ) (at : ℕ) (starts lens : List ℕ) : Type 0 where
+-- the patterns from the offset `at` on are read, up to the next one; the sides are left
+pub record Patterns-stand (s : List ℕ) (at least : ℕ) (r : Patterns) : Type 0 where
   pub held : List Held
-  pub reads : read-sheet s ≡ left-read s at held (marked-side LE s at)
-  pub goes-on : at ≤ length s
-  pub fields-stand : Fields-stand s starts lens held
+  pub reads : Reads-from s at least (left-read s (r .next .at) held (marked-side LE s (r .next .at)))
+  pub all : length held ≡ fields
+  pub works : r .fields ≡ map worked-out held
+  pub goes-on : r .next .at ≤ length s
 
 -- what reading the patterns' records finds
-abbrev pub Patterns-read : List ℕ → Found → Patterns → Type 0
-Patterns-read s Good r = Patterns-stand s (r .next .at) (r .starts) (r .lens)
-Patterns-read s (Refused x) r = read-sheet s ≡ refused (fault-of x) (r .next .at)
+abbrev pub Patterns-read : List ℕ → ℕ → ℕ → Found → Patterns → Type 0
+Patterns-read s at least Good r = Patterns-stand s at least r
+Patterns-read s at least (Refused x) r = Reads-from s at least (refused (fault-of x) (r .next .at))
 
 -- the sides are read, and the sheet ends
 pub record Sides-stand (s : List ℕ) (at left left-len right right-len : ℕ) : Type 0 where
@@ -111,20 +98,3 @@ pub record Sides-stand (s : List ℕ) (at left left-len right right-len : ℕ) :
 abbrev pub Sides-read : List ℕ → ℕ → Sides → Type 0
 Sides-read s at (Code-sides.Fault x place) = (held : List Held) → left-read s at held (marked-side LE s at) ≡ refused (fault-of x) place
 Sides-read s at (Code-sides.Read left left-len right right-len) = Sides-stand s at left left-len right right-len
-
--- where the parts of a good sheet stand
-pub record Parts-stand (s : List ℕ) (r : Records) : Type 0 where
-  pub held : List Held
-  pub reads : read-sheet s ≡ asked (record {
-    left = map token (body s (r .left) (r .«left_len»));
-    right = map token (body s (r .right) (r .«right_len»));
-    held = held;
-  })
-  pub left-stands : Tokens-stand s (r .left) (r .«left_len»)
-  pub right-stands : Tokens-stand s (r .right) (r .«right_len»)
-  pub fields-stand : Fields-stand s (r .starts) (r .lens) held
-
--- what the walk over all records finds
-abbrev pub Records-read : List ℕ → Found → Records → Type 0
-Records-read s Good r = Parts-stand s r
-Records-read s (Refused x) r = read-sheet s ≡ refused (fault-of x) (r .place)

@@ -1,10 +1,12 @@
 // A cursor that goes from record to record: "Reading goes on from where the last record ended."
 use crate::Fault;
-use crate::numbers::CHARACTERS;
+use crate::Found;
 use crate::numbers::FIELD_TOKEN;
 use crate::numbers::FIELDS;
 use crate::numbers::PATTERN_BYTES;
 use crate::numbers::SHEET_SIDE;
+use patterns::CHARACTERS;
+use patterns::PlaceTables;
 use patterns::Verdict;
 ghost use mathlib.Core.Path.{_≡_};
 ghost use mathlib.Core.Bool.{_||_};
@@ -45,15 +47,12 @@ impl Mark {
     }
 }
 
-// What the checks on a pattern's record find: the first fault, or the field, where its pattern's bytes stand and the next cursor.
-pub enum PatternRecord {
-    Fault(Fault),
-    Read {
-        field: usize,
-        start: usize,
-        len: usize,
-        next: Cursor,
-    },
+// What the checks on a pattern's record find: the first fault, or the field, what is worked out of its pattern and the next cursor.
+pub struct PatternRecord {
+    pub found: Found,
+    pub field: usize,
+    pub tables: PlaceTables,
+    pub next: Cursor,
 }
 
 // What the checks on a side find: the first fault, or where its tokens stand and the next cursor.
@@ -109,38 +108,55 @@ impl Cursor {
     // of its range 14; missing body 11; then for a pattern 15, then 16".
     pub fn pattern(self, s: &[u8]) -> PatternRecord
         requires { ⌜ self .at ≤ length (now s) ⌝ }
-        ensures { λ r. ⌜ Pattern-read (now (s .entry)) (self .at) (self .least) r ⌝ }
+        ensures { λ r. ⌜ Pattern-read (now (s .entry)) (self .at) (self .least) (r .found) r ⌝ }
     {
         let at = self.at;
         let left = s.len() - at;
         if left < 4 {
-            return PatternRecord::Fault(Fault::CutShort);
+            return self.refuse(Fault::CutShort);
         }
         let field = s[at + 2] as usize;
         if wrong_field(field, self.least) {
-            return PatternRecord::Fault(Fault::WrongField);
+            return self.refuse(Fault::WrongField);
         }
         let len = s[at + 3] as usize;
         if wrong_length(len) {
-            return PatternRecord::Fault(Fault::WrongLength);
+            return self.refuse(Fault::WrongLength);
         }
         if left < 4 + len {
-            return PatternRecord::Fault(Fault::CutShort);
+            return self.refuse(Fault::CutShort);
         }
         let start = at + 4;
         let end = start + len;
-        match patterns::judge(&s[start..end]) {
-            Verdict::NotOnePattern => PatternRecord::Fault(Fault::NotOnePattern),
-            Verdict::TooManyLeaves => PatternRecord::Fault(Fault::TooManyLeaves),
-            Verdict::Good => PatternRecord::Read {
-                field,
-                start,
-                len,
-                next: Cursor {
-                    at: end,
-                    least: field + 1,
-                },
-            },
+        let worked = patterns::tables(&s[start..end]);
+        let verdict = worked.verdict;
+        match verdict {
+            Verdict::NotOnePattern => self.refuse(Fault::NotOnePattern),
+            Verdict::TooManyLeaves => self.refuse(Fault::TooManyLeaves),
+            Verdict::Good => {
+                let tables = worked.tables;
+                PatternRecord {
+                    found: Found::Good,
+                    field,
+                    tables,
+                    next: Cursor {
+                        at: end,
+                        least: field + 1,
+                    },
+                }
+            }
+        }
+    }
+
+    fn refuse(self, x: Fault) -> PatternRecord
+        ensures { λ r. ⌜ r .found ≡ Found.Refused x ⌝ }
+    {
+        let tables = patterns::open_tables();
+        PatternRecord {
+            found: Found::Refused(x),
+            field: 0,
+            tables,
+            next: self,
         }
     }
 

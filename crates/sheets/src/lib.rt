@@ -4,18 +4,29 @@ mod numbers;
 mod tables;
 mod walk;
 
-use crate::numbers::SHEET_SIDE;
+use crate::cursor::Cursor;
+use crate::numbers::FIELD_TOKEN;
+use crate::numbers::FIELDS;
+use crate::walk::Sides;
+use inner::FIELD_CODE;
+use inner::LONGEST_SIDE;
+use inner::NO_TOKEN;
+use patterns::CHARACTERS;
+use patterns::PlaceTables;
 pub use tables::follow_sets;
 pub use tables::last_sets;
 pub use tables::taking_sets;
 ghost use mathlib.Core.Path.{_≡_};
 ghost use Prim.Native.Nat.{_≤_};
+ghost use mathlib.Core.Bool.{true};
 ghost use mathlib.Core.List.{map};
 ghost use lib.ListN.{length};
+ghost use Rattle.paper.specs.Lists.{all};
 ghost use Rattle.paper.specs.Numbers.{sheet-side};
-ghost use Rattle.paper.specs.Sheet.{fault-number, body, token, refused, read-sheet};
+ghost use Rattle.paper.specs.Sheet.{fault-number, body, is-token, token, refused, read-sheet};
+ghost use Rattle.inner.specs.Inner.{side-code, padded};
 ghost use Rattle.sheets.specs.Faults.{fault-of};
-ghost use Rattle.sheets.specs.Read.{padded, side-bytes, sheet-of};
+ghost use Rattle.sheets.specs.Read.{code-of, sheet-of};
 ghost use Rattle.sheets.specs.Walk.{Tokens-stand};
 
 // "The first fault met decides."
@@ -55,31 +66,42 @@ pub struct Sheet {
     pub found: Found,
     // where the record with the fault has its mark or should have it; 0 for a good sheet
     pub place: usize,
-    // the tokens of the sides of a good sheet, zeros behind them
-    pub left: [u8; SHEET_SIDE],
-    pub left_len: usize,
-    pub right: [u8; SHEET_SIDE],
-    pub right_len: usize,
+    // the sides of a good sheet, by inner codes; a side ends at its first 255
+    pub left: [u8; LONGEST_SIDE],
+    pub right: [u8; LONGEST_SIDE],
+    // what is worked out of each field's pattern; the fields of a sheet with a fault are open
+    pub fields: [PlaceTables; FIELDS],
 }
 
-// Reads a sheet.
+// Reads a sheet, in one walk.
 pub fn read(s: &[u8]) -> Sheet
     ensures { λ r. ⌜ r ≡ sheet-of (read-sheet (now (s .entry))) ⌝ }
 {
-    let r = walk::read_records(s);
-    let found = r.found;
+    let p = walk::read_patterns(s, Cursor::start());
+    let found = p.found;
+    let next = p.next;
     if let Found::Refused(x) = found {
-        return refuse(x, r.place);
+        return refuse(x, next.at);
     }
-    let left = tokens(s, r.left, r.left_len);
-    let right = tokens(s, r.right, r.right_len);
-    Sheet {
-        found: Found::Good,
-        place: 0,
-        left,
-        left_len: r.left_len,
-        right,
-        right_len: r.right_len,
+    match walk::read_sides(s, next) {
+        Sides::Fault(x, place) => refuse(x, place),
+        Sides::Read {
+            left,
+            left_len,
+            right,
+            right_len,
+        } => {
+            let left_side = side_at(s, left, left_len);
+            let right_side = side_at(s, right, right_len);
+            let fields = p.fields;
+            Sheet {
+                found: Found::Good,
+                place: 0,
+                left: left_side,
+                right: right_side,
+                fields,
+            }
+        }
     }
 }
 
@@ -87,34 +109,45 @@ pub fn read(s: &[u8]) -> Sheet
 fn refuse(x: Fault, place: usize) -> Sheet
     ensures { λ r. ⌜ r ≡ sheet-of (refused (fault-of x) place) ⌝ }
 {
+    let fields = walk::all_open();
     Sheet {
         found: Found::Refused(x),
         place,
-        left: [0; SHEET_SIDE],
-        left_len: 0,
-        right: [0; SHEET_SIDE],
-        right_len: 0,
+        left: [NO_TOKEN; LONGEST_SIDE],
+        right: [NO_TOKEN; LONGEST_SIDE],
+        fields,
     }
 }
 
-// The tokens of a side, in its room.
-fn tokens(s: &[u8], start: usize, len: usize) -> [u8; SHEET_SIDE]
+// The side whose tokens stand there.
+fn side_at(s: &[u8], start: usize, len: usize) -> [u8; LONGEST_SIDE]
     requires { ⌜ Tokens-stand (now s) start len ⌝ }
-    ensures { λ r. ⌜ r ≡ side-bytes (map token (body (now (s .entry)) start len)) ⌝ }
+    ensures { λ r. ⌜ r ≡ padded (side-code (map token (body (now (s .entry)) start len))) ⌝ }
 {
-    padded(&s[start..start + len])
+    inner_side(&s[start..start + len])
 }
 
-// The bytes of a side, zeros behind them.
-fn padded(side: &[u8]) -> [u8; SHEET_SIDE]
-    requires { ⌜ length (now side) ≤ sheet-side ⌝ }
-    ensures { λ r. ⌜ r ≡ padded (now (side .entry)) ⌝ }
+// The side of these tokens.
+fn inner_side(side: &[u8]) -> [u8; LONGEST_SIDE]
+    requires { ⌜ (length (now side) ≤ sheet-side) × (all is-token (now side) ≡ true) ⌝ }
+    ensures { λ r. ⌜ r ≡ padded (map code-of (now (side .entry))) ⌝ }
 {
-    let mut tokens = [0; SHEET_SIDE];
+    let mut codes = [NO_TOKEN; LONGEST_SIDE];
     let mut i = 0;
     while i < side.len() {
-        tokens[i] = side[i];
+        codes[i] = inner_code(side[i]);
         i += 1;
     }
-    tokens
+    codes
+}
+
+// The inner code of a token.
+fn inner_code(b: u8) -> u8
+    requires { ⌜ is-token b ≡ true ⌝ }
+    ensures { λ r. ⌜ r ≡ code-of b ⌝ }
+{
+    if (b as usize) < CHARACTERS {
+        return b;
+    }
+    FIELD_CODE + (b - FIELD_TOKEN as u8)
 }

@@ -1,59 +1,61 @@
-// The walk over a sheet's records: "no, one or several `PA`, field numbers rising; one `LE`; one `RI`; the end".
+// The walk over a sheet's records, from a cursor to the next: "no, one or several `PA`, field numbers rising; one `LE`; one `RI`; the end".
 use crate::Fault;
 use crate::Found;
 use crate::cursor::Cursor;
 use crate::cursor::Mark;
-use crate::cursor::PatternRecord;
 use crate::cursor::SideRecord;
 use crate::numbers::FIELDS;
+use patterns::PlaceTables;
 ghost use mathlib.Core.Path.{_≡_};
 ghost use Prim.Native.Nat.{_≤_};
-ghost use lib.ListN.{length};
-ghost use Rattle.sheets.specs.Walk.{Patterns-read, Sides-read, Records-read};
+ghost use lib.ListN.{length, replicate};
+ghost use Rattle.paper.specs.Numbers.{fields};
+ghost use Rattle.paper.specs.Pattern.{any-text};
+ghost use Rattle.patterns.specs.Worked.{worked-out};
+ghost use Rattle.sheets.specs.Walk.{Patterns-read, Sides-read};
 
 pub struct Patterns {
     pub found: Found,
     // behind the last pattern's record, or where the record with the fault stands
     pub next: Cursor,
-    // by field: where its pattern's bytes start and how many they are, 0 where it has none
-    pub starts: [usize; FIELDS],
-    pub lens: [usize; FIELDS],
+    // what is worked out of each field's pattern
+    pub fields: [PlaceTables; FIELDS],
 }
 
-// The patterns' records, up to the first record that is none.
-pub fn read_patterns(s: &[u8]) -> Patterns
-    ensures { λ r. ⌜ Patterns-read (now (s .entry)) (r .found) r ⌝ }
+// "A field without `PA` is open": before the first record every field is.
+pub fn all_open() -> [PlaceTables; FIELDS]
+    ensures { λ r. ⌜ r ≡ replicate fields (worked-out any-text) ⌝ }
 {
-    let mut starts = [0; FIELDS];
-    let mut lens = [0; FIELDS];
-    let mut c = Cursor::start();
+    let open = patterns::open_tables();
+    [open; FIELDS]
+}
+
+// The patterns' records from the cursor on, up to the first record that is none.
+pub fn read_patterns(s: &[u8], start: Cursor) -> Patterns
+    requires { ⌜ start .at ≤ length (now s) ⌝ }
+    ensures { λ r. ⌜ Patterns-read (now (s .entry)) (start .at) (start .least) (r .found) r ⌝ }
+{
+    let mut fields = all_open();
+    let mut c = start;
     while c.at_pattern(s) {
-        match c.pattern(s) {
-            PatternRecord::Fault(x) => {
-                return Patterns {
-                    found: Found::Refused(x),
-                    next: c,
-                    starts,
-                    lens,
-                };
-            }
-            PatternRecord::Read {
-                field,
-                start,
-                len,
-                next,
-            } => {
-                starts[field] = start;
-                lens[field] = len;
-                c = next;
-            }
+        let r = c.pattern(s);
+        let found = r.found;
+        if let Found::Refused(x) = found {
+            return Patterns {
+                found: Found::Refused(x),
+                next: c,
+                fields,
+            };
         }
+        let field = r.field;
+        let tables = r.tables;
+        fields[field] = tables;
+        c = r.next;
     }
     Patterns {
         found: Found::Good,
         next: c,
-        starts,
-        lens,
+        fields,
     }
 }
 
@@ -99,66 +101,5 @@ pub fn read_sides(s: &[u8], c: Cursor) -> Sides
                 }
             }
         },
-    }
-}
-
-// What the walk over all records finds: the first fault and its place, or where the parts of the good sheet stand.
-pub struct Records {
-    pub found: Found,
-    pub place: usize,
-    pub left: usize,
-    pub left_len: usize,
-    pub right: usize,
-    pub right_len: usize,
-    pub starts: [usize; FIELDS],
-    pub lens: [usize; FIELDS],
-}
-
-// "The first fault met decides."
-pub fn read_records(s: &[u8]) -> Records
-    ensures { λ r. ⌜ Records-read (now (s .entry)) (r .found) r ⌝ }
-{
-    let p = read_patterns(s);
-    let found = p.found;
-    let next = p.next;
-    if let Found::Refused(x) = found {
-        return refuse(x, next.at);
-    }
-    match read_sides(s, next) {
-        Sides::Fault(x, place) => refuse(x, place),
-        Sides::Read {
-            left,
-            left_len,
-            right,
-            right_len,
-        } => {
-            let starts = p.starts;
-            let lens = p.lens;
-            Records {
-                found: Found::Good,
-                place: 0,
-                left,
-                left_len,
-                right,
-                right_len,
-                starts,
-                lens,
-            }
-        }
-    }
-}
-
-fn refuse(x: Fault, place: usize) -> Records
-    ensures { λ r. ⌜ (r .found ≡ Found.Refused x) × (r .place ≡ place) ⌝ }
-{
-    Records {
-        found: Found::Refused(x),
-        place,
-        left: 0,
-        left_len: 0,
-        right: 0,
-        right_len: 0,
-        starts: [0; FIELDS],
-        lens: [0; FIELDS],
     }
 }

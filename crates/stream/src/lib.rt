@@ -1,5 +1,4 @@
-// Answers every case of a stream on standard input and prints a line for each: number, count, place and written length, and every byte
-// of the two buffers as they are afterwards. For programs that try the library on many sheets.
+// Answers every case of a stream on standard input and prints what is asked for of each. For programs that try the library on many sheets.
 mod bytes;
 mod case;
 mod print;
@@ -7,29 +6,40 @@ mod print;
 use bradovusc::Numbers;
 use print::print;
 use print::print_number;
+use printing::FIRST_LINE;
+use printing::Made;
+use printing::PRINTED;
 
 // "65,520 bytes of work (455 situations) and 4,096 of answer", and as much of one more situation as gives no room for it.
 const WORK: usize = 65663;
 
 const ANSWER: usize = 4096;
 
-pub fn answer_all() {
+// What is printed of a case.
+pub enum Shown {
+    // a line: number, count, place and written length, and every byte of the two buffers as they are afterwards
+    Bytes,
+    // the lines that the program `clash` prints
+    Lines,
+}
+
+pub fn answer_all(shown: Shown) {
     let mut sheet = [0u8; case::SHEET];
     let mut work = [0u8; WORK];
     let mut answer = [0u8; ANSWER];
-    answer_each(&mut sheet, &mut work, &mut answer);
+    answer_each(&mut sheet, &mut work, &mut answer, shown);
 }
 
 // A proved loop has to end, and nothing says that a stream does: the turns are counted down from a number that no run uses up.
-fn answer_each(sheet: &mut [u8], work: &mut [u8], answer: &mut [u8]) {
+fn answer_each(sheet: &mut [u8], work: &mut [u8], answer: &mut [u8], shown: Shown) {
     let mut turns = u64::MAX;
-    while turns > 0 && answer_next(sheet, work, answer) {
+    while turns > 0 && answer_next(sheet, work, answer, shown) {
         turns -= 1;
     }
 }
 
 // Whether there was a case.
-fn answer_next(sheet: &mut [u8], work: &mut [u8], answer: &mut [u8]) -> bool {
+fn answer_next(sheet: &mut [u8], work: &mut [u8], answer: &mut [u8], shown: Shown) -> bool {
     let case = case::next(sheet, work, answer);
     let sheet_len = case.sheet;
     let work_len = case.work;
@@ -39,16 +49,45 @@ fn answer_next(sheet: &mut [u8], work: &mut [u8], answer: &mut [u8]) -> bool {
             &sheet[0..sheet_len],
             &mut work[0..work_len],
             &mut answer[0..answer_len],
+            shown,
         );
     }
     case.there
 }
 
-fn answer_case(sheet: &[u8], work: &mut [u8], answer: &mut [u8]) {
+fn answer_case(sheet: &[u8], work: &mut [u8], answer: &mut [u8], shown: Shown) {
+    match shown {
+        Shown::Bytes => show_bytes(sheet, work, answer),
+        Shown::Lines => show_lines(sheet, work, answer),
+    }
+}
+
+fn show_bytes(sheet: &[u8], work: &mut [u8], answer: &mut [u8]) {
     let told = bradovusc::in_numbers(bradovusc::clash(sheet, work, answer));
     print_answer(told);
     bytes::print_bytes(work, answer, told.written);
     print(b"\n");
+}
+
+// The lines, with just the room that the longest need.
+fn show_lines(sheet: &[u8], work: &mut [u8], answer: &mut [u8]) {
+    let mut out = [0u8; PRINTED];
+    let room = FIRST_LINE + answer.len();
+    if room <= PRINTED {
+        print_lines(sheet, work, answer, &mut out[0..room]);
+    }
+}
+
+fn print_lines(sheet: &[u8], work: &mut [u8], answer: &mut [u8], out: &mut [u8]) {
+    let made = printing::lines(sheet, work, answer, out);
+    match made {
+        Made::Bytes(n) => {
+            if n <= out.len() {
+                print(&out[0..n]);
+            }
+        }
+        Made::NoRoom => print(b"no room\n"),
+    }
 }
 
 // Number, count, place and written length.

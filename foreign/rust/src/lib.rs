@@ -5,21 +5,27 @@
 //! [`clash`] answers it in memory that the caller lends.
 //!
 //! ```
-//! use bradovusc::{clash, texts, Answer, SITUATION_BYTES};
+//! use bradovusc::{answer_bytes, clash, texts, SITUATION_BYTES};
 //!
 //! // Field 0, any digits, is the left side; field 1, the digit 4, the right one.
 //! let sheet = b"PA\x00\x04\x44\x41\x00\x09PA\x01\x01\x04LE\x01\x40RI\x01\x41";
 //! let mut work = [0; 455 * SITUATION_BYTES];
-//! let mut answer = [0; 4096];
-//! let Answer::Clash { count, written } = clash(sheet, &mut work, &mut answer) else {
-//!     panic!("both rules can make the label 4");
-//! };
-//! assert_eq!(count, 6);
-//! let texts: Vec<String> = texts(&answer[..written]).map(|text| text.to_string()).collect();
+//! let mut answer = [0; answer_bytes(455)];
+//! let given = clash(sheet, &mut work, &mut answer);
+//! assert_eq!(given.clashes(), Some(true));
+//! assert_eq!(given.to_string(), "clash");
+//! assert_eq!(given.count(), 6);
+//! let texts: Vec<String> =
+//!     texts(&answer[..given.written()]).map(|text| text.to_string()).collect();
 //! assert_eq!(texts, ["4", "4"]);
 //! ```
 
-use std::fmt;
+use std::error::Error;
+use std::fmt::{self, Write};
+use std::iter::FusedIterator;
+
+/// The version of this package, of the C header and of the library.
+pub const VERSION: &str = env!("CARGO_PKG_VERSION");
 
 /// A situation of the search takes so many bytes of the working buffer.
 pub const SITUATION_BYTES: usize = 144;
@@ -27,12 +33,31 @@ pub const SITUATION_BYTES: usize = 144;
 /// Room in the working buffer is never counted above so many situations.
 pub const MOST_SITUATIONS: usize = 65_535;
 
-/// The characters of Code 39, by value.
-pub const CHARACTERS: &[u8; 43] = b"0123456789ABCDEFGHIJKLMNOPQRSTUVWXYZ-. $/+%";
+/// The signs of the 43 characters of Code 39, by value.
+pub const SIGNS: &[u8; 43] = b"0123456789ABCDEFGHIJKLMNOPQRSTUVWXYZ-. $/+%";
+
+/// The sign of a value, if it has one.
+pub fn sign(value: u8) -> Option<char> {
+    SIGNS.get(usize::from(value)).map(|&sign| char::from(sign))
+}
+
+/// The value of a sign, if it is a character of Code 39.
+pub fn value(sign: char) -> Option<u8> {
+    (0..).zip(SIGNS).find(|&(_, &each)| char::from(each) == sign).map(|(value, _)| value)
+}
+
+/// Fields 0 to 7.
+const FIELDS: usize = 8;
 
 /// A record of the answer buffer before its characters: `VA`, the field, the length in two bytes
 /// (low first).
 const RECORD_HEAD: usize = 5;
+
+/// An answer buffer of so many bytes is always long enough, where the working buffer has room for
+/// these situations: a text has fewer characters than the search has situations.
+pub const fn answer_bytes(situations: usize) -> usize {
+    FIELDS * (RECORD_HEAD + situations)
+}
 
 /// What is wrong with a sheet.
 #[derive(Clone, Copy, Debug, PartialEq, Eq)]
@@ -53,6 +78,38 @@ pub enum Fault {
     WrongToken,
 }
 
+impl Fault {
+    /// Its number, 11 to 17.
+    pub fn number(self) -> u32 {
+        match self {
+            Fault::CutShort => 11,
+            Fault::WrongMark => 12,
+            Fault::WrongField => 13,
+            Fault::WrongLength => 14,
+            Fault::NotOnePattern => 15,
+            Fault::TooManyLeaves => 16,
+            Fault::WrongToken => 17,
+        }
+    }
+}
+
+/// In words.
+impl fmt::Display for Fault {
+    fn fmt(&self, to: &mut fmt::Formatter<'_>) -> fmt::Result {
+        to.write_str(match self {
+            Fault::CutShort => "the sheet is cut short",
+            Fault::WrongMark => "a wrong mark, or bytes behind the right side",
+            Fault::WrongField => "a wrong field number",
+            Fault::WrongLength => "a wrong length",
+            Fault::NotOnePattern => "not one pattern",
+            Fault::TooManyLeaves => "a pattern with too many leaves",
+            Fault::WrongToken => "a wrong token",
+        })
+    }
+}
+
+impl Error for Fault {}
+
 /// The answer to a sheet. `count` is the number of situations that the search entered.
 #[derive(Clone, Copy, Debug, PartialEq, Eq)]
 pub enum Answer {
@@ -72,6 +129,73 @@ pub enum Answer {
     AnswerTooShort { count: usize },
     /// 21: the rules clash, but a text is above 65,535 characters.
     TextTooLong { count: usize },
+}
+
+impl Answer {
+    /// Its number, as in the table of the rules.
+    pub fn number(self) -> u32 {
+        match self {
+            Answer::Clash { .. } => 0,
+            Answer::NoClash { .. } => 1,
+            Answer::Refused { fault, .. } => fault.number(),
+            Answer::NoRoom { .. } => 18,
+            Answer::SideTooLong { .. } => 19,
+            Answer::AnswerTooShort { .. } => 20,
+            Answer::TextTooLong { .. } => 21,
+        }
+    }
+
+    /// The situations entered; 0 where the sheet is at fault.
+    pub fn count(self) -> usize {
+        match self {
+            Answer::Refused { .. } => 0,
+            Answer::Clash { count, .. }
+            | Answer::NoClash { count }
+            | Answer::NoRoom { count }
+            | Answer::SideTooLong { count }
+            | Answer::AnswerTooShort { count }
+            | Answer::TextTooLong { count } => count,
+        }
+    }
+
+    /// The bytes written to the answer buffer; 0 for all but [`Answer::Clash`].
+    pub fn written(self) -> usize {
+        if let Answer::Clash { written, .. } = self {
+            written
+        } else {
+            0
+        }
+    }
+
+    /// Whether the rules clash; none where that is not decided, or the sheet is at fault.
+    pub fn clashes(self) -> Option<bool> {
+        match self {
+            Answer::Clash { .. } | Answer::AnswerTooShort { .. } | Answer::TextTooLong { .. } => {
+                Some(true)
+            }
+            Answer::NoClash { .. } => Some(false),
+            Answer::Refused { .. } | Answer::NoRoom { .. } | Answer::SideTooLong { .. } => None,
+        }
+    }
+}
+
+/// In words; of a sheet at fault with the place.
+impl fmt::Display for Answer {
+    fn fmt(&self, to: &mut fmt::Formatter<'_>) -> fmt::Result {
+        to.write_str(match self {
+            Answer::Clash { .. } => "clash",
+            Answer::NoClash { .. } => "no clash",
+            Answer::Refused { fault, place } => {
+                return write!(to, "{fault}, in the record at offset {place}");
+            }
+            Answer::NoRoom { .. } => "not decided: no room for a situation",
+            Answer::SideTooLong { .. } => "not decided: a side grew too long",
+            Answer::AnswerTooShort { .. } => {
+                "clash, but the answer buffer is too short for the texts"
+            }
+            Answer::TextTooLong { .. } => "clash, but a text is too long for its record",
+        })
+    }
 }
 
 /// Can the two rules of the sheet make the same label?
@@ -137,19 +261,16 @@ pub struct Text<'a> {
     pub values: &'a [u8],
 }
 
-/// As characters.
+/// By its signs; a byte that is no character, which a clash never writes, as U+FFFD.
 impl fmt::Display for Text<'_> {
     fn fmt(&self, to: &mut fmt::Formatter<'_>) -> fmt::Result {
-        use fmt::Write;
-        self.values.iter().try_for_each(|&value| to.write_char(character(value)))
+        let sign = |&value| sign(value).unwrap_or(char::REPLACEMENT_CHARACTER);
+        self.values.iter().map(sign).try_for_each(|sign| to.write_char(sign))
     }
 }
 
-fn character(value: u8) -> char {
-    CHARACTERS.get(usize::from(value)).map_or(char::REPLACEMENT_CHARACTER, |&byte| byte.into())
-}
-
 /// The texts that a clash has written: one for each field that stands in a side, by rising number.
+/// Bytes that are not a whole record end them.
 pub fn texts(written: &[u8]) -> Texts<'_> {
     Texts { rest: written }
 }
@@ -173,3 +294,5 @@ impl<'a> Iterator for Texts<'a> {
         Some(Text { field, values })
     }
 }
+
+impl FusedIterator for Texts<'_> {}

@@ -1,4 +1,4 @@
-//! The known sheets of document 01: the answer, the texts, and both buffers to the last byte.
+//! The known sheets of the rules: the answer, the texts, and both buffers to the last byte.
 
 use bradovusc::{clash, texts, Answer, Fault, SITUATION_BYTES};
 
@@ -25,8 +25,7 @@ fn answered(sheet: &[u8], work: usize, answer: usize) -> (Answer, Vec<(u8, Strin
     let given = clash(sheet, &mut work, &mut answer);
     let left_in_work = if let Answer::Refused { .. } = given { WORK_FILL } else { 0 };
     assert!(work.iter().all(|&byte| byte == left_in_work), "{given:?}");
-    let written = if let Answer::Clash { written, .. } = given { written } else { 0 };
-    let (records, rest) = answer.split_at(written);
+    let (records, rest) = answer.split_at(given.written());
     assert!(rest.iter().all(|&byte| byte == ANSWER_FILL), "{given:?}");
     (given, texts(records).map(|text| (text.field, text.to_string())).collect())
 }

@@ -3,37 +3,16 @@
 
 use std::collections::BTreeSet;
 
-use bradovusc::{clash, Answer, Fault};
+use bradovusc::{answer_bytes, clash, Answer, SITUATION_BYTES};
 use second::make::{case, long, Dice};
 use second::Outcome;
 
-/// Document 01's number of a fault.
-fn number(fault: Fault) -> u8 {
-    match fault {
-        Fault::CutShort => 11,
-        Fault::WrongMark => 12,
-        Fault::WrongField => 13,
-        Fault::WrongLength => 14,
-        Fault::NotOnePattern => 15,
-        Fault::TooManyLeaves => 16,
-        Fault::WrongToken => 17,
-    }
-}
-
 /// The library in the form of `second::answer`.
 fn library(sheet: &[u8], work: &mut [u8], answer: &mut [u8]) -> Outcome {
-    let of_search = |number, count, written| Outcome { number, count, place: 0, written };
-    match clash(sheet, work, answer) {
-        Answer::Clash { count, written } => of_search(0, count, written),
-        Answer::NoClash { count } => of_search(1, count, 0),
-        Answer::Refused { fault, place } => {
-            Outcome { number: number(fault), count: 0, place, written: 0 }
-        }
-        Answer::NoRoom { count } => of_search(18, count, 0),
-        Answer::SideTooLong { count } => of_search(19, count, 0),
-        Answer::AnswerTooShort { count } => of_search(20, count, 0),
-        Answer::TextTooLong { count } => of_search(21, count, 0),
-    }
+    let given = clash(sheet, work, answer);
+    let place = if let Answer::Refused { place, .. } = given { place } else { 0 };
+    let (number, count, written) = (given.number() as u8, given.count(), given.written());
+    Outcome { number, count, place, written }
 }
 
 #[test]
@@ -48,6 +27,21 @@ fn generated_cases() {
     }
     // 21 needs a text longer than any way can be.
     assert!(seen.into_iter().eq([0, 1, 11, 12, 13, 14, 15, 16, 17, 18, 19, 20]));
+}
+
+#[test]
+fn an_answer_buffer_that_is_always_long_enough() {
+    let mut dice = Dice::new(41);
+    let mut too_short = 0;
+    for _ in 0..4000 {
+        let mut case = case(&mut dice);
+        let given = case.run(library).outcome.number;
+        case.answer = answer_bytes(case.work as usize / SITUATION_BYTES) as u32;
+        let now = case.run(library).outcome.number;
+        assert_eq!(now, if given == 20 { 0 } else { given }, "{case:?}");
+        too_short += usize::from(given == 20);
+    }
+    assert!(too_short > 40);
 }
 
 #[test]

@@ -1,13 +1,14 @@
-//! `second`: like the program `clash` of document 01.
+//! `second`: like the program `clash`.
 //!
 //! - `second`: 65,520 bytes of work and 4,096 of answer
 //! - `second WORK ANSWER`: with these lengths of the two buffers
 //! - `second --many [--scan]`: a stream of cases, a line for each
+//! - `second --many --lines`: a stream of cases, what `clash` prints for each
 
 use std::io::{self, BufWriter, Read, Write};
 use std::process::ExitCode;
 
-use second::cases::{Answerer, Case};
+use second::cases::{After, Answerer, Case};
 
 /// "`clash` reads the first 1,024 bytes of standard input, lends 65,520 bytes
 /// of work (455 situations) and 4,096 of answer."
@@ -20,8 +21,9 @@ fn main() -> ExitCode {
     let arguments: Vec<&str> = arguments.iter().map(String::as_str).collect();
     let done = match arguments[..] {
         [] => one(WORK_BYTES, ANSWER_BYTES),
-        ["--many"] => many(second::answer),
-        ["--many", "--scan"] => many(second::scan::answer),
+        ["--many"] => many(second::answer, a_line),
+        ["--many", "--scan"] => many(second::scan::answer, a_line),
+        ["--many", "--lines"] => many(second::answer, After::lines),
         [work, answer] => match (work.parse(), answer.parse()) {
             (Ok(work), Ok(answer)) => one(work, answer),
             _ => return usage(),
@@ -38,7 +40,7 @@ fn main() -> ExitCode {
 }
 
 fn usage() -> ExitCode {
-    eprintln!("usage: second | second WORK ANSWER | second --many [--scan]");
+    eprintln!("usage: second | second WORK ANSWER | second --many [--scan | --lines]");
     ExitCode::from(2)
 }
 
@@ -52,8 +54,12 @@ fn one(work_length: usize, answer_length: usize) -> io::Result<()> {
     io::stdout().lock().write_all(second::lines(&outcome, &answer).as_bytes())
 }
 
+fn a_line(after: &After) -> String {
+    after.line() + "\n"
+}
+
 /// A stream of cases.
-fn many(answerer: Answerer) -> io::Result<()> {
+fn many(answerer: Answerer, shown: fn(&After) -> String) -> io::Result<()> {
     let mut stream = Vec::new();
     io::stdin().lock().read_to_end(&mut stream)?;
     let mut out = BufWriter::new(io::stdout().lock());
@@ -63,7 +69,7 @@ fn many(answerer: Answerer) -> io::Result<()> {
             out.flush()?;
             return Err(io::Error::other("the stream stops inside a case"));
         };
-        writeln!(out, "{}", case.run(answerer).line())?;
+        out.write_all(shown(&case.run(answerer)).as_bytes())?;
         rest = behind;
     }
     out.flush()

@@ -3,13 +3,15 @@
 //! - `sheets SEED NUMBER`: so many cases made from the seed
 //! - `sheets --long ROOM`: a few whose search fills room for so many situations
 //! - `sheets --long ROOM N`: the sheet alone of the N-th of these
+//! - `sheets --printed`: those whose lines tell wrong printers apart
+//! - `sheets --printed N`: the sheet alone of the N-th of these
 
 use std::io::{self, Write};
 use std::process::ExitCode;
 
 use second::cases::Case;
 use second::make::{case, long, Dice};
-use second::MOST_ROOM;
+use second::{printed, MOST_ROOM};
 
 fn main() -> ExitCode {
     let arguments: Vec<String> = std::env::args().skip(1).collect();
@@ -20,13 +22,13 @@ fn main() -> ExitCode {
             None => return usage(),
         },
         ["--long", room, number] => {
-            return match (filling(room), number.parse::<usize>()) {
-                (Some(cases), Ok(number)) if (1..=cases.len()).contains(&number) => {
-                    put(&cases[number - 1].sheet)
-                }
-                _ => usage(),
+            return match filling(room) {
+                Some(cases) => put_one(&cases, number),
+                None => usage(),
             };
         }
+        ["--printed"] => printed::cases(),
+        ["--printed", number] => return put_one(&printed::cases(), number),
         [seed, number] => match (seed.parse(), number.parse::<usize>()) {
             (Ok(seed), Ok(number)) => {
                 let mut dice = Dice::new(seed);
@@ -49,6 +51,14 @@ fn filling(room: &str) -> Option<Vec<Case>> {
     (room as usize <= MOST_ROOM).then(|| long(room))
 }
 
+/// The sheet alone of one of the cases, counted from 1.
+fn put_one(cases: &[Case], number: &str) -> ExitCode {
+    match number.parse::<usize>() {
+        Ok(number) if (1..=cases.len()).contains(&number) => put(&cases[number - 1].sheet),
+        _ => usage(),
+    }
+}
+
 fn put(bytes: &[u8]) -> ExitCode {
     match io::stdout().lock().write_all(bytes) {
         Ok(()) => ExitCode::SUCCESS,
@@ -60,6 +70,7 @@ fn put(bytes: &[u8]) -> ExitCode {
 }
 
 fn usage() -> ExitCode {
-    eprintln!("usage: sheets SEED NUMBER | sheets --long ROOM [N] (ROOM at most 65535)");
+    eprintln!("usage: sheets SEED NUMBER | sheets --long ROOM [N] | sheets --printed [N]");
+    eprintln!("ROOM is at most 65535");
     ExitCode::from(2)
 }

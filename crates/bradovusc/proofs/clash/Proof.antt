@@ -1,4 +1,4 @@
--- `clash`, the library's entry, meets its contract: the whole outcome, and with it demands 2 and 3. Follows from the laws of `Answering`.
+-- `clash`, the library's entry, meets its contract: the whole outcome, and with it demands 1, 2 and 3. Follows from the laws of `Answering`.
 use Rattle.bradovusc.proofs.Answering.{good-asks, refused-told, promised}
 use borrow.Author.Needs.{needs}
 use Rattle.bradovusc.proofs.clash.Statement.{statement}

@@ -1,18 +1,8 @@
--- `searched` meets its contract. Each part hands its promise to the next: the sides and tables that were read, the search over slots, the
--- answer, the cleared buffer. Follows from the laws of `Searching`.
-use native.Mathlib.Omega.{arith}
-use mathlib.Core.Path.{_≡_, ap, _∙_}
-use lib.ListN.{replicate}
-use Rattle.paper.specs.Outcome.{room-of}
-use Rattle.bradovusc.specs.Entry.{Over}
-use Rattle.bradovusc.specs.Struct.{as-struct}
-use Rattle.bradovusc.proofs.Searching.{start, start-short, start-read, start-sets, lent-run, over, asked-lengths, searched-told}
+-- `searched` meets its contract: the sides and tables that were read are searched, and the end is told. Follows from `searched-told`.
+use Rattle.bradovusc.proofs.Searching.{searched-told}
 use borrow.Author.Needs.{needs}
 use Rattle.bradovusc.proofs.searched.Statement.{statement}
 use Rattle.bradovusc.proofs.searched.Tie as tie
-
-question-requires : tie.Need-question-requires
-question-requires c κs = asked-lengths (c .before .before .before .before .before .pre)
 
 follow-sets-requires : tie.Need-follow-sets-requires
 follow-sets-requires c κs = search needs
@@ -23,40 +13,11 @@ taking-sets-requires c κs = search needs
 last-sets-requires : tie.Need-last-sets-requires
 last-sets-requires c κs = search needs
 
-room-of-requires : tie.Need-room-of-requires
-room-of-requires c κs = search needs
+run-requires : tie.Need-run-requires
+run-requires c κs = search needs
 
--- the first situation is the question's
-start-is : (c : tie.After-question)
-    → let a = c .before .before .before .before .before .before .pre in c .question .result ≡ as-struct (start _ (a .question) (a .good))
-start-is c =
-    let a = c .before .before .before .before .before .before .pre in
-    start-read _ (a .question) (a .good) _ (a .is) _ (c .question .ensures)
-
--- the search in the lent buffer is over
-abbrev is-over : (c : tie.After-search) → Over (c .search .last .0) (c .search .result)
-is-over c =
-    let a = c .before .before .before .before .before .before .before .before .before .before .before .before .pre in
-    over _ (a .question) (a .good) (c .before .before .room-of .result)
-    (lent-run _ (a .question) (a .good) _ _ _ (c .before .before .before .before .before .follow-sets .ensures) (c .before .before .before .before .taking-sets .ensures) (c .before .before .before .last-sets .ensures) _
-    (c .search .ensures .lent (start _ (a .question) (a .good)) (start-is (c .before .before .before .before .before .before)) (start-short _ (a .question) (a .good))))
-
-search-requires : tie.Need-search-requires
-search-requires c κs =
-    let a = c .before .before .before .before .before .before .before .before .before .before .before .pre in (
-      (omega (arith, c .before .room-of .ensures), omega (arith, c .before .room-of .ensures)),
-      record {
-        at = start _ (a .question) (a .good);
-        is = start-is (c .before .before .before .before .before);
-        short = start-short _ (a .question) (a .good);
-      },
-    )
-
-conclude-requires : tie.Need-conclude-requires
-conclude-requires c κs = is-over (c .before .before .before .before .before)
-
-clear-requires : tie.Need-clear-requires
-clear-requires c κs = search needs
+answer-of-requires : tie.Need-answer-of-requires
+answer-of-requires c κs = search needs
 
 same-length : tie.Need-same-length
 same-length c = search needs
@@ -65,30 +26,24 @@ same-length-2 : tie.Need-same-length-2
 same-length-2 c = search needs
 
 returns : tie.Need-returns
-unfolding room-of
 returns c =
-    let f = c .before .before .before .before .before .before in
-    let s = f .before .before .before .before .before .before in
-    let t = s .before .before .before .before .before .before in
-    let a = t .before .before .before .before .before .before .pre in
-    searched-told _ (a .question) (a .good) _ _ _ _ _ _ _
-    (start-sets _ (a .question) (a .good) _ (start-is t))
-    (s .before .before .room-of .ensures)
-    (f .conclude .ensures (is-over s))
-    (c .before .before .clear .ensures ∙ ap (λ n. replicate n 0) (s .search .kept .0))
+    let run = c .before .before .before .before .before in
+    let last = run .before .before .before in
+    let fields = last .before .before .before in
+    let a = fields .before .before .before .before .before .before .pre in
+    searched-told _ (a .question) (a .good) _ (a .is) _ _ _
+    (last .before .before .follow-sets .ensures) (last .before .taking-sets .ensures) (last .last-sets .ensures) _ _ _ _ _ _
+    (run .run .ensures .0) (run .run .ensures .1 .0) (run .run .ensures .1 .1) (c .answer-of .ensures)
 
 pub searched-spec : {M : Type 1} → statement M
 searched-spec =
     tie.close
     (tie.spec
-    question-requires
     follow-sets-requires
     taking-sets-requires
     last-sets-requires
-    room-of-requires
-    search-requires
-    conclude-requires
-    clear-requires
+    run-requires
+    answer-of-requires
     same-length
     same-length-2
     returns)

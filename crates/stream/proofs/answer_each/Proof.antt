@@ -6,11 +6,11 @@ use Rattle.stream.proofs.answer_each.Statement.{statement}
 use Rattle.stream.proofs.answer_each.Tie as tie
 
 abbrev Inv-loop : tie.InvT-loop
-Inv-loop sheet₀ work₀ answer₀ turns₀ sheet work answer turns =
+Inv-loop sheet₀ work₀ answer₀ shown turns₀ sheet work answer turns =
     (length sheet ≡ length sheet₀) × (length work ≡ length work₀) × (length answer ≡ length answer₀)
 
 abbrev μ-loop : tie.MeasureT-loop
-μ-loop sheet₀ work₀ answer₀ turns₀ sheet work answer turns = turns
+μ-loop sheet₀ work₀ answer₀ shown turns₀ sheet work answer turns = turns
 
 loop-holds : tie.Need-loop-holds Inv-loop μ-loop
 loop-holds c = search needs

@@ -2,7 +2,7 @@
 use mathlib.Core.Path.{sym, ap}
 use mathlib.Core.Bool.{Bool, _&&_}
 use lib.Dec.{leb}
-use Rattle.paper.proofs.Tests.{le-leb, lt-leb, left-false}
+use Rattle.paper.proofs.base.Tests.{le-leb, lt-leb, left-false}
 use Rattle.patterns.proofs.place_sets.between.Statement.{statement}
 use Rattle.patterns.proofs.place_sets.between.Tie as tie
 

@@ -1,31 +1,31 @@
--- `place_sets::link` meets its contract. The loop fills the list with the linked sets, place by place (`Filling`).
+-- `place_sets::link` meets its contract. The loop adds the linked sets, place by place (`Adding`).
 use borrow.Author.Needs.{needs}
-use Prim.Native.Nat.{ℕ, _-_, _<_}
+use Prim.Native.Nat.{ℕ, _-_}
 use native.Mathlib.Omega.{arith}
-use mathlib.Core.Path.{ap, ap₂, _∙_}
+use mathlib.Core.Path.{ap, _∙_}
 use mathlib.Core.Bool.{Bool, cond}
-use lib.Bits.{bitOr}
-use lib.ListN.{length, getD}
-use Rattle.patterns.specs.Masks.{table}
-use Rattle.patterns.specs.Reading.{link-at}
-use Rattle.patterns.proofs.Tables.{Filling, filling-none, filling-read, filling-more, filling-all}
+use Rattle.patterns.specs.Masks.{places, in-mask}
+use Rattle.patterns.proofs.Filling.{Adding, adding-none, adding-more, adding-all}
 use Rattle.patterns.proofs.place_sets.link.Statement.{statement}
 use Rattle.patterns.proofs.place_sets.link.Tie as tie
 
+abbrev linked : ℕ → ℕ → ℕ → ℕ
+linked last first i = cond (in-mask last i) first 0
+
 abbrev Inv-loop : tie.InvT-loop
-Inv-loop follow₀ last first i₀ follow i = Filling (link-at follow₀ last first) follow₀ follow i
+Inv-loop follow₀ last first i₀ follow i = Adding places (linked last first) follow₀ follow i
 
 abbrev μ-loop : tie.MeasureT-loop
-μ-loop follow₀ last first i₀ follow i = length follow₀ - i
+μ-loop follow₀ last first i₀ follow i = places - i
 
 loop-holds : tie.Need-loop-holds Inv-loop μ-loop
-loop-holds c = let a = c .before .args in filling-none (link-at (a .follow .now) (a .last) (a .first)) (a .follow .now)
+loop-holds c = let a = c .args in adding-none places (linked (a .last) (a .first)) (a .follow .now)
 
 mul-follow : tie.Need-mul-follow Inv-loop μ-loop
 mul-follow c = search needs
 
-slice-read-follow : tie.Need-slice-read-follow Inv-loop μ-loop
-slice-read-follow c = search needs
+element-copy-out-follow : tie.Need-element-copy-out-follow Inv-loop μ-loop
+element-copy-out-follow c = search needs
 
 holds-requires : tie.Need-holds-requires Inv-loop μ-loop
 holds-requires c κs = search needs
@@ -36,8 +36,8 @@ when-requires c κs = search needs
 mul-follow-2 : tie.Need-mul-follow-2 Inv-loop μ-loop
 mul-follow-2 c = search needs
 
-slice-write-follow : tie.Need-slice-write-follow Inv-loop μ-loop
-slice-write-follow c = search needs
+element-write-follow : tie.Need-element-write-follow Inv-loop μ-loop
+element-write-follow c = search needs
 
 add-i : tie.Need-add-i Inv-loop μ-loop
 add-i c = search needs
@@ -48,23 +48,15 @@ loop-less c = omega arith
 loop-again : tie.Need-loop-again Inv-loop μ-loop
 loop-again c =
     let l = c .before .before .before .before .loop in
-    let a = c .before .before .before .before .before .before .args in
-    let f : ℕ → ℕ = link-at (a .follow .now) (a .last) (a .first) in
-    let h : l .i < length (a .follow .now) = omega arith in
-    filling-more f (a .follow .now) (l .follow) (l .i) (l .inv) h
-    (bitOr (getD (l .follow) (l .i) 0) (c .when .result))
-    (ap₂ bitOr (filling-read f (a .follow .now) (l .follow) (l .i) (l .inv) h)
-    (c .when .ensures ∙ ap (λ (b : Bool). cond b (a .first) 0) (c .before .holds .ensures)))
-
-same-length : tie.Need-same-length Inv-loop μ-loop
-same-length c = c .before .loop .inv .long
+    let a = c .before .before .before .before .before .args in
+    adding-more places (linked (a .last) (a .first)) (a .follow .now) (l .follow) (l .i) (l .inv) (omega arith) (c .when .result)
+    (c .when .ensures ∙ ap (λ (b : Bool). cond b (a .first) 0) (c .before .holds .ensures))
 
 returns : tie.Need-returns Inv-loop μ-loop
 returns c =
     let l = c .before .loop in
-    let s = c .before .before .before in
-    let f : ℕ → ℕ = link-at (s .args .follow .now) (s .args .last) (s .args .first) in
-    filling-all f (s .args .follow .now) (l .follow) (l .i) (l .inv) (omega arith) ∙ ap (table f) (s .pre)
+    let a = c .before .before .args in
+    adding-all places (linked (a .last) (a .first)) (a .follow .now) (l .follow) (l .i) (l .inv) (omega arith)
 
 pub link-spec : {M : Type 1} → statement M
 link-spec =
@@ -74,13 +66,12 @@ link-spec =
     μ-loop
     loop-holds
     mul-follow
-    slice-read-follow
+    element-copy-out-follow
     holds-requires
     when-requires
     mul-follow-2
-    slice-write-follow
+    element-write-follow
     add-i
     loop-less
     loop-again
-    same-length
     returns)

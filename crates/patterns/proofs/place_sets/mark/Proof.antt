@@ -1,23 +1,32 @@
--- `place_sets::mark` meets its contract. The loop fills the list with the set or none, character by character (`Filling`).
+-- `place_sets::mark` meets its contract. The loop adds the set at the characters from lo to hi (`Adding`).
 use borrow.Author.Needs.{needs}
-use Prim.Native.Nat.{_-_}
+use Prim.Native.Nat.{ℕ, _-_}
 use native.Mathlib.Omega.{arith}
 use mathlib.Core.Path.{ap, _∙_}
 use mathlib.Core.Bool.{Bool, cond}
-use lib.ListN.{length}
-use Rattle.patterns.specs.Reading.{mark-at}
-use Rattle.patterns.proofs.Tables.{Filling, filling-none, filling-more, filling-all}
+use Rattle.paper.specs.Numbers.{characters}
+use Rattle.paper.specs.Pattern.{takes, range}
+use Rattle.patterns.proofs.Filling.{Adding, adding-none, adding-more, adding-all}
 use Rattle.patterns.proofs.place_sets.mark.Statement.{statement}
 use Rattle.patterns.proofs.place_sets.mark.Tie as tie
 
+abbrev marked : ℕ → ℕ → ℕ → ℕ → ℕ
+marked lo hi set c = cond (takes (range lo hi) c) set 0
+
 abbrev Inv-loop : tie.InvT-loop
-Inv-loop taking₀ lo hi set c₀ taking c = Filling (mark-at lo hi set) taking₀ taking c
+Inv-loop taking₀ lo hi set c₀ taking c = Adding characters (marked lo hi set) taking₀ taking c
 
 abbrev μ-loop : tie.MeasureT-loop
-μ-loop taking₀ lo hi set c₀ taking c = length taking₀ - c
+μ-loop taking₀ lo hi set c₀ taking c = characters - c
 
 loop-holds : tie.Need-loop-holds Inv-loop μ-loop
-loop-holds c = let a = c .before .args in filling-none (mark-at (a .lo) (a .hi) (a .set)) (a .taking .now)
+loop-holds c = let a = c .args in adding-none characters (marked (a .lo) (a .hi) (a .set)) (a .taking .now)
+
+mul-taking : tie.Need-mul-taking Inv-loop μ-loop
+mul-taking c = search needs
+
+element-copy-out-taking : tie.Need-element-copy-out-taking Inv-loop μ-loop
+element-copy-out-taking c = search needs
 
 between-requires : tie.Need-between-requires Inv-loop μ-loop
 between-requires c κs = search needs
@@ -25,11 +34,11 @@ between-requires c κs = search needs
 when-requires : tie.Need-when-requires Inv-loop μ-loop
 when-requires c κs = search needs
 
-mul-taking : tie.Need-mul-taking Inv-loop μ-loop
-mul-taking c = search needs
+mul-taking-2 : tie.Need-mul-taking-2 Inv-loop μ-loop
+mul-taking-2 c = search needs
 
-slice-write-taking : tie.Need-slice-write-taking Inv-loop μ-loop
-slice-write-taking c = search needs
+element-write-taking : tie.Need-element-write-taking Inv-loop μ-loop
+element-write-taking c = search needs
 
 add-c : tie.Need-add-c Inv-loop μ-loop
 add-c c = search needs
@@ -39,20 +48,16 @@ loop-less c = omega arith
 
 loop-again : tie.Need-loop-again Inv-loop μ-loop
 loop-again c =
-    let l = c .before .before .before .loop in
+    let l = c .before .before .before .before .loop in
     let a = c .before .before .before .before .before .args in
-    filling-more (mark-at (a .lo) (a .hi) (a .set)) (a .taking .now) (l .taking) (l .c) (l .inv) (omega arith)
-    (c .when .result)
+    adding-more characters (marked (a .lo) (a .hi) (a .set)) (a .taking .now) (l .taking) (l .c) (l .inv) (omega arith) (c .when .result)
     (c .when .ensures ∙ ap (λ (b : Bool). cond b (a .set) 0) (c .before .between .ensures))
-
-same-length : tie.Need-same-length Inv-loop μ-loop
-same-length c = c .before .loop .inv .long
 
 returns : tie.Need-returns Inv-loop μ-loop
 returns c =
     let l = c .before .loop in
-    let a = c .before .before .before .args in
-    filling-all (mark-at (a .lo) (a .hi) (a .set)) (a .taking .now) (l .taking) (l .c) (l .inv) (omega arith)
+    let a = c .before .before .args in
+    adding-all characters (marked (a .lo) (a .hi) (a .set)) (a .taking .now) (l .taking) (l .c) (l .inv) (omega arith)
 
 pub mark-spec : {M : Type 1} → statement M
 mark-spec =
@@ -61,12 +66,13 @@ mark-spec =
     Inv-loop
     μ-loop
     loop-holds
+    mul-taking
+    element-copy-out-taking
     between-requires
     when-requires
-    mul-taking
-    slice-write-taking
+    mul-taking-2
+    element-write-taking
     add-c
     loop-less
     loop-again
-    same-length
     returns)

@@ -2,11 +2,10 @@
 use borrow.Author.Needs.{needs}
 use Prim.Native.Nat.{ℕ, _-_}
 use native.Mathlib.Omega.{arith}
-use mathlib.Core.Path.{ap, _∙_}
 use lib.Dec.{eqb}
-use lib.ListN.{length}
-use Rattle.patterns.specs.Masks.{mask-of, table}
-use Rattle.patterns.proofs.Tables.{Filling, filling-none, filling-more, filling-all}
+use lib.ListN.{replicate}
+use Rattle.patterns.specs.Masks.{places, mask-of}
+use Rattle.patterns.proofs.Filling.{Filling, filling-none, filling-more, filling-all}
 use Rattle.patterns.proofs.place_sets.stay.Statement.{statement}
 use Rattle.patterns.proofs.place_sets.stay.Tie as tie
 
@@ -14,13 +13,13 @@ abbrev alone : ℕ → ℕ
 alone i = mask-of (λ (q : ℕ). eqb i q)
 
 abbrev Inv-loop : tie.InvT-loop
-Inv-loop follow₀ i₀ follow i = Filling alone follow₀ follow i
+Inv-loop follow₀ i₀ follow i = Filling alone (replicate places 0) follow i
 
 abbrev μ-loop : tie.MeasureT-loop
-μ-loop follow₀ i₀ follow i = length follow₀ - i
+μ-loop follow₀ i₀ follow i = places - i
 
 loop-holds : tie.Need-loop-holds Inv-loop μ-loop
-loop-holds c = filling-none alone (c .before .args .follow .now)
+loop-holds c = filling-none alone (replicate places 0)
 
 place-requires : tie.Need-place-requires Inv-loop μ-loop
 place-requires c κs = search needs
@@ -28,8 +27,8 @@ place-requires c κs = search needs
 mul-follow : tie.Need-mul-follow Inv-loop μ-loop
 mul-follow c = search needs
 
-slice-write-follow : tie.Need-slice-write-follow Inv-loop μ-loop
-slice-write-follow c = search needs
+array-write-follow : tie.Need-array-write-follow Inv-loop μ-loop
+array-write-follow c = search needs
 
 add-i : tie.Need-add-i Inv-loop μ-loop
 add-i c = search needs
@@ -40,17 +39,10 @@ loop-less c = omega arith
 loop-again : tie.Need-loop-again Inv-loop μ-loop
 loop-again c =
     let l = c .before .before .loop in
-    let a = c .before .before .before .before .args in
-    filling-more alone (a .follow .now) (l .follow) (l .i) (l .inv) (omega arith) (c .place .result) (c .place .ensures)
-
-same-length : tie.Need-same-length Inv-loop μ-loop
-same-length c = c .before .loop .inv .long
+    filling-more alone (replicate places 0) (l .follow) (l .i) (l .inv) (omega arith) (c .place .result) (c .place .ensures)
 
 returns : tie.Need-returns Inv-loop μ-loop
-returns c =
-    let l = c .before .loop in
-    let s = c .before .before .before in
-    filling-all alone (s .args .follow .now) (l .follow) (l .i) (l .inv) (omega arith) ∙ ap (table alone) (s .pre)
+returns c = let l = c .before .loop in filling-all alone (replicate places 0) (l .follow) (l .i) (l .inv) (omega arith)
 
 pub stay-spec : {M : Type 1} → statement M
 stay-spec =
@@ -61,9 +53,8 @@ stay-spec =
     loop-holds
     place-requires
     mul-follow
-    slice-write-follow
+    array-write-follow
     add-i
     loop-less
     loop-again
-    same-length
     returns)

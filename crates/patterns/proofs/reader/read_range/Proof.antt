@@ -2,11 +2,8 @@
 use borrow.Author.Needs.{needs}
 use Prim.Native.Nat.{_≤_}
 use native.Mathlib.Omega.{arith}
-use mathlib.Core.Path.{ap}
 use lib.ListN.{length, drop, length-drop}
-use Rattle.patterns.specs.Reading.{nothing}
-use Rattle.patterns.specs.declared.reader.Reading.{Reading}
-use Rattle.patterns.proofs.Readings.{range-short, range-falls, range-above, range-good}
+use Rattle.patterns.proofs.Readings.{range-short, range-falls, range-above, range-good, leaf-as}
 use Rattle.patterns.proofs.reader.read_range.Statement.{statement}
 use Rattle.patterns.proofs.reader.read_range.Tie as tie
 
@@ -14,10 +11,8 @@ none-requires : tie.Need-none-requires
 none-requires c κs = search needs
 
 returns : tie.Need-returns
-unfolding nothing
-returns c =
-    let a = c .before .before .before .args in
-    rw (range-short (a .s .now) (c .before .if1 .taken)) (ap (λ (r : Reading). r .ok) (c .none .ensures))
+returns c follow =
+    let a = c .before .before .before .args in rw (range-short (a .s .now) (c .before .if1 .taken)) (c .none .ensures)
 
 shared-slice-read-lo : tie.Need-shared-slice-read-lo
 shared-slice-read-lo c = search needs
@@ -29,19 +24,16 @@ none-requires-2 : tie.Need-none-requires-2
 none-requires-2 c κs = search needs
 
 returns-2 : tie.Need-returns-2
-unfolding nothing
-returns-2 c =
-    let a = c .before .before .before .before .before .before .args in
-    rw (range-falls (a .s .now) (c .before .if2 .taken)) (ap (λ (r : Reading). r .ok) (c .none2 .ensures))
+returns-2 c follow =
+    let a = c .before .before .before .before .before .before .args in rw (range-falls (a .s .now) (c .before .if2 .taken)) (c .none2 .ensures)
 
 none-requires-3 : tie.Need-none-requires-3
 none-requires-3 c κs = search needs
 
 returns-3 : tie.Need-returns-3
-unfolding nothing
-returns-3 c =
+returns-3 c follow =
     let a = c .before .before .before .before .before .before .before .args in
-    rw (range-above (a .s .now) (c .before .if3 .taken)) (ap (λ (r : Reading). r .ok) (c .none3 .ensures))
+    rw (range-above (a .s .now) (c .before .if3 .taken)) (c .none3 .ensures)
 
 sub-leaf : tie.Need-sub-leaf
 sub-leaf c = search needs
@@ -50,11 +42,11 @@ leaf-requires : tie.Need-leaf-requires
 leaf-requires c κs = search needs
 
 returns-4 : tie.Need-returns-4
-returns-4 c =
-    let a = c .before .before .before .before .before .before .before .args in
+returns-4 c follow =
+    let a = c .before .before .before .before .before .before .before .before .args in
     let long : 2 ≤ length (a .s .now) = omega arith in
-    rw (range-good (a .s .now) long (c .before .before .if2 .left) (c .before .if3 .left))
-    (c .leaf .ensures (drop 2 (a .s .now)) (length-drop 2 (a .s .now)))
+    rw (range-good (a .s .now) long (c .before .before .before .if2 .left) (c .before .before .if3 .left))
+    (leaf-as _ _ _ (a .o) follow (a .taking .now) _ (c .leaf .result) (c .leaf .ensures) (drop 2 (a .s .now)) (length-drop 2 (a .s .now)))
 
 pub read-range-spec : {M : Type 1} → statement M
 read-range-spec =

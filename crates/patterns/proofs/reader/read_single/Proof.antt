@@ -1,10 +1,9 @@
 -- `reader::read_single` meets its contract: each way out is a case of the first byte (`Readings`).
 use borrow.Author.Needs.{needs}
 use native.Mathlib.Omega.{arith}
-use mathlib.Core.Path.{ap}
-use Rattle.patterns.specs.Reading.{nothing}
-use Rattle.patterns.specs.declared.reader.Reading.{Reading}
-use Rattle.patterns.proofs.Readings.{to-end, as-char, as-empty, as-range, as-none}
+use lib.ListN.{drop, length-drop}
+use Rattle.patterns.specs.Reading.{working}
+use Rattle.patterns.proofs.Readings.{to-end, leaf-as, empty-as, as-char, as-empty, as-range, as-none}
 use Rattle.patterns.proofs.reader.read_single.Statement.{statement}
 use Rattle.patterns.proofs.reader.read_single.Tie as tie
 
@@ -18,10 +17,11 @@ leaf-requires : tie.Need-leaf-requires
 leaf-requires c κs = search needs
 
 returns : tie.Need-returns
-returns c =
-    let s = c .before .before .before .before in
+returns c follow =
+    let s = c .before .before .before .before .before in
     let a = s .args in
-    as-char (a .s .now) (a .o) (c .leaf .result) (s .pre .1) (c .before .if1 .taken) (c .leaf .ensures)
+    as-char (a .s .now) (a .o) (working follow (a .taking .now)) (working follow _) (c .leaf .result) (s .pre .1) (c .before .before .if1 .taken)
+    (leaf-as _ _ _ (a .o) follow (a .taking .now) _ (c .leaf .result) (c .leaf .ensures) (drop 1 (a .s .now)) (length-drop 1 (a .s .now)))
 
 sub-empty : tie.Need-sub-empty
 sub-empty c = search needs
@@ -30,10 +30,11 @@ empty-requires : tie.Need-empty-requires
 empty-requires c κs = search needs
 
 returns-2 : tie.Need-returns-2
-returns-2 c =
+returns-2 c follow =
     let s = c .before .before .before .before .before in
     let a = s .args in
-    as-empty (a .s .now) (a .o) (c .empty .result) (s .pre .1) (c .before .if2 .taken) (c .empty .ensures)
+    as-empty (a .s .now) (a .o) (working follow (a .taking .now)) (working follow (a .taking .now)) (c .empty .result) (s .pre .1) (c .before .if2 .taken)
+    (empty-as _ (a .o) follow (a .taking .now) (c .empty .result) (c .empty .ensures) (drop 1 (a .s .now)) (length-drop 1 (a .s .now)))
 
 sub-read-range : tie.Need-sub-read-range
 sub-read-range c = search needs
@@ -48,23 +49,22 @@ read-range-requires : tie.Need-read-range-requires
 read-range-requires c κs = search needs
 
 returns-3 : tie.Need-returns-3
-returns-3 c =
-    let s = c .before .before .before .before .before .before .before in
+returns-3 c follow =
+    let s = c .before .before .before .before .before .before .before .before in
     let a = s .args in
-    as-range (a .s .now) (a .o) (c .read-range .result) (s .pre .1) (c .before .before .if3 .taken)
-    (rw (to-end 1 (a .s .now)) at (c .read-range .ensures))
+    as-range (a .s .now) (a .o) (working follow (a .taking .now)) (working follow _) (c .read-range .result) (s .pre .1) (c .before .before .before .if3 .taken)
+    (rw (to-end 1 (a .s .now)) at (c .read-range .ensures follow))
 
 none-requires : tie.Need-none-requires
 none-requires c κs = search needs
 
 returns-4 : tie.Need-returns-4
-unfolding nothing
-returns-4 c =
+returns-4 c follow =
     let s = c .before .before .before .before .before .before in
     let a = s .args in
-    as-none (a .s .now) (a .o) (c .none .result) (s .pre .1)
+    as-none (a .s .now) (a .o) (working follow (a .taking .now)) (working follow (a .taking .now)) (c .none .result) (s .pre .1)
     (c .before .before .before .if1 .left) (c .before .before .if2 .left) (c .before .if3 .left)
-    (omega arith) (omega arith) (omega arith) (ap (λ (r : Reading). r .ok) (c .none .ensures))
+    (omega arith) (omega arith) (omega arith) (c .none .ensures)
 
 pub read-single-spec : {M : Type 1} → statement M
 read-single-spec =

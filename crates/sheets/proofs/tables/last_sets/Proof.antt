@@ -1,54 +1,32 @@
--- `sheets::tables::last_sets` meets its contract. The loop's invariant: the fields below `f` have their sets.
+-- `sheets::tables::last_sets` meets its contract. The loop's invariant: the fields below `f` have their sets (`Spread`).
 -- Assumes nothing.
 use Prim.Native.Nat.{_-_}
 use native.Mathlib.Omega.{arith}
-use mathlib.Core.Path.{refl, sym, ap}
+use mathlib.Core.Path.{_≡_, refl}
 use borrow.Author.Needs.{needs}
+use lib.ListN.{length}
 use Rattle.paper.specs.Numbers.{fields}
-use Rattle.patterns.specs.Masks.{last-mask}
-use Rattle.sheets.specs.Tables.{last-sets}
-use Rattle.sheets.proofs.Stand.{found-so}
-use Rattle.sheets.proofs.Filled.{Filled, filled-none, filled-more, filled-all}
+use Rattle.sheets.specs.Tables.{last-of}
+use Rattle.sheets.proofs.Spread.{Spread, spread-none, spread-more, spread-all}
 use Rattle.sheets.proofs.tables.last_sets.Statement.{statement}
 use Rattle.sheets.proofs.tables.last_sets.Tie as tie
 
 abbrev Inv-loop : tie.InvT-loop
-Inv-loop s sets₀ r f₀ sets f = Filled last-mask s r sets f
+Inv-loop tables sets₀ f₀ sets f = Spread last-of tables sets f
 
 abbrev μ-loop : tie.MeasureT-loop
-μ-loop s sets₀ r f₀ sets f = fields - f
-
-read-records-requires : tie.Need-read-records-requires Inv-loop μ-loop
-read-records-requires c κs = search needs
-
-enum-told : tie.Need-enum-told Inv-loop μ-loop
-enum-told c = search needs
-
-enum-told-2 : tie.Need-enum-told-2 Inv-loop μ-loop
-enum-told-2 c = search needs
-
-returns : tie.Need-returns Inv-loop μ-loop
-returns c = sym (ap last-sets (found-so _ _ (c .enum-told2 .given .1) (c .before .before .read-records .ensures)))
+μ-loop tables sets₀ f₀ sets f = fields - f
 
 loop-holds : tie.Need-loop-holds Inv-loop μ-loop
-loop-holds c = filled-none (found-so _ _ (c .enum-told .given .1) (c .before .before .read-records .ensures)) refl
+loop-holds c =
+    let all : length (c .args .t1) ≡ fields = search needs in
+    spread-none last-of (c .args .t1) all _ refl
 
-mul-start : tie.Need-mul-start Inv-loop μ-loop
-mul-start c = search needs
+mul-tables : tie.Need-mul-tables Inv-loop μ-loop
+mul-tables c = search needs
 
-element-copy-out-start : tie.Need-element-copy-out-start Inv-loop μ-loop
-element-copy-out-start c = search needs
-
-mul-len : tie.Need-mul-len Inv-loop μ-loop
-mul-len c = search needs
-
-element-copy-out-len : tie.Need-element-copy-out-len Inv-loop μ-loop
-element-copy-out-len c = search needs
-
-field-last-set-requires : tie.Need-field-last-set-requires Inv-loop μ-loop
-field-last-set-requires c κs =
-    let loop = c .before .before .before in
-    loop .loop .inv .parts .fields-stand .within (loop .loop .f) (omega arith)
+array-copy-out-tables : tie.Need-array-copy-out-tables Inv-loop μ-loop
+array-copy-out-tables c = search needs
 
 mul-sets : tie.Need-mul-sets Inv-loop μ-loop
 mul-sets c = search needs
@@ -64,10 +42,13 @@ loop-less c = search needs
 
 loop-again : tie.Need-loop-again Inv-loop μ-loop
 loop-again c =
-    filled-more (c .before .before .before .before .loop .inv) (c .field-last-set .result) (omega arith) (c .field-last-set .ensures)
+    let l = c .before .before .loop in
+    spread-more last-of (c .before .before .before .args .t1) (l .sets) (l .f) (l .inv) (omega arith)
 
-returns-2 : tie.Need-returns-2 Inv-loop μ-loop
-returns-2 c = filled-all (c .before .loop .inv) 0 (omega arith)
+returns : tie.Need-returns Inv-loop μ-loop
+returns c =
+    let l = c .before .loop in
+    spread-all last-of (c .before .before .args .t1) (l .sets) (l .f) (l .inv) (omega arith)
 
 pub last-sets-spec : {M : Type 1} → statement M
 last-sets-spec =
@@ -75,19 +56,12 @@ last-sets-spec =
     (tie.spec
     Inv-loop
     μ-loop
-    read-records-requires
-    enum-told
-    enum-told-2
-    returns
     loop-holds
-    mul-start
-    element-copy-out-start
-    mul-len
-    element-copy-out-len
-    field-last-set-requires
+    mul-tables
+    array-copy-out-tables
     mul-sets
     array-write-sets
     add-f
     loop-less
     loop-again
-    returns-2)
+    returns)

@@ -1,51 +1,28 @@
--- `Reading::leaf` meets its contract: the one leaf is first and last, nothing follows it, and it takes the characters from lo to hi.
+-- `Reading::leaf` meets its contract: the one leaf is first and last, and it takes the characters from lo to hi.
 use borrow.Author.Needs.{needs}
-use mathlib.Core.Path.{refl, sym, ap, _∙_}
-use lib.ListN.{length}
+use mathlib.Core.Path.{refl, sym}
 use Rattle.paper.specs.Numbers.{characters}
-use Rattle.patterns.specs.Masks.{places, table}
-use Rattle.patterns.specs.Reading.{mark-at, nothing}
-use Rattle.patterns.specs.declared.reader.Reading.{Reading}
-use Rattle.patterns.proofs.Tables.{masks-none, masks-marked}
+use Rattle.patterns.proofs.Joining.{joins-marked}
 use Rattle.patterns.proofs.reader.Reading.leaf.Statement.{statement}
 use Rattle.patterns.proofs.reader.Reading.leaf.Tie as tie
-
-none-requires : tie.Need-none-requires
-none-requires c κs = search needs
 
 place-requires : tie.Need-place-requires
 place-requires c κs = search needs
 
-slice-aggregate-mark : tie.Need-slice-aggregate-mark
-slice-aggregate-mark c = search needs
-
 mark-requires : tie.Need-mark-requires
 mark-requires c κs = search needs
 
-add-r : tie.Need-add-r
-add-r c = search needs
+add-t9 : tie.Need-add-t9
+add-t9 c = search needs
 
 returns : tie.Need-returns
-unfolding nothing
-returns c rest e =
-    let n = c .before .before .before .before .before .none .ensures in
-    let a = c .before .before .before .before .before .before .args in
-    let set = c .before .before .before .before .place in
+returns c =
+    let set = c .before .before .place in
+    let a = c .before .before .before .args in
     record {
-      ok = refl;
-      left = sym e;
-      next = refl;
-      empty = ap (λ (r : Reading). r .empty) n;
-      first = set .ensures;
-      last = set .ensures;
-      follow = ap (λ (r : Reading). r .follow) n ∙ masks-none places;
-      taking =
-          c .before .mark .ensures
-          ∙ ap (λ (r : Reading). table (mark-at (a .lo) (a .hi) (set .result)) (length (r .taking))) n
-          ∙ masks-marked (a .o) (a .lo) (a .hi) (set .result) characters (set .ensures);
+      reads = λ rest e. record { ok = refl; left = sym e; next = refl; empty = refl; first = set .ensures; last = set .ensures };
+      takes = joins-marked (a .o) (a .lo) (a .hi) (set .result) characters (a .taking .now) _ (set .ensures) (c .mark .ensures);
     }
 
 pub leaf-spec : {M : Type 1} → statement M
-leaf-spec =
-    tie.close
-    (tie.spec none-requires place-requires slice-aggregate-mark mark-requires add-r returns)
+leaf-spec = tie.close (tie.spec place-requires mark-requires add-t9 returns)

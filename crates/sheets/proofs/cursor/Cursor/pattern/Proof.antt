@@ -8,13 +8,13 @@ use mathlib.Core.Path.{_≡_, sym, _∙_}
 use denote.Ref.{now}
 use borrow.Author.Needs.{needs}
 use borrow.Author.Tests.{lt-ltb, le-ltb}
-use lib.Dec.{leb, ltb, eqb}
-use Rattle.paper.specs.Numbers.{fields, pattern-bytes}
+use lib.Dec.{leb, ltb}
+use Rattle.paper.specs.Numbers.{fields}
 use Rattle.paper.specs.Pattern.{Pattern}
 use Rattle.paper.specs.Written.{Judged, judge, judged}
 use Rattle.paper.specs.Sheet.{read, body, byte-at, pattern-judged, pattern-record}
-use Rattle.paper.proofs.Tests.{or-left-false, leb-false, eqb-false}
-use Rattle.patterns.specs.Masks.{verdict}
+use Rattle.paper.proofs.base.Tests.{or-left-false, leb-false}
+use Rattle.patterns.specs.Worked.{worked-of}
 use Rattle.sheets.proofs.Verdicts.{told-not-one, told-too-many, told-good}
 use Rattle.sheets.proofs.cursor.Cursor.pattern.Statement.{statement}
 use Rattle.sheets.proofs.cursor.Cursor.pattern.Tie as tie
@@ -22,9 +22,27 @@ use Rattle.sheets.proofs.cursor.Cursor.pattern.Tie as tie
 sub-left : tie.Need-sub-left
 sub-left c = search needs
 
+refuse-requires : tie.Need-refuse-requires
+refuse-requires c κs = search needs
+
+refuse-requires-2 : tie.Need-refuse-requires-2
+refuse-requires-2 c κs = search needs
+
+refuse-requires-3 : tie.Need-refuse-requires-3
+refuse-requires-3 c κs = search needs
+
+refuse-requires-4 : tie.Need-refuse-requires-4
+refuse-requires-4 c κs = search needs
+
+refuse-requires-5 : tie.Need-refuse-requires-5
+refuse-requires-5 c κs = search needs
+
+refuse-requires-6 : tie.Need-refuse-requires-6
+refuse-requires-6 c κs = search needs
+
 returns : tie.Need-returns
 unfolding pattern-record
-returns c = simp (lt-ltb _ _ (c .if1 .taken))
+returns c = rw (c .refuse .ensures) (simp (lt-ltb _ _ (c .before .if1 .taken)))
 
 add-field : tie.Need-add-field
 add-field c = search needs
@@ -40,7 +58,10 @@ wrong-field-requires c κs = search needs
 
 returns-2 : tie.Need-returns-2
 unfolding pattern-record
-returns-2 c = simp (le-ltb _ _ (c .before .before .before .if1 .left), ← c .before .wrong-field .ensures, c .if2 .taken)
+returns-2 c =
+    let field = c .before in
+    rw (c .refuse2 .ensures)
+    (simp (le-ltb _ _ (field .before .before .before .if1 .left), ← field .before .wrong-field .ensures, field .if2 .taken))
 
 add-len : tie.Need-add-len
 add-len c = search needs
@@ -57,14 +78,16 @@ wrong-length-requires c κs = search needs
 returns-3 : tie.Need-returns-3
 unfolding pattern-record
 returns-3 c =
-    let field = c .before .before .before in
-    simp (
+    let length = c .before in
+    let field = length .before .before .before in
+    rw (c .refuse3 .ensures)
+    (simp (
       le-ltb _ _ (field .before .before .before .if1 .left),
       ← field .before .wrong-field .ensures,
       field .if2 .left,
-      ← c .before .wrong-length .ensures,
-      c .if3 .taken,
-    )
+      ← length .before .wrong-length .ensures,
+      length .if3 .taken,
+    ))
 
 add-if4 : tie.Need-add-if4
 add-if4 c =
@@ -74,16 +97,17 @@ add-if4 c =
 returns-4 : tie.Need-returns-4
 unfolding pattern-record
 returns-4 c =
-    let length = c .before in
+    let length = c .before .before in
     let field = length .before .before .before in
-    simp (
+    rw (c .refuse4 .ensures)
+    (simp (
       le-ltb _ _ (field .before .before .before .if1 .left),
       ← field .before .wrong-field .ensures,
       field .if2 .left,
       ← length .before .wrong-length .ensures,
       length .if3 .left,
-      lt-ltb _ _ (c .if4 .taken),
-    )
+      lt-ltb _ _ (c .before .if4 .taken),
+    ))
 
 add-start : tie.Need-add-start
 add-start c = search needs
@@ -91,17 +115,17 @@ add-start c = search needs
 add-end : tie.Need-add-end
 add-end c = search needs
 
-sub-judge : tie.Need-sub-judge
-sub-judge c = search needs
+sub-tables : tie.Need-sub-tables
+sub-tables c = search needs
 
-part-judge-start : tie.Need-part-judge-start
-part-judge-start c = search needs
+part-tables-start : tie.Need-part-tables-start
+part-tables-start c = search needs
 
-part-judge-end : tie.Need-part-judge-end
-part-judge-end c = search needs
+part-tables-end : tie.Need-part-tables-end
+part-tables-end c = search needs
 
-judge-requires : tie.Need-judge-requires
-judge-requires c κs = search needs
+tables-requires : tie.Need-tables-requires
+tables-requires c κs = search needs
 
 enum-told : tie.Need-enum-told
 enum-told c = search needs
@@ -112,7 +136,7 @@ enum-told-2 c = search needs
 enum-told-3 : tie.Need-enum-told-3
 enum-told-3 c = search needs
 
--- the bounds that the tests on the field and on the length give
+-- the bound that the test on the field gives
 field-known : (c : tie.Else2) →
     let a = c .before .before .before .before .before .args in byte-at (now (a .s)) (a .self .at + 2) < fields
 field-known c =
@@ -121,16 +145,8 @@ field-known c =
     leb-false fields f
     (or-left-false (leb fields f) (ltb f (a .self .least)) (sym (c .before .wrong-field .ensures) ∙ c .if2 .left))
 
-length-some : (c : tie.Else3) →
-    let a = c .before .before .before .before .before .before .before .before .args in 0 < byte-at (now (a .s)) (a .self .at + 3)
-length-some c =
-    let a = c .before .before .before .before .before .before .before .before .args in
-    let n = byte-at (now (a .s)) (a .self .at + 3) in
-    let h = eqb-false n 0 (or-left-false (eqb n 0) (ltb pattern-bytes n) (sym (c .before .wrong-length .ensures) ∙ c .if3 .left)) in
-    omega arith
-
-add-t27 : tie.Need-add-t27
-add-t27 c = omega (arith, field-known (c .before .before .before .before .before .before .before .before))
+add-t30 : tie.Need-add-t30
+add-t30 c = omega (arith, field-known (c .before .before .before .before .before .before .before .before .before))
 
 -- what the body is judged
 abbrev judgement : tie.Else4 → Judged
@@ -157,24 +173,26 @@ past-length c =
     )
 
 -- the body is what was lent to the pattern reader
-told : (c : tie.After-judge) → verdict (judgement (c .before .before)) ≡ c .judge .result
-told c =
+worked : (c : tie.After-tables) → c .tables .result ≡ worked-of (judgement (c .before .before))
+worked c =
     let a = c .before .before .before .before .before .before .before .before .before .before .before .args in
     let n = byte-at (now (a .s)) (a .self .at + 3) in
     let e : (a .self .at + 4 + n) - (a .self .at + 4) ≡ n = omega arith in
-    sym (rw e at (c .judge .ensures))
+    rw e at (c .tables .ensures)
 
 returns-5 : tie.Need-returns-5
 returns-5 c =
-    let at-judged = c .before .before in
+    let told = c .before in
+    let w = told .before .before in
     rw
-    (past-length (at-judged .before .before), told-not-one (judgement (at-judged .before .before)) (told at-judged ∙ c .enum-told .given .1))
+    (c .refuse5 .ensures, past-length (w .before .before), told-not-one (w .tables .result) (judgement (w .before .before)) (worked w) (told .enum-told .given .1))
 
 returns-6 : tie.Need-returns-6
 returns-6 c =
-    let at-judged = c .before .before in
+    let told = c .before in
+    let w = told .before .before in
     rw
-    (past-length (at-judged .before .before), told-too-many (judgement (at-judged .before .before)) (told at-judged ∙ c .enum-told2 .given .1))
+    (c .refuse6 .ensures, past-length (w .before .before), told-too-many (w .tables .result) (judgement (w .before .before)) (worked w) (told .enum-told2 .given .1))
 
 -- a good pattern is read, and reading goes on behind it
 reads-good : (c : tie.Else4) (p : Pattern) → judgement c ≡ judged p →
@@ -185,16 +203,15 @@ reads-good c p e = rw (past-length c, e) (simp (← add-assoc))
 
 returns-7 : tie.Need-returns-7
 returns-7 c =
-    let at-judged = c .before .before in
-    let at-body = at-judged .before .before in
-    let good = told-good (judgement at-body) (told at-judged ∙ c .enum-told3 .given .1) in
+    let told = c .before in
+    let w = told .before .before in
+    let at-body = w .before .before in
+    let good = told-good (w .tables .result) (judgement at-body) (worked w) (told .enum-told3 .given .1) in
     record {
       its = good .0;
-      reads = reads-good at-body (good .0) (good .1);
-      is-judged = good .1;
-      some = length-some (at-body .before);
+      reads = reads-good at-body (good .0) (good .1 .0);
+      works = good .1 .1;
       known = field-known (at-body .before .before .before .before);
-      within = omega (arith, at-body);
       rises = simp add-one;
       moves = omega arith;
       goes-on = omega (arith, at-body);
@@ -205,29 +222,35 @@ pattern-spec =
     tie.close
     (tie.spec
     sub-left
+    refuse-requires
     returns
     add-field
     shared-slice-read-field
     cast-field
     wrong-field-requires
+    refuse-requires-2
     returns-2
     add-len
     shared-slice-read-len
     cast-len
     wrong-length-requires
+    refuse-requires-3
     returns-3
     add-if4
+    refuse-requires-4
     returns-4
     add-start
     add-end
-    sub-judge
-    part-judge-start
-    part-judge-end
-    judge-requires
+    sub-tables
+    part-tables-start
+    part-tables-end
+    tables-requires
     enum-told
+    refuse-requires-5
     enum-told-2
+    refuse-requires-6
     enum-told-3
-    add-t27
+    add-t30
     returns-5
     returns-6
     returns-7)

@@ -1,4 +1,0 @@
-pub mod Chained
-pub mod Hashed
-pub mod Newest
-pub mod Written

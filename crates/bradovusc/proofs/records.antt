@@ -1,5 +1,0 @@
-pub mod Answers
-pub mod Fronts
-pub mod Records
-pub mod Standing
-pub mod Text

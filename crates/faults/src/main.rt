@@ -1,0 +1,15 @@
+// Sheets at each fault and at the ends of what is allowed, from a stream of cases on standard input. Each is lent 65,520 bytes of work and
+// 4,096 of answer. The second program's `--many` prints the same.
+//
+//   1 to  28  11: a record that ends behind each of its bytes, the first record and a later one
+//  29 to  44  12: an unknown mark, a mark that is not allowed there, bytes behind `RI`
+//  45 to  53  13: a field above 7, a field that does not rise, and either with a further fault behind it
+//  54 to  62  14: a pattern of 0, 97 and 255 bytes, a side of 25 and 255 tokens
+//  63 to  80  15: a byte that is no code, an operator without its parts, lo above hi, hi 43, a byte left over
+//  81 to  85  16: 32 and 48 leaves, in the first pattern and in a later one, of a field that stands and of one that does not
+//  86 to  94  17: 43, 63, 72 and 255 in either side
+//  95 to 104  good sheets: both sides empty, 24 tokens a side, a pattern for each field, one of 31 leaves, one of 96 bytes, 95 deep
+// 105 to 166  x with a pattern and y open: each operator under the others, ranges, 31 leaves, and patterns with a fault
+fn main() {
+    stream::answer_all(stream::Shown::Bytes);
+}

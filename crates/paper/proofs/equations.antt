@@ -1,0 +1,16 @@
+pub mod Same
+pub mod Trimming
+pub mod Standing
+pub mod Labels
+pub mod Weight
+pub mod Solution
+pub mod Steps
+pub mod Children
+pub mod Moves
+pub mod Question
+pub mod Progress
+pub mod Spelled
+pub mod Answered
+pub mod Sound
+pub mod Complete
+pub mod TokenTotal

@@ -1,0 +1,49 @@
+-- Labels under a change of the texts at one field, and under trimming. Each law of a put speaks of two assignments of texts, one
+-- with the character c in front of the text of f and one without, and so serves both ways.
+-- Follows from the definitions by induction on the sides.
+use Prim.Native.Nat.{ℕ}
+use mathlib.Core.Path.{_≡_, refl, sym}
+use mathlib.Core.Bool.{Bool, true, false}
+use mathlib.Core.List.{[], _∷_, _++_, append-assoc, tail-eq-of-cons-eq}
+use lib.Dec.{eqb}
+use Rattle.paper.specs.Lists.{only}
+use Rattle.paper.proofs.base.Tests.{by-bool, eqb-true}
+use Rattle.paper.proofs.base.Lists.{cons-eq}
+use Rattle.paper.specs.Equation.{chr, fld, Side, Texts, label}
+use Rattle.paper.specs.Situation.{strike-in, put-in}
+use Rattle.paper.proofs.equations.Trimming.{Trimming, stop, drop}
+
+-- the texts `before` are the texts `after` with c in front of the text of f
+abbrev pub Put : ℕ → ℕ → Texts → Texts → Type 0
+Put c f before after = (g : ℕ) → before g ≡ only (eqb f g) c ++ after g
+
+-- a strike keeps the label if the field's text is empty
+pub label-strike : (texts : Texts) (f : ℕ) (side : Side) → texts f ≡ [] → label texts (strike-in f side) ≡ label texts side
+label-strike texts f [] n = refl
+label-strike texts f (chr a ∷ side) n = cons-eq refl (label-strike texts f side n)
+label-strike texts f (fld h ∷ side) n =
+    by-bool (eqb f h)
+    (λ e. rw (e, ← (eqb-true f h e), n) (label-strike texts f side n))
+    (λ e. rw (e, label-strike texts f side n))
+
+-- the label of a character alone, or of nothing
+label-character : (texts : Texts) (c : ℕ) (b : Bool) (side : Side) → label texts (only b (chr c) ++ side) ≡ only b c ++ label texts side
+label-character texts c true side = refl
+label-character texts c false side = refl
+
+-- a put keeps the label if it takes the character from the field's text
+pub label-put : (before after : Texts) (c f : ℕ) (side : Side) → Put c f before after → label after (put-in c f side) ≡ label before side
+label-put before after c f [] p = refl
+label-put before after c f (chr a ∷ side) p = cons-eq refl (label-put before after c f side p)
+label-put before after c f (fld h ∷ side) p =
+    rw (label-character after c (eqb f h) (fld h ∷ put-in c f side), label-put before after c f side p, p h)
+    (sym (append-assoc (only (eqb f h) c) (after h) (label before side)))
+
+-- trimming keeps whether the labels are the same, both ways
+pub trim-label : (texts : Texts) {l r l′ r′ : Side} → Trimming l r l′ r′ → label texts l ≡ label texts r → label texts l′ ≡ label texts r′
+trim-label texts stop e = e
+trim-label texts (drop q t) e = trim-label texts t (tail-eq-of-cons-eq e)
+
+pub label-trim : (texts : Texts) {l r l′ r′ : Side} → Trimming l r l′ r′ → label texts l′ ≡ label texts r′ → label texts l ≡ label texts r
+label-trim texts stop e = e
+label-trim texts (drop q t) e = cons-eq q (label-trim texts t e)

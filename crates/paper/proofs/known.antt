@@ -1,0 +1,4 @@
+pub mod Known
+pub mod KnownLengths
+pub mod KnownBounds
+pub mod KnownPrinted

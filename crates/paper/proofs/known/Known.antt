@@ -1,0 +1,330 @@
+-- Known sheets through the whole-outcome definition: those marked * in document 01, and one for each way to go wrong by one. One proof over
+-- one list; the checker computes it. Each row fixes the whole outcome: number, count, place, bytes written, both buffers afterwards.
+--
+-- The buffers are lent full of other bytes. Where 01 says nothing else it lends 455 situations; a row here lends a few more than are entered,
+-- since a larger room gives the same (`Searched.larger-room`), and most working buffers have bytes behind the last whole situation.
+use Prim.Native.Nat.{ℕ}
+use mathlib.Core.Path.{_≡_, refl}
+use mathlib.Core.Bool.{Bool, true, false, cond}
+use mathlib.Core.List.{List, [], _∷_, _++_, map}
+use lib.ListN.{length, drop, replicate}
+use Rattle.paper.specs.Places.{set-after, may-end}
+use Rattle.paper.specs.Written.{judge}
+use Rattle.paper.specs.Search.{enter, offer, take-next, search}
+use Rattle.paper.specs.Situation.{trimmed, strike, put-before, open-moves, child-by, children, question}
+use Rattle.paper.specs.Way.{search-from, texts-of}
+use Rattle.paper.specs.Question.{acceptor}
+use Rattle.paper.specs.Sheet.{marked, pattern-record, side-record, read-end, read-right, read-sheet}
+use Rattle.paper.specs.Outcome.{Outcome, outcome, room-of, searched, standing, value-record, records, some-text-too-long, clash, count-of, how-of}
+
+-- a sheet, the bytes lent, and what must come: the answer bytes, and whether the working buffer is all zero afterwards or unchanged
+pub record Known : Type 0 where
+  pub sheet : List ℕ
+  pub work-bytes : ℕ
+  pub answer-bytes : ℕ
+  pub number : ℕ
+  pub count : ℕ
+  pub place : ℕ
+  pub bytes : List ℕ
+  pub all-zero : Bool
+
+-- an answer of the search: sheet, working bytes, answer bytes, number, count, answer
+abbrev answer-row : List ℕ → ℕ → ℕ → ℕ → ℕ → List ℕ → Known
+answer-row s w a n c b =
+    record { sheet = s; work-bytes = w; answer-bytes = a; number = n; count = c; place = 0; bytes = b; all-zero = true }
+
+-- a sheet at fault: number, place
+abbrev fault-row : List ℕ → ℕ → ℕ → Known
+fault-row s n p =
+    record { sheet = s; work-bytes = 150; answer-bytes = 8; number = n; count = 0; place = p; bytes = []; all-zero = false }
+
+abbrev work-before : Known → List ℕ
+work-before k = replicate (k .work-bytes) 90
+
+abbrev answer-before : Known → List ℕ
+answer-before k = replicate (k .answer-bytes) 165
+
+abbrev got : Known → Outcome
+got k = outcome (k .sheet) (work-before k) (answer-before k)
+
+abbrev wanted : Known → Outcome
+wanted k =
+    record {
+      number = k .number;
+      count = k .count;
+      place = k .place;
+      written = length (k .bytes);
+      answer = k .bytes ++ drop (length (k .bytes)) (answer-before k);
+      work = cond (k .all-zero) (replicate (k .work-bytes) 0) (work-before k);
+    }
+
+-- the records of a sheet and of an answer
+abbrev pub PA : ℕ → List ℕ → List ℕ
+PA f p = 80 ∷ 65 ∷ f ∷ length p ∷ p
+
+abbrev pub LE : List ℕ → List ℕ
+LE side = 76 ∷ 69 ∷ length side ∷ side
+
+abbrev pub RI : List ℕ → List ℕ
+RI side = 82 ∷ 73 ∷ length side ∷ side
+
+abbrev VA : ℕ → List ℕ → List ℕ
+VA f text = 86 ∷ 65 ∷ f ∷ length text ∷ 0 ∷ text
+
+-- field 0, field 1, two characters
+abbrev x : ℕ
+x = 64
+
+abbrev y : ℕ
+y = 65
+
+abbrev A : ℕ
+A = 10
+
+abbrev B : ℕ
+B = 11
+
+-- x any digits, y the digit 4, x and y the sides
+abbrev pub sheet-S : List ℕ
+sheet-S =
+    80 ∷ 65 ∷ 0 ∷ 4 ∷ 68 ∷ 65 ∷ 0 ∷ 9 ∷ 80 ∷ 65 ∷ 1 ∷ 1 ∷ 4 ∷ 76 ∷ 69 ∷ 1 ∷ 64 ∷ 82 ∷ 73 ∷ 1 ∷ 65 ∷ []
+
+abbrev answer-S : List ℕ
+answer-S = 86 ∷ 65 ∷ 0 ∷ 1 ∷ 0 ∷ 4 ∷ 86 ∷ 65 ∷ 1 ∷ 1 ∷ 0 ∷ 4 ∷ []
+
+-- those of 01's table but one, which needs all its 455 situations
+abbrev known-in-01 : List Known
+known-in-01 =
+    -- both sides empty
+    answer-row (LE [] ++ RI []) 300 20 0 1 [] ∷
+    -- `A` and `B`
+    answer-row (LE (A ∷ []) ++ RI (B ∷ [])) 300 20 1 1 [] ∷
+    -- x and `A`, open
+    answer-row (LE (x ∷ []) ++ RI (A ∷ [])) 600 20 0 3 (VA 0 (A ∷ [])) ∷
+    -- xA and Bx, open
+    answer-row (LE (x ∷ A ∷ []) ++ RI (B ∷ x ∷ [])) 300 20 1 1 [] ∷
+    -- the same, x with pattern 68 65 0 42
+    answer-row (PA 0 (68 ∷ 65 ∷ 0 ∷ 42 ∷ []) ++ LE (x ∷ A ∷ []) ++ RI (B ∷ x ∷ [])) 600 20 1 2 [] ∷
+    -- xx and `AA`, open
+    answer-row (LE (x ∷ x ∷ []) ++ RI (A ∷ A ∷ [])) 600 20 0 3 (VA 0 (A ∷ [])) ∷
+    -- xx and `A`, open
+    answer-row (LE (x ∷ x ∷ []) ++ RI (A ∷ [])) 600 20 1 2 [] ∷
+    -- `AB`x`B` and x`B`y, open
+    answer-row (LE (A ∷ B ∷ x ∷ B ∷ []) ++ RI (x ∷ B ∷ y ∷ [])) 1000 20 0 6 (VA 0 (A ∷ []) ++ VA 1 (A ∷ B ∷ [])) ∷
+    -- 24 times x and `AA`, open, room 2
+    answer-row (LE (replicate 24 x) ++ RI (A ∷ A ∷ [])) 288 20 19 2 [] ∷
+    -- xA and Bx, open, no room
+    answer-row (LE (x ∷ A ∷ []) ++ RI (B ∷ x ∷ [])) 0 20 18 0 [] ∷
+    -- sheet S
+    answer-row sheet-S 1000 20 0 6 answer-S ∷
+    -- sheet S, an answer buffer of 11 bytes
+    answer-row sheet-S 1000 11 20 6 [] ∷
+    -- sheet S, room 5
+    answer-row sheet-S 720 20 18 5 [] ∷
+    -- empty sheet
+    fault-row [] 11 0 ∷
+    -- both sides empty and one more byte
+    fault-row (LE [] ++ RI [] ++ 0 ∷ []) 12 6 ∷
+    []
+
+-- "Room is one situation for each whole 144 bytes"; what the buffers hold
+abbrev known-rooms : List Known
+known-rooms =
+    -- sheet S in six situations, to the byte
+    answer-row sheet-S 864 20 0 6 answer-S ∷
+    -- sheet S, a byte less
+    answer-row sheet-S 863 20 18 5 [] ∷
+    -- both sides empty in one situation, to the byte
+    answer-row (LE [] ++ RI []) 144 20 0 1 [] ∷
+    -- both sides empty, a byte less
+    answer-row (LE [] ++ RI []) 143 20 18 0 [] ∷
+    -- `A` and `B` in one situation, to the byte: it is taken, and none waits
+    answer-row (LE (A ∷ []) ++ RI (B ∷ [])) 144 20 1 1 [] ∷
+    -- xA and Bx, x with pattern 68 65 0 42, in two situations, to the byte: the child of the second is entered already
+    answer-row (PA 0 (68 ∷ 65 ∷ 0 ∷ 42 ∷ []) ++ LE (x ∷ A ∷ []) ++ RI (B ∷ x ∷ [])) 288 20 1 2 [] ∷
+    -- both sides empty, no answer buffer
+    answer-row (LE [] ++ RI []) 150 0 0 1 [] ∷
+    -- sheet S, an answer buffer of 12 bytes
+    answer-row sheet-S 1000 12 0 6 answer-S ∷
+    -- sheet S, an answer buffer of 13 bytes
+    answer-row sheet-S 1000 13 0 6 answer-S ∷
+    -- 24 times x and `AA`, open, two situations and a rest
+    answer-row (LE (replicate 24 x) ++ RI (A ∷ A ∷ [])) 300 20 19 2 [] ∷
+    []
+
+-- the order of the search and its limit of 48 tokens
+abbrev known-searches : List Known
+known-searches =
+    -- `B` and xy, open: what was entered first is taken first
+    answer-row (LE (B ∷ []) ++ RI (x ∷ y ∷ [])) 1000 20 0 5 (VA 0 [] ++ VA 1 (B ∷ [])) ∷
+    -- x`AAA` and y`AA`, open: the left front is struck first
+    answer-row (LE (x ∷ A ∷ A ∷ A ∷ []) ++ RI (y ∷ A ∷ A ∷ [])) 1000 20 0 6 (VA 0 [] ++ VA 1 (A ∷ [])) ∷
+    -- x one digit, x and y: the lowest character is put first
+    answer-row (PA 0 (65 ∷ 0 ∷ 9 ∷ []) ++ LE (x ∷ []) ++ RI (y ∷ [])) 1200 20 0 6 (VA 0 (0 ∷ []) ++ VA 1 (0 ∷ [])) ∷
+    -- x and x, open, then with the pattern `A`: equal fields in front are not dropped, and c is put once
+    answer-row (LE (x ∷ []) ++ RI (x ∷ [])) 600 20 0 2 (VA 0 []) ∷
+    answer-row (PA 0 (A ∷ []) ++ LE (x ∷ []) ++ RI (x ∷ [])) 600 20 0 3 (VA 0 (A ∷ [])) ∷
+    -- x any number of `A`, x and xy`B`: the set of a field that is gone is not kept
+    answer-row (PA 0 (68 ∷ A ∷ []) ++ LE (x ∷ []) ++ RI (x ∷ y ∷ B ∷ [])) 1000 20 1 3 [] ∷
+    -- 16 times x, `BB` and `AA`, open: a left side of 48 tokens
+    answer-row (LE (replicate 16 x ++ B ∷ B ∷ []) ++ RI (A ∷ A ∷ [])) 600 20 1 3 [] ∷
+    -- 16 times x, `BBB` and `AA`, open: a left side of 49 tokens
+    answer-row (LE (replicate 16 x ++ B ∷ B ∷ B ∷ []) ++ RI (A ∷ A ∷ [])) 600 20 19 2 [] ∷
+    -- 16 times x, `BB` and `AAA`, open: a left side of 48 tokens and a right side of one
+    answer-row (LE (replicate 16 x ++ B ∷ B ∷ []) ++ RI (A ∷ A ∷ A ∷ [])) 600 20 19 3 [] ∷
+    -- `AA` and 16 times x, `BB`, open: a right side of 48 tokens
+    answer-row (LE (A ∷ A ∷ []) ++ RI (replicate 16 x ++ B ∷ B ∷ [])) 600 20 1 3 [] ∷
+    -- `AA` and 16 times x, `BBB`, open: a right side of 49 tokens
+    answer-row (LE (A ∷ A ∷ []) ++ RI (replicate 16 x ++ B ∷ B ∷ B ∷ [])) 600 20 19 2 [] ∷
+    []
+
+-- x with a pattern on the left, a side on the right
+abbrev against : List ℕ → List ℕ → List ℕ
+against p side = PA 0 p ++ LE (x ∷ []) ++ RI side
+
+-- a pattern of a field that stands in neither side: only judged
+abbrev judged-only : List ℕ → List ℕ
+judged-only p = PA 0 p ++ LE [] ++ RI []
+
+-- n + 1 leaves, the operator n times in front
+abbrev leaves-by : ℕ → ℕ → List ℕ
+leaves-by operator n = replicate n operator ++ 0 ∷ replicate n 0
+
+-- "A pattern is written operator first"; 15, then 16
+abbrev known-patterns : List Known
+known-patterns =
+    -- the empty text, against no character and against one
+    answer-row (against (64 ∷ []) []) 600 20 0 2 (VA 0 []) ∷
+    answer-row (against (64 ∷ []) (A ∷ [])) 600 20 1 1 [] ∷
+    -- character 42
+    answer-row (against (42 ∷ []) (42 ∷ [])) 600 20 0 3 (VA 0 (42 ∷ [])) ∷
+    -- a range from 5 to 7, against 4, 5, 7 and 8
+    answer-row (against (65 ∷ 5 ∷ 7 ∷ []) (4 ∷ [])) 600 20 1 1 [] ∷
+    answer-row (against (65 ∷ 5 ∷ 7 ∷ []) (5 ∷ [])) 600 20 0 3 (VA 0 (5 ∷ [])) ∷
+    answer-row (against (65 ∷ 5 ∷ 7 ∷ []) (7 ∷ [])) 600 20 0 3 (VA 0 (7 ∷ [])) ∷
+    answer-row (against (65 ∷ 5 ∷ 7 ∷ []) (8 ∷ [])) 600 20 1 1 [] ∷
+    -- a range of one character
+    answer-row (against (65 ∷ 5 ∷ 5 ∷ []) (5 ∷ [])) 600 20 0 3 (VA 0 (5 ∷ [])) ∷
+    -- `A` then `B`
+    answer-row (against (66 ∷ A ∷ B ∷ []) (A ∷ B ∷ [])) 600 20 0 4 (VA 0 (A ∷ B ∷ [])) ∷
+    answer-row (against (66 ∷ A ∷ B ∷ []) (B ∷ A ∷ [])) 600 20 1 1 [] ∷
+    answer-row (against (66 ∷ A ∷ B ∷ []) (A ∷ [])) 600 20 1 2 [] ∷
+    -- `A` or `B`
+    answer-row (against (67 ∷ A ∷ B ∷ []) (A ∷ [])) 600 20 0 3 (VA 0 (A ∷ [])) ∷
+    answer-row (against (67 ∷ A ∷ B ∷ []) (B ∷ [])) 600 20 0 3 (VA 0 (B ∷ [])) ∷
+    answer-row (against (67 ∷ A ∷ B ∷ []) (A ∷ B ∷ [])) 600 20 1 2 [] ∷
+    -- `A` any number of times
+    answer-row (against (68 ∷ A ∷ []) []) 600 20 0 2 (VA 0 []) ∷
+    answer-row (against (68 ∷ A ∷ []) (A ∷ A ∷ [])) 600 20 0 4 (VA 0 (A ∷ A ∷ [])) ∷
+    -- what may be empty: both of two, the first, the second, one of two
+    answer-row (against (66 ∷ 68 ∷ A ∷ 68 ∷ B ∷ []) []) 600 20 0 2 (VA 0 []) ∷
+    answer-row (against (66 ∷ 68 ∷ A ∷ B ∷ []) []) 600 20 1 1 [] ∷
+    answer-row (against (66 ∷ 68 ∷ A ∷ B ∷ []) (B ∷ [])) 600 20 0 3 (VA 0 (B ∷ [])) ∷
+    answer-row (against (66 ∷ A ∷ 68 ∷ B ∷ []) []) 600 20 1 1 [] ∷
+    answer-row (against (66 ∷ A ∷ 68 ∷ B ∷ []) (A ∷ [])) 600 20 0 3 (VA 0 (A ∷ [])) ∷
+    answer-row (against (67 ∷ A ∷ 64 ∷ []) []) 600 20 0 2 (VA 0 []) ∷
+    -- bytes that are no code
+    fault-row (judged-only (43 ∷ [])) 15 0 ∷
+    fault-row (judged-only (63 ∷ [])) 15 0 ∷
+    fault-row (judged-only (69 ∷ [])) 15 0 ∷
+    fault-row (judged-only (255 ∷ [])) 15 0 ∷
+    -- a range without its bytes, with lo above hi, with hi above 42
+    fault-row (judged-only (65 ∷ [])) 15 0 ∷
+    fault-row (judged-only (65 ∷ 1 ∷ [])) 15 0 ∷
+    fault-row (judged-only (65 ∷ 2 ∷ 1 ∷ [])) 15 0 ∷
+    fault-row (judged-only (65 ∷ 0 ∷ 43 ∷ [])) 15 0 ∷
+    -- an operator without its patterns
+    fault-row (judged-only (66 ∷ [])) 15 0 ∷
+    fault-row (judged-only (66 ∷ A ∷ [])) 15 0 ∷
+    fault-row (judged-only (67 ∷ A ∷ [])) 15 0 ∷
+    fault-row (judged-only (68 ∷ [])) 15 0 ∷
+    -- a byte left over
+    fault-row (judged-only (0 ∷ 0 ∷ [])) 15 0 ∷
+    -- 31 leaves; neither the empty text nor a star is one
+    answer-row (judged-only (leaves-by 66 30)) 150 8 0 1 [] ∷
+    answer-row (judged-only (66 ∷ 64 ∷ leaves-by 66 30)) 150 8 0 1 [] ∷
+    answer-row (judged-only (68 ∷ leaves-by 67 30)) 150 8 0 1 [] ∷
+    -- 32 leaves
+    fault-row (judged-only (leaves-by 66 31)) 16 0 ∷
+    fault-row (judged-only (leaves-by 67 31)) 16 0 ∷
+    fault-row (judged-only (66 ∷ 65 ∷ 0 ∷ 9 ∷ leaves-by 66 30)) 16 0 ∷
+    -- 32 leaves and a byte left over
+    fault-row (judged-only (leaves-by 66 31 ++ 0 ∷ [])) 15 0 ∷
+    -- 96 bytes
+    answer-row (judged-only (replicate 95 68 ++ 0 ∷ [])) 150 8 0 1 [] ∷
+    []
+
+-- "Checks on the sheet": marks, fields, lengths, bodies, tokens, in 01's order
+abbrev known-records : List Known
+known-records =
+    -- field 7
+    answer-row (PA 7 (4 ∷ []) ++ LE (71 ∷ []) ++ RI (4 ∷ [])) 600 20 0 3 (VA 7 (4 ∷ [])) ∷
+    -- character 42; sides of 24 tokens
+    answer-row (LE (42 ∷ []) ++ RI (42 ∷ [])) 600 20 0 1 [] ∷
+    answer-row (LE (replicate 24 A) ++ RI (replicate 24 A)) 600 20 0 1 [] ∷
+    -- one byte left
+    fault-row (80 ∷ []) 11 0 ∷
+    fault-row (PA 0 (0 ∷ []) ++ 76 ∷ []) 11 5 ∷
+    fault-row (LE [] ++ 82 ∷ []) 11 3 ∷
+    -- none left
+    fault-row (PA 0 (0 ∷ [])) 11 5 ∷
+    fault-row (LE []) 11 3 ∷
+    -- marks with one wrong letter
+    fault-row (81 ∷ 65 ∷ []) 12 0 ∷
+    fault-row (80 ∷ 66 ∷ []) 12 0 ∷
+    fault-row (77 ∷ 69 ∷ []) 12 0 ∷
+    fault-row (76 ∷ 70 ∷ []) 12 0 ∷
+    fault-row (LE [] ++ 83 ∷ 73 ∷ []) 12 3 ∷
+    fault-row (LE [] ++ 82 ∷ 74 ∷ []) 12 3 ∷
+    -- marks not allowed here
+    fault-row (RI []) 12 0 ∷
+    fault-row (PA 0 (0 ∷ []) ++ RI []) 12 5 ∷
+    fault-row (LE [] ++ LE []) 12 3 ∷
+    fault-row (LE [] ++ PA 0 (0 ∷ [])) 12 3 ∷
+    -- bytes behind `RI`
+    fault-row (LE (A ∷ []) ++ RI (B ∷ []) ++ 0 ∷ []) 12 8 ∷
+    fault-row (LE [] ++ RI (B ∷ []) ++ PA 0 (0 ∷ [])) 12 7 ∷
+    -- no field byte; a field byte above 7, and no length byte
+    fault-row (80 ∷ 65 ∷ []) 11 0 ∷
+    fault-row (80 ∷ 65 ∷ 9 ∷ []) 11 0 ∷
+    -- field 8; a field number that stays, that falls
+    fault-row (PA 8 (0 ∷ [])) 13 0 ∷
+    fault-row (PA 1 (0 ∷ []) ++ PA 1 (0 ∷ [])) 13 5 ∷
+    fault-row (PA 1 (0 ∷ []) ++ PA 0 (0 ∷ [])) 13 5 ∷
+    -- a wrong field before a wrong length
+    fault-row (80 ∷ 65 ∷ 8 ∷ 0 ∷ []) 13 0 ∷
+    -- a pattern of no byte; of 97 bytes, none of which is there
+    fault-row (PA 0 []) 14 0 ∷
+    fault-row (80 ∷ 65 ∷ 0 ∷ 97 ∷ []) 14 0 ∷
+    -- a pattern's body cut short, whatever its bytes
+    fault-row (80 ∷ 65 ∷ 0 ∷ 2 ∷ 0 ∷ []) 11 0 ∷
+    fault-row (80 ∷ 65 ∷ 0 ∷ 2 ∷ 43 ∷ []) 11 0 ∷
+    fault-row (80 ∷ 65 ∷ 0 ∷ 64 ∷ leaves-by 66 31) 11 0 ∷
+    -- a fault of a second pattern
+    fault-row (PA 0 (0 ∷ []) ++ PA 1 (0 ∷ 0 ∷ [])) 15 5 ∷
+    -- a side's length byte missing
+    fault-row (76 ∷ 69 ∷ []) 11 0 ∷
+    fault-row (LE (A ∷ []) ++ 82 ∷ 73 ∷ []) 11 4 ∷
+    -- a side of 25 tokens, none of which is there
+    fault-row (76 ∷ 69 ∷ 25 ∷ []) 14 0 ∷
+    fault-row (LE (A ∷ []) ++ 82 ∷ 73 ∷ 25 ∷ []) 14 4 ∷
+    -- a side's body cut short, whatever its tokens
+    fault-row (76 ∷ 69 ∷ 1 ∷ []) 11 0 ∷
+    fault-row (76 ∷ 69 ∷ 2 ∷ 43 ∷ []) 11 0 ∷
+    fault-row (LE (A ∷ []) ++ 82 ∷ 73 ∷ 2 ∷ 43 ∷ []) 11 4 ∷
+    -- bytes that are no token, alone and behind one
+    fault-row (LE (43 ∷ [])) 17 0 ∷
+    fault-row (LE (63 ∷ [])) 17 0 ∷
+    fault-row (LE (72 ∷ [])) 17 0 ∷
+    fault-row (LE (255 ∷ [])) 17 0 ∷
+    fault-row (LE (A ∷ 43 ∷ [])) 17 0 ∷
+    fault-row (PA 0 (0 ∷ []) ++ LE (43 ∷ [])) 17 5 ∷
+    fault-row (LE (A ∷ []) ++ RI (43 ∷ [])) 17 4 ∷
+    []
+
+abbrev known-sheets : List Known
+known-sheets = known-in-01 ++ known-rooms ++ known-searches ++ known-patterns ++ known-records
+
+pub known-sheets-met : map got known-sheets ≡ map wanted known-sheets
+unfolding set-after may-end judge enter offer take-next search trimmed strike put-before open-moves child-by children question search-from texts-of acceptor marked pattern-record side-record read-end read-right read-sheet outcome room-of searched standing value-record records some-text-too-long clash count-of how-of
+known-sheets-met = refl

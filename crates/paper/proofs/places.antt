@@ -1,0 +1,9 @@
+pub mod Parts
+pub mod After
+pub mod PlacesDecide
+pub mod PlaceSets
+pub mod Rising
+pub mod Reachable
+pub mod NotStuck
+pub mod Judged
+pub mod Accepts

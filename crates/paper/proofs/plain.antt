@@ -1,0 +1,4 @@
+pub mod Tails
+pub mod Standings
+pub mod Reached
+pub mod Plain

@@ -1,0 +1,5 @@
+pub mod Asked
+pub mod QuestionSearched
+pub mod TextLength
+pub mod Rows
+pub mod AnswerRoom

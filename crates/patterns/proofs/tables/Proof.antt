@@ -1,0 +1,86 @@
+-- `tables` meets its contract: each way out is a case of how the bytes are judged (`Judged`).
+use borrow.Author.Needs.{needs}
+use native.Mathlib.Nat.{le-refl}
+use native.Mathlib.Omega.{arith}
+use mathlib.Core.Path.{sym, ap, _∙_}
+use lib.ListN.{length}
+use Rattle.paper.specs.Written.{read-part}
+use Rattle.paper.proofs.base.Tests.{not-is-true, not-is-false}
+use Rattle.patterns.specs.Reading.{Working, working, Read-as}
+use Rattle.patterns.specs.Worked.{worked-of}
+use Rattle.patterns.proofs.Judged.{unworked, judge-bad, judge-left, judge-many, judge-good}
+use Rattle.patterns.proofs.tables.Statement.{statement}
+use Rattle.patterns.proofs.tables.Tie as tie
+
+read-requires : tie.Need-read-requires
+read-requires c κs = search needs
+
+-- the tables that are filled, and the reading of all the bytes
+abbrev filled : tie.After-read → Working
+filled d = working (d .read .last .1 .1 .0) (d .read .last .1 .1 .1 .0)
+
+reads : (d : tie.After-read) → let s = d .before .before .before .before .args .s .now in
+    Read-as (read-part (length s) s) 1 unworked (filled d) (d .read .result)
+reads d = let s = d .before .before .before .before .args .s .now in d .read .ensures (length s) (le-refl (length s))
+
+refused-requires : tie.Need-refused-requires
+refused-requires c κs = search needs
+
+returns : tie.Need-returns
+returns c =
+    let d = c .before .before .before in
+    c .refused .ensures ∙ sym (ap worked-of (judge-bad (d .read .result) (filled d) _ (reads d) (not-is-true (c .before .if1 .taken))))
+
+refused-requires-2 : tie.Need-refused-requires-2
+refused-requires-2 c κs = search needs
+
+returns-2 : tie.Need-returns-2
+returns-2 c =
+    let d = c .before .before .before .before .before in
+    c .refused2 .ensures ∙ sym (ap worked-of (judge-left (d .read .result) (filled d) _ (reads d) (c .before .if2 .taken)))
+
+refused-requires-3 : tie.Need-refused-requires-3
+refused-requires-3 c κs = search needs
+
+returns-3 : tie.Need-returns-3
+returns-3 c =
+    let e = c .before .before .before in
+    let d = e .before .before .before .before in
+    c .refused3 .ensures
+    ∙ sym
+    (ap worked-of
+    (judge-many (d .read .result) (filled d) _ (reads d) (not-is-false (e .before .before .if1 .left)) (omega arith) (c .before .if3 .taken)))
+
+array-write-follow : tie.Need-array-write-follow
+array-write-follow c = search needs
+
+place-requires : tie.Need-place-requires
+place-requires c κs = search needs
+
+when-requires : tie.Need-when-requires
+when-requires c κs = search needs
+
+returns-4 : tie.Need-returns-4
+returns-4 c =
+    let w = c .before in
+    let k = w .before .before in
+    let e = k .before .before in
+    let d = e .before .before .before .before in
+    judge-good (d .read .result) (filled d) _ (reads d) (not-is-false (e .before .before .if1 .left)) (omega arith) (k .if3 .left)
+    (w .before .place .result) (w .when .result) (w .before .place .ensures) (w .when .ensures)
+
+pub tables-spec : {M : Type 1} → statement M
+tables-spec =
+    tie.close
+    (tie.spec
+    read-requires
+    refused-requires
+    returns
+    refused-requires-2
+    returns-2
+    refused-requires-3
+    returns-3
+    array-write-follow
+    place-requires
+    when-requires
+    returns-4)

@@ -1,0 +1,20 @@
+// What the program `clash` prints, for every case of a stream on standard input.
+//
+// The stored stream is what the second program's `sheets --printed` makes, and the stored lines are those of its `--many --lines`.
+//
+//  1        the sheet that `clash` is run on: 455 situations, texts of 385 characters, the last one empty
+//  2        sheet S
+//  3        a text of all 43 characters
+//  4, 5     texts of 255 and of 256 characters
+//  6        eight fields, every second text empty
+//  7        no field
+//  8        no clash
+//  9, 10    no room: after 455 situations, and for the first
+// 11        a side above 48 tokens
+// 12, 13    an answer buffer of 11 bytes, too short, and one of 12
+// 14, 15    11: an empty sheet, and eight patterns alone
+// 16, 17    12: a byte behind `RI`, and a wrong mark behind seven patterns
+// 18 to 22  13, 14, 15, 16, 17
+fn main() {
+    stream::answer_all(stream::Shown::Lines);
+}

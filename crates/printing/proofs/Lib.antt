@@ -1,0 +1,4 @@
+pub mod Decimal
+pub mod Making
+pub mod Putting
+pub mod Walked

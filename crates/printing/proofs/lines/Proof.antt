@@ -1,0 +1,61 @@
+-- `lines` meets its contract: without room nothing is changed, with room the entry is asked. Follows from `no-room` and `with-room`.
+use native.Mathlib.Omega.{arith}
+use Rattle.printing.proofs.Making.{no-room, with-room}
+use borrow.Author.Needs.{needs}
+use Rattle.printing.proofs.lines.Statement.{statement}
+use Rattle.printing.proofs.lines.Tie as tie
+
+returns : tie.Need-returns
+returns c =
+    let args = c .before .before .before .before .before .args in
+    no-room (args .sheet .now) (args .work .now) (args .answer .now) (args .out .now) (omega arith)
+
+sub-if2 : tie.Need-sub-if2
+sub-if2 c = search needs
+
+returns-2 : tie.Need-returns-2
+returns-2 c =
+    let args = c .before .before .before .before .before .before .args in
+    no-room (args .sheet .now) (args .work .now) (args .answer .now) (args .out .now) (omega arith)
+
+clash-requires : tie.Need-clash-requires
+clash-requires c κs = search needs
+
+in-numbers-requires : tie.Need-in-numbers-requires
+in-numbers-requires c κs = search needs
+
+put-lines-requires : tie.Need-put-lines-requires
+put-lines-requires c κs = search needs
+
+same-length : tie.Need-same-length
+same-length c = search needs
+
+same-length-2 : tie.Need-same-length-2
+same-length-2 c = search needs
+
+same-length-3 : tie.Need-same-length-3
+same-length-3 c = search needs
+
+returns-3 : tie.Need-returns-3
+returns-3 c =
+    let at-put = c .before .before in
+    let at-numbers = at-put .before .before .before in
+    let at-clash = at-numbers .before .before .before .before .before in
+    let args = at-clash .before .before .before .before .before .before .before .before .before .args in
+    with-room (args .sheet .now) (args .work .now) (args .answer .now) (args .out .now) (at-clash .clash .result) (omega arith)
+    (at-clash .clash .ensures .0) (at-numbers .in-numbers .ensures) (at-put .put-lines .ensures)
+
+pub lines-spec : {M : Type 1} → statement M
+lines-spec =
+    tie.close
+    (tie.spec
+    returns
+    sub-if2
+    returns-2
+    clash-requires
+    in-numbers-requires
+    put-lines-requires
+    same-length
+    same-length-2
+    same-length-3
+    returns-3)

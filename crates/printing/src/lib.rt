@@ -1,0 +1,65 @@
+// What the program `clash` prints, made in a lent buffer.
+mod writing;
+
+ghost use mathlib.Core.Path.{_≡_};
+ghost use Rattle.paper.specs.Printed.{printed as printed-for};
+ghost use Rattle.printing.specs.Lines.{no-work, no-answer, Prints, lined-as, lined};
+use writing::DIGITS;
+use writing::least;
+use writing::put_lines;
+
+// "`clash` reads the first 1,024 bytes of standard input, lends 65,520 bytes of work (455 situations) and 4,096 of answer."
+pub const INPUT: usize = 1024;
+
+const WORK: usize = 65520;
+
+const ANSWER: usize = 4096;
+
+// Three numbers of at most 20 digits, a sign behind each.
+pub const FIRST_LINE: usize = 3 * (DIGITS + 1);
+
+// No later line is longer than its record.
+pub const PRINTED: usize = FIRST_LINE + ANSWER;
+
+// So many bytes of lines, or no room for the longest.
+pub enum Made {
+    Bytes(usize),
+    NoRoom,
+}
+
+// What `clash` prints for an input, in front of `out`. How many bytes that is.
+pub fn printed(input: &[u8], out: &mut [u8; PRINTED]) -> usize
+    ensures { λ r. ⌜ Prints (printed-for (now (input .entry))) (now (out .entry)) (now (out .exit)) r ⌝ }
+{
+    let n = least(INPUT, input.len());
+    let mut work = zeroed_work();
+    let mut answer = zeroed_answer();
+    let told = bradovusc::in_numbers(bradovusc::clash(&input[0..n], &mut work, &mut answer));
+    put_lines(out, told, &answer)
+}
+
+fn zeroed_work() -> [u8; WORK]
+    ensures { λ r. ⌜ r ≡ no-work ⌝ }
+{
+    [0; WORK]
+}
+
+fn zeroed_answer() -> [u8; ANSWER]
+    ensures { λ r. ⌜ r ≡ no-answer ⌝ }
+{
+    [0; ANSWER]
+}
+
+// The lines for a sheet and two lent buffers. Where `out` has no room for the longest, nothing is asked and nothing changed.
+pub fn lines(sheet: &[u8], work: &mut [u8], answer: &mut [u8], out: &mut [u8]) -> Made
+    ensures { λ r. ⌜ lined-as r (now (out .exit)) (now (answer .exit)) (now (work .exit)) ≡ lined (now (sheet .entry)) (now (work .entry)) (now (answer .entry)) (now (out .entry)) ⌝ }
+{
+    if out.len() < FIRST_LINE {
+        return Made::NoRoom;
+    }
+    if out.len() - FIRST_LINE < answer.len() {
+        return Made::NoRoom;
+    }
+    let told = bradovusc::in_numbers(bradovusc::clash(sheet, work, answer));
+    Made::Bytes(put_lines(out, told, answer))
+}

@@ -1,0 +1,215 @@
+-- The search over slots is the paper's search of the question, to its end: it ends alike, with as many slots as entries, and the text
+-- spelt back from the last slot is the text of the entry found.
+--   status-agrees : run .status ≡ status-of (how-of (searched q room))
+--   count-agrees  : length (run .slots) ≡ count-of (searched q room)
+--   text-agrees   : text-back n (run .slots) f last ≡ texts-of (acceptor q) (q .left) (q .right) e f, where e is found
+-- Holds of good questions. Follows from the children and tests agreeing (`CodedChildren`), from the law of two searches side by
+-- side (`Mapped`), and from the slots standing for entries (`Numbered`).
+use Prim.Native.Nat.{ℕ, suc, _-_, _≤_, _<_}
+use native.Mathlib.Omega.{arith}
+use mathlib.Core.Path.{_≡_, refl, sym, ap, ap₂, _∙_}
+use mathlib.Core.Bool.{true, _&&_}
+use mathlib.Core.List.{List, [], _∷_, _++_, map, reverse, List·Memᴰ}
+use lib.ListN.{length, getD, length-append, List·getD-map}
+use lib.Seq.{getD-at}
+use Rattle.paper.specs.Numbers.{set-fields, longest-side}
+use Rattle.paper.specs.Pattern.{Held, any-text, pattern}
+use Rattle.paper.specs.Places.{PlaceSet}
+use Rattle.paper.specs.Search.{Entry, End, found, used-up, no-room, too-long, search, entries}
+use Rattle.paper.specs.Leads.{Leads}
+use Rattle.paper.specs.Situation.{Situation, Move, same-situation, finished, children, question}
+use Rattle.paper.specs.Way.{text-along, texts-of, search-from}
+use Rattle.paper.specs.Question.{Question, held-by, acceptor}
+use Rattle.paper.specs.Outcome.{searched, count-of, how-of}
+use Rattle.paper.proofs.base.Made.{getD-mem}
+use Rattle.paper.proofs.sheets.Asked.{GoodHeld, GoodQuestion}
+use Rattle.paper.proofs.equations.Same.{situation-equal, situation-same}
+use Rattle.paper.proofs.places.PlaceSets.{same-equal, equal-same}
+use Rattle.paper.proofs.search.Searched as Searched
+use Rattle.paper.proofs.search.Mapped.{code-entry, code-end, Simulates, search-how, search-entries, search-count}
+use Rattle.patterns.proofs.Masks.{Few}
+use Rattle.inner.specs.Inner.{side-code, move-code}
+use Rattle.situations.specs.Coded.{Coded, finished-coded, same-coded, children-coded, question-coded, given-coded}
+use Rattle.situations.specs.Coding.{situation-code, tables-of}
+use Rattle.situations.proofs.CodedSides.{Known-side, known-side, same-sides, finished-sides}
+use Rattle.situations.proofs.CodedSets.{Codable, same-sets}
+use Rattle.situations.proofs.CodedChildren.{children-agree}
+use Rattle.situations.proofs.CodedQuestion.{question-agrees}
+use Rattle.situations.proofs.KeptCodable.{child-codable, question-codable}
+use Rattle.situations.proofs.Ways.{way-last, way-known, text-last, given-agrees}
+use Rattle.search.specs.Run.{Running, status-of, slot-search, text-back}
+use Rattle.search.specs.Slots.{slot-at}
+use Rattle.search.proofs.Numbered.{entry-at, Numbered, numbered-length, numbered-at, slots-status, slots-numbered}
+use Rattle.search.proofs.TextBack.{text-back-is}
+
+-- the first situation of a question, from the codes of its sides
+abbrev pub start : Question → Coded
+start q = question-coded (side-code (q .left)) (side-code (q .right))
+
+abbrev Paper-entry : Type 0
+Paper-entry = Entry (Situation PlaceSet) Move
+
+abbrev coded-entry : Paper-entry → Entry Coded ℕ
+coded-entry = code-entry situation-code move-code
+
+abbrev nothing : Paper-entry
+nothing = record { at = record { left = []; right = []; sets = [] }; way = [] }
+
+status-coded : (x : End (Situation PlaceSet) Move) → status-of (code-end situation-code move-code x) ≡ status-of x
+status-coded (found e) = refl
+status-coded used-up = refl
+status-coded no-room = refl
+status-coded too-long = refl
+
+no-moves : (way : List Move) → map move-code way ≡ [] → way ≡ []
+no-moves [] e = refl
+no-moves (m ∷ way) e = absurd (let z : _≡_ {A = ℕ} 0 1 = cc in omega arith)
+
+few-leaves : (h : Held) → GoodHeld h → Few h
+few-leaves any-text g = tt
+few-leaves (pattern p) g = g .1
+
+module _ (q : Question) (good : GoodQuestion q) where
+  few : (f : ℕ) → Few (held-by q f)
+  few f = few-leaves (held-by q f) (good .held .good f)
+
+  same-agrees : (s t : Situation PlaceSet) → Codable s → Codable t
+      → same-coded (situation-code s) (situation-code t) ≡ same-situation (acceptor q) s t
+  unfolding acceptor
+  same-agrees s t g h =
+      ap₂ _&&_ (same-sides (s .left) (t .left) (g .left) (h .left))
+      (ap₂ _&&_ (same-sides (s .right) (t .right) (g .right) (h .right)) (same-sets (s .sets) (t .sets) (g .masked) (h .masked)))
+
+  simulates :
+      Simulates situation-code move-code
+      (same-situation (acceptor q)) (finished (acceptor q)) (children (acceptor q) longest-side)
+      same-coded finished-coded (children-coded (tables-of q)) Codable
+  simulates =
+      record {
+        same-alike = same-agrees;
+        finished-alike = λ s g. finished-sides (acceptor q) (s .left) (s .right);
+        children-alike = children-agree q few;
+        child-good = child-codable q few;
+      }
+
+  -- the trimmed question
+  abbrev first : Situation PlaceSet
+  first = question (acceptor q) (q .left) (q .right)
+
+  left-known : Known-side (q .left)
+  left-known = known-side (q .left) (good .left .tokens)
+
+  right-known : Known-side (q .right)
+  right-known = known-side (q .right) (good .right .tokens)
+
+  first-codable : Codable first
+  first-codable = question-codable q few (q .left) (q .right) left-known right-known
+
+  first-coded : situation-code first ≡ start q
+  first-coded = question-agrees q (q .left) (q .right) left-known right-known
+
+  equal : (s t : Situation PlaceSet) → same-situation (acceptor q) s t ≡ true → s ≡ t
+  unfolding acceptor
+  equal = situation-equal (acceptor q) same-equal
+
+  same : (s : Situation PlaceSet) → same-situation (acceptor q) s s ≡ true
+  unfolding acceptor
+  same = situation-same (acceptor q) equal-same
+
+  module _ (room : ℕ) where
+    abbrev the-entries : List Paper-entry
+    the-entries =
+        entries
+        (search (same-situation (acceptor q)) (finished (acceptor q)) (children (acceptor q) longest-side) room first)
+
+    -- the search over slots
+    abbrev pub run : Running
+    run = slot-search (tables-of q) room (start q)
+
+    -- It ends as the paper's.
+    pub status-agrees : run .status ≡ status-of (how-of (searched q room))
+    unfolding how-of searched search-from
+    status-agrees =
+        rw (← first-coded)
+        (slots-status (tables-of q) room (situation-code first)
+        ∙ ap status-of (search-how simulates room first first-codable)
+        ∙ status-coded (how-of (searched q room)))
+
+    as-many : length (run .slots) ≡ length the-entries
+    as-many =
+        rw (← first-coded)
+        (numbered-length (slots-numbered (tables-of q) room (situation-code first)) ∙ search-count simulates room first first-codable)
+
+    -- It enters as many.
+    pub count-agrees : length (run .slots) ≡ count-of (searched q room)
+    unfolding count-of searched search-from
+    count-agrees = as-many
+
+    -- Its slots hold the paper's entries.
+    numbered : Numbered (run .slots) (map coded-entry the-entries)
+    numbered =
+        rw (← first-coded)
+        (rw (search-entries simulates room first first-codable) at (slots-numbered (tables-of q) room (situation-code first)))
+
+    -- the paper's entry with the number i
+    abbrev paper-at : ℕ → Paper-entry
+    paper-at i = getD the-entries i nothing
+
+    coded-at : (i : ℕ) → entry-at (map coded-entry the-entries) i ≡ coded-entry (paper-at i)
+    coded-at i = List·getD-map coded-entry the-entries i nothing
+
+    module _ (i : ℕ) (h : i < length (run .slots)) where
+      at-mem : List·Memᴰ (paper-at i) the-entries
+      at-mem = getD-mem the-entries nothing i (omega (arith, as-many))
+
+      at-leads : Leads (children (acceptor q) longest-side) first (paper-at i .way) (paper-at i .at)
+      at-leads = Searched.way-leads _ _ _ equal same room first (paper-at i) at-mem
+
+      at-codable : Codable (paper-at i .at)
+      at-codable = Searched.every-entry _ _ _ equal same room first Codable first-codable (child-codable q few) (paper-at i) at-mem
+
+    module _ (f : ℕ) (b : f < set-fields) where
+      -- the text of the paper's entry with the number i
+      abbrev text : ℕ → List ℕ
+      text i = text-along (acceptor q) f first (reverse (paper-at i .way))
+
+      text-first : text 0 ≡ []
+      text-first =
+          rw (no-moves (paper-at 0 .way) (ap (λ (e : Entry Coded ℕ). e .way) (sym (coded-at 0)) ∙ numbered .first-way))
+
+      text-grows : (i : ℕ) → suc i < length (run .slots)
+          → text (suc i)
+          ≡ text (slot-at (run .slots) (suc i) .parent)
+          ++ given-coded f (slot-at (run .slots) (slot-at (run .slots) (suc i) .parent) .at) (slot-at (run .slots) (suc i) .step)
+      text-grows i h =
+          let parent = slot-at (run .slots) (suc i) .parent in
+          let below : parent < length (run .slots) = omega (arith, numbered .earlier i h) in
+          let last =
+          way-last (paper-at (suc i) .way) (slot-at (run .slots) (suc i) .step) (paper-at parent .way)
+          (way-known q (at-leads (suc i) h)) (way-known q (at-leads parent below))
+          (rw (coded-at (suc i), coded-at parent) at (numbered .its-way i h)) in
+          let at-parent : slot-at (run .slots) parent .at ≡ situation-code (paper-at parent .at) =
+          numbered-at numbered parent ∙ ap (λ (e : Entry Coded ℕ). e .at) (coded-at parent) in
+          ap (λ (w : List Move). text-along (acceptor q) f first (reverse w)) (last .is)
+          ∙ text-last (acceptor q) f longest-side (last .move) (at-leads parent below)
+          ∙ ap (λ (w : List ℕ). text parent ++ w)
+          (sym (given-agrees q f (paper-at parent .at) (last .move) b (at-codable parent below) (last .known))
+          ∙ ap₂ (given-coded f) (sym at-parent) (last .code))
+
+    module _ (e : Paper-entry) (h : how-of (searched q room) ≡ found e) where
+      -- The entry found is in the last slot.
+      pub found-last : (0 < length (run .slots)) × (paper-at (length (run .slots) - 1) ≡ e)
+      unfolding how-of searched search-from
+      found-last =
+          let r = Searched.found-is-last _ _ _ equal same room first e h in
+          let n : length (run .slots) ≡ suc (length (r .0)) = omega (arith, as-many, ap length (r .1), length-append (r .0) (e ∷ [])) in
+          (omega arith, rw (r .1) (getD-at (r .0) e [] nothing (length (run .slots) - 1) (omega arith)))
+
+      -- The text spelt back from there is the text of the entry found.
+      pub text-agrees : (f : ℕ) → f < set-fields → (n : ℕ) → length (run .slots) - 1 ≤ n
+          → text-back n (run .slots) f (length (run .slots) - 1) ≡ texts-of (acceptor q) (q .left) (q .right) e f
+      unfolding texts-of
+      text-agrees f b n m =
+          text-back-is (run .slots) f (text f b) (numbered .earlier) (text-first f b) (text-grows f b) n (length (run .slots) - 1) m
+          (omega (arith, found-last .0))
+          ∙ ap (λ (x : Paper-entry). text-along (acceptor q) f first (reverse (x .way))) (found-last .1)

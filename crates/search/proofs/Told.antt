@@ -1,0 +1,122 @@
+-- How the search over slots ends tells the whole outcome of a good question:
+--   run-told : told-end (ended-with (tables-of q) room (start q) buffer) (buffer-with (tables-of q) room (start q) buffer) (cleared work)
+--     ≡ answered q (count-of (searched q room)) (how-of (searched q room)) work buffer
+-- Follows from how the search over slots stands for the paper's search (`Simulated`), and from the standing fields and their texts being
+-- the same.
+use Prim.Native.Nat.{ℕ, _+_, _-_, _<_}
+use native.Mathlib.Nat.{le-refl}
+use native.Mathlib.Omega.{arith}
+use mathlib.Core.Path.{_≡_, refl, sym, ap, _∙_}
+use mathlib.Core.Bool.{Bool, true, false, cond, not}
+use mathlib.Core.List.{List, _++_, List·Memᴰ}
+use lib.Dec.{leb, eqb}
+use lib.ListN.{length, drop}
+use Rattle.paper.specs.Lists.{upto, member}
+use Rattle.paper.specs.Numbers.{fields, set-fields, longest-text}
+use Rattle.paper.specs.Places.{PlaceSet}
+use Rattle.paper.specs.Equation.{stands-in}
+use Rattle.paper.specs.Search.{Entry, End, found, used-up, no-room, too-long}
+use Rattle.paper.specs.Situation.{Situation, Move}
+use Rattle.paper.specs.Way.{texts-of}
+use Rattle.paper.specs.Question.{Question, acceptor}
+use Rattle.paper.specs.Outcome.{searched, standing, value-record, records, some-text-too-long, cleared, without-bytes, clash, answered, count-of, how-of}
+use Rattle.paper.proofs.sheets.Asked.{GoodQuestion}
+use Rattle.paper.proofs.base.Lists.{mem-keep, mem-upto, map-append}
+use Rattle.paper.proofs.base.Made.{getD-map-upto, any-same, keep-same, each-same}
+use Rattle.inner.specs.Inner.{field-code, token-code, side-code}
+use Rattle.situations.specs.Coded.{first-mask, first-masks, question-coded}
+use Rattle.situations.specs.Coding.{tables-of}
+use Rattle.situations.proofs.CodedQuestion.{stands-coded, known-append}
+use Rattle.situations.proofs.CodedSides.{known-side}
+use Rattle.search.specs.Ended.{told-end, clash-end, end-by, buffer-by, concluded, concluded-buffer, ended-with, buffer-with}
+use Rattle.search.specs.Records.{text-at, standing-fields, value-records, text-above, in-front, answer-given, buffer-after}
+use Rattle.search.specs.Run.{status-of}
+use Rattle.search.specs.Slots.{Slot}
+use Rattle.search.specs.declared.records.Given.the-variants.{TextTooLong, TooShort, Written}
+use Rattle.search.proofs.Simulated.{start, run, status-agrees, count-agrees, text-agrees}
+
+-- a first place set is not 0 exactly if its field stands
+one-or-none : (b : Bool) → not (eqb (cond b 1 0) 0) ≡ b
+one-or-none true = refl
+one-or-none false = refl
+
+-- a field that a sheet may name has a set
+set-field : (f : ℕ) → List·Memᴰ f (upto fields) → f < set-fields
+set-field f d = omega (arith, mem-upto fields d)
+
+-- 21 before 20 before 0, in both
+clash-cases : (above short : Bool) (n : ℕ) (rs work buffer : List ℕ)
+    → told-end (clash-end n (cond above TextTooLong (cond short TooShort (Written (length rs))))) (cond above buffer (cond short buffer (in-front rs buffer))) (cleared work)
+    ≡ cond above (without-bytes 21 n work buffer)
+    (cond short (without-bytes 20 n work buffer)
+    (record
+    { number = 0; count = n; place = 0; written = length rs; answer = rs ++ drop (length rs) buffer; work = cleared work }))
+clash-cases true short n rs work buffer = refl
+clash-cases false true n rs work buffer = refl
+clash-cases false false n rs work buffer = refl
+
+module _ (q : Question) (good : GoodQuestion q) where
+  -- the codes of the sides' tokens
+  abbrev codes : List ℕ
+  codes = side-code (q .left) ++ side-code (q .right)
+
+  stands-alike : (f : ℕ) → member (field-code + f) codes ≡ stands-in f (q .left ++ q .right)
+  stands-alike f =
+      ap (member (field-code + f)) (sym (map-append token-code (q .left) (q .right)))
+      ∙ stands-coded f (q .left ++ q .right) (known-append (q .left) (q .right) (known-side (q .left) (good .left .tokens)) (known-side (q .right) (good .right .tokens)))
+
+  standing-alike : standing-fields (first-masks codes) ≡ standing q
+  unfolding standing-fields first-mask first-masks standing
+  standing-alike =
+      keep-same _ (λ (f : ℕ). stands-in f (q .left ++ q .right)) (upto fields)
+      (λ f d. ap (λ (m : ℕ). not (eqb m 0)) (getD-map-upto (first-mask codes) 0 set-fields f (set-field f d)) ∙ one-or-none (member (field-code + f) codes) ∙ stands-alike f)
+
+  module _ (room : ℕ) (e : Entry (Situation PlaceSet) Move) (h : how-of (searched q room) ≡ found e) where
+    abbrev ss : List Slot
+    ss = run q good room .slots
+
+    text-alike : (f : ℕ) → List·Memᴰ f (standing q) → text-at ss (length ss - 1) f ≡ texts-of (acceptor q) (q .left) (q .right) e f
+    unfolding standing
+    text-alike f d =
+        text-agrees q good room e h f (set-field f (mem-keep (λ (g : ℕ). stands-in g (q .left ++ q .right)) (upto fields) d .0)) (length ss - 1) (le-refl _)
+
+    records-alike : value-records (first-masks codes) (text-at ss (length ss - 1)) ≡ records q e
+    unfolding value-records records
+    records-alike =
+        rw standing-alike
+        (each-same _ (λ (f : ℕ). value-record f (texts-of (acceptor q) (q .left) (q .right) e f)) (standing q)
+        (λ f d. ap (value-record f) (text-alike f d)))
+
+    above-alike : text-above (first-masks codes) (text-at ss (length ss - 1)) ≡ some-text-too-long q e
+    unfolding text-above some-text-too-long
+    above-alike =
+        rw standing-alike
+        (any-same _ (λ (f : ℕ). not (leb (length (texts-of (acceptor q) (q .left) (q .right) e f)) longest-text)) (standing q)
+        (λ f d. ap (λ (w : List ℕ). not (leb (length w) longest-text)) (text-alike f d)))
+
+    clash-told : (n : ℕ) (work buffer : List ℕ)
+        → told-end (clash-end n (answer-given (first-masks codes) (text-at ss (length ss - 1)) buffer)) (buffer-after (first-masks codes) (text-at ss (length ss - 1)) buffer) (cleared work)
+        ≡ clash q n e work buffer
+    unfolding answer-given buffer-after clash
+    clash-told n work buffer =
+        rw (above-alike, records-alike)
+        (clash-cases (some-text-too-long q e) (not (leb (length (records q e)) (length buffer))) n (records q e) work buffer)
+
+  -- The end of the search over slots, with the buffers that it leaves, is the outcome by how the paper's search ended.
+  pub run-told : (room : ℕ) (work buffer : List ℕ)
+      → told-end (ended-with (tables-of q) room (start q) buffer) (buffer-with (tables-of q) room (start q) buffer) (cleared work)
+      ≡ answered q (count-of (searched q room)) (how-of (searched q room)) work buffer
+  unfolding ended-with buffer-with concluded concluded-buffer question-coded
+  run-told room work buffer =
+      rw (status-agrees q good room) (by-end (how-of (searched q room)) refl)
+    where
+      slots : List Slot
+      slots = run q good room .slots
+
+      by-end : (x : End (Situation PlaceSet) Move) → how-of (searched q room) ≡ x
+          → told-end (end-by (status-of x) slots (first-masks codes) buffer) (buffer-by (status-of x) slots (first-masks codes) buffer) (cleared work)
+          ≡ answered q (count-of (searched q room)) x work buffer
+      by-end (found e) h = clash-told room e h (length slots) work buffer ∙ ap (λ (n : ℕ). clash q n e work buffer) (count-agrees q good room)
+      by-end used-up h = ap (λ (n : ℕ). without-bytes 1 n work buffer) (count-agrees q good room)
+      by-end no-room h = ap (λ (n : ℕ). without-bytes 18 n work buffer) (count-agrees q good room)
+      by-end too-long h = ap (λ (n : ℕ). without-bytes 19 n work buffer) (count-agrees q good room)

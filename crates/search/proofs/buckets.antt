@@ -1,0 +1,6 @@
+pub mod Chained
+pub mod Hashed
+pub mod Kept
+pub mod Links
+pub mod Newest
+pub mod Written

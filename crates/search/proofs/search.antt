@@ -1,0 +1,4 @@
+pub mod Offers
+pub mod Turns
+pub mod Children
+pub mod Keys

@@ -1,0 +1,263 @@
+// The search: breadth first over the slots of the working buffer, in document 01's order.
+use crate::buckets;
+use crate::buckets::Seen;
+use crate::slots;
+use inner::FIELDS;
+use inner::LEFT_STRUCK;
+use inner::RIGHT_STRUCK;
+use patterns::CHARACTERS;
+use patterns::PLACES;
+use situations::Child;
+use situations::Fate;
+use situations::Front;
+use situations::Situation;
+ghost use mathlib.Core.Path.{_≡_};
+ghost use Prim.Native.Nat.{_*_, _<_, _≤_};
+ghost use lib.ListN.{length};
+ghost use Rattle.paper.specs.Numbers.{situation-bytes, most-room};
+ghost use Rattle.situations.specs.Coded.{Coded, puts-of, children-coded};
+ghost use Rattle.search.specs.Buckets.{buckets};
+ghost use Rattle.search.specs.Lent.{Roomy, tables, Enters, Enters-with, Offers-made, Offers-child, Offers, Takes, Searches};
+ghost use Rattle.search.specs.Run.{is-going};
+ghost use Rattle.search.specs.Slots.{key-bytes};
+ghost use Rattle.search.specs.declared.search.Status.the-variants.{NoRoom};
+
+// How the search stands, or how it ended.
+pub enum Status {
+    Going,
+    Found,
+    UsedUp,
+    NoRoom,
+    TooLong,
+}
+
+// The slots entered so far, and the status.
+pub struct Run {
+    pub entered: usize,
+    pub status: Status,
+}
+
+fn is_going(status: Status) -> bool
+    ensures { λ r. ⌜ r ≡ is-going status ⌝ }
+{
+    match status {
+        Status::Going => true,
+        Status::Found => false,
+        Status::UsedUp => false,
+        Status::NoRoom => false,
+        Status::TooLong => false,
+    }
+}
+
+// "it is entered, and a finished one ends the search at once": with its key and its bucket
+fn enter_with(
+    work: &mut [u8],
+    room: usize,
+    n: usize,
+    parent: usize,
+    step: u8,
+    s: Situation,
+    key: &[u8],
+    b: usize,
+) -> Run
+    requires { ⌜ Roomy (now work) room n parent ⌝ }
+    requires { ⌜ (n < room) × (length (now key) ≡ key-bytes) × (b < buckets (now work)) ⌝ }
+    ensures { λ r. ⌜ Enters-with room n parent step s (now (key .entry)) b (now (work .entry)) (now (work .exit)) r ⌝ }
+{
+    buckets::write_slot(work, n, key, b, parent, step);
+    if situations::is_finished(s) {
+        return Run {
+            entered: n + 1,
+            status: Status::Found,
+        };
+    }
+    Run {
+        entered: n + 1,
+        status: Status::Going,
+    }
+}
+
+fn no_room(n: usize) -> Run
+    ensures { λ r. ⌜ (r .entered ≡ n) × (r .status ≡ NoRoom) ⌝ }
+{
+    Run {
+        entered: n,
+        status: Status::NoRoom,
+    }
+}
+
+// "The trimmed question is entered first"
+fn enter_first(work: &mut [u8], room: usize, first: Situation) -> Run
+    requires { ⌜ (situation-bytes * room ≤ length (now work)) × (room ≤ most-room) ⌝ }
+    ensures { λ r. ⌜ Enters room 0 0 0 first (now (work .entry)) (now (work .exit)) r ⌝ }
+{
+    if room == 0 {
+        return no_room(0);
+    }
+    let mut key = [0u8; slots::KEY];
+    slots::put_key(&mut key, first);
+    let b = buckets::bucket_of(&key, work.len());
+    enter_with(work, room, 0, 0, 0, first, &key, b)
+}
+
+// "one already entered is dropped; no room gives 18; otherwise it is entered"
+fn offer_made(work: &mut [u8], room: usize, n: usize, parent: usize, step: u8, s: Situation) -> Run
+    requires { ⌜ Roomy (now work) room n parent ⌝ }
+    requires { ⌜ 0 < n ⌝ }
+    ensures { λ r. ⌜ Offers-made room n parent step s (now (work .entry)) (now (work .exit)) r ⌝ }
+{
+    let mut key = [0u8; slots::KEY];
+    slots::put_key(&mut key, s);
+    let b = buckets::bucket_of(&key, work.len());
+    let seen = buckets::look_up(work, n, &key, b);
+    if let Seen::At(_) = seen {
+        return Run {
+            entered: n,
+            status: Status::Going,
+        };
+    }
+    if room <= n {
+        return no_room(n);
+    }
+    enter_with(work, room, n, parent, step, s, &key, b)
+}
+
+// "a side above 48 tokens gives 19"
+fn offer(work: &mut [u8], room: usize, run: Run, parent: usize, step: u8, child: Child) -> Run
+    requires { ⌜ Roomy (now work) room (run .entered) parent ⌝ }
+    requires { ⌜ 0 < run .entered ⌝ }
+    ensures { λ r. ⌜ Offers-child room parent step child (now (work .entry)) run (now (work .exit)) r ⌝ }
+{
+    let status = run.status;
+    if !is_going(status) {
+        return run;
+    }
+    let n = run.entered;
+    let fate = child.fate;
+    match fate {
+        Fate::Dropped => run,
+        Fate::Above => Run {
+            entered: n,
+            status: Status::TooLong,
+        },
+        Fate::Made => {
+            let s = child.at;
+            offer_made(work, room, n, parent, step, s)
+        }
+    }
+}
+
+// Child 3: "for each character c from 0 to 42". Most are not taken: that is seen before a child is made.
+fn offer_puts(
+    work: &mut [u8],
+    room: usize,
+    run: Run,
+    parent: usize,
+    s: Situation,
+    left: Front,
+    right: Front,
+) -> Run
+    requires { ⌜ Roomy (now work) room (run .entered) parent ⌝ }
+    requires { ⌜ 0 < run .entered ⌝ }
+    ensures { λ r. ⌜ Offers room parent s (now (work .entry)) run (now (work .exit)) r (λ (k : Coded). puts-of k left right) ⌝ }
+{
+    let mut now = run;
+    let mut c: usize = 0;
+    while c < CHARACTERS {
+        let m = left.followers & left.row[c];
+        let n = right.followers & right.row[c];
+        if situations::both_take(left.token, m, right.token, n, c as u8) {
+            let child = situations::put(s, c as u8, left, right);
+            now = offer(work, room, now, parent, c as u8, child);
+        }
+        c += 1;
+    }
+    now
+}
+
+// The children of a situation, in 01's order.
+fn offer_children(
+    work: &mut [u8],
+    room: usize,
+    run: Run,
+    parent: usize,
+    s: Situation,
+    follow: [[u32; PLACES]; FIELDS],
+    taking: [[u32; CHARACTERS]; FIELDS],
+    last: [u32; FIELDS],
+) -> Run
+    requires { ⌜ Roomy (now work) room (run .entered) parent ⌝ }
+    requires { ⌜ 0 < run .entered ⌝ }
+    ensures { λ r. ⌜ Offers room parent s (now (work .entry)) run (now (work .exit)) r (children-coded (tables follow taking last)) ⌝ }
+{
+    let sets = s.sets;
+    let one = offer(
+        work,
+        room,
+        run,
+        parent,
+        LEFT_STRUCK,
+        situations::strike_left(s, last),
+    );
+    let two = offer(
+        work,
+        room,
+        one,
+        parent,
+        RIGHT_STRUCK,
+        situations::strike_right(s, last),
+    );
+    let left = situations::front_with(s.left[0], sets, follow, taking);
+    let right = situations::front_with(s.right[0], sets, follow, taking);
+    offer_puts(work, room, two, parent, s, left, right)
+}
+
+// "Situations are taken in the order of entry": slot k is taken.
+fn take(
+    work: &mut [u8],
+    room: usize,
+    run: Run,
+    k: usize,
+    follow: [[u32; PLACES]; FIELDS],
+    taking: [[u32; CHARACTERS]; FIELDS],
+    last: [u32; FIELDS],
+) -> Run
+    requires { ⌜ Roomy (now work) room (run .entered) k ⌝ }
+    requires { ⌜ k < run .entered ⌝ }
+    ensures { λ r. ⌜ Takes room (tables follow taking last) k (now (work .entry)) run (now (work .exit)) r ⌝ }
+{
+    let s = slots::read_situation(work, k);
+    offer_children(work, room, run, k, s, follow, taking, last)
+}
+
+// "The trimmed question is entered first, dead or not. .. When all are used up the answer is 1"
+pub fn search(
+    work: &mut [u8],
+    room: usize,
+    first: Situation,
+    follow: [[u32; PLACES]; FIELDS],
+    taking: [[u32; CHARACTERS]; FIELDS],
+    last: [u32; FIELDS],
+) -> Run
+    requires { ⌜ (situation-bytes * room ≤ length (now work)) × (room ≤ most-room) ⌝ }
+    ensures { λ r. ⌜ Searches room (tables follow taking last) first (now (work .exit)) r ⌝ }
+{
+    slots::clear(work);
+    let mut run = enter_first(work, room, first);
+    let mut k: usize = 0;
+    loop {
+        let status = run.status;
+        if !is_going(status) {
+            return run;
+        }
+        let n = run.entered;
+        if n <= k {
+            return Run {
+                entered: n,
+                status: Status::UsedUp,
+            };
+        }
+        run = take(work, room, run, k, follow, taking, last);
+        k += 1;
+    }
+}

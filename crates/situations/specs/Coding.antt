@@ -1,0 +1,25 @@
+-- How the code's situations stand for the paper's: a token is its inner code, a place set its mask; and the tables of a question's
+-- fields. proofs/ shows that the children and the tests go over.
+use Prim.Native.Nat.{ℕ}
+use mathlib.Core.List.{map}
+use Rattle.paper.specs.Lists.{upto}
+use Rattle.paper.specs.Numbers.{set-fields}
+use Rattle.paper.specs.Places.{PlaceSet}
+use Rattle.paper.specs.Situation.{Situation}
+use Rattle.paper.specs.Question.{Question, held-by}
+use Rattle.patterns.specs.Masks.{mask, follow-masks, taking-masks, last-mask}
+use Rattle.inner.specs.Inner.{side-code}
+use Rattle.situations.specs.Coded.{Coded, Tables}
+
+abbrev pub situation-code : Situation PlaceSet → Coded
+situation-code s =
+    record { left = side-code (s .left); right = side-code (s .right); sets = map mask (s .sets) }
+
+-- what is worked out once of a question's fields
+unfoldable pub tables-of : Question → Tables
+tables-of q =
+    record {
+      follow = map (λ (f : ℕ). follow-masks (held-by q f)) (upto set-fields);
+      taking = map (λ (f : ℕ). taking-masks (held-by q f)) (upto set-fields);
+      last = map (λ (f : ℕ). last-mask (held-by q f)) (upto set-fields);
+    }

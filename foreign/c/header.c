@@ -1,0 +1,198 @@
+/*
+ * Tries what bradovusc.h itself defines: the texts of the numbers, the signs, the walk over records, null pointers of length 0, the
+ * version, the lengths of buffers. C99, and C++11 too. Prints what does not hold, and how many checks there were; the exit status is 0
+ * if all hold.
+ */
+#include <stdio.h>
+#include <stdlib.h>
+#include <string.h>
+
+/* What the header defines calls `watched_clash` here, which looks at the pointers and calls the library. */
+#define bradovusc_clash watched_clash
+#include "bradovusc.h"
+#undef bradovusc_clash
+
+#ifdef __cplusplus
+extern "C"
+#endif
+uint32_t bradovusc_clash(const uint8_t *sheet, size_t sheet_length, uint8_t *work, size_t work_length, uint8_t *answer,
+                         size_t answer_length, uint64_t *told, size_t told_length);
+
+static unsigned checks, failed;
+
+static void check(int holds, const char *what, long of) {
+    checks++;
+    if (!holds) {
+        failed++;
+        printf("does not hold: %s, of %ld\n", what, of);
+    }
+}
+
+uint32_t watched_clash(const uint8_t *sheet, size_t sheet_length, uint8_t *work, size_t work_length, uint8_t *answer,
+                       size_t answer_length, uint64_t *told, size_t told_length) {
+    check(sheet != NULL, "the sheet's pointer is not null", (long)sheet_length);
+    check(work != NULL, "the working buffer's pointer is not null", (long)work_length);
+    check(answer != NULL, "the answer buffer's pointer is not null", (long)answer_length);
+    check(told != NULL, "the pointer of what is told is not null", (long)told_length);
+    return bradovusc_clash(sheet, sheet_length, work, work_length, answer, answer_length, told, told_length);
+}
+
+/* ---- the texts of the numbers */
+
+static const struct {
+    uint32_t number;
+    const char *text;
+} texts[] = {
+    {0, "clash"},
+    {1, "no clash"},
+    {11, "the sheet is cut short"},
+    {12, "a wrong mark, or bytes behind the right side"},
+    {13, "a wrong field number"},
+    {14, "a wrong length"},
+    {15, "not one pattern"},
+    {16, "a pattern with too many leaves"},
+    {17, "a wrong token"},
+    {18, "not decided: no room for a situation"},
+    {19, "not decided: a side grew too long"},
+    {20, "clash, but the answer buffer is too short for the texts"},
+    {21, "clash, but a text is too long for its record"},
+};
+
+static void try_texts(void) {
+    static const char none[] = "no number of an answer";
+    uint32_t number;
+    size_t next = 0;
+    for (number = 0; number < 1000; number++) {
+        const char *expected = none;
+        if (next < sizeof texts / sizeof *texts && texts[next].number == number) {
+            expected = texts[next++].text;
+        }
+        check(strcmp(bradovusc_text(number), expected) == 0, "the text of a number", (long)number);
+    }
+    check(next == 13, "13 numbers have a text", (long)next);
+    check(strcmp(bradovusc_text(UINT32_MAX), none) == 0, "the greatest number has no text", -1);
+}
+
+/* ---- the signs */
+
+static int sign_of(int value) {
+    static const char others[] = {'-', '.', ' ', '$', '/', '+', '%'};
+    if (value < 10) {
+        return '0' + value;
+    }
+    return value < 36 ? 'A' + (value - 10) : others[value - 36];
+}
+
+static void try_signs(void) {
+    int value, sign, found = 0;
+    for (value = 0; value < 43; value++) {
+        check(bradovusc_sign((unsigned)value) == sign_of(value), "the sign of a value", value);
+        check(bradovusc_value(sign_of(value)) == value, "the value of a sign", value);
+        check(bradovusc_signs[value] == sign_of(value), "the table of signs", value);
+    }
+    check(strlen(bradovusc_signs) == 43, "43 signs", (long)strlen(bradovusc_signs));
+    for (value = 43; value < 1000; value++) {
+        check(bradovusc_sign((unsigned)value) == -1, "no sign of a value", value);
+    }
+    check(bradovusc_sign((unsigned)-1) == -1, "no sign of the greatest value", -1);
+    for (sign = -300; sign < 300; sign++) {
+        value = bradovusc_value(sign);
+        check(value == -1 || (value >= 0 && value < 43 && sign_of(value) == sign), "the value of a sign, or none", sign);
+        found += value != -1;
+    }
+    check(found == 43, "43 signs have a value", found);
+}
+
+/* ---- the walk over records */
+
+/* How many records there are in the first `written` of these bytes, which stand in memory that ends behind them. */
+static int records_in(const uint8_t *bytes, size_t written) {
+    uint8_t *exact = (uint8_t *)malloc(written > 0 ? written : 1);
+    struct bradovusc_records records;
+    int found = 0;
+    if (exact == NULL) {
+        fputs("header: no memory\n", stderr);
+        exit(EXIT_FAILURE);
+    }
+    memcpy(exact, bytes, written);
+    records = bradovusc_records_in(exact, written);
+    while (bradovusc_next(&records)) {
+        size_t end = (size_t)(records.values - exact) + records.length;
+        check(end <= written, "a text ends within what was written", (long)end);
+        check(end == written - records.rest_length, "the walk goes on behind the text", (long)end);
+        found++;
+    }
+    check(!bradovusc_next(&records), "a walk that is over stays so", (long)written);
+    free(exact);
+    return found;
+}
+
+static void try_records(void) {
+    /* field 0: no character; field 3: two of them; field 7: 256 of them */
+    static uint8_t bytes[5 + 7 + 261] = {'V', 'A', 0, 0, 0, 'V', 'A', 3, 2, 0, 42, 4, 'V', 'A', 7, 0, 1};
+    static const uint8_t wrong_first[] = {'W', 'A', 0, 0, 0}, wrong_second[] = {'V', 'B', 0, 0, 0};
+    static const uint8_t too_long[] = {'V', 'A', 0, 255, 255, 1, 2};
+    struct bradovusc_records records = bradovusc_records_in(bytes, sizeof bytes);
+    size_t written;
+    bytes[sizeof bytes - 1] = 9;
+
+    check(bradovusc_next(&records) && records.field == 0 && records.length == 0, "the first record", 0);
+    check(bradovusc_next(&records) && records.field == 3 && records.length == 2, "the second record", 3);
+    check(records.values == bytes + 10 && records.values[0] == 42 && records.values[1] == 4, "the second text", 3);
+    check(bradovusc_next(&records) && records.field == 7 && records.length == 256, "the third record", 7);
+    check(records.values[255] == 9, "the third text", 7);
+    check(!bradovusc_next(&records), "the end", 0);
+
+    for (written = 0; written <= sizeof bytes; written++) {
+        int expected = (written >= 5) + (written >= 12) + (written >= 273);
+        check(records_in(bytes, written) == expected, "the whole records of those cut short", (long)written);
+    }
+    check(records_in(wrong_first, sizeof wrong_first) == 0, "another first letter", 0);
+    check(records_in(wrong_second, sizeof wrong_second) == 0, "another second letter", 0);
+    check(records_in(too_long, sizeof too_long) == 0, "a text longer than what was written", 0);
+    records = bradovusc_records_in(NULL, 0);
+    check(!bradovusc_next(&records), "no record in nothing", 0);
+}
+
+/* ---- null pointers of length 0 */
+
+static uint8_t work[BRADOVUSC_WORK_BYTES(6)], answer[12];
+
+static int is(struct bradovusc_answer given, uint32_t number, uint64_t count, uint64_t place, uint64_t written) {
+    return given.number == number && given.count == count && given.place == place && given.written == written;
+}
+
+static void try_null(void) {
+    /* sheet S of the rules; both sides empty; the same with a byte too many */
+    static const uint8_t s[] = {'P', 'A', 0, 4, 68, 65, 0, 9, 'P', 'A', 1, 1, 4, 'L', 'E', 1, 64, 'R', 'I', 1, 65};
+    static const uint8_t empty[] = {'L', 'E', 0, 'R', 'I', 0}, one_more[] = {'L', 'E', 0, 'R', 'I', 0, 0};
+    static const uint8_t records[] = {'V', 'A', 0, 1, 0, 4, 'V', 'A', 1, 1, 0, 4};
+    uint64_t told[] = {7, 7, 7, 7};
+
+    check(is(bradovusc_ask(s, sizeof s, work, sizeof work, answer, sizeof answer), 0, 6, 0, 12), "no null pointer", 0);
+    check(memcmp(answer, records, sizeof records) == 0, "the answer's bytes", 0);
+    check(is(bradovusc_ask(NULL, 0, work, sizeof work, answer, sizeof answer), 11, 0, 0, 0), "no sheet", 0);
+    check(is(bradovusc_ask(s, sizeof s, NULL, 0, answer, sizeof answer), 18, 0, 0, 0), "no working buffer", 0);
+    check(is(bradovusc_ask(s, sizeof s, work, sizeof work, NULL, 0), 20, 6, 0, 0), "no answer buffer", 0);
+    check(is(bradovusc_ask(empty, sizeof empty, work, sizeof work, NULL, 0), 0, 1, 0, 0), "none needed", 0);
+    check(is(bradovusc_ask(one_more, sizeof one_more, NULL, 0, NULL, 0), 12, 0, 6, 0), "a place, and no buffer", 0);
+    check(is(bradovusc_ask(NULL, 0, NULL, 0, NULL, 0), 11, 0, 0, 0), "nothing at all", 0);
+    check(bradovusc_clash_or_null(s, sizeof s, work, sizeof work, answer, sizeof answer, NULL, 0) == 0, "nothing told", 0);
+    check(bradovusc_clash_or_null(NULL, 0, NULL, 0, NULL, 0, NULL, 0) == 11, "nothing at all, nothing told", 0);
+    check(bradovusc_clash_or_null(s, sizeof s, work, sizeof work, NULL, 0, told, 4) == 20, "told as well", 0);
+    check(told[0] == 6 && told[1] == 0 && told[2] == 0 && told[3] == 7, "three numbers told, no more", 0);
+}
+
+int main(void) {
+    char version[64];
+    snprintf(version, sizeof version, "%d.%d.%d", BRADOVUSC_VERSION_MAJOR, BRADOVUSC_VERSION_MINOR, BRADOVUSC_VERSION_PATCH);
+    check(strcmp(version, BRADOVUSC_VERSION) == 0, "the version's string", 0);
+    check(BRADOVUSC_WORK_BYTES(455) == 65520, "455 situations of work", 455);
+    check(BRADOVUSC_ANSWER_BYTES(455) == 3680, "an answer buffer for them", 455);
+    try_texts();
+    try_signs();
+    try_records();
+    try_null();
+    printf("%u checks, %u failed\n", checks, failed);
+    return failed == 0 ? EXIT_SUCCESS : EXIT_FAILURE;
+}

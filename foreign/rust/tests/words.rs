@@ -1,0 +1,100 @@
+//! Numbers in words, signs, texts of records cut short, the version: as the C header has them.
+
+use bradovusc::{sign, texts, value, Answer, Fault, Text, SIGNS, VERSION};
+
+const HEADER: &str = include_str!("../../c/bradovusc.h");
+
+const FAULTS: [Fault; 7] = [
+    Fault::CutShort,
+    Fault::WrongMark,
+    Fault::WrongField,
+    Fault::WrongLength,
+    Fault::NotOnePattern,
+    Fault::TooManyLeaves,
+    Fault::WrongToken,
+];
+
+/// The answers that are no fault of the sheet, with count 7.
+const OTHERS: [Answer; 6] = [
+    Answer::Clash { count: 7, written: 9 },
+    Answer::NoClash { count: 7 },
+    Answer::NoRoom { count: 7 },
+    Answer::SideTooLong { count: 7 },
+    Answer::AnswerTooShort { count: 7 },
+    Answer::TextTooLong { count: 7 },
+];
+
+/// The number and the text that the header has behind each `case`.
+fn header_texts() -> Vec<(u32, &'static str)> {
+    let number = |name: &str| {
+        let (_, behind) = HEADER.split_once(&format!("{name} = ")).unwrap();
+        behind.split([',', '\n']).next().unwrap().parse().unwrap()
+    };
+    let case = |case: &'static str| {
+        let (name, behind) = case.split_once(':').unwrap();
+        (number(name), behind.split('"').nth(1).unwrap())
+    };
+    HEADER.split("case ").skip(1).map(case).collect()
+}
+
+#[test]
+fn answers_in_words() {
+    let expected = header_texts();
+    assert_eq!(expected.len(), 13);
+    let faults = FAULTS.map(|fault| (fault.number(), fault.to_string()));
+    let others = OTHERS.map(|answer| (answer.number(), answer.to_string()));
+    let mut ours = [&faults[..], &others].concat();
+    ours.sort();
+    assert!(ours.iter().map(|(number, text)| (*number, text.as_str())).eq(expected));
+}
+
+#[test]
+fn a_sheet_at_fault_in_words() {
+    for fault in FAULTS {
+        let answer = Answer::Refused { fault, place: 13 };
+        assert_eq!(answer.to_string(), format!("{fault}, in the record at offset 13"));
+        assert_eq!((answer.number(), answer.count(), answer.written()), (fault.number(), 0, 0));
+        assert_eq!(answer.clashes(), None);
+    }
+}
+
+#[test]
+fn what_is_decided() {
+    assert!(OTHERS.iter().all(|answer| answer.count() == 7));
+    assert_eq!(OTHERS.map(Answer::written), [9, 0, 0, 0, 0, 0]);
+    let decided = OTHERS.map(Answer::clashes);
+    assert_eq!(decided, [Some(true), Some(false), None, None, Some(true), Some(true)]);
+}
+
+#[test]
+fn signs_both_ways() {
+    let signs: String = ('0'..='9').chain('A'..='Z').chain("-. $/+%".chars()).collect();
+    assert_eq!(signs.as_bytes(), SIGNS);
+    for (at, each) in (0..).zip(signs.chars()) {
+        assert_eq!((sign(at), value(each)), (Some(each), Some(at)));
+    }
+    assert!((43..=255).all(|value| sign(value).is_none()));
+    let found = ('\0'..='\u{FFFF}').filter(|&sign| value(sign).is_some());
+    assert_eq!(found.count(), 43);
+}
+
+#[test]
+fn records_cut_short() {
+    let records = b"VA\x00\x00\x00VA\x03\x02\x00\x2A\x04";
+    let first = Text { field: 0, values: &[] };
+    let second = Text { field: 3, values: &[42, 4] };
+    for written in 0..=records.len() {
+        let whole = usize::from(written >= 5) + usize::from(written >= 12);
+        let found: Vec<Text> = texts(&records[..written]).collect();
+        assert_eq!(found, [first, second][..whole], "{written} bytes");
+    }
+    assert_eq!(second.to_string(), "%4");
+    assert_eq!(texts(b"WA\x00\x00\x00").next(), None);
+    assert_eq!(texts(b"VB\x00\x00\x00").next(), None);
+    assert_eq!(texts(b"VA\x00\xFF\xFF\x01\x02").next(), None);
+}
+
+#[test]
+fn one_version() {
+    assert!(HEADER.contains(&format!("#define BRADOVUSC_VERSION \"{VERSION}\"\n")));
+}

@@ -1,0 +1,156 @@
+//! Cases whose lines tell wrong printers apart: the stored cases of the crate
+//! `printed_many`, and as the first one the stored sheet of `clash`.
+
+use crate::cases::Case;
+use crate::{CODE_39, SITUATION_BYTES};
+
+/// "lends 65,520 bytes of work (455 situations) and 4,096 of answer"
+const ROOM: usize = 455;
+const ANSWER: u32 = 4_096;
+
+const A: u8 = 10;
+const B: u8 = 11;
+
+/// The token of a field.
+const fn field(number: u8) -> u8 {
+    64 + number
+}
+
+pub fn cases() -> Vec<Case> {
+    let seven: Vec<(u8, Vec<u8>)> = (0..7).map(|number| (number, full(0, 42))).collect();
+    let eight: Vec<(u8, Vec<u8>)> = (0..8).map(|number| (number, full(0, 42))).collect();
+    let fields: Vec<u8> = (0..8).map(field).collect();
+    // Every second field holds a digit, the others the empty text.
+    let holding = |number: u8| vec![[number, 64][usize::from(number % 2)]];
+    let held: Vec<(u8, Vec<u8>)> = (0..8).map(|number| (number, holding(number))).collect();
+    vec![
+        plain(long_texts()),
+        // sheet S
+        plain(sheet(&[(0, vec![68, 65, 0, 9]), (1, vec![4])], &[field(0)], &[field(1)])),
+        plain(every_sign()),
+        // texts of 255 characters, and of 256
+        plain(meeting(16, 15, 17, 0)),
+        plain(meeting(16, 0, 17, 1)),
+        // all fields, empty texts between the others and at the end
+        plain(sheet(&held, &fields, &[0, 2, 4, 6])),
+        // no field
+        plain(sheet(&[], &[], &[])),
+        // no clash
+        plain(sheet(&[], &[A], &[B])),
+        // no room, after 455 situations and for the first
+        plain(sheet(&[], &[field(0), A], &[B, field(1), field(0)])),
+        case(0, ANSWER, sheet(&[], &[field(0), A], &[B, field(0)])),
+        // a side above 48 tokens
+        case(2, ANSWER, sheet(&[], &[field(0); 24], &[A, A])),
+        // an answer buffer too short by one byte, and one just long enough
+        case(ROOM, 11, sheet(&[], &[field(0), field(1)], &[A, B])),
+        case(ROOM, 12, sheet(&[], &[field(0), field(1)], &[A, B])),
+        // 11 at 0 and at 800
+        plain(Vec::new()),
+        plain(records(&eight)),
+        // 12 behind `RI`, and at 700
+        plain([sheet(&[], &[], &[]), vec![0]].concat()),
+        plain([records(&seven), b"PE".to_vec()].concat()),
+        // 13, 14, 15, 16, 17
+        plain([records(&eight), b"PA\x03".to_vec(), vec![1, 0]].concat()),
+        plain([records(&seven[..3]), b"LE".to_vec(), vec![25]].concat()),
+        plain(sheet(&[(0, vec![64]), (1, vec![66, 1])], &[], &[])),
+        plain(sheet(&[(0, full(0, 9)), (7, row(vec![vec![A]; 32]))], &[], &[])),
+        plain(sheet(&seven[..1], &[], &[43])),
+    ]
+}
+
+/// x is `+` 20 times and `%`, any number of times, then 7 times `+`; w is
+/// `-. $/`; y is `+` or `%` 19 times, any number of times, then 5 times more; z
+/// is empty. w x z and `-. $/`y: both long texts have 385 characters, the
+/// search enters the 455th situation at its end, and patterns of fields that
+/// stand nowhere make the sheet longer than 512 bytes.
+fn long_texts() -> Vec<u8> {
+    let (x, w, y, z) = (0, 1, 3, 7);
+    let text = values(b"-. $/");
+    let mut round = vec![values(b"+"); 20];
+    round.push(values(b"%"));
+    let patterns = [
+        (x, many_then(round, vec![values(b"+"); 7])),
+        (w, row(text.iter().map(|&value| vec![value]).collect())),
+        (2, full(0, 9)),
+        (y, many_then(vec![vec![65, 41, 42]; 19], vec![vec![65, 41, 42]; 5])),
+        (4, full(10, 35)),
+        (5, full(36, 42)),
+        (6, full(0, 42)),
+        (z, vec![64]),
+    ];
+    sheet(&patterns, &[field(w), field(x), field(z)], &[text, vec![field(y)]].concat())
+}
+
+/// x is the first 31 characters, z the other 12; xz and y: y is all of them.
+fn every_sign() -> Vec<u8> {
+    let leaves: Vec<Vec<u8>> = (0..43).map(|value| vec![value]).collect();
+    let patterns = [(0, row(leaves[..31].to_vec())), (2, row(leaves[31..].to_vec()))];
+    sheet(&patterns, &[field(0), field(2)], &[field(1)])
+}
+
+/// x has any number of times p and then r times `A`, y the same with q and s.
+fn meeting(p: usize, r: usize, q: usize, s: usize) -> Vec<u8> {
+    let times = |n: usize| vec![vec![A]; n];
+    let patterns = [(0, many_then(times(p), times(r))), (1, many_then(times(q), times(s)))];
+    sheet(&patterns, &[field(0)], &[field(1)])
+}
+
+// ------------------------------------------------------------------ writing
+
+fn plain(sheet: Vec<u8>) -> Case {
+    case(ROOM, ANSWER, sheet)
+}
+
+fn case(room: usize, answer: u32, sheet: Vec<u8>) -> Case {
+    Case { work: (room * SITUATION_BYTES) as u32, answer, sheet }
+}
+
+fn sheet(patterns: &[(u8, Vec<u8>)], left: &[u8], right: &[u8]) -> Vec<u8> {
+    let mut sheet = records(patterns);
+    for (mark, tokens) in [(b"LE", left), (b"RI", right)] {
+        sheet.extend_from_slice(mark);
+        sheet.push(tokens.len() as u8);
+        sheet.extend_from_slice(tokens);
+    }
+    sheet
+}
+
+fn records(patterns: &[(u8, Vec<u8>)]) -> Vec<u8> {
+    let mut records = Vec::new();
+    for (number, body) in patterns {
+        records.extend_from_slice(b"PA");
+        records.extend([*number, body.len() as u8]);
+        records.extend_from_slice(body);
+    }
+    records
+}
+
+/// The characters' values.
+fn values(text: &[u8]) -> Vec<u8> {
+    let value = |sign: &u8| CODE_39.iter().position(|other| other == sign).unwrap() as u8;
+    text.iter().map(value).collect()
+}
+
+/// These patterns one after the other.
+fn row(parts: Vec<Vec<u8>>) -> Vec<u8> {
+    let mut parts = parts.into_iter().rev();
+    let last = parts.next().unwrap_or(vec![64]);
+    parts.fold(last, |rest, part| [vec![66], part, rest].concat())
+}
+
+/// A row any number of times, and then another.
+fn many_then(round: Vec<Vec<u8>>, end: Vec<Vec<u8>>) -> Vec<u8> {
+    let many = [vec![68], row(round)].concat();
+    if end.is_empty() {
+        many
+    } else {
+        row(vec![many, row(end)])
+    }
+}
+
+/// A pattern of 96 bytes: 24 characters of a range, any number of times.
+fn full(lo: u8, hi: u8) -> Vec<u8> {
+    many_then(vec![vec![65, lo, hi]; 24], Vec::new())
+}
