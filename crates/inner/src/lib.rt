@@ -15,5 +15,8 @@ pub const RIGHT_STRUCK: u8 = 255;
 // "a side above 48 tokens gives 19"
 pub const LONGEST_SIDE: usize = 48;
 
+// "field byte 0 to 7": how many fields a sheet may name, and so an answer may have
+pub const SHEET_FIELDS: usize = 8;
+
 // how many fields a situation has place sets for
-pub const FIELDS: usize = 8;
+pub const FIELDS: usize = SHEET_FIELDS;

@@ -1,3 +1,3 @@
 pub mod Tests
 pub mod Lists
-pub mod Made
+pub mod Listed

@@ -8,11 +8,11 @@ use mathlib.Core.List.{List, [], _∷_, _++_, map, append-nil, append-assoc}
 use lib.Bits.{bitOr}
 use lib.ListN.{length, getD, set, drop, replicate, length-map, length-set, drop-of-length-le}
 use lib.Seq.{drop-cons, set-at, getD-at}
-use Rattle.paper.proofs.base.Made.{upto-snoc, getD-map-upto}
+use Rattle.paper.proofs.base.Listed.{upto-snoc, getD-map-upto}
 use Rattle.paper.specs.Lists.{from, upto}
 use Rattle.paper.proofs.base.Lists.{cons-eq, length-from, map-append}
 use Rattle.patterns.specs.Masks.{table}
-use Rattle.patterns.specs.Reading.{or-at, Adds}
+use Rattle.patterns.specs.ReadPart.{or-at, Adds}
 
 pub length-table : (f : ℕ → ℕ) (n : ℕ) → length (table f n) ≡ n
 unfolding table

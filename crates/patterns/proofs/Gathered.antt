@@ -10,7 +10,7 @@ use Rattle.paper.specs.Lists.{upto, any}
 use Rattle.paper.proofs.base.Lists.{any-append}
 use Rattle.patterns.specs.Masks.{places, mask-of, in-mask, followers-of}
 use Rattle.patterns.proofs.MaskOf.{mask-of-same, mask-of-or, mask-of-cond, mask-of-none, mask-of-digits}
-use Rattle.paper.proofs.base.Made.{upto-snoc}
+use Rattle.paper.proofs.base.Listed.{upto-snoc}
 
 module _ (masks : List ℕ) (m : ℕ) where
   -- may q follow the place i, and does i stand in the set?

@@ -9,7 +9,7 @@ use lib.Bits.{bitOr}
 use lib.ListN.{length, getD, replicate}
 use Rattle.paper.specs.Pattern.{takes, range}
 use Rattle.patterns.specs.Masks.{places, mask-of, in-mask, masks}
-use Rattle.patterns.specs.Reading.{or-at, Adds, Joins}
+use Rattle.patterns.specs.ReadPart.{or-at, Adds, Joins}
 use Rattle.patterns.proofs.MaskOf.{mask-of-same, mask-of-or, mask-of-cond, mask-of-none, in-mask-of}
 use Rattle.patterns.proofs.Filling.{length-table, getD-table, table-same, table-none}
 

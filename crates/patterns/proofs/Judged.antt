@@ -15,10 +15,10 @@ use Rattle.paper.specs.Places.{leaves, takes-empty, may-be-last, ends-at}
 use Rattle.paper.specs.Written.{Part, no-pattern, part, read-part, not-one-pattern, too-many-leaves, judged, judge-part, judge}
 use Rattle.patterns.specs.Masks.{places, mask-of, table, follow-masks, taking-mask, taking-masks, last-mask}
 use Rattle.patterns.specs.Worked.{worked-of}
-use Rattle.patterns.specs.Reading.{Reads, Working, working, Works, Read-as}
+use Rattle.patterns.specs.ReadPart.{Reads, Working, working, Works, Read-as}
 use Rattle.patterns.specs.declared.Worked.{Worked}
 use Rattle.patterns.specs.declared.Verdict.the-variants.{Good}
-use Rattle.patterns.specs.declared.reader.Reading.{Reading}
+use Rattle.patterns.specs.declared.reader.ReadPart.{ReadPart}
 use Rattle.patterns.proofs.MaskOf.{mask-of-same, mask-of-or, mask-of-cond}
 use Rattle.patterns.proofs.Joining.{joins-all}
 
@@ -37,7 +37,7 @@ last-at p (suc i) =
     ∙ or-false (may-be-last p 1 (suc i))
 
 -- What a reading r of all the bytes says, and the tables v that it has filled.
-module _ (r : Reading) (v : Working) where
+module _ (r : ReadPart) (v : Working) where
   part-bad : (x : Part) → Read-as x 1 unworked v r → r .ok ≡ false → judge-part x ≡ not-one-pattern
   part-bad no-pattern h z = refl
   part-bad (part p rest) h z = absurd (true-false (h .0 .ok) z)

@@ -6,7 +6,7 @@ pub mod Joining
 pub mod Masks
 -- reading a pattern's bytes
 pub mod Behind
-pub mod Readings
+pub mod ReadParts
 pub mod Judged
 -- the followers of a set
 pub mod Gathered

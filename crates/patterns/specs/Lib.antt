@@ -1,3 +1,3 @@
 pub mod Masks
 pub mod Worked
-pub mod Reading
+pub mod ReadPart

@@ -6,7 +6,7 @@ ghost use lib.Dec.{eqb};
 ghost use Rattle.paper.specs.Numbers.{characters};
 ghost use Rattle.paper.specs.Pattern.{takes, range};
 ghost use Rattle.patterns.specs.Masks.{places, mask-of, in-mask, table};
-ghost use Rattle.patterns.specs.Reading.{Adds};
+ghost use Rattle.patterns.specs.ReadPart.{Adds};
 
 // "31 leaves and the start make 32 places".
 pub const PLACES: usize = 32;

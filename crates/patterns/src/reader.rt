@@ -13,7 +13,7 @@ ghost use lib.ListN.{length, getD};
 ghost use Rattle.paper.specs.Numbers.{then-code};
 ghost use Rattle.paper.specs.Pattern.{empty, then, either};
 ghost use Rattle.paper.specs.Written.{read-range};
-ghost use Rattle.patterns.specs.Reading.{working, Read-as, Reading-of, Single, Leaf-read, Joined, Repeated};
+ghost use Rattle.patterns.specs.ReadPart.{working, Read-as, Reading-of, Single, Leaf-read, Joined, Repeated};
 
 // "0 to 42: that character".
 const CHARACTER_END: u8 = CHARACTERS as u8;
@@ -29,7 +29,7 @@ const MANY_CODE: u8 = 68;
 
 // What the pattern at the front of some bytes comes to, where its first leaf is at a given place. Which places may follow its leaves, and
 // which characters these take, is joined to tables that are lent.
-pub struct Reading {
+pub struct ReadPart {
     // there is one
     pub ok: bool,
     // the bytes left behind it
@@ -43,12 +43,12 @@ pub struct Reading {
     pub last: u32,
 }
 
-impl Reading {
+impl ReadPart {
     // No pattern.
     fn none() -> Self
         ensures { λ r. ⌜ r .ok ≡ false ⌝ }
     {
-        Reading {
+        ReadPart {
             ok: false,
             left: 0,
             next: 0,
@@ -62,7 +62,7 @@ impl Reading {
     fn empty(left: usize, o: usize) -> Self
         ensures { λ r. ⌜ Single empty left o r ⌝ }
     {
-        Reading {
+        ReadPart {
             ok: true,
             left,
             next: o,
@@ -79,7 +79,7 @@ impl Reading {
     {
         let set = place(o);
         mark(taking, lo, hi, set);
-        Reading {
+        ReadPart {
             ok: true,
             left,
             next: o + 1,
@@ -90,7 +90,7 @@ impl Reading {
     }
 
     // "67 A B: A or B"
-    fn or(self, b: Reading) -> Self
+    fn or(self, b: ReadPart) -> Self
         ensures { λ r. ⌜ Joined either self b r ⌝ }
     {
         let mut r = b;
@@ -101,7 +101,7 @@ impl Reading {
     }
 
     // "66 A B: A then B": B may not be first unless A may be empty, and A may not be last unless B may be.
-    fn then(self, b: Reading) -> Self
+    fn then(self, b: ReadPart) -> Self
         ensures { λ r. ⌜ Joined then self b r ⌝ }
     {
         let mut r = b;
@@ -122,40 +122,40 @@ impl Reading {
 }
 
 // "65 lo hi: one character with lo ≤ value ≤ hi ≤ 42": what stands behind the 65.
-fn read_range(s: &[u8], o: usize, taking: &mut [u32; CHARACTERS]) -> Reading
+fn read_range(s: &[u8], o: usize, taking: &mut [u32; CHARACTERS]) -> ReadPart
     requires { ⌜ o + 1 < 2 ^ 64 ⌝ }
     ensures { λ r. ⌜ ((follow : List ℕ) → Read-as (read-range (now (s .entry))) o (working follow (now (taking .entry))) (working follow (now (taking .exit))) r) ⌝ }
 {
     if s.len() < 2 {
-        return Reading::none();
+        return ReadPart::none();
     }
     let lo = s[0];
     let hi = s[1];
     if hi < lo {
-        return Reading::none();
+        return ReadPart::none();
     }
     if CHARACTER_END <= hi {
-        return Reading::none();
+        return ReadPart::none();
     }
-    Reading::leaf(taking, s.len() - 2, o, lo, hi)
+    ReadPart::leaf(taking, s.len() - 2, o, lo, hi)
 }
 
 // A pattern that has no part: a leaf or the empty text.
-fn read_single(s: &[u8], o: usize, taking: &mut [u32; CHARACTERS]) -> Reading
+fn read_single(s: &[u8], o: usize, taking: &mut [u32; CHARACTERS]) -> ReadPart
     requires { ⌜ (o + length (now s) < 2 ^ 64) × (0 < length (now s)) × (getD (now s) 0 0 < then-code) ⌝ }
     ensures { λ r. ⌜ ((follow : List ℕ) → Reading-of (now (s .entry)) o (working follow (now (taking .entry))) (working follow (now (taking .exit))) r) ⌝ }
 {
     let b = s[0];
     if b < CHARACTER_END {
-        return Reading::leaf(taking, s.len() - 1, o, b, b);
+        return ReadPart::leaf(taking, s.len() - 1, o, b, b);
     }
     if b == EMPTY_CODE {
-        return Reading::empty(s.len() - 1, o);
+        return ReadPart::empty(s.len() - 1, o);
     }
     if b == RANGE_CODE {
         return read_range(&s[1..], o, taking);
     }
-    Reading::none()
+    ReadPart::none()
 }
 
 // The pattern at the front of the bytes, its first leaf at the place o. "A or B, each again a pattern": reading, nullability
@@ -166,19 +166,19 @@ pub fn read(
     o: usize,
     follow: &mut [u32; PLACES],
     taking: &mut [u32; CHARACTERS],
-) -> Reading
+) -> ReadPart
     requires { ⌜ o + length (now s) < 2 ^ 64 ⌝ }
     ensures { λ r. ⌜ Reading-of (now (s .entry)) o (working (now (follow .entry)) (now (taking .entry))) (working (now (follow .exit)) (now (taking .exit))) r ⌝ }
 {
     if s.len() == 0 {
-        return Reading::none();
+        return ReadPart::none();
     }
     let b = s[0];
     if b < THEN_CODE {
         return read_single(s, o, taking);
     }
     if MANY_CODE < b {
-        return Reading::none();
+        return ReadPart::none();
     }
     let first = read(&s[1..], o, follow, taking);
     if !first.ok {

@@ -15,7 +15,7 @@ use Rattle.bradovusc.specs.declared.Answer.{Answer}
 use Rattle.bradovusc.specs.declared.Numbers.{Numbers}
 use Rattle.printing.specs.Lines.{Prints, longest-first-line, lined-as, lined, no-work, no-answer}
 use Rattle.printing.specs.Writing.{Puts, Puts-lines, numbers-line, lines-of}
-use Rattle.printing.specs.declared.Made.the-variants.{Bytes, NoRoom}
+use Rattle.printing.specs.declared.Filled.the-variants.{Bytes, NoRoom}
 use Rattle.printing.proofs.Putting.{puts-then, puts-in-front}
 use Rattle.printing.proofs.Walked.{numbers-line-length, take-min}
 

@@ -9,8 +9,8 @@ use Rattle.paper.specs.Numbers.{program-work, program-answer}
 use Rattle.paper.specs.Outcome.{Outcome, outcome}
 use Rattle.paper.specs.Printed.{printed-of}
 use Rattle.printing.specs.Writing.{most-digits}
-use Rattle.printing.specs.declared.Made.{Made}
-use Rattle.printing.specs.declared.Made.the-variants.{Bytes, NoRoom}
+use Rattle.printing.specs.declared.Filled.{Filled}
+use Rattle.printing.specs.declared.Filled.the-variants.{Bytes, NoRoom}
 
 -- three numbers of at most 20 digits, a sign behind each
 abbrev pub longest-first-line : ℕ
@@ -29,12 +29,12 @@ pub record Prints (l before after : List ℕ) (n : ℕ) : Type 0 where
 
 -- what is said of the lines, and the three buffers afterwards
 pub record Lined : Type 0 where
-  pub said : Made
+  pub said : Filled
   pub out : List ℕ
   pub answer : List ℕ
   pub work : List ℕ
 
-abbrev pub lined-as : Made → List ℕ → List ℕ → List ℕ → Lined
+abbrev pub lined-as : Filled → List ℕ → List ℕ → List ℕ → Lined
 lined-as said out answer work = record { said = said; out = out; answer = answer; work = work }
 
 abbrev pub lined-of : Outcome → List ℕ → Lined

@@ -22,7 +22,7 @@ pub const FIRST_LINE: usize = 3 * (DIGITS + 1);
 pub const PRINTED: usize = FIRST_LINE + ANSWER;
 
 // So many bytes of lines, or no room for the longest.
-pub enum Made {
+pub enum Filled {
     Bytes(usize),
     NoRoom,
 }
@@ -51,15 +51,15 @@ fn zeroed_answer() -> [u8; ANSWER]
 }
 
 // The lines for a sheet and two lent buffers. Where `out` has no room for the longest, nothing is asked and nothing changed.
-pub fn lines(sheet: &[u8], work: &mut [u8], answer: &mut [u8], out: &mut [u8]) -> Made
+pub fn lines(sheet: &[u8], work: &mut [u8], answer: &mut [u8], out: &mut [u8]) -> Filled
     ensures { λ r. ⌜ lined-as r (now (out .exit)) (now (answer .exit)) (now (work .exit)) ≡ lined (now (sheet .entry)) (now (work .entry)) (now (answer .entry)) (now (out .entry)) ⌝ }
 {
     if out.len() < FIRST_LINE {
-        return Made::NoRoom;
+        return Filled::NoRoom;
     }
     if out.len() - FIRST_LINE < answer.len() {
-        return Made::NoRoom;
+        return Filled::NoRoom;
     }
     let told = bradovusc::in_numbers(bradovusc::clash(sheet, work, answer));
-    Made::Bytes(put_lines(out, told, answer))
+    Filled::Bytes(put_lines(out, told, answer))
 }

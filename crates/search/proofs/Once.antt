@@ -8,7 +8,7 @@ use mathlib.Core.Path.{_≡_, refl, sym, ap, _∙_, subst}
 use mathlib.Core.List.{List, [], _∷_, List·Memᴰ}
 use lib.ListN.{length, getD, length-map, List·getD-map}
 use Rattle.paper.proofs.base.Lists.{NoDup, more, mem-any}
-use Rattle.paper.proofs.base.Made.{getD-mem}
+use Rattle.paper.proofs.base.Listed.{getD-mem}
 use Rattle.paper.proofs.search.Searched.{entries-different}
 use Rattle.paper.proofs.base.Tests.{true-false}
 use Rattle.search.specs.Buckets.{Entered-at}

@@ -21,7 +21,7 @@ use Rattle.paper.specs.Situation.{Situation, Move, same-situation, finished, ch
 use Rattle.paper.specs.Way.{text-along, texts-of, search-from}
 use Rattle.paper.specs.Question.{Question, held-by, acceptor}
 use Rattle.paper.specs.Outcome.{searched, count-of, how-of}
-use Rattle.paper.proofs.base.Made.{getD-mem}
+use Rattle.paper.proofs.base.Listed.{getD-mem}
 use Rattle.paper.proofs.sheets.Asked.{GoodHeld, GoodQuestion}
 use Rattle.paper.proofs.equations.Same.{situation-equal, situation-same}
 use Rattle.paper.proofs.places.PlaceSets.{same-equal, equal-same}

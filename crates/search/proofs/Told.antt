@@ -22,7 +22,7 @@ use Rattle.paper.specs.Question.{Question, acceptor}
 use Rattle.paper.specs.Outcome.{searched, standing, value-record, records, some-text-too-long, cleared, without-bytes, clash, answered, count-of, how-of}
 use Rattle.paper.proofs.sheets.Asked.{GoodQuestion}
 use Rattle.paper.proofs.base.Lists.{mem-keep, mem-upto, map-append}
-use Rattle.paper.proofs.base.Made.{getD-map-upto, any-same, keep-same, each-same}
+use Rattle.paper.proofs.base.Listed.{getD-map-upto, any-same, keep-same, each-same}
 use Rattle.inner.specs.Inner.{field-code, token-code, side-code}
 use Rattle.situations.specs.Coded.{first-mask, first-masks, question-coded}
 use Rattle.situations.specs.Coding.{tables-of}

@@ -3,4 +3,4 @@ pub mod Hashed
 pub mod Kept
 pub mod Links
 pub mod Newest
-pub mod Written
+pub mod Stored

@@ -1,5 +1,5 @@
 pub mod Compared
-pub mod Held
+pub mod Seen
 pub mod Keys
 pub mod Parts
 pub mod Rows

@@ -7,6 +7,7 @@ use crate::slots::parent_of;
 use crate::slots::step_of;
 use inner::FIELD_CODE;
 use inner::FIELDS;
+use inner::SHEET_FIELDS;
 use patterns::CHARACTERS;
 ghost use mathlib.Core.Path.{_≡_};
 ghost use Prim.Native.Nat.{_<_, _≤_};
@@ -18,9 +19,6 @@ ghost use Rattle.situations.specs.Coded.{given-coded};
 ghost use Rattle.search.specs.Slots.{slot-at};
 ghost use Rattle.search.specs.Records.{Way-to, Steps-back, Record-fits, Record-written, Records-fit, Answered};
 ghost use Rattle.search.specs.Records.{text-at, record-mark, mark-bytes, record-head, head-bytes, in-front, text-above, value-records};
-
-// how many fields a sheet may name, and so an answer may have
-const SHEET_FIELDS: usize = 8;
 
 // Mark and field of a record, and its length.
 const MARK: usize = 3;

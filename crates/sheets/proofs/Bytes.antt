@@ -13,7 +13,7 @@ use Rattle.paper.specs.Numbers.{characters, fields, field-token, longest-side}
 use Rattle.paper.specs.Sheet.{is-token, token}
 use Rattle.paper.proofs.base.Tests.{and-left, and-right, leb-true, ltb-true, le-ltb}
 use Rattle.paper.proofs.base.Lists.{all-true}
-use Rattle.paper.proofs.base.Made.{getD-mem}
+use Rattle.paper.proofs.base.Listed.{getD-mem}
 use Rattle.inner.specs.Inner.{no-token, token-code, side-code, padded}
 use Rattle.sheets.specs.Read.{code-of}
 

@@ -11,7 +11,7 @@ use Rattle.paper.specs.Numbers.{fields}
 use Rattle.paper.specs.Pattern.{Held, any-text}
 use Rattle.paper.specs.Sheet.{Reading, LE, body, token, left-read, read-sheet}
 use Rattle.paper.proofs.base.Lists.{length-from}
-use Rattle.paper.proofs.base.Made.{getD-map-upto}
+use Rattle.paper.proofs.base.Listed.{getD-map-upto}
 use Rattle.inner.specs.Inner.{side-code, padded}
 use Rattle.patterns.specs.Worked.{worked-out}
 use Rattle.patterns.specs.declared.PlaceTables.{PlaceTables}

@@ -16,7 +16,7 @@ use Rattle.paper.specs.Search.{Child}
 use Rattle.paper.specs.Equation.{chr, fld, Side}
 use Rattle.paper.specs.Situation.{Acceptor, Situation, Kind, is-finished, is-dead, is-open, Move, strike-left, strike-right, put, trim, kind-of, front-field, front-fields, trimmed, kind, strike, strike-all, put-before, put-before-all, front-may-end, front-takes, open-moves, moves-of, side-above, kept, child-by, children}
 use Rattle.paper.specs.Question.{Question, held-by, acceptor}
-use Rattle.paper.proofs.base.Made.{each-append, each-same, keep-none}
+use Rattle.paper.proofs.base.Listed.{each-append, each-same, keep-none}
 use Rattle.paper.proofs.base.Tests.{by-bool, true-false, not-true, and-left, and-right, lt-ltb, eqb-true, eqb-same, eqb-false}
 use Rattle.paper.proofs.base.Lists.{map-append, mem-upto}
 use Rattle.paper.proofs.equations.Moves.{other-front}

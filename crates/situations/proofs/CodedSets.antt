@@ -18,7 +18,7 @@ use Rattle.paper.specs.Question.{Question, held-by, acceptor}
 use Rattle.paper.proofs.base.Tests.{by-bool, same-tests, lt-ltb, neq-eqb, eq-eqb, eqb-true, eqb-false}
 use Rattle.paper.proofs.base.Lists.{cons-eq}
 use Rattle.paper.proofs.places.PlaceSets.{same-equal, equal-same}
-use Rattle.paper.proofs.base.Made.{getD-map-upto}
+use Rattle.paper.proofs.base.Listed.{getD-map-upto}
 use Rattle.patterns.proofs.Masks.{Masked, Few, mask-same, mask-empty, mask-may-end, mask-after, taking-at}
 use Rattle.patterns.specs.Masks.{mask, follow-masks, taking-masks, last-mask}
 use Rattle.inner.specs.Inner.{field-code, no-token, side-code, field-of, front}

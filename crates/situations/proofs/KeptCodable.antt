@@ -17,7 +17,7 @@ use Rattle.paper.specs.Situation.{Situation, Move, front-field, front-fields, t
 use Rattle.paper.specs.Question.{Question, held-by, acceptor}
 use Rattle.paper.proofs.base.Tests.{by-bool, cond-by, ltb-true, ltb-false}
 use Rattle.paper.proofs.base.Lists.{length-from}
-use Rattle.paper.proofs.base.Made.{getD-map-upto}
+use Rattle.paper.proofs.base.Listed.{getD-map-upto}
 use Rattle.paper.proofs.equations.Moves.{other-is-front, Opened, strikes-left, strikes-right, puts, move-opened, child-made}
 use Rattle.paper.proofs.equations.Question.{asked}
 use Rattle.patterns.proofs.Masks.{Masked, Few, masked-first, masked-none, masked-after}

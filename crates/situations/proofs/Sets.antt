@@ -13,7 +13,7 @@ use lib.Seq.{set-out}
 use Rattle.paper.specs.Lists.{upto, member}
 use Rattle.paper.specs.Numbers.{set-fields}
 use Rattle.paper.proofs.base.Lists.{any-append, map-append}
-use Rattle.paper.proofs.base.Made.{from-snoc}
+use Rattle.paper.proofs.base.Listed.{from-snoc}
 use Rattle.paper.proofs.base.Tests.{cond-by, le-leb, lt-leb, ltb-false}
 use Rattle.patterns.specs.Masks.{followers-of, mask-of, in-mask}
 use Rattle.inner.specs.Inner.{field-code, no-token, field-of}

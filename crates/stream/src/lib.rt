@@ -7,7 +7,7 @@ use bradovusc::Numbers;
 use print::print;
 use print::print_number;
 use printing::FIRST_LINE;
-use printing::Made;
+use printing::Filled;
 use printing::PRINTED;
 
 // "65,520 bytes of work (455 situations) and 4,096 of answer", and as much of one more situation as gives no room for it.
@@ -81,12 +81,12 @@ fn show_lines(sheet: &[u8], work: &mut [u8], answer: &mut [u8]) {
 fn print_lines(sheet: &[u8], work: &mut [u8], answer: &mut [u8], out: &mut [u8]) {
     let made = printing::lines(sheet, work, answer, out);
     match made {
-        Made::Bytes(n) => {
+        Filled::Bytes(n) => {
             if n <= out.len() {
                 print(&out[0..n]);
             }
         }
-        Made::NoRoom => print(b"no room\n"),
+        Filled::NoRoom => print(b"no room\n"),
     }
 }
 

@@ -20,7 +20,7 @@ use Rattle.paper.specs.Situation.{Acceptor, Situation, Sides, trim, stri
 use Rattle.paper.specs.Plain.{Reaches}
 use Rattle.paper.proofs.plain.Tails.{whole, tail-rest, tail-length, tail-stands, tail-once, front-once, stands-front, stands-left, stands-right, Plain, swap-plain}
 use Rattle.paper.proofs.plain.Standings.{Fresh, Stands, Reached}
-use Rattle.paper.proofs.base.Made.{getD-map-upto}
+use Rattle.paper.proofs.base.Listed.{getD-map-upto}
 use Rattle.paper.specs.Children.{ChildOf}
 use Rattle.paper.proofs.equations.Children.{child-of, long-of}
 use Rattle.paper.proofs.equations.Moves.{Opened, strikes-left, strikes-right, puts, child-opened}

@@ -13,7 +13,7 @@ use mathlib.Core.List.{List, [], _∷_, _++_, map, List·Memᴰ, List·Memᴰ·h
 use lib.Dec.{eqb}
 use lib.ListN.{length, getD, length-append, length-map}
 use lib.Seq.{ext-getD}
-use Rattle.paper.proofs.base.Made.{getD-map-upto}
+use Rattle.paper.proofs.base.Listed.{getD-map-upto}
 use Rattle.paper.specs.Lists.{upto, any, each}
 use Rattle.paper.proofs.base.Tests.{cond-by, true-false, or-is-true, or-left-false, or-right-false, eqb-true}
 use Rattle.paper.proofs.base.Lists.{any-append, each-mem, map-mem, length-from}

@@ -6,7 +6,7 @@ use mathlib.Core.Path.{sym, ap, _∙_}
 use lib.ListN.{length}
 use Rattle.paper.specs.Written.{read-part}
 use Rattle.paper.proofs.base.Tests.{not-is-true, not-is-false}
-use Rattle.patterns.specs.Reading.{Working, working, Read-as}
+use Rattle.patterns.specs.ReadPart.{Working, working, Read-as}
 use Rattle.patterns.specs.Worked.{worked-of}
 use Rattle.patterns.proofs.Judged.{unworked, judge-bad, judge-left, judge-many, judge-good}
 use Rattle.patterns.proofs.tables.Statement.{statement}

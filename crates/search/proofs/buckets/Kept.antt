@@ -16,8 +16,8 @@ use Rattle.search.specs.Buckets.{older-at, newest-at, link, newest, buck
 use Rattle.search.specs.Slots.{Slot, slot-at, no-slot, slot-bytes, slot-part, held-bytes, origin-bytes, key, Holds}
 use Rattle.search.proofs.buckets.Links.{link-is}
 use Rattle.search.proofs.buckets.Newest.{newest-same}
-use Rattle.search.proofs.buckets.Written.{Slot-put, slot-put, slot-kept, older-kept, newest-kept}
-use Rattle.search.proofs.slots.Held.{holds-none}
+use Rattle.search.proofs.buckets.Stored.{Slot-put, slot-put, slot-kept, older-kept, newest-kept}
+use Rattle.search.proofs.slots.Seen.{holds-none}
 use Rattle.search.proofs.slots.Situations.{length-slot-bytes}
 
 -- A buffer of zeros has no slots.

@@ -8,7 +8,7 @@ use mathlib.Core.List.{List, [], _∷_, _++_, append-nil, List·Memᴰ, List·Me
 use lib.ListN.{length, getD, take, drop, length-append}
 use lib.Seq.{take-at, drop-at, drop-drop}
 use Rattle.paper.specs.Lists.{each}
-use Rattle.paper.proofs.base.Made.{each-append}
+use Rattle.paper.proofs.base.Listed.{each-append}
 
 module _ {ℓ κ} {A : Type ℓ} {B : Type κ} (f : A → List B) where
   pub each-snoc : (l : List A) (x : A) → each f (l ++ (x ∷ [])) ≡ each f l ++ f x

@@ -1,5 +1,5 @@
 -- `reader::read` meets its contract. It calls itself, and the measure is the number of bytes: the first part has one less, and the
--- second begins behind it. Each way out is a case of the first byte and of what the parts' readings say (`Readings`).
+-- second begins behind it. Each way out is a case of the first byte and of what the parts' readings say (`ReadParts`).
 use borrow.Author.Needs.{needs}
 use borrow.Fn.Kinds.{In}
 use borrow.Fn.PlainCycle.{Measures, is, falls, and}
@@ -10,17 +10,17 @@ use mathlib.Core.Bool.{true}
 use lib.ListN.{length, getD, drop, length-drop}
 use Rattle.paper.specs.Numbers.{then-code, or-code}
 use Rattle.paper.proofs.base.Tests.{not-is-true, not-is-false}
-use Rattle.patterns.specs.Reading.{Working, working, Reading-of}
-use Rattle.patterns.proofs.Readings.{to-end, as-nothing, as-none, First, as-no-first, as-many, second-within, second-room}
-use Rattle.patterns.proofs.Readings.{as-then, as-or, as-no-second}
+use Rattle.patterns.specs.ReadPart.{Working, working, Reading-of}
+use Rattle.patterns.proofs.ReadParts.{to-end, as-nothing, as-none, First, as-no-first, as-many, second-within, second-room}
+use Rattle.patterns.proofs.ReadParts.{as-then, as-or, as-no-second}
 use Rattle.patterns.proofs.reader.read.Reads as read
 use Rattle.patterns.proofs.reader.read.Kinds as read-kinds
 use Rattle.patterns.proofs.reader.+read.Lts-read as read-lts
 use Rattle.patterns.proofs.place_sets.link.Reads as link-reads
-use Rattle.patterns.proofs.reader.Reading.many.Reads as many-reads
-use Rattle.patterns.proofs.reader.Reading.none.Reads as none-reads
-use Rattle.patterns.proofs.reader.Reading.or.Reads as or-reads
-use Rattle.patterns.proofs.reader.Reading.then.Reads as then-reads
+use Rattle.patterns.proofs.reader.ReadPart.many.Reads as many-reads
+use Rattle.patterns.proofs.reader.ReadPart.none.Reads as none-reads
+use Rattle.patterns.proofs.reader.ReadPart.or.Reads as or-reads
+use Rattle.patterns.proofs.reader.ReadPart.then.Reads as then-reads
 use Rattle.patterns.proofs.reader.read_single.Reads as read-single-reads
 use Rattle.patterns.proofs.reader.+read.{statement}
 use Rattle.patterns.proofs.reader.+read.Tie.{close}

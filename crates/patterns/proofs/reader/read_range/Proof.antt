@@ -1,9 +1,9 @@
--- `reader::read_range` meets its contract: each way out is a case of `read-range` (`Readings`).
+-- `reader::read_range` meets its contract: each way out is a case of `read-range` (`ReadParts`).
 use borrow.Author.Needs.{needs}
 use Prim.Native.Nat.{_≤_}
 use native.Mathlib.Omega.{arith}
 use lib.ListN.{length, drop, length-drop}
-use Rattle.patterns.proofs.Readings.{range-short, range-falls, range-above, range-good, leaf-as}
+use Rattle.patterns.proofs.ReadParts.{range-short, range-falls, range-above, range-good, leaf-as}
 use Rattle.patterns.proofs.reader.read_range.Statement.{statement}
 use Rattle.patterns.proofs.reader.read_range.Tie as tie
 

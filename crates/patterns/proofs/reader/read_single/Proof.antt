@@ -1,9 +1,9 @@
--- `reader::read_single` meets its contract: each way out is a case of the first byte (`Readings`).
+-- `reader::read_single` meets its contract: each way out is a case of the first byte (`ReadParts`).
 use borrow.Author.Needs.{needs}
 use native.Mathlib.Omega.{arith}
 use lib.ListN.{drop, length-drop}
-use Rattle.patterns.specs.Reading.{working}
-use Rattle.patterns.proofs.Readings.{to-end, leaf-as, empty-as, as-char, as-empty, as-range, as-none}
+use Rattle.patterns.specs.ReadPart.{working}
+use Rattle.patterns.proofs.ReadParts.{to-end, leaf-as, empty-as, as-char, as-empty, as-range, as-none}
 use Rattle.patterns.proofs.reader.read_single.Statement.{statement}
 use Rattle.patterns.proofs.reader.read_single.Tie as tie
 

@@ -14,7 +14,7 @@ use Rattle.situations.specs.Coded.{Coded, same-coded}
 use Rattle.search.specs.Buckets.{Sought}
 use Rattle.search.specs.Slots.{Slot, slot-at, key-bytes, key}
 use Rattle.search.proofs.buckets.Chained.{Walked, walk-begins, walk-within, walk-ends, walk-goes-on}
-use Rattle.search.proofs.slots.Held.{slot-is}
+use Rattle.search.proofs.slots.Seen.{slot-is}
 use Rattle.search.proofs.slots.Situations.{short-key}
 use borrow.Author.Needs.{needs}
 use Rattle.search.proofs.buckets.entered.Statement.{statement}

@@ -5,7 +5,7 @@ use Rattle.paper.specs.Numbers.{characters}
 use Rattle.inner.specs.Inner.{field-code, front}
 use Rattle.situations.specs.Coded.{given-coded}
 use Rattle.search.specs.Slots.{slot-at}
-use Rattle.search.proofs.slots.Held.{left-front-held, right-front-held}
+use Rattle.search.proofs.slots.Seen.{left-front-held, right-front-held}
 use borrow.Author.Needs.{needs}
 use Rattle.search.proofs.records.puts_before.Statement.{statement}
 use Rattle.search.proofs.records.puts_before.Tie as tie

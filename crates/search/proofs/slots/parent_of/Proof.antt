@@ -1,6 +1,6 @@
 -- `parent_of` reads the parent's number. Follows from `parent-held`.
 use mathlib.Core.Path.{_∙_}
-use Rattle.search.proofs.slots.Held.{parent-held}
+use Rattle.search.proofs.slots.Seen.{parent-held}
 use borrow.Author.Needs.{needs}
 use Rattle.search.proofs.slots.parent_of.Statement.{statement}
 use Rattle.search.proofs.slots.parent_of.Tie as tie

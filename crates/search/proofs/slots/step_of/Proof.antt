@@ -1,5 +1,5 @@
 -- `step_of` reads the step. Follows from `step-held`.
-use Rattle.search.proofs.slots.Held.{step-held}
+use Rattle.search.proofs.slots.Seen.{step-held}
 use borrow.Author.Needs.{needs}
 use Rattle.search.proofs.slots.step_of.Statement.{statement}
 use Rattle.search.proofs.slots.step_of.Tie as tie

@@ -1,4 +1,4 @@
--- `Reading::then` meets its contract: the second part may be first where the first may be empty, and the first last where the second may be.
+-- `ReadPart::then` meets its contract: the second part may be first where the first may be empty, and the first last where the second may be.
 use borrow.Author.Needs.{needs}
 use Prim.Native.Nat.{ℕ, _+_}
 use native.Mathlib.Omega.{arith}
@@ -7,8 +7,8 @@ use mathlib.Core.Bool.{Bool, cond, _&&_}
 use lib.Bits.{bitOr}
 use Rattle.paper.specs.Places.{leaves, takes-empty, may-be-first, may-be-last}
 use Rattle.patterns.proofs.MaskOf.{mask-of-or, mask-of-cond}
-use Rattle.patterns.proofs.reader.Reading.then.Statement.{statement}
-use Rattle.patterns.proofs.reader.Reading.then.Tie as tie
+use Rattle.patterns.proofs.reader.ReadPart.then.Statement.{statement}
+use Rattle.patterns.proofs.reader.ReadPart.then.Tie as tie
 
 when-requires : tie.Need-when-requires
 when-requires c κs = search needs

@@ -12,7 +12,7 @@ use Rattle.paper.specs.Pattern.{range, Pattern, leaf, many}
 use Rattle.paper.specs.Places.{leaves, takes-empty, may-be-first, may-be-last, may-follow, leaf-takes}
 use Rattle.paper.specs.Written.{Part, no-pattern, part, read-part}
 use Rattle.patterns.specs.Masks.{places, mask-of, table, masks}
-use Rattle.patterns.specs.declared.reader.Reading.{Reading}
+use Rattle.patterns.specs.declared.reader.ReadPart.{ReadPart}
 
 -- the sets of a table and further ones together, at i
 abbrev pub or-at : List ℕ → (ℕ → ℕ) → ℕ → ℕ
@@ -23,7 +23,7 @@ or-at sets more i = bitOr (getD sets i 0) (more i)
 abbrev pub Adds : ℕ → (ℕ → ℕ) → List ℕ → List ℕ → Type 0
 Adds n more d e = length d ≡ n → e ≡ table (or-at d more) n
 
-pub record Reads (p : Pattern) (rest : List ℕ) (o : ℕ) (r : Reading) : Type 0 where
+pub record Reads (p : Pattern) (rest : List ℕ) (o : ℕ) (r : ReadPart) : Type 0 where
   pub ok : r .ok ≡ true
   pub left : r .left ≡ length rest
   pub next : r .next ≡ o + leaves p
@@ -48,28 +48,28 @@ pub record Works (p : Pattern) (o : ℕ) (w v : Working) : Type 0 where
   pub taking : Joins (λ (c q : ℕ). leaf-takes p o q c) characters (w .taking) (v .taking)
 
 -- what reading gives for the pattern at the front of the bytes, or for none
-abbrev pub Read-as : Part → ℕ → Working → Working → Reading → Type 0
+abbrev pub Read-as : Part → ℕ → Working → Working → ReadPart → Type 0
 Read-as no-pattern o w v r = r .ok ≡ false
 Read-as (part p rest) o w v r = Reads p rest o r × Works p o w v
 
 -- r is the reading of the bytes s, whatever more than enough turns are taken
-abbrev pub Reading-of : List ℕ → ℕ → Working → Working → Reading → Type 0
+abbrev pub Reading-of : List ℕ → ℕ → Working → Working → ReadPart → Type 0
 Reading-of s o w v r = (n : ℕ) → length s ≤ n → Read-as (read-part n s) o w v r
 
 -- r is the reading of a pattern that has no part, with so many bytes left behind it
-abbrev pub Single : Pattern → ℕ → ℕ → Reading → Type 0
+abbrev pub Single : Pattern → ℕ → ℕ → ReadPart → Type 0
 Single p left o r = (rest : List ℕ) → length rest ≡ left → Reads p rest o r
 
 -- r is the reading of a leaf, and what it takes is joined to the table
-pub record Leaf-read (lo hi left o : ℕ) (taking after : List ℕ) (r : Reading) : Type 0 where
+pub record Leaf-read (lo hi left o : ℕ) (taking after : List ℕ) (r : ReadPart) : Type 0 where
   pub reads : Single (leaf (range lo hi)) left o r
   pub takes : Joins (λ (c q : ℕ). leaf-takes (leaf (range lo hi)) o q c) characters taking after
 
 -- r is the reading of two patterns under an operator, of which a and b are the readings
-abbrev pub Joined : (Pattern → Pattern → Pattern) → Reading → Reading → Reading → Type 0
+abbrev pub Joined : (Pattern → Pattern → Pattern) → ReadPart → ReadPart → ReadPart → Type 0
 Joined op a b r =
     (p q : Pattern) (s rest : List ℕ) (o : ℕ) → Reads p s o a → Reads q rest (o + leaves p) b → Reads (op p q) rest o r
 
 -- r is the reading of a pattern any number of times, of which a is the reading
-abbrev pub Repeated : Reading → Reading → Type 0
+abbrev pub Repeated : ReadPart → ReadPart → Type 0
 Repeated a r = (p : Pattern) (rest : List ℕ) (o : ℕ) → Reads p rest o a → Reads (many p) rest o r

@@ -17,8 +17,8 @@ use Rattle.paper.proofs.base.Tests.{by-bool, cond-true, cond-false, true-false,
 use Rattle.paper.proofs.base.Tests.{and-left, and-right, both-true, left-false, right-false}
 use Rattle.paper.proofs.base.Tests.{leb-true, le-leb, lt-leb, lt-ltb, le-ltb, eqb-true, eqb-false, eq-eqb, neq-eqb}
 use Rattle.patterns.specs.Masks.{places, in-mask}
-use Rattle.patterns.specs.Reading.{Adds, Reads, Working, working, Joins, Works, Read-as, Reading-of, Single, Leaf-read, Joined, Repeated}
-use Rattle.patterns.specs.declared.reader.Reading.{Reading}
+use Rattle.patterns.specs.ReadPart.{Adds, Reads, Working, working, Joins, Works, Read-as, Reading-of, Single, Leaf-read, Joined, Repeated}
+use Rattle.patterns.specs.declared.reader.ReadPart.{ReadPart}
 use Rattle.patterns.proofs.Behind.{Leaves-behind, behind}
 use Rattle.patterns.proofs.Joining.{joins-none, joins-more, joins-same, joins-linked}
 
@@ -66,7 +66,7 @@ pub to-end : (k : ℕ) (s : List ℕ) → take (length s - k) (drop k s) ≡ dro
 to-end k s = take-all (length s - k) (drop k s) (rw (length-drop k s) (omega arith))
 
 -- What a good reading tells: the pattern, where the bytes behind it stand, and what is joined to the tables.
-record Good (n : ℕ) (s : List ℕ) (o : ℕ) (w v : Working) (a : Reading) : Type 0 where
+record Good (n : ℕ) (s : List ℕ) (o : ℕ) (w v : Working) (a : ReadPart) : Type 0 where
   read : Pattern
   rest : List ℕ
   is : read-part n s ≡ part read rest
@@ -76,7 +76,7 @@ record Good (n : ℕ) (s : List ℕ) (o : ℕ) (w v : Working) (a : Reading) : T
   within : a .left ≤ length s
   room : a .next + a .left ≤ o + length s
 
-module _ (n : ℕ) (s : List ℕ) (o : ℕ) (w v : Working) (a : Reading) where
+module _ (n : ℕ) (s : List ℕ) (o : ℕ) (w v : Working) (a : ReadPart) where
   good-part : (x : Part) → read-part n s ≡ x → Leaves-behind s x → Read-as x o w v a → a .ok ≡ true → Good n s o w v a
   good-part no-pattern e l h ok = absurd (true-false ok h)
   good-part (part p rest) e l h ok =
@@ -98,7 +98,7 @@ module _ (n : ℕ) (s : List ℕ) (o : ℕ) (w v : Working) (a : Reading) where
   good : Read-as (read-part n s) o w v a → a .ok ≡ true → Good n s o w v a
   good h ok = good-part (read-part n s) refl (behind n s) h ok
 
-bad : (x : Part) (o : ℕ) (w v : Working) (a : Reading) → Read-as x o w v a → a .ok ≡ false → x ≡ no-pattern
+bad : (x : Part) (o : ℕ) (w v : Working) (a : ReadPart) → Read-as x o w v a → a .ok ≡ false → x ≡ no-pattern
 bad no-pattern o w v a h e = refl
 bad (part p rest) o w v a h e = absurd (true-false (h .0 .ok) e)
 
@@ -113,16 +113,16 @@ char-range b c =
     (λ e. let l = eqb-true b c e in both-true (le-leb b c (omega arith)) (le-leb c b (omega arith)))
 
 -- The two patterns that have no part. No place follows their leaves, so what follows is left as it is.
-pub leaf-as : (lo hi left o : ℕ) (follow taking after : List ℕ) (r : Reading) → Leaf-read lo hi left o taking after r
+pub leaf-as : (lo hi left o : ℕ) (follow taking after : List ℕ) (r : ReadPart) → Leaf-read lo hi left o taking after r
     → (rest : List ℕ) → length rest ≡ left → Read-as (part (leaf (range lo hi)) rest) o (working follow taking) (working follow after) r
 leaf-as lo hi left o follow taking after r h rest e = (h .reads rest e, record { follow = joins-none places follow; taking = h .takes })
 
-pub empty-as : (left o : ℕ) (follow taking : List ℕ) (r : Reading) → Single empty left o r
+pub empty-as : (left o : ℕ) (follow taking : List ℕ) (r : ReadPart) → Single empty left o r
     → (rest : List ℕ) → length rest ≡ left → Read-as (part empty rest) o (working follow taking) (working follow taking) r
 empty-as left o follow taking r h rest e =
     (h rest e, record { follow = joins-none places follow; taking = joins-none characters taking })
 
-char-as : (b o : ℕ) (rest : List ℕ) (w v : Working) (r : Reading)
+char-as : (b o : ℕ) (rest : List ℕ) (w v : Working) (r : ReadPart)
     → Read-as (part (leaf (range b b)) rest) o w v r → Read-as (part (leaf (char b)) rest) o w v r
 char-as b o rest w v r h = (
   record { ok = h .0 .ok; left = h .0 .left; next = h .0 .next; empty = h .0 .empty; first = h .0 .first; last = h .0 .last },
@@ -133,14 +133,14 @@ char-as b o rest w v r h = (
 )
 
 -- no byte, no pattern
-pub as-nothing : (s : List ℕ) (o : ℕ) (w v : Working) (r : Reading) → length s ≡ 0 → r .ok ≡ false → Reading-of s o w v r
+pub as-nothing : (s : List ℕ) (o : ℕ) (w v : Working) (r : ReadPart) → length s ≡ 0 → r .ok ≡ false → Reading-of s o w v r
 as-nothing [] o w v r h z zero l = z
 as-nothing [] o w v r h z (suc n) l = z
 as-nothing (b ∷ s) o w v r h z zero l = absurd (omega arith)
 as-nothing (b ∷ s) o w v r h z (suc n) l = absurd (omega arith)
 
 -- A pattern by its first byte: r is a reading of the bytes s.
-module _ (s : List ℕ) (o : ℕ) (w v : Working) (r : Reading) (h : 0 < length s) where
+module _ (s : List ℕ) (o : ℕ) (w v : Working) (r : ReadPart) (h : 0 < length s) where
   abbrev reads-as : Part → Type 0
   reads-as x = Read-as x o w v r
 
@@ -189,22 +189,22 @@ no-first n s b l m e =
     rw (g, e)))
 
 -- A pattern with parts: a is the reading of the first part, which stands behind the first byte.
-pub record First (s : List ℕ) (o : ℕ) (w v : Working) (a : Reading) : Type 0 where
+pub record First (s : List ℕ) (o : ℕ) (w v : Working) (a : ReadPart) : Type 0 where
   pub some : 0 < length s
   pub reads : Reading-of (drop 1 s) o w v a
 
 -- the tables once what is first in a part follows what is last in the part before it
-pub record Linked (v z : Working) (a c : Reading) : Type 0 where
+pub record Linked (v z : Working) (a c : ReadPart) : Type 0 where
   pub follow : Adds places (λ (i : ℕ). cond (in-mask (a .last) i) (c .first) 0) (v .follow) (z .follow)
   pub taking : z .taking ≡ v .taking
 
 -- what is first in one part follows what is last in another
-links : {v z : Working} {a c : Reading} {p q : Pattern} {s t : List ℕ} {i j : ℕ} → Linked v z a c → Reads p s i a → Reads q t j c
+links : {v z : Working} {a c : ReadPart} {p q : Pattern} {s t : List ℕ} {i j : ℕ} → Linked v z a c → Reads p s i a → Reads q t j c
     → Joins (λ (x y : ℕ). may-be-last p i x && may-be-first q j y) places (v .follow) (z .follow)
 links {v} {z} {a} {c} {p} {q} {s} {t} {i} {j} l x y =
     joins-linked (λ (n : ℕ). may-be-last p i n) (λ (n : ℕ). may-be-first q j n) (v .follow) (z .follow) (a .last) (c .first) (x .last) (y .first) (l .follow)
 
-module _ {s : List ℕ} {o : ℕ} {w v : Working} {a : Reading} (f : First s o w v a) where
+module _ {s : List ℕ} {o : ℕ} {w v : Working} {a : ReadPart} (f : First s o w v a) where
   -- whatever became of the tables
   pub as-no-first : (z : Working) → then-code ≤ first-byte s → first-byte s ≤ many-code → a .ok ≡ false → Reading-of s o w z a
   as-no-first z l m e =
@@ -225,7 +225,7 @@ module _ {s : List ℕ} {o : ℕ} {w v : Working} {a : Reading} (f : First s o w
     pub second-room : a .next + a .left ≤ o + length s
     second-room = let r = good-first (length (drop 1 s)) (omega arith) .room in omega (arith, length-drop 1 s)
 
-    pub as-many : (z : Working) (r : Reading) → first-byte s ≡ many-code → Repeated a r → Linked v z a a → Reading-of s o w z r
+    pub as-many : (z : Working) (r : ReadPart) → first-byte s ≡ many-code → Repeated a r → Linked v z a a → Reading-of s o w z r
     as-many z r e h l =
         by-front (λ (x : Part). Read-as x o w z r) s (f .some)
         (λ n k.
@@ -236,7 +236,7 @@ module _ {s : List ℕ} {o : ℕ} {w v : Working} {a : Reading} (f : First s o w
         ))
 
     -- c is the reading of the second part, which stands behind the first
-    module _ {z : Working} {c : Reading} (d : Reading-of (drop (length s - a .left) s) (a .next) v z c) where
+    module _ {z : Working} {c : ReadPart} (d : Reading-of (drop (length s - a .left) s) (a .next) v z c) where
       second-is : (n : ℕ) (g : Good n (drop 1 s) o w v a) → drop (length s - a .left) s ≡ g .rest
       second-is n g =
           let w = g .within in
@@ -252,7 +252,7 @@ module _ {s : List ℕ} {o : ℕ} {w v : Working} {a : Reading} (f : First s o w
           let w = g .within in
           subst₂ (λ (l : List ℕ) (i : ℕ). Read-as (read-part n l) i v z c) e (g .reads .next) (d n (omega (arith, ap length e)))
 
-      as-two : (op : Pattern → Pattern → Pattern) (y : Working) (r : Reading) → c .ok ≡ true → Joined op a c r
+      as-two : (op : Pattern → Pattern → Pattern) (y : Working) (r : ReadPart) → c .ok ≡ true → Joined op a c r
           → ((p q : Pattern) (s t : List ℕ) → Reads p s o a → Reads q t (o + leaves p) c → Works p o w v → Works q (o + leaves p) v z → Works (op p q) o w y)
           → (n : ℕ) → length (drop 1 s) ≤ n
           → Read-as (two-parts op (read-part n (drop 1 s)) (λ (l : List ℕ). read-part n l)) o w y r
@@ -270,7 +270,7 @@ module _ {s : List ℕ} {o : ℕ} {w v : Working} {a : Reading} (f : First s o w
           let g = good-first n k in
           rw (g .is, bad (read-part n (g .rest)) (o + leaves (g .read)) v z c (at-second n k g) b) b
 
-      pub as-then : (y : Working) (r : Reading) → first-byte s ≡ then-code → c .ok ≡ true → Joined then a c r → Linked z y a c → Reading-of s o w y r
+      pub as-then : (y : Working) (r : ReadPart) → first-byte s ≡ then-code → c .ok ≡ true → Joined then a c r → Linked z y a c → Reading-of s o w y r
       as-then y r e okc h l =
           by-front (λ (x : Part). Read-as x o w y r) s (f .some)
           (λ n k.
@@ -283,7 +283,7 @@ module _ {s : List ℕ} {o : ℕ} {w v : Working} {a : Reading} (f : First s o w
           })
           n k))
 
-      pub as-or : (r : Reading) → first-byte s ≡ or-code → c .ok ≡ true → Joined either a c r → Reading-of s o w z r
+      pub as-or : (r : ReadPart) → first-byte s ≡ or-code → c .ok ≡ true → Joined either a c r → Reading-of s o w z r
       as-or r e okc h =
           by-front (λ (x : Part). Read-as x o w z r) s (f .some)
           (λ n k.

@@ -1,4 +1,4 @@
--- `Reading::or` meets its contract: every mask is the `or` of the parts' masks, as every test is the `||` of theirs.
+-- `ReadPart::or` meets its contract: every mask is the `or` of the parts' masks, as every test is the `||` of theirs.
 use Prim.Native.Nat.{ℕ, _+_}
 use native.Mathlib.Omega.{arith}
 use mathlib.Core.Path.{ap₂, _∙_}
@@ -6,8 +6,8 @@ use mathlib.Core.Bool.{_||_}
 use lib.Bits.{bitOr}
 use Rattle.paper.specs.Places.{leaves, may-be-first, may-be-last}
 use Rattle.patterns.proofs.MaskOf.{mask-of-or}
-use Rattle.patterns.proofs.reader.Reading.or.Statement.{statement}
-use Rattle.patterns.proofs.reader.Reading.or.Tie as tie
+use Rattle.patterns.proofs.reader.ReadPart.or.Statement.{statement}
+use Rattle.patterns.proofs.reader.ReadPart.or.Tie as tie
 
 returns : tie.Need-returns
 returns c p q s rest o x y =

@@ -1,7 +1,7 @@
--- `Reading::many` meets its contract: it may be empty, and else is as its part.
+-- `ReadPart::many` meets its contract: it may be empty, and else is as its part.
 use mathlib.Core.Path.{refl}
-use Rattle.patterns.proofs.reader.Reading.many.Statement.{statement}
-use Rattle.patterns.proofs.reader.Reading.many.Tie as tie
+use Rattle.patterns.proofs.reader.ReadPart.many.Statement.{statement}
+use Rattle.patterns.proofs.reader.ReadPart.many.Tie as tie
 
 returns : tie.Need-returns
 returns c p rest o x =

@@ -1,9 +1,9 @@
--- `Reading::empty` meets its contract: the empty text has no leaf, so every mask is 0.
+-- `ReadPart::empty` meets its contract: the empty text has no leaf, so every mask is 0.
 use native.Mathlib.Omega.{arith}
 use mathlib.Core.Path.{refl, sym}
 use Rattle.patterns.proofs.MaskOf.{mask-of-none}
-use Rattle.patterns.proofs.reader.Reading.empty.Statement.{statement}
-use Rattle.patterns.proofs.reader.Reading.empty.Tie as tie
+use Rattle.patterns.proofs.reader.ReadPart.empty.Statement.{statement}
+use Rattle.patterns.proofs.reader.ReadPart.empty.Tie as tie
 
 returns : tie.Need-returns
 returns c rest e =

@@ -1,10 +1,10 @@
--- `Reading::leaf` meets its contract: the one leaf is first and last, and it takes the characters from lo to hi.
+-- `ReadPart::leaf` meets its contract: the one leaf is first and last, and it takes the characters from lo to hi.
 use borrow.Author.Needs.{needs}
 use mathlib.Core.Path.{refl, sym}
 use Rattle.paper.specs.Numbers.{characters}
 use Rattle.patterns.proofs.Joining.{joins-marked}
-use Rattle.patterns.proofs.reader.Reading.leaf.Statement.{statement}
-use Rattle.patterns.proofs.reader.Reading.leaf.Tie as tie
+use Rattle.patterns.proofs.reader.ReadPart.leaf.Statement.{statement}
+use Rattle.patterns.proofs.reader.ReadPart.leaf.Tie as tie
 
 place-requires : tie.Need-place-requires
 place-requires c κs = search needs
