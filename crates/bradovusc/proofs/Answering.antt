@@ -11,13 +11,14 @@ use Rattle.paper.specs.Sheet.{Fault, cut-short, wrong-mark, wrong-field, wrong-
 use Rattle.paper.proofs.demands.Demand1.{sheet-demand-1}
 use Rattle.paper.proofs.demands.Demand2.{sheet-demand-2}
 use Rattle.paper.proofs.demands.Demand3.{sheet-demand-3}
-use Rattle.sheets.specs.Faults.{fault-of, as-fault}
+use Rattle.answers.specs.Faults.{fault-of, as-fault}
 use Rattle.sheets.specs.Read.{sheet-of}
-use Rattle.sheets.specs.declared.Fault as Code
-use Rattle.sheets.specs.declared.Found.the-variants.{Good, Refused}
+use Rattle.answers.specs.declared.Fault as Code
+use Rattle.answers.specs.declared.Found.the-variants.{Good, Refused}
 use Rattle.sheets.specs.declared.Sheet.{Sheet}
-use Rattle.bradovusc.specs.Entry.{told, Asks}
-use Rattle.bradovusc.specs.declared.Answer.the-variants as Answer
+use Rattle.answers.specs.Told.{told}
+use Rattle.bradovusc.specs.Entry.{Asks}
+use Rattle.answers.specs.declared.Answer.the-variants as Answer
 
 -- the faults of the code are the paper's
 fault-as : (x : Fault) → fault-of (as-fault x) ≡ x

@@ -14,22 +14,22 @@ use Rattle.paper.specs.Sheet.{asked, read-sheet}
 use Rattle.paper.specs.Outcome.{outcome, room-of}
 use Rattle.paper.proofs.base.Tests.{neq-eqb, false-not, both-true}
 use Rattle.paper.proofs.sheets.Asked.{InRange, GoodQuestion, sheet-good}
-use Rattle.patterns.specs.Worked.{worked-out}
-use Rattle.patterns.specs.declared.PlaceTables.{PlaceTables}
+use Rattle.places.specs.WorkedOut.{worked-out}
+use Rattle.places.specs.declared.PlaceTables.{PlaceTables}
 use Rattle.inner.specs.Inner.{no-token, is-token, token-code, side-code, tokens, padded}
 use Rattle.inner.proofs.Tokens.{tokens-padded}
-use Rattle.situations.specs.Coded.{question-coded}
+use Rattle.trimming.specs.Trimming.{question-coded}
 use Rattle.situations.specs.Coding.{tables-of}
 use Rattle.search.specs.Ended.{room-for, ended-with, buffer-with, told-end}
 use Rattle.search.specs.Lent.{tables}
-use Rattle.search.specs.declared.Ended.{Ended}
-use Rattle.search.specs.declared.Ended.the-variants as Ended-as
+use Rattle.answers.specs.declared.Ended.{Ended}
+use Rattle.answers.specs.declared.Ended.the-variants as Ended-as
 use Rattle.search.proofs.Told.{run-told}
 use Rattle.sheets.specs.Read.{sheet-of}
-use Rattle.sheets.specs.Tables.{follow-of, taking-of, last-of}
+use Rattle.tables.specs.Tables.{follow-of, taking-of, last-of}
 use Rattle.sheets.specs.declared.Sheet.{Sheet}
-use Rattle.bradovusc.specs.Entry.{told, answer-of}
-use Rattle.bradovusc.specs.declared.Answer.{Answer}
+use Rattle.answers.specs.Told.{told, answer-of}
+use Rattle.answers.specs.declared.Answer.{Answer}
 
 -- the answer tells what the end tells
 end-told : (e : Ended) (answer work : List ℕ) → told (answer-of e) answer work ≡ told-end e answer work

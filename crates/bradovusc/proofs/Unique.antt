@@ -6,11 +6,11 @@ use mathlib.Core.Bool.{cond}
 use mathlib.Core.List.{List}
 use lib.Dec.{eqb}
 use Rattle.paper.specs.Outcome.{Outcome, outcome}
-use Rattle.sheets.specs.declared.Fault.{Fault}
-use Rattle.sheets.specs.declared.Fault.the-variants.{CutShort, WrongMark, WrongField, WrongLength, NotOnePattern, TooManyLeaves, WrongToken}
-use Rattle.bradovusc.specs.Entry.{told}
-use Rattle.bradovusc.specs.declared.Answer.{Answer}
-use Rattle.bradovusc.specs.declared.Answer.the-variants.{Clash, NoClash, Refused, NoRoom, SideTooLong, AnswerTooShort, TextTooLong}
+use Rattle.answers.specs.declared.Fault.{Fault}
+use Rattle.answers.specs.declared.Fault.the-variants.{CutShort, WrongMark, WrongField, WrongLength, NotOnePattern, TooManyLeaves, WrongToken}
+use Rattle.answers.specs.Told.{told}
+use Rattle.answers.specs.declared.Answer.{Answer}
+use Rattle.answers.specs.declared.Answer.the-variants.{Clash, NoClash, Refused, NoRoom, SideTooLong, AnswerTooShort, TextTooLong}
 
 fault-from : ℕ → Fault
 fault-from n =

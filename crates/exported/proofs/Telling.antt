@@ -5,11 +5,11 @@ use mathlib.Core.List.{List}
 use lib.Dec.{lit<}
 use Rattle.paper.specs.Outcome.{Outcome}
 use Rattle.paper.specs.Sheet.{Fault, fault-number, cut-short, wrong-mark, wrong-field, wrong-length, not-one-pattern, too-many-leaves, wrong-token}
-use Rattle.sheets.specs.Faults.{fault-of}
-use Rattle.bradovusc.specs.Entry.{number-of, as-numbers, told}
-use Rattle.bradovusc.specs.declared.Answer.{Answer}
-use Rattle.bradovusc.specs.declared.Answer.the-variants.{Clash, NoClash, Refused, NoRoom, SideTooLong, AnswerTooShort, TextTooLong}
-use Rattle.bradovusc.specs.declared.Numbers.{Numbers}
+use Rattle.answers.specs.Faults.{fault-of}
+use Rattle.answers.specs.Told.{number-of, as-numbers, told}
+use Rattle.answers.specs.declared.Answer.{Answer}
+use Rattle.answers.specs.declared.Answer.the-variants.{Clash, NoClash, Refused, NoRoom, SideTooLong, AnswerTooShort, TextTooLong}
+use Rattle.answers.specs.declared.Numbers.{Numbers}
 use Rattle.exported.specs.Exported.{with-numbers, telling}
 
 fault-below : (x : Fault) → fault-number x < 22

@@ -19,7 +19,7 @@ pub extern "C" fn bradovusc_clash(
     ensures work { λ _. ⌜ now (work .exit) ≡ outcome (now (sheet .entry)) (now (work .entry)) (now (answer .entry)) .work ⌝ }
 {
     let given = bradovusc::clash(sheet, work, answer);
-    let numbers = bradovusc::in_numbers(given);
+    let numbers = answers::in_numbers(given);
     tell(told, numbers.count, numbers.place, numbers.written);
     numbers.number as u32
 }

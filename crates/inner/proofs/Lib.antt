@@ -1,1 +1,3 @@
 pub mod Tokens
+pub mod Held
+pub mod InFront

@@ -1,7 +1,7 @@
 -- The question sheet (document 01, "The question sheet" and "Checks on the sheet"): every fault in 01's order with its place,
 -- and the question of a good sheet. A sheet is any list of bytes.
 use Prim.Native.Nat.{ℕ, zero, suc, _+_, _-_}
-use mathlib.Core.Bool.{Bool, cond, _&&_, _||_}
+use mathlib.Core.Bool.{Bool, false, cond, _&&_, _||_}
 use mathlib.Core.List.{List, map}
 use lib.Dec.{leb, ltb, eqb}
 use lib.ListN.{length, getD, take, drop, set, replicate}
@@ -105,8 +105,47 @@ side-record s at =
     (read (map token (body s (at + 3) (byte-at s (at + 2)))) (at + (3 + byte-at s (at + 2))))
     (fault wrong-token))))
 
--- what reading a sheet gives: the first fault met with its place, "the offset at which that record's mark stands or should stand",
--- or the question
+-- the mark stands at the offset
+unfoldable pub next-is : Mark → List ℕ → ℕ → Bool
+next-is m s at = cond (ltb (bytes-left s at) 2) false (marked m s at)
+
+-- A side behind its mark: "fewer than two bytes left give 11; an unknown mark or one not allowed here gives 12".
+unfoldable pub marked-side : Mark → List ℕ → ℕ → Checked Side
+marked-side m s at =
+    cond (ltb (bytes-left s at) 2) (fault cut-short) (cond (marked m s at) (side-record s at) (fault wrong-mark))
+
+-- What reading records one behind the other gives: the first fault met with its place, "the offset at which that record's mark stands or
+-- should stand", or what they say and the offset at which they end.
+pub data Records (A : Type 0) : Type 0 where
+  faulty : Fault → ℕ → Records A
+  records : A → ℕ → Records A
+
+-- what the patterns' records say: what each field may hold, and one above the last pattern's field, 0 where there is none
+pub record Fields : Type 0 where
+  pub held : List Held
+  pub above : ℕ
+
+-- "A field without `PA` is open": before the first record every field is.
+abbrev pub open-fields : Fields
+open-fields = record { held = replicate fields any-text; above = 0 }
+
+abbrev pub with-pattern : Fields → FieldPattern → Fields
+with-pattern fs fp = record { held = set (fs .held) (fp .field) (pattern (fp .its)); above = suc (fp .field) }
+
+-- A pattern's record, then what comes behind it: "Reading goes on from where the last record ended."
+abbrev pub pattern-read : ℕ → Fields → (ℕ → Fields → Records Fields) → Checked FieldPattern → Records Fields
+pattern-read at fs go-on (fault x) = faulty x at
+pattern-read at fs go-on (read fp next) = go-on next (with-pattern fs fp)
+
+-- "no, one or several `PA`, field numbers rising", up to the first record that is none. Every record has bytes, so as many turns as there
+-- are bytes, and one, are enough.
+abbrev pub read-patterns : ℕ → List ℕ → ℕ → Fields → Records Fields
+read-patterns zero s at fs = faulty cut-short at
+read-patterns (suc n) s at fs =
+    let behind = pattern-read at fs (λ (next : ℕ) (more : Fields). read-patterns n s next more) (pattern-record s at (fs .above)) in
+    cond (next-is PA s at) behind (records fs at)
+
+-- what reading a sheet gives: the first fault met with its place, or the question
 pub data Reading : Type 0 where
   refused : Fault → ℕ → Reading
   asked : Question → Reading
@@ -115,36 +154,18 @@ pub data Reading : Type 0 where
 unfoldable pub read-end : List ℕ → ℕ → Question → Reading
 read-end s at q = cond (ltb at (length s)) (refused wrong-mark at) (asked q)
 
+-- "one `LE`; one `RI`; the end"
 abbrev pub right-read : List ℕ → ℕ → List Held → Side → Checked Side → Reading
 right-read s at held l (fault x) = refused x at
 right-read s at held l (read r next) = read-end s next (record { left = l; right = r; held = held })
 
--- "one `LE`; one `RI`": behind `LE` only `RI` is allowed
-unfoldable pub read-right : List ℕ → ℕ → List Held → Side → Reading
-read-right s at held l =
-    cond (ltb (bytes-left s at) 2) (refused cut-short at)
-    (cond (marked RI s at) (right-read s at held l (side-record s at)) (refused wrong-mark at))
-
 abbrev pub left-read : List ℕ → ℕ → List Held → Checked Side → Reading
 left-read s at held (fault x) = refused x at
-left-read s at held (read l next) = read-right s next held l
+left-read s at held (read l next) = right-read s next held l (marked-side RI s next)
 
--- A pattern record, then what comes behind it: "Reading goes on from where the last record ended."
-abbrev pub pattern-read : ℕ → List Held → (ℕ → ℕ → List Held → Reading) → Checked FieldPattern → Reading
-pattern-read at held go-on (fault x) = refused x at
-pattern-read at held go-on (read fp next) = go-on next (suc (fp .field)) (set held (fp .field) (pattern (fp .its)))
+abbrev pub sides-read : List ℕ → Records Fields → Reading
+sides-read s (faulty x at) = refused x at
+sides-read s (records fs at) = left-read s at (fs .held) (marked-side LE s at)
 
--- "no, one or several `PA`, field numbers rising; one `LE`; one `RI`; the end". Every record has bytes, so as many turns as the sheet
--- has bytes, and one, are enough.
-abbrev pub read-records : ℕ → List ℕ → ℕ → ℕ → List Held → Reading
-read-records zero s at least held = refused cut-short at
-read-records (suc n) s at least held =
-    let behind-pattern =
-    pattern-read at held (λ (next l : ℕ) (h : List Held). read-records n s next l h) (pattern-record s at least) in
-    cond (ltb (bytes-left s at) 2) (refused cut-short at)
-    (cond (marked PA s at) behind-pattern
-    (cond (marked LE s at) (left-read s at held (side-record s at)) (refused wrong-mark at)))
-
--- "A field without `PA` is open": before the first record every field is.
 unfoldable pub read-sheet : List ℕ → Reading
-read-sheet s = read-records (suc (length s)) s 0 0 (replicate fields any-text)
+read-sheet s = sides-read s (read-patterns (suc (length s)) s 0 open-fields)

@@ -8,10 +8,10 @@ use lib.Dec.{eqb}
 use lib.Bits.{bitOr}
 use lib.ListN.{length, getD, replicate}
 use Rattle.paper.specs.Pattern.{takes, range}
-use Rattle.patterns.specs.Masks.{places, mask-of, in-mask, masks}
+use Rattle.places.specs.Masks.{places, mask-of, in-mask, masks}
 use Rattle.patterns.specs.ReadPart.{or-at, Adds, Joins}
-use Rattle.patterns.proofs.MaskOf.{mask-of-same, mask-of-or, mask-of-cond, mask-of-none, in-mask-of}
-use Rattle.patterns.proofs.Filling.{length-table, getD-table, table-same, table-none}
+use Rattle.places.proofs.MaskOf.{mask-of-same, mask-of-or, mask-of-cond, mask-of-none, in-mask-of}
+use Rattle.places.proofs.Filling.{length-table, getD-table, table-same, table-none}
 
 module _ (n : ℕ) where
   masks-same : (t u : ℕ → ℕ → Bool) → ((i q : ℕ) → t i q ≡ u i q) → masks t n ≡ masks u n

@@ -13,13 +13,13 @@ use Rattle.paper.proofs.places.Parts.{last-within}
 use Rattle.paper.specs.Pattern.{Pattern, pattern}
 use Rattle.paper.specs.Places.{leaves, takes-empty, may-be-last, ends-at}
 use Rattle.paper.specs.Written.{Part, no-pattern, part, read-part, not-one-pattern, too-many-leaves, judged, judge-part, judge}
-use Rattle.patterns.specs.Masks.{places, mask-of, table, follow-masks, taking-mask, taking-masks, last-mask}
+use Rattle.places.specs.Masks.{places, mask-of, table, follow-masks, taking-mask, taking-masks, last-mask}
 use Rattle.patterns.specs.Worked.{worked-of}
 use Rattle.patterns.specs.ReadPart.{Reads, Working, working, Works, Read-as}
 use Rattle.patterns.specs.declared.Worked.{Worked}
 use Rattle.patterns.specs.declared.Verdict.the-variants.{Good}
 use Rattle.patterns.specs.declared.reader.ReadPart.{ReadPart}
-use Rattle.patterns.proofs.MaskOf.{mask-of-same, mask-of-or, mask-of-cond}
+use Rattle.places.proofs.MaskOf.{mask-of-same, mask-of-or, mask-of-cond}
 use Rattle.patterns.proofs.Joining.{joins-all}
 
 -- the tables before the first leaf

@@ -16,7 +16,7 @@ use Rattle.paper.specs.Written.{Part, no-pattern, part, read-range, two-parts, 
 use Rattle.paper.proofs.base.Tests.{by-bool, cond-true, cond-false, true-false, same-tests}
 use Rattle.paper.proofs.base.Tests.{and-left, and-right, both-true, left-false, right-false}
 use Rattle.paper.proofs.base.Tests.{leb-true, le-leb, lt-leb, lt-ltb, le-ltb, eqb-true, eqb-false, eq-eqb, neq-eqb}
-use Rattle.patterns.specs.Masks.{places, in-mask}
+use Rattle.places.specs.Masks.{places, in-mask}
 use Rattle.patterns.specs.ReadPart.{Adds, Reads, Working, working, Joins, Works, Read-as, Reading-of, Single, Leaf-read, Joined, Repeated}
 use Rattle.patterns.specs.declared.reader.ReadPart.{ReadPart}
 use Rattle.patterns.proofs.Behind.{Leaves-behind, behind}

@@ -1,4 +1,4 @@
--- What the private functions that read a pattern's bytes promise: the step between the code and the definitions of `Masks`.
+-- What the private functions that read a pattern's bytes promise: the step between the code and the definitions of `Masks` (`places`).
 --   Reads p rest o r      r tells of the pattern p, whose first leaf is the place o and behind which the bytes `rest` are left
 --   Works p o w v         the lent tables w have become v: what follows the leaves of p and what these take is joined to them
 use Prim.Native.Nat.{ℕ, _+_, _≤_}
@@ -11,7 +11,7 @@ use Rattle.paper.specs.Numbers.{characters}
 use Rattle.paper.specs.Pattern.{range, Pattern, leaf, many}
 use Rattle.paper.specs.Places.{leaves, takes-empty, may-be-first, may-be-last, may-follow, leaf-takes}
 use Rattle.paper.specs.Written.{Part, no-pattern, part, read-part}
-use Rattle.patterns.specs.Masks.{places, mask-of, table, masks}
+use Rattle.places.specs.Masks.{places, mask-of, table, masks}
 use Rattle.patterns.specs.declared.reader.ReadPart.{ReadPart}
 
 -- the sets of a table and further ones together, at i

@@ -1,30 +1,16 @@
 // Patterns: a pattern's bytes are judged, and its places are worked out as masks.
-// A place set is a 32-bit mask: its lowest bit is the start, the others are the leaves in the order of reading.
 mod place_sets;
 mod reader;
 
-pub use place_sets::CHARACTERS;
-pub use place_sets::PLACES;
-use place_sets::holds;
-use place_sets::place;
-use place_sets::stay;
 use place_sets::when;
+use places::CHARACTERS;
+use places::PLACES;
+use places::PlaceTables;
+use places::place;
 use reader::read;
 ghost use mathlib.Core.Path.{_≡_};
-ghost use Rattle.paper.specs.Pattern.{any-text};
 ghost use Rattle.paper.specs.Written.{judge};
-ghost use Rattle.patterns.specs.Masks.{followers-of};
-ghost use Rattle.patterns.specs.Worked.{worked-out, worked-of, refused-as};
-
-// What is worked out once of a pattern.
-pub struct PlaceTables {
-    // for every place the places that may follow
-    pub follow: [u32; PLACES],
-    // for every character the places that take it
-    pub taking: [u32; CHARACTERS],
-    // the places that may be the last one: "the start may, if the pattern takes the empty text"
-    pub last: u32,
-}
+ghost use Rattle.patterns.specs.Worked.{worked-of, refused-as};
 
 // "15 bytes are not one pattern", "16 more than 31 leaves", or neither.
 pub enum Verdict {
@@ -38,9 +24,6 @@ pub struct Worked {
     pub verdict: Verdict,
     pub tables: PlaceTables,
 }
-
-// Every place.
-const ALL: u32 = 0xFFFF_FFFF;
 
 // "judged by themselves, as exactly one pattern that uses them all", and worked out in the same walk.
 pub fn tables(s: &[u8]) -> Worked
@@ -80,29 +63,4 @@ fn refused(verdict: Verdict) -> Worked
         last: 0,
     };
     Worked { verdict, tables }
-}
-
-// "An open field has one place set that never changes and may always end."
-pub fn open_tables() -> PlaceTables
-    ensures { λ r. ⌜ r ≡ worked-out any-text ⌝ }
-{
-    let follow = stay();
-    PlaceTables {
-        follow,
-        taking: [ALL; CHARACTERS],
-        last: ALL,
-    }
-}
-
-// All places that may follow some place of the set. The set after a character is what of these takes it.
-pub fn followers(follow: [u32; PLACES], set: u32) -> u32
-    ensures { λ r. ⌜ r ≡ followers-of follow set ⌝ }
-{
-    let mut r = 0;
-    let mut i = 0;
-    while i < PLACES {
-        r = r | when(holds(set, i), follow[i]);
-        i += 1;
-    }
-    r
 }

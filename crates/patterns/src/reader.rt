@@ -1,10 +1,10 @@
 // Reading a pattern that is written operator first, and working out its places on the way.
-use crate::place_sets::CHARACTERS;
-use crate::place_sets::PLACES;
 use crate::place_sets::link;
 use crate::place_sets::mark;
-use crate::place_sets::place;
 use crate::place_sets::when;
+use places::CHARACTERS;
+use places::PLACES;
+use places::place;
 ghost use mathlib.Core.Path.{_≡_};
 ghost use mathlib.Core.Bool.{false};
 ghost use mathlib.Core.List.{List};

@@ -1,4 +1,1 @@
-pub mod Decimal
 pub mod Making
-pub mod Putting
-pub mod Walked

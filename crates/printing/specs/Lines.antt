@@ -1,31 +1,15 @@
--- The lines in a lent buffer: how much room they need, and what becomes of the buffers. What is printed is `Printed` of `paper`.
-use Prim.Native.Nat.{ℕ, _+_, _*_, _≤_}
-use mathlib.Core.Path.{_≡_}
+-- The lines for a sheet and three lent buffers: what becomes of the buffers. What is printed is `Printed` of `paper`.
+use Prim.Native.Nat.{ℕ, _+_}
 use mathlib.Core.Bool.{cond}
-use mathlib.Core.List.{List, _++_}
+use mathlib.Core.List.{List}
 use lib.Dec.{leb}
-use lib.ListN.{length, drop, replicate}
+use lib.ListN.{length, replicate}
 use Rattle.paper.specs.Numbers.{program-work, program-answer}
 use Rattle.paper.specs.Outcome.{Outcome, outcome}
 use Rattle.paper.specs.Printed.{printed-of}
-use Rattle.printing.specs.Writing.{most-digits}
-use Rattle.printing.specs.declared.Filled.{Filled}
-use Rattle.printing.specs.declared.Filled.the-variants.{Bytes, NoRoom}
-
--- three numbers of at most 20 digits, a sign behind each
-abbrev pub longest-first-line : ℕ
-longest-first-line = 3 * (most-digits + 1)
-
--- the bytes in front of the buffer, the rest unchanged
-abbrev pub in-front : List ℕ → List ℕ → List ℕ
-in-front bytes buffer = bytes ++ drop (length bytes) buffer
-
--- The lines l stand in front of the buffer, and n is their length. The third part follows from the other two; with it a caller may take
--- the part that they stand in.
-pub record Prints (l before after : List ℕ) (n : ℕ) : Type 0 where
-  pub bytes : after ≡ in-front l before
-  pub many : n ≡ length l
-  pub within : n ≤ length after
+use Rattle.writing.specs.Lines.{longest-first-line, in-front}
+use Rattle.writing.specs.declared.Filled.{Filled}
+use Rattle.writing.specs.declared.Filled.the-variants.{Bytes, NoRoom}
 
 -- what is said of the lines, and the three buffers afterwards
 pub record Lined : Type 0 where

@@ -1,12 +1,10 @@
 // What the program `clash` prints, made in a lent buffer.
-mod writing;
-
+pub use writing::FIRST_LINE;
+pub use writing::Filled;
 ghost use mathlib.Core.Path.{_≡_};
 ghost use Rattle.paper.specs.Printed.{printed as printed-for};
-ghost use Rattle.printing.specs.Lines.{no-work, no-answer, Prints, lined-as, lined};
-use writing::DIGITS;
-use writing::least;
-use writing::put_lines;
+ghost use Rattle.writing.specs.Lines.{Prints};
+ghost use Rattle.printing.specs.Lines.{no-work, no-answer, lined-as, lined};
 
 // "`clash` reads the first 1,024 bytes of standard input, lends 65,520 bytes of work (455 situations) and 4,096 of answer."
 pub const INPUT: usize = 1024;
@@ -15,27 +13,18 @@ const WORK: usize = 65520;
 
 const ANSWER: usize = 4096;
 
-// Three numbers of at most 20 digits, a sign behind each.
-pub const FIRST_LINE: usize = 3 * (DIGITS + 1);
-
 // No later line is longer than its record.
 pub const PRINTED: usize = FIRST_LINE + ANSWER;
 
-// So many bytes of lines, or no room for the longest.
-pub enum Filled {
-    Bytes(usize),
-    NoRoom,
-}
-
-// What `clash` prints for an input, in front of `out`. How many bytes that is.
-pub fn printed(input: &[u8], out: &mut [u8; PRINTED]) -> usize
-    ensures { λ r. ⌜ Prints (printed-for (now (input .entry))) (now (out .entry)) (now (out .exit)) r ⌝ }
+// The lines for a sheet and two lent buffers. Where `out` has no room for the longest, nothing is asked and nothing changed.
+pub fn lines(sheet: &[u8], work: &mut [u8], answer: &mut [u8], out: &mut [u8]) -> Filled
+    ensures { λ r. ⌜ lined-as r (now (out .exit)) (now (answer .exit)) (now (work .exit)) ≡ lined (now (sheet .entry)) (now (work .entry)) (now (answer .entry)) (now (out .entry)) ⌝ }
 {
-    let n = least(INPUT, input.len());
-    let mut work = zeroed_work();
-    let mut answer = zeroed_answer();
-    let told = bradovusc::in_numbers(bradovusc::clash(&input[0..n], &mut work, &mut answer));
-    put_lines(out, told, &answer)
+    if writing::has_room(out.len(), answer.len()) {
+        let told = answers::in_numbers(bradovusc::clash(sheet, work, answer));
+        return writing::put_lines(out, told, answer);
+    }
+    Filled::NoRoom
 }
 
 fn zeroed_work() -> [u8; WORK]
@@ -50,16 +39,20 @@ fn zeroed_answer() -> [u8; ANSWER]
     [0; ANSWER]
 }
 
-// The lines for a sheet and two lent buffers. Where `out` has no room for the longest, nothing is asked and nothing changed.
-pub fn lines(sheet: &[u8], work: &mut [u8], answer: &mut [u8], out: &mut [u8]) -> Filled
-    ensures { λ r. ⌜ lined-as r (now (out .exit)) (now (answer .exit)) (now (work .exit)) ≡ lined (now (sheet .entry)) (now (work .entry)) (now (answer .entry)) (now (out .entry)) ⌝ }
+// What `clash` prints for an input, in front of `out`. How many bytes that is.
+pub fn printed(input: &[u8], out: &mut [u8; PRINTED]) -> usize
+    ensures { λ r. ⌜ Prints (printed-for (now (input .entry))) (now (out .entry)) (now (out .exit)) r ⌝ }
 {
-    if out.len() < FIRST_LINE {
-        return Filled::NoRoom;
+    let n = if INPUT < input.len() {
+        INPUT
+    } else {
+        input.len()
+    };
+    let mut work = zeroed_work();
+    let mut answer = zeroed_answer();
+    let filled = lines(&input[0..n], &mut work, &mut answer, out);
+    match filled {
+        Filled::Bytes(n) => n,
+        Filled::NoRoom => 0,
     }
-    if out.len() - FIRST_LINE < answer.len() {
-        return Filled::NoRoom;
-    }
-    let told = bradovusc::in_numbers(bradovusc::clash(sheet, work, answer));
-    Filled::Bytes(put_lines(out, told, answer))
 }

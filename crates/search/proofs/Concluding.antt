@@ -6,7 +6,7 @@ use mathlib.Core.List.{List}
 use Rattle.search.specs.Ended.{clash-end, end-by, buffer-by, concluded, concluded-buffer, Clash-told, Over, Concluded}
 use Rattle.search.specs.Records.{Way-to, text-at, Answered}
 use Rattle.search.specs.Slots.{Slot}
-use Rattle.search.specs.declared.Ended.{Ended}
+use Rattle.answers.specs.declared.Ended.{Ended}
 use Rattle.search.specs.declared.records.Given.{Given}
 use Rattle.search.specs.declared.search.Run.{Run}
 use Rattle.search.specs.declared.search.Status.{Status}

@@ -7,16 +7,17 @@ use mathlib.Core.List.{List}
 use lib.ListN.{length}
 use Rattle.paper.specs.Numbers.{longest-side}
 use Rattle.inner.specs.Inner.{tokens}
-use Rattle.situations.specs.Coded.{Coded, Tables, question-coded}
-use Rattle.situations.specs.Laid.{as-struct, Short}
-use Rattle.situations.specs.declared.Situation.{Situation}
+use Rattle.inner.specs.Coded.{Coded, as-struct, Short}
+use Rattle.situations.specs.Children.{Tables}
+use Rattle.trimming.specs.Trimming.{question-coded}
+use Rattle.inner.specs.declared.Situation.{Situation}
 use Rattle.search.specs.Ended.{concluded, concluded-buffer, ended-with, buffer-with, Over, Concluded}
 use Rattle.search.specs.Lent.{Lent}
 use Rattle.search.specs.Run.{slot-search}
-use Rattle.search.specs.declared.Ended.{Ended}
+use Rattle.answers.specs.declared.Ended.{Ended}
 use Rattle.search.specs.declared.search.Run.{Run}
 use Rattle.search.proofs.Numbered.{slots-numbered, found-entered}
-use Rattle.situations.proofs.Short.{question-short}
+use Rattle.trimming.proofs.Short.{question-short}
 use Rattle.inner.proofs.Tokens.{tokens-length, all-tokens}
 
 -- the first situation of two sides

@@ -17,7 +17,8 @@ use Rattle.paper.proofs.base.Tests.{by-bool, ltb-true, ltb-false, lt-ltb, le-lt
 use Rattle.paper.proofs.base.Lists.{map-append}
 use Rattle.paper.proofs.search.Room.{ended-turns}
 use Rattle.paper.proofs.search.Searched.{settled, found-is-last}
-use Rattle.situations.specs.Coded.{Coded, Tables, finished-coded, same-coded, children-coded}
+use Rattle.inner.specs.Coded.{Coded, finished-coded, same-coded}
+use Rattle.situations.specs.Children.{Tables, children-coded}
 use Rattle.search.specs.Slots.{Slot, no-slot, slot-at}
 use Rattle.search.specs.Run.{Running, is-going, status-of, enter-slot, offer-slot, offer-slots, take-slot, slot-turns, slot-search}
 use Rattle.search.specs.declared.search.Status.the-variants.{Going, Found}

@@ -12,7 +12,8 @@ use Rattle.paper.proofs.base.Listed.{getD-mem}
 use Rattle.paper.proofs.search.Searched.{entries-different}
 use Rattle.paper.proofs.base.Tests.{true-false}
 use Rattle.search.specs.Buckets.{Entered-at}
-use Rattle.situations.specs.Coded.{Coded, Tables, same-coded, finished-coded, children-coded}
+use Rattle.inner.specs.Coded.{Coded, same-coded, finished-coded}
+use Rattle.situations.specs.Children.{Tables, children-coded}
 use Rattle.search.specs.Run.{slot-search}
 use Rattle.search.specs.Slots.{Slot, slot-at, no-slot}
 use Rattle.search.specs.declared.buckets.Seen.{Seen}

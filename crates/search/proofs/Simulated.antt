@@ -27,9 +27,11 @@ use Rattle.paper.proofs.equations.Same.{situation-equal, situation-same}
 use Rattle.paper.proofs.places.PlaceSets.{same-equal, equal-same}
 use Rattle.paper.proofs.search.Searched as Searched
 use Rattle.paper.proofs.search.Mapped.{code-entry, code-end, Simulates, search-how, search-entries, search-count}
-use Rattle.patterns.proofs.Masks.{Few}
+use Rattle.places.proofs.Masks.{Few}
 use Rattle.inner.specs.Inner.{side-code, move-code}
-use Rattle.situations.specs.Coded.{Coded, finished-coded, same-coded, children-coded, question-coded, given-coded}
+use Rattle.inner.specs.Coded.{Coded, finished-coded, same-coded}
+use Rattle.situations.specs.Children.{children-coded, given-coded}
+use Rattle.trimming.specs.Trimming.{question-coded}
 use Rattle.situations.specs.Coding.{situation-code, tables-of}
 use Rattle.situations.proofs.CodedSides.{Known-side, known-side, same-sides, finished-sides}
 use Rattle.situations.proofs.CodedSets.{Codable, same-sets}

@@ -5,7 +5,7 @@ use native.Mathlib.Omega.{arith}
 use mathlib.Core.Path.{_≡_, sym, ap, _∙_}
 use mathlib.Core.List.{List, [], _++_}
 use lib.ListN.{length}
-use Rattle.situations.specs.Coded.{given-coded}
+use Rattle.situations.specs.Children.{given-coded}
 use Rattle.search.specs.Slots.{Slot, slot-at}
 use Rattle.search.specs.Run.{text-back}
 

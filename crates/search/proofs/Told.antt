@@ -24,7 +24,7 @@ use Rattle.paper.proofs.sheets.Asked.{GoodQuestion}
 use Rattle.paper.proofs.base.Lists.{mem-keep, mem-upto, map-append}
 use Rattle.paper.proofs.base.Listed.{getD-map-upto, any-same, keep-same, each-same}
 use Rattle.inner.specs.Inner.{field-code, token-code, side-code}
-use Rattle.situations.specs.Coded.{first-mask, first-masks, question-coded}
+use Rattle.trimming.specs.Trimming.{first-mask, first-masks, question-coded}
 use Rattle.situations.specs.Coding.{tables-of}
 use Rattle.situations.proofs.CodedQuestion.{stands-coded, known-append}
 use Rattle.situations.proofs.CodedSides.{known-side}

@@ -8,8 +8,7 @@ use lib.ListN.{length, getD}
 use Rattle.paper.specs.Lists.{any}
 use Rattle.paper.specs.Numbers.{longest-side, situation-bytes}
 use Rattle.inner.specs.Inner.{no-token}
-use Rattle.situations.specs.Coded.{Coded, same-coded}
-use Rattle.situations.specs.Laid.{Short}
+use Rattle.inner.specs.Coded.{Coded, same-coded, Short}
 use Rattle.search.specs.LowFirst.{number-of}
 use Rattle.search.specs.Slots.{right-at, sets-at, sets-bytes, number-width, held-bytes, key, Slot, slot-at, part, Holds}
 use Rattle.search.specs.declared.buckets.Seen.{Seen}

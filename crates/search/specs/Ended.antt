@@ -6,13 +6,14 @@ use mathlib.Core.List.{List}
 use lib.ListN.{length}
 use Rattle.paper.specs.Numbers.{situation-bytes, most-room}
 use Rattle.paper.specs.Outcome.{Outcome}
-use Rattle.situations.specs.Coded.{Coded, Tables}
+use Rattle.inner.specs.Coded.{Coded}
+use Rattle.situations.specs.Children.{Tables}
 use Rattle.search.specs.Lent.{Lent}
 use Rattle.search.specs.Records.{Earlier, text-at, answer-given, buffer-after}
 use Rattle.search.specs.Run.{Running, slot-search}
 use Rattle.search.specs.Slots.{Slot}
-use Rattle.search.specs.declared.Ended.{Ended}
-use Rattle.search.specs.declared.Ended.the-variants as Ended-as
+use Rattle.answers.specs.declared.Ended.{Ended}
+use Rattle.answers.specs.declared.Ended.the-variants as Ended-as
 use Rattle.search.specs.declared.records.Given.{Given}
 use Rattle.search.specs.declared.records.Given.the-variants as Given-as
 use Rattle.search.specs.declared.search.Run.{Run}

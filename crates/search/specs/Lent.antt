@@ -6,10 +6,11 @@ use mathlib.Core.List.{List}
 use lib.ListN.{length}
 use Rattle.paper.specs.Numbers.{situation-bytes, most-room}
 use Rattle.paper.specs.Search.{Child, child}
-use Rattle.situations.specs.Coded.{Coded, Tables, Settled, made, as-child}
-use Rattle.situations.specs.Laid.{as-struct, Short, child-of}
+use Rattle.inner.specs.Coded.{Coded, as-struct, Short}
+use Rattle.situations.specs.Children.{Tables, Settled, made, as-child}
+use Rattle.situations.specs.Laid.{child-of}
 use Rattle.situations.specs.declared.Child.{Child as Made-child}
-use Rattle.situations.specs.declared.Situation.{Situation}
+use Rattle.inner.specs.declared.Situation.{Situation}
 use Rattle.search.specs.Run.{is-going, Running, enter-slot, offer-going, offer-slots, take-slot, slot-search}
 use Rattle.search.specs.Buckets.{bucket, buckets, Kept}
 use Rattle.search.specs.Slots.{key, Slot}

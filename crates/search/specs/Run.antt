@@ -7,7 +7,8 @@ use lib.Dec.{leb, ltb}
 use lib.ListN.{length}
 use Rattle.paper.specs.Lists.{any}
 use Rattle.paper.specs.Search.{Child, long, child, End, found, used-up, no-room, too-long}
-use Rattle.situations.specs.Coded.{Coded, Tables, finished-coded, same-coded, children-coded, given-coded}
+use Rattle.inner.specs.Coded.{Coded, finished-coded, same-coded}
+use Rattle.situations.specs.Children.{Tables, children-coded, given-coded}
 use Rattle.search.specs.Slots.{Slot, slot-at}
 use Rattle.search.specs.declared.search.Status.{Status}
 use Rattle.search.specs.declared.search.Status.the-variants.{Going, Found, UsedUp, NoRoom, TooLong}

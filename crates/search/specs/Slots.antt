@@ -6,9 +6,8 @@ use mathlib.Core.List.{List, [], _∷_, _++_}
 use lib.ListN.{length, getD, take, drop}
 use Rattle.paper.specs.Lists.{each}
 use Rattle.paper.specs.Numbers.{set-fields, longest-side, situation-bytes}
-use Rattle.situations.specs.Coded.{Coded}
-use Rattle.situations.specs.Laid.{as-struct, Short}
-use Rattle.situations.specs.declared.Situation.{Situation}
+use Rattle.inner.specs.Coded.{Coded, as-struct, Short}
+use Rattle.inner.specs.declared.Situation.{Situation}
 use Rattle.search.specs.LowFirst.{low-first}
 
 -- a mask in four bytes

@@ -9,8 +9,7 @@ ghost use lib.ListN.{length};
 ghost use lib.Dec.{eqb};
 ghost use Rattle.paper.specs.Lists.{same-by};
 ghost use Rattle.paper.specs.Numbers.{situation-bytes};
-ghost use Rattle.situations.specs.Coded.{Coded};
-ghost use Rattle.situations.specs.Laid.{Short};
+ghost use Rattle.inner.specs.Coded.{Coded, Short};
 ghost use Rattle.search.specs.Buckets.{hash-limit, mixed, hash-from, hash-side, hash, bucket, buckets, Links-put, Sought, Kept, Entered-at};
 ghost use Rattle.search.specs.Slots.{key-bytes, key, Slot};
 

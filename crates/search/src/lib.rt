@@ -5,10 +5,11 @@ mod records;
 mod search;
 mod slots;
 
+use answers::Ended;
 use inner::FIELDS;
 use inner::LONGEST_SIDE;
-use patterns::CHARACTERS;
-use patterns::PLACES;
+use places::CHARACTERS;
+use places::PLACES;
 use records::Given;
 use search::Run;
 use search::Status;
@@ -16,29 +17,13 @@ ghost use mathlib.Core.Path.{_≡_};
 ghost use Prim.Native.Nat.{_-_, _<_};
 ghost use lib.ListN.{length, replicate};
 ghost use Rattle.inner.specs.Inner.{tokens};
-ghost use Rattle.situations.specs.Coded.{question-coded};
+ghost use Rattle.trimming.specs.Trimming.{question-coded};
 ghost use Rattle.search.specs.Ended.{room-for, ended-with, buffer-with, Clash-told, Over, Concluded};
 ghost use Rattle.search.specs.Lent.{tables};
 ghost use Rattle.search.specs.Records.{Way-to};
 
 // "at most 65,535"
 const MOST_ROOM: usize = 65535;
-
-// How a search ends.
-pub enum Ended {
-    // the answer buffer holds a text for each field standing in the sides
-    Clash { count: usize, written: usize },
-    // no label can be read by both rules
-    NoClash { count: usize },
-    // no room for a situation
-    NoRoom { count: usize },
-    // a side above 48 tokens
-    SideTooLong { count: usize },
-    // a clash, but the answer buffer is too short for the texts
-    AnswerTooShort { count: usize },
-    // a clash, but a text is above 65,535 characters
-    TextTooLong { count: usize },
-}
 
 // Searches the question of these sides, whose fields have these tables. The working buffer is all zero afterwards.
 pub fn run(
@@ -54,7 +39,7 @@ pub fn run(
     ensures answer { λ _. ⌜ now (answer .exit) ≡ buffer-with (tables follow taking last) (room-for (length (now (work .entry)))) (question-coded (tokens left) (tokens right)) (now (answer .entry)) ⌝ }
     ensures work { λ _. ⌜ now (work .exit) ≡ replicate (length (now (work .entry))) 0 ⌝ }
 {
-    let first = situations::question(left, right);
+    let first = trimming::question(left, right);
     let room = room_for(work.len());
     let run = search::search(work, room, first, follow, taking, last);
     let sets = first.sets;

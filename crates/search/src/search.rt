@@ -2,20 +2,21 @@
 use crate::buckets;
 use crate::buckets::Seen;
 use crate::slots;
+use fronts::Front;
 use inner::FIELDS;
 use inner::LEFT_STRUCK;
 use inner::RIGHT_STRUCK;
-use patterns::CHARACTERS;
-use patterns::PLACES;
+use inner::Situation;
+use places::CHARACTERS;
+use places::PLACES;
 use situations::Child;
 use situations::Fate;
-use situations::Front;
-use situations::Situation;
 ghost use mathlib.Core.Path.{_≡_};
 ghost use Prim.Native.Nat.{_*_, _<_, _≤_};
 ghost use lib.ListN.{length};
 ghost use Rattle.paper.specs.Numbers.{situation-bytes, most-room};
-ghost use Rattle.situations.specs.Coded.{Coded, puts-of, children-coded};
+ghost use Rattle.inner.specs.Coded.{Coded};
+ghost use Rattle.situations.specs.Children.{puts-of, children-coded};
 ghost use Rattle.search.specs.Buckets.{buckets};
 ghost use Rattle.search.specs.Lent.{Roomy, tables, Enters, Enters-with, Offers-made, Offers-child, Offers, Takes, Searches};
 ghost use Rattle.search.specs.Run.{is-going};
@@ -65,7 +66,7 @@ fn enter_with(
     ensures { λ r. ⌜ Enters-with room n parent step s (now (key .entry)) b (now (work .entry)) (now (work .exit)) r ⌝ }
 {
     buckets::write_slot(work, n, key, b, parent, step);
-    if situations::is_finished(s) {
+    if inner::is_finished(s) {
         return Run {
             entered: n + 1,
             status: Status::Found,
@@ -166,8 +167,8 @@ fn offer_puts(
     while c < CHARACTERS {
         let m = left.followers & left.row[c];
         let n = right.followers & right.row[c];
-        if situations::both_take(left.token, m, right.token, n, c as u8) {
-            let child = situations::put(s, c as u8, left, right);
+        if fronts::both_take(left.token, m, right.token, n, c as u8) {
+            let child = situations::put(s, c as u8, m, n);
             now = offer(work, room, now, parent, c as u8, child);
         }
         c += 1;
@@ -207,8 +208,8 @@ fn offer_children(
         RIGHT_STRUCK,
         situations::strike_right(s, last),
     );
-    let left = situations::front_with(s.left[0], sets, follow, taking);
-    let right = situations::front_with(s.right[0], sets, follow, taking);
+    let left = fronts::front_with(s.left[0], sets, follow, taking);
+    let right = fronts::front_with(s.right[0], sets, follow, taking);
     offer_puts(work, room, two, parent, s, left, right)
 }
 

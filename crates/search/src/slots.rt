@@ -3,14 +3,14 @@ use crate::numbers::number;
 use crate::numbers::put_number;
 use inner::FIELDS;
 use inner::LONGEST_SIDE;
-use situations::Situation;
+use inner::Situation;
 ghost use mathlib.Core.Path.{_≡_};
 ghost use mathlib.Core.List.{List, _++_};
 ghost use Prim.Native.Nat.{ℕ, _+_, _*_, _<_, _≤_};
 ghost use lib.ListN.{length, replicate};
 ghost use Rattle.paper.specs.Lists.{each};
 ghost use Rattle.paper.specs.Numbers.{set-fields, longest-side, situation-bytes};
-ghost use Rattle.situations.specs.Laid.{as-struct, Short};
+ghost use Rattle.inner.specs.Coded.{as-struct, Short};
 ghost use Rattle.search.specs.LowFirst.{number-of};
 ghost use Rattle.search.specs.Slots.{mask-width, mask-bytes, number-width, origin-width, struct-key, origin-bytes, key-bytes, held-bytes, sets-bytes, Slot, slot-bytes, slot-at, part, Holds};
 

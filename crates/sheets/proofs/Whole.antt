@@ -1,6 +1,5 @@
--- From what the walk finds to what reading a sheet hands on: reading begins at the first byte with every field open, and a good sheet is its
--- sides' codes and what is worked out of its fields' patterns. Follows from the definitions of `read-sheet` and `sheet-of`.
-use Prim.Native.Nat.{ℕ, _<_}
+-- A sheet by what its parts are: the patterns' records, the sides, the end. Follows from the definition of `read-sheet` by its cases.
+use Prim.Native.Nat.{ℕ, suc, _≤_, _<_}
 use native.Mathlib.Omega.{arith}
 use mathlib.Core.Path.{_≡_, sym, _∙_}
 use mathlib.Core.List.{List, map}
@@ -9,33 +8,55 @@ use lib.Seq.{ext-getD}
 use Rattle.paper.specs.Lists.{upto}
 use Rattle.paper.specs.Numbers.{fields}
 use Rattle.paper.specs.Pattern.{Held, any-text}
-use Rattle.paper.specs.Sheet.{Reading, LE, body, token, left-read, read-sheet}
+use Rattle.paper.specs.Equation.{Side}
+use Rattle.paper.specs.Question.{Question}
+use Rattle.paper.specs.Sheet.{Fault, fault, read, wrong-mark, LE, RI, marked-side, Records, faulty, records, Fields, open-fields, read-patterns, refused, asked, read-end, sides-read, read-sheet}
 use Rattle.paper.proofs.base.Lists.{length-from}
 use Rattle.paper.proofs.base.Listed.{getD-map-upto}
+use Rattle.paper.proofs.base.Tests.{lt-ltb, le-ltb}
+use Rattle.paper.proofs.sheets.Asked.{sheet-good}
 use Rattle.inner.specs.Inner.{side-code, padded}
-use Rattle.patterns.specs.Worked.{worked-out}
-use Rattle.patterns.specs.declared.PlaceTables.{PlaceTables}
-use Rattle.sheets.specs.declared.Found.the-variants.{Good}
+use Rattle.places.specs.WorkedOut.{worked-out}
+use Rattle.places.proofs.ByNumber.{by-number}
+use Rattle.places.specs.declared.PlaceTables.{PlaceTables}
+use Rattle.answers.specs.declared.Found.the-variants.{Good}
 use Rattle.sheets.specs.declared.Sheet.{Sheet}
-use Rattle.sheets.specs.declared.walk.Patterns.{Patterns}
 use Rattle.sheets.specs.Read.{sheet-of}
-use Rattle.sheets.specs.Walk.{Reads-from, Patterns-stand, Sides-stand}
 
-pub reads-whole : (s : List ℕ) (x : Reading) → Reads-from s 0 0 x → read-sheet s ≡ x
-unfolding read-sheet
-reads-whole s x h = h (length s) (omega arith)
+-- what the patterns' records of the sheet give
+abbrev pub patterns-of : List ℕ → Records Fields
+patterns-of s = read-patterns (suc (length s)) s 0 open-fields
 
--- what is worked out of each field, by its number
-by-number : (held : List Held) → length held ≡ fields → map worked-out held ≡ map (λ (f : ℕ). worked-out (getD held f any-text)) (upto fields)
-by-number held e =
-    ext-getD (worked-out any-text) (map worked-out held) (map (λ (f : ℕ). worked-out (getD held f any-text)) (upto fields))
-    (length-map held worked-out ∙ e ∙ sym (length-map (upto fields) (λ (f : ℕ). worked-out (getD held f any-text)) ∙ length-from 0 fields))
-    (λ i l.
-    let h : i < fields = omega (arith, length-map held worked-out, e) in
-    List·getD-map worked-out held i any-text
-    ∙ sym (getD-map-upto (λ (f : ℕ). worked-out (getD held f any-text)) (worked-out any-text) fields i h))
+module _ (s : List ℕ) where
+  pub patterns-fault : (x : Fault) (at : ℕ) → patterns-of s ≡ faulty x at → read-sheet s ≡ refused x at
+  unfolding read-sheet
+  patterns-fault x at e = rw e
 
-module _ (s : List ℕ) (p : Patterns) (left left-len right right-len : ℕ) (ps : Patterns-stand s 0 0 p) (ss : Sides-stand s (p .next .at) left left-len right right-len) where
-  pub whole-asked : (l r : List ℕ) → l ≡ padded (side-code (map token (body s left left-len))) → r ≡ padded (side-code (map token (body s right right-len)))
-      → _≡_ {A = Sheet} (record { found = Good; place = 0; left = l; right = r; fields = p .fields }) (sheet-of (read-sheet s))
-  whole-asked l r e f = rw (reads-whole s _ (ps .reads), ss .reads (ps .held), e, f, ps .works, by-number (ps .held) (ps .all))
+  module _ (fs : Fields) (at : ℕ) (e : patterns-of s ≡ records fs at) where
+    pub left-fault : (x : Fault) → marked-side LE s at ≡ fault x → read-sheet s ≡ refused x at
+    unfolding read-sheet
+    left-fault x f = rw (e, f)
+
+    module _ (l : Side) (behind : ℕ) (f : marked-side LE s at ≡ read l behind) where
+      pub right-fault : (x : Fault) → marked-side RI s behind ≡ fault x → read-sheet s ≡ refused x behind
+      unfolding read-sheet
+      right-fault x g = rw (e, f, g)
+
+      module _ (r : Side) (end : ℕ) (g : marked-side RI s behind ≡ read r end) where
+        pub byte-left : end < length s → read-sheet s ≡ refused wrong-mark end
+        unfolding read-sheet read-end
+        byte-left h = rw (e, f, g, lt-ltb end (length s) h)
+
+        abbrev question-read : Question
+        question-read = record { left = l; right = r; held = fs .held }
+
+        sheet-ends : length s ≤ end → read-sheet s ≡ asked question-read
+        unfolding read-sheet read-end
+        sheet-ends h = rw (e, f, g, le-ltb end (length s) h)
+
+        pub whole : length s ≤ end → (left right : List ℕ) (tables : List PlaceTables)
+            → left ≡ padded (side-code l) → right ≡ padded (side-code r) → tables ≡ map worked-out (fs .held)
+            → _≡_ {A = Sheet} (record { found = Good; place = 0; left = left; right = right; fields = tables }) (sheet-of (read-sheet s))
+        whole h left right tables a b t =
+            let asks = sheet-ends h in
+            rw (asks, a, b, t, by-number (fs .held) (sheet-good s question-read asks .held .each-field))

@@ -1,4 +1,1 @@
-pub mod Faults
-pub mod Tables
 pub mod Read
-pub mod Walk

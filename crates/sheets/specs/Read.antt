@@ -1,17 +1,24 @@
 -- What the sheet reader hands on (document 01, "Checks on the sheet"): the fault with its place, or the sides by inner codes and
 -- what is worked out of the fields' patterns.
 use Prim.Native.Nat.{ℕ}
-use mathlib.Core.List.{[]}
-use Rattle.paper.specs.Sheet.{token, Reading, refused, asked}
-use Rattle.inner.specs.Inner.{token-code, side-code, padded}
-use Rattle.sheets.specs.Faults.{as-fault}
-use Rattle.sheets.specs.Tables.{field-tables}
-use Rattle.sheets.specs.declared.Found.the-variants.{Good, Refused}
+use mathlib.Core.List.{List, [], map}
+use lib.ListN.{replicate}
+use Rattle.paper.specs.Lists.{upto}
+use Rattle.paper.specs.Numbers.{fields}
+use Rattle.paper.specs.Pattern.{any-text}
+use Rattle.paper.specs.Question.{held-by}
+use Rattle.paper.specs.Sheet.{Reading, refused, asked}
+use Rattle.places.specs.WorkedOut.{worked-out}
+use Rattle.places.specs.declared.PlaceTables.{PlaceTables}
+use Rattle.inner.specs.Inner.{side-code, padded}
+use Rattle.answers.specs.Faults.{as-fault}
+use Rattle.answers.specs.declared.Found.the-variants.{Good, Refused}
 use Rattle.sheets.specs.declared.Sheet.{Sheet}
 
--- the inner code of a token's byte
-abbrev pub code-of : ℕ → ℕ
-code-of b = token-code (token b)
+-- what is worked out of each field's pattern; "A field without `PA` is open": those of a refused sheet are
+abbrev pub field-tables : Reading → List PlaceTables
+field-tables (refused x at) = replicate fields (worked-out any-text)
+field-tables (asked q) = map (λ (f : ℕ). worked-out (held-by q f)) (upto fields)
 
 -- what reading a sheet hands on
 abbrev pub sheet-of : Reading → Sheet

@@ -1,65 +1,16 @@
 // The question sheet: from any bytes to the question, or to the first fault met with its place.
-mod cursor;
-mod numbers;
-mod tables;
-mod walk;
-
-use crate::cursor::Cursor;
-use crate::numbers::FIELD_TOKEN;
-use crate::numbers::FIELDS;
-use crate::walk::Sides;
-use inner::FIELD_CODE;
+use answers::Fault;
+use answers::Found;
 use inner::LONGEST_SIDE;
 use inner::NO_TOKEN;
-use patterns::CHARACTERS;
-use patterns::PlaceTables;
-pub use tables::follow_sets;
-pub use tables::last_sets;
-pub use tables::taking_sets;
+use inner::SHEET_FIELDS;
+use places::PlaceTables;
+use sides::Cursor;
+use sides::Mark;
 ghost use mathlib.Core.Path.{_≡_};
-ghost use Prim.Native.Nat.{_≤_};
-ghost use mathlib.Core.Bool.{true};
-ghost use mathlib.Core.List.{map};
-ghost use lib.ListN.{length};
-ghost use Rattle.paper.specs.Lists.{all};
-ghost use Rattle.paper.specs.Numbers.{sheet-side};
-ghost use Rattle.paper.specs.Sheet.{fault-number, body, is-token, token, refused, read-sheet};
-ghost use Rattle.inner.specs.Inner.{side-code, padded};
-ghost use Rattle.sheets.specs.Faults.{fault-of};
-ghost use Rattle.sheets.specs.Read.{code-of, sheet-of};
-ghost use Rattle.sheets.specs.Walk.{Tokens-stand};
-
-// "The first fault met decides."
-pub enum Fault {
-    CutShort,
-    WrongMark,
-    WrongField,
-    WrongLength,
-    NotOnePattern,
-    TooManyLeaves,
-    WrongToken,
-}
-
-// The fault's number.
-pub fn number(x: Fault) -> u8
-    ensures { λ r. ⌜ r ≡ fault-number (fault-of x) ⌝ }
-{
-    match x {
-        Fault::CutShort => 11,
-        Fault::WrongMark => 12,
-        Fault::WrongField => 13,
-        Fault::WrongLength => 14,
-        Fault::NotOnePattern => 15,
-        Fault::TooManyLeaves => 16,
-        Fault::WrongToken => 17,
-    }
-}
-
-// What the checks on a sheet find.
-pub enum Found {
-    Good,
-    Refused(Fault),
-}
+ghost use Rattle.paper.specs.Sheet.{refused, read-sheet};
+ghost use Rattle.answers.specs.Faults.{fault-of};
+ghost use Rattle.sheets.specs.Read.{sheet-of};
 
 // What a sheet says.
 pub struct Sheet {
@@ -70,38 +21,43 @@ pub struct Sheet {
     pub left: [u8; LONGEST_SIDE],
     pub right: [u8; LONGEST_SIDE],
     // what is worked out of each field's pattern; the fields of a sheet with a fault are open
-    pub fields: [PlaceTables; FIELDS],
+    pub fields: [PlaceTables; SHEET_FIELDS],
 }
 
-// Reads a sheet, in one walk.
+// Reads a sheet, in one walk: "no, one or several `PA`, field numbers rising; one `LE`; one `RI`; the end".
 pub fn read(s: &[u8]) -> Sheet
     ensures { λ r. ⌜ r ≡ sheet-of (read-sheet (now (s .entry))) ⌝ }
 {
-    let p = walk::read_patterns(s, Cursor::start());
-    let found = p.found;
-    let next = p.next;
-    if let Found::Refused(x) = found {
-        return refuse(x, next.at);
+    let p = fields::read(s, Cursor { at: 0 });
+    let c = p.next;
+    let patterns_found = p.found;
+    if let Found::Refused(x) = patterns_found {
+        return refuse(x, c.at);
     }
-    match walk::read_sides(s, next) {
-        Sides::Fault(x, place) => refuse(x, place),
-        Sides::Read {
-            left,
-            left_len,
-            right,
-            right_len,
-        } => {
-            let left_side = side_at(s, left, left_len);
-            let right_side = side_at(s, right, right_len);
-            let fields = p.fields;
-            Sheet {
-                found: Found::Good,
-                place: 0,
-                left: left_side,
-                right: right_side,
-                fields,
-            }
-        }
+    let l = c.side(s, Mark::LE);
+    let behind = l.next;
+    let left_found = l.found;
+    if let Found::Refused(x) = left_found {
+        return refuse(x, c.at);
+    }
+    let r = behind.side(s, Mark::RI);
+    let end = r.next;
+    let right_found = r.found;
+    if let Found::Refused(x) = right_found {
+        return refuse(x, behind.at);
+    }
+    if end.at < s.len() {
+        return refuse(Fault::WrongMark, end.at);
+    }
+    let left = l.codes;
+    let right = r.codes;
+    let fields = p.tables;
+    Sheet {
+        found: Found::Good,
+        place: 0,
+        left,
+        right,
+        fields,
     }
 }
 
@@ -109,7 +65,8 @@ pub fn read(s: &[u8]) -> Sheet
 fn refuse(x: Fault, place: usize) -> Sheet
     ensures { λ r. ⌜ r ≡ sheet-of (refused (fault-of x) place) ⌝ }
 {
-    let fields = walk::all_open();
+    let open = places::open_tables();
+    let fields = [open; SHEET_FIELDS];
     Sheet {
         found: Found::Refused(x),
         place,
@@ -117,37 +74,4 @@ fn refuse(x: Fault, place: usize) -> Sheet
         right: [NO_TOKEN; LONGEST_SIDE],
         fields,
     }
-}
-
-// The side whose tokens stand there.
-fn side_at(s: &[u8], start: usize, len: usize) -> [u8; LONGEST_SIDE]
-    requires { ⌜ Tokens-stand (now s) start len ⌝ }
-    ensures { λ r. ⌜ r ≡ padded (side-code (map token (body (now (s .entry)) start len))) ⌝ }
-{
-    inner_side(&s[start..start + len])
-}
-
-// The side of these tokens.
-fn inner_side(side: &[u8]) -> [u8; LONGEST_SIDE]
-    requires { ⌜ (length (now side) ≤ sheet-side) × (all is-token (now side) ≡ true) ⌝ }
-    ensures { λ r. ⌜ r ≡ padded (map code-of (now (side .entry))) ⌝ }
-{
-    let mut codes = [NO_TOKEN; LONGEST_SIDE];
-    let mut i = 0;
-    while i < side.len() {
-        codes[i] = inner_code(side[i]);
-        i += 1;
-    }
-    codes
-}
-
-// The inner code of a token.
-fn inner_code(b: u8) -> u8
-    requires { ⌜ is-token b ≡ true ⌝ }
-    ensures { λ r. ⌜ r ≡ code-of b ⌝ }
-{
-    if (b as usize) < CHARACTERS {
-        return b;
-    }
-    FIELD_CODE + (b - FIELD_TOKEN as u8)
 }

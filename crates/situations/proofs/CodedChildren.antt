@@ -21,10 +21,12 @@ use Rattle.paper.proofs.base.Tests.{by-bool, true-false, not-true, and-left, an
 use Rattle.paper.proofs.base.Lists.{map-append, mem-upto}
 use Rattle.paper.proofs.equations.Moves.{other-front}
 use Rattle.paper.proofs.search.Mapped.{code-child}
-use Rattle.patterns.specs.Masks.{mask}
-use Rattle.patterns.proofs.Masks.{Few}
+use Rattle.places.specs.Masks.{mask}
+use Rattle.places.proofs.Masks.{Few}
 use Rattle.inner.specs.Inner.{field-code, left-struck, right-struck, token-code, side-code, move-code, front}
-use Rattle.situations.specs.Coded.{Coded, dropped, above, made, judged-sides, settle, with-set, struck, put-child, may-end-at, front-from, set-by, left-strike, right-strike, put-of, as-child, children-coded}
+use Rattle.fronts.specs.Fronts.{front-from, set-by}
+use Rattle.inner.specs.Coded.{Coded}
+use Rattle.situations.specs.Children.{dropped, above, made, judged-sides, settle, with-set, struck, put-child, may-end-at, left-strike, right-strike, put-of, as-child, children-coded}
 use Rattle.situations.specs.Coding.{situation-code, tables-of}
 use Rattle.situations.proofs.CodedSides.{Known-side, char-not-field, field-is-field, field-of-code, strike-coded, put-in-all, put-coded, trim-coded, kind-dead, dead-coded, front-coded, known-strike, known-put-all}
 use Rattle.situations.proofs.CodedSets.{Codable, set-mask, may-end-coded, front-at, set-by-coded, takes-coded}
@@ -238,7 +240,7 @@ module _ (q : Question) (few : (f : ℕ) → Few (held-by q f)) (s : Situation P
       ≡ map code-child-of (put-group (acceptor q) longest-side s c)
   unfolding put-of
   put-of-coded c h =
-      rw (token-at q s (front (side-code (s .left))), token-at q s (front (side-code (s .right))), lt-ltb c characters h, takes-coded q few s codable (s .left) c h (codable .left), takes-coded q few s codable (s .right) c h (codable .right))
+      rw (token-at q s (front (side-code (s .left))), token-at q s (front (side-code (s .right))), takes-coded q few s codable (s .left) c h (codable .left), takes-coded q few s codable (s .right) c h (codable .right))
       (by-bool (front-takes (acceptor q) s c (s .left) && front-takes (acceptor q) s c (s .right))
       (λ e. rw e (put-child-coded c h))
       (λ e. rw e))

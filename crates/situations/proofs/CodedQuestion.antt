@@ -14,9 +14,9 @@ use Rattle.paper.specs.Situation.{trimmed, question}
 use Rattle.paper.specs.Question.{Question, acceptor}
 use Rattle.paper.proofs.base.Tests.{eqb-symmetric}
 use Rattle.paper.proofs.base.Lists.{cons-eq, map-append}
-use Rattle.patterns.specs.Masks.{mask}
+use Rattle.places.specs.Masks.{mask}
 use Rattle.inner.specs.Inner.{field-code, token-code, side-code}
-use Rattle.situations.specs.Coded.{first-mask, first-masks, question-coded}
+use Rattle.trimming.specs.Trimming.{first-mask, first-masks, question-coded}
 use Rattle.situations.specs.Coding.{situation-code}
 use Rattle.situations.proofs.CodedSides.{Known-side, code-of-field, trim-coded}
 

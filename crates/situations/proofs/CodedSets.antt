@@ -19,12 +19,13 @@ use Rattle.paper.proofs.base.Tests.{by-bool, same-tests, lt-ltb, neq-eqb, eq-eq
 use Rattle.paper.proofs.base.Lists.{cons-eq}
 use Rattle.paper.proofs.places.PlaceSets.{same-equal, equal-same}
 use Rattle.paper.proofs.base.Listed.{getD-map-upto}
-use Rattle.patterns.proofs.Masks.{Masked, Few, mask-same, mask-empty, mask-may-end, mask-after, taking-at}
-use Rattle.patterns.specs.Masks.{mask, follow-masks, taking-masks, last-mask}
+use Rattle.places.proofs.Masks.{Masked, Few, mask-same, mask-empty, mask-may-end, mask-after, taking-at}
+use Rattle.places.specs.Masks.{mask, follow-masks, taking-masks, last-mask}
 use Rattle.inner.specs.Inner.{field-code, no-token, side-code, field-of, front}
-use Rattle.situations.specs.Coded.{may-end-at, row-at, front-from, set-by, takes-next}
+use Rattle.fronts.specs.Fronts.{row-at, front-from, set-by, takes-next}
+use Rattle.fronts.specs.declared.Front.{Front}
+use Rattle.situations.specs.Children.{may-end-at}
 use Rattle.situations.specs.Coding.{situation-code, tables-of}
-use Rattle.situations.specs.declared.Front.{Front}
 use Rattle.situations.proofs.CodedSides.{Known-side, char-not-field, field-is-field, field-of-code}
 
 pub record Codable (s : Situation PlaceSet) : Type 0 where

@@ -19,7 +19,9 @@ use Rattle.paper.proofs.sheets.Asked.{InRange}
 use Rattle.paper.proofs.equations.Moves.{front-fields-different}
 use Rattle.inner.specs.Inner as Inner
 use Rattle.inner.specs.Inner.{field-code, no-token, token-code, side-code, is-char, field-of, front}
-use Rattle.situations.specs.Coded.{none as no-tokens, strike-codes, put-codes, alike-in-front, dead-sides}
+use Rattle.inner.specs.Coded.{none as no-tokens}
+use Rattle.situations.specs.Children.{strike-codes, put-codes, dead-sides}
+use Rattle.trimming.specs.Trimming.{alike-in-front}
 
 -- a token that a situation may have
 abbrev pub Known : Token → Type 0

@@ -1,24 +1,43 @@
--- How sides are judged, test by test: what stands in front, finished, dead, too long, made. Follows from the definitions in Inner and Coded.
+-- How sides are judged, test by test: what stands in front, dead, too long, made. Follows from the definitions.
 use Prim.Native.Nat.{ℕ, _≤_, _<_}
 use native.Mathlib.Omega.{arith}
 use mathlib.Core.Path.{_≡_, refl, sym}
 use mathlib.Core.Bool.{true, false, _&&_, _||_, or-true, or-false}
 use mathlib.Core.List.{List, [], _∷_}
-use lib.Dec.{eqb}
-use lib.ListN.{length, getD}
+use lib.ListN.{length, getD, take}
+use lib.Seq.{take-all}
 use Rattle.paper.specs.Numbers.{longest-side}
-use Rattle.paper.proofs.base.Tests.{cond-by, true-false, le-leb, lt-leb}
-use Rattle.inner.specs.Inner.{no-token, is-char, front, tokens}
-use Rattle.situations.specs.Coded.{none, dropped, above, made, dead-sides, judged-sides}
+use Rattle.paper.proofs.base.Tests.{true-false, le-leb, lt-leb}
+use Rattle.inner.specs.Inner.{is-char, front, padded}
+use Rattle.inner.specs.Coded.{as-struct}
+use Rattle.trimming.specs.Trimming.{trimmed-sides}
+use Rattle.trimming.specs.declared.Trimmed.{Trimmed}
+use Rattle.inner.specs.Coded.{none}
+use Rattle.situations.specs.Children.{dropped, above, made, dead-sides, judged-sides}
 
--- The front of a side.
-pub front-none : (l : List ℕ) → length l ≡ 0 → front l ≡ no-token
-front-none [] e = refl
-front-none (a ∷ l) e = absurd (omega arith)
+-- The front of a side is the first of its 48 bytes.
+front-byte : (l : List ℕ) → getD (padded (take longest-side l)) 0 0 ≡ front l
+front-byte [] = refl
+front-byte (a ∷ l) = refl
 
-pub front-some : (l : List ℕ) → (length l ≡ 0 → ⊥) → front l ≡ getD l 0 0
-front-some [] n = absurd (n refl)
-front-some (a ∷ l) n = refl
+-- what the code sees of two sides that are trimmed
+module _ {t : Trimmed} (l r : List ℕ) (e : t ≡ trimmed-sides l r) where
+  pub left-front : getD (t .left) 0 0 ≡ front l
+  left-front = rw e (front-byte l)
+
+  pub right-front : getD (t .right) 0 0 ≡ front r
+  right-front = rw e (front-byte r)
+
+  pub left-length : t .«left_len» ≡ length l
+  left-length = rw e
+
+  pub right-length : t .«right_len» ≡ length r
+  right-length = rw e
+
+  -- sides that have room are made as they are
+  pub all-made : (sets : List ℕ) → length l ≤ longest-side → length r ≤ longest-side
+      → record { left = t .left; right = t .right; sets = sets } ≡ as-struct (record { left = l; right = r; sets = sets })
+  all-made sets h k = rw (e, take-all longest-side l h, take-all longest-side r k)
 
 pub none-true : (l : List ℕ) → length l ≡ 0 → none l ≡ true
 none-true [] e = refl
@@ -27,12 +46,6 @@ none-true (a ∷ l) e = absurd (omega arith)
 pub none-false : (l : List ℕ) → (length l ≡ 0 → ⊥) → none l ≡ false
 none-false [] n = absurd (n refl)
 none-false (a ∷ l) n = refl
-
--- there is no token where the first byte is none
-pub none-tokens : (l : List ℕ) → 0 < length l → none (tokens l) ≡ eqb (getD l 0 0) no-token
-none-tokens [] h = absurd (omega arith)
-none-tokens (b ∷ l) h =
-    cond-by (λ (t : List ℕ). none t ≡ eqb b no-token) (eqb b no-token) (λ e. sym e) (λ e. sym e)
 
 -- Dead, by whether a character is in front of the left side.
 pub dead-by-right : (l r : List ℕ) → is-char (front l) ≡ true → dead-sides l r ≡ (none r || is-char (front r))

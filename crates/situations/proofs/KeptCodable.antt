@@ -20,7 +20,7 @@ use Rattle.paper.proofs.base.Lists.{length-from}
 use Rattle.paper.proofs.base.Listed.{getD-map-upto}
 use Rattle.paper.proofs.equations.Moves.{other-is-front, Opened, strikes-left, strikes-right, puts, move-opened, child-made}
 use Rattle.paper.proofs.equations.Question.{asked}
-use Rattle.patterns.proofs.Masks.{Masked, Few, masked-first, masked-none, masked-after}
+use Rattle.places.proofs.Masks.{Masked, Few, masked-first, masked-none, masked-after}
 use Rattle.situations.proofs.CodedSides.{Known-side, known-strike, known-put, known-trim}
 use Rattle.situations.proofs.CodedSets.{Codable, masked-set}
 

@@ -1,5 +1,4 @@
 -- situations by value
-pub mod InFront
 pub mod Turns
 pub mod Sets
 pub mod Judged

@@ -13,32 +13,16 @@ use Rattle.paper.specs.Numbers.{characters, set-fields, longest-side}
 use Rattle.paper.proofs.base.Lists.{all-true, every-all, all-append, mem-keep}
 use Rattle.paper.proofs.base.Tests.{cond-by, both-true, and-left, and-right, or-left-false, or-right-false, not-is-false, false-not, leb-true, ltb-true, neq-eqb}
 use Rattle.inner.specs.Inner.{field-code, no-token, is-token, is-field, field-of, front}
-use Rattle.inner.proofs.Tokens.{tokens-length, all-tokens, tokens-padded}
-use Rattle.situations.specs.Coded.{Coded, Settled, dropped, above, made, strike-codes, put-codes, alike-in-front, dead-sides}
-use Rattle.situations.specs.Coded.{judged-sides, settle, with-set, struck, put-child, set-by, takes-next, may-end-at}
-use Rattle.situations.specs.Coded.{left-strike, right-strike, put-of, first-masks, question-coded}
-use Rattle.situations.specs.Laid.{held, as-struct, Short, child-of}
-use Rattle.situations.specs.declared.Front.{Front}
-use Rattle.situations.specs.declared.Situation.{Situation}
+use Rattle.inner.proofs.Tokens.{all-drop}
+use Rattle.inner.specs.Coded.{Coded, held, as-struct, Short}
+use Rattle.situations.specs.Children.{Settled, dropped, above, made, strike-codes, put-codes, dead-sides, left-strike, right-strike, put-of}
+use Rattle.trimming.specs.Trimming.{alike-in-front, first-masks, question-coded}
+use Rattle.situations.specs.Children.{judged-sides, settle, with-set, struck, put-child, may-end-at}
+use Rattle.situations.specs.Laid.{child-of}
+use Rattle.fronts.specs.Fronts.{set-by, both-take}
+use Rattle.fronts.specs.declared.Front.{Front}
+use Rattle.inner.specs.declared.Situation.{Situation}
 use Rattle.situations.specs.declared.Fate.the-variants.{Dropped, Above, Made}
-
--- what a struct holds is short; and its arrays have these lengths
-pub short-held : (s : Situation) → length (s .left) ≡ longest-side → length (s .right) ≡ longest-side → length (s .sets) ≡ set-fields → Short (held s)
-short-held s l r n =
-    record {
-      left = omega (arith, tokens-length (s .left));
-      right = omega (arith, tokens-length (s .right));
-      sets = n;
-      left-tokens = all-tokens (s .left);
-      right-tokens = all-tokens (s .right);
-    }
-
--- what the struct made for a short situation holds
-pub held-laid : (k : Coded) → Short k → held (as-struct k) ≡ k
-held-laid k h =
-    let l = tokens-padded (k .left) (h .left-tokens) in
-    let r = tokens-padded (k .right) (h .right-tokens) in
-    λ i. record { left = l i; right = r i; sets = k .sets }
 
 -- the fate of a child, and what the definition says of it
 pub fate-dropped : (x : Settled) → child-of x .fate ≡ Dropped → x ≡ dropped
@@ -57,11 +41,6 @@ fate-made above f = absurd (let z : _≡_ {A = ℕ} 0 1 = cc in omega arith)
 fate-made (made t) f = (t, refl, refl)
 
 -- the tokens of what is left, struck, put
-all-drop : (p : ℕ → Bool) (n : ℕ) (l : List ℕ) → all p l ≡ true → all p (drop n l) ≡ true
-all-drop p zero l h = h
-all-drop p (suc n) [] h = h
-all-drop p (suc n) (x ∷ l) h = all-drop p n l (and-right (p x) (all p l) h)
-
 all-keep : (p q : ℕ → Bool) (l : List ℕ) → all p l ≡ true → all p (keep q l) ≡ true
 all-keep p q l h = every-all p (keep q l) (λ x d. all-true p l h (mem-keep q l d .0))
 
@@ -141,29 +120,16 @@ right-strike-short {k} last h f =
     let b = front (k .right) in
     struck-short b h (made-under (may-end-at (k .sets) last b && not (eqb b (front (k .left)))) (struck k b) f .1)
 
-pub put-short : {k t : Coded} (l r : Front) (c : ℕ) → Short k → put-of k l r c ≡ made t → Short t
+pub put-short : {k t : Coded} (l r : Front) (c : ℕ) → c < characters → Short k → put-of k l r c ≡ made t → Short t
 unfolding put-of
-put-short {k} l r c h f =
-    let both = takes-next (l .token) (set-by l c) c && takes-next (r .token) (set-by r c) c in
-    let m = made-under (ltb c characters && both) (put-child k c (set-by l c) (set-by r c)) f in
-    let i : c < characters = ltb-true c characters (and-left (ltb c characters) both (m .0)) in
-    put-child-short c (set-by l c) (set-by r c) (false-not (neq-eqb c no-token (λ e. omega arith))) h (m .1)
+put-short {k} l r c i h f =
+    put-child-short c (set-by l c) (set-by r c) (false-not (neq-eqb c no-token (λ e. omega arith))) h (made-under (both-take l r c) (put-child k c (set-by l c) (set-by r c)) f .1)
 
--- the question is short
-pub question-short : (l r : List ℕ) → length l ≤ longest-side → length r ≤ longest-side → all is-token l ≡ true → all is-token r ≡ true → Short (question-coded l r)
-unfolding question-coded first-masks
-question-short l r h k p q =
-    let n = alike-in-front l r in
-    record {
-      left = rw length-drop (omega arith);
-      right = rw length-drop (omega arith);
-      sets = refl;
-      left-tokens = all-drop is-token n l p;
-      right-tokens = all-drop is-token n r q;
-    }
-
--- a character that is not taken makes no child
-pub put-not-taken : (k : Coded) (l r : Front) (c : ℕ) (b : Bool) → b ≡ (takes-next (l .token) (set-by l c) c && takes-next (r .token) (set-by r c) c) → b ≡ false
-    → put-of k l r c ≡ dropped
+-- the child by a character, by whether both fronts take it
+pub put-taken : (k : Coded) (l r : Front) (c : ℕ) (b : Bool) → b ≡ both-take l r c → b ≡ true → put-of k l r c ≡ put-child k c (set-by l c) (set-by r c)
 unfolding put-of
-put-not-taken k l r c b e f = rw (← e, f, and-false (ltb c characters))
+put-taken k l r c b e f = rw (← e, f)
+
+pub put-not-taken : (k : Coded) (l r : Front) (c : ℕ) (b : Bool) → b ≡ both-take l r c → b ≡ false → put-of k l r c ≡ dropped
+unfolding put-of
+put-not-taken k l r c b e f = rw (← e, f)

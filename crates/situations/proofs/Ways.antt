@@ -15,7 +15,7 @@ use Rattle.paper.proofs.base.Tests.{lt-ltb, eqb-symmetric}
 use Rattle.paper.proofs.base.Lists.{cons-eq}
 use Rattle.paper.proofs.equations.Moves.{Opened, strikes-left, strikes-right, puts, move-opened, child-made}
 use Rattle.inner.specs.Inner.{field-code, side-code, move-code, front}
-use Rattle.situations.specs.Coded.{given-coded}
+use Rattle.situations.specs.Children.{given-coded}
 use Rattle.situations.specs.Coding.{situation-code}
 use Rattle.situations.proofs.CodedSides.{front-member}
 use Rattle.situations.proofs.CodedSets.{Codable}

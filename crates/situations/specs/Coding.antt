@@ -7,9 +7,10 @@ use Rattle.paper.specs.Numbers.{set-fields}
 use Rattle.paper.specs.Places.{PlaceSet}
 use Rattle.paper.specs.Situation.{Situation}
 use Rattle.paper.specs.Question.{Question, held-by}
-use Rattle.patterns.specs.Masks.{mask, follow-masks, taking-masks, last-mask}
+use Rattle.places.specs.Masks.{mask, follow-masks, taking-masks, last-mask}
 use Rattle.inner.specs.Inner.{side-code}
-use Rattle.situations.specs.Coded.{Coded, Tables}
+use Rattle.inner.specs.Coded.{Coded}
+use Rattle.situations.specs.Children.{Tables}
 
 abbrev pub situation-code : Situation PlaceSet → Coded
 situation-code s =

@@ -1,6 +1,6 @@
--- situations by inner codes, and their children
-pub mod Coded
+-- the children of a situation by inner codes
+pub mod Children
 -- how the structs of the code hold them
 pub mod Laid
--- how they stand for the paper's
+-- how situations stand for the paper's
 pub mod Coding

@@ -3,7 +3,7 @@ mod bytes;
 mod case;
 mod print;
 
-use bradovusc::Numbers;
+use answers::Numbers;
 use print::print;
 use print::print_number;
 use printing::FIRST_LINE;
@@ -63,7 +63,7 @@ fn answer_case(sheet: &[u8], work: &mut [u8], answer: &mut [u8], shown: Shown) {
 }
 
 fn show_bytes(sheet: &[u8], work: &mut [u8], answer: &mut [u8]) {
-    let told = bradovusc::in_numbers(bradovusc::clash(sheet, work, answer));
+    let told = answers::in_numbers(bradovusc::clash(sheet, work, answer));
     print_answer(told);
     bytes::print_bytes(work, answer, told.written);
     print(b"\n");

@@ -2,7 +2,7 @@
 use mathlib.Core.Path.{ap}
 use native.Mathlib.Omega.{arith}
 use borrow.Author.Needs.{needs}
-use Rattle.bradovusc.specs.declared.Numbers.{Numbers}
+use Rattle.answers.specs.declared.Numbers.{Numbers}
 use Rattle.exported.proofs.Telling.{number-below, promised}
 use Rattle.exported.proofs.bradovusc_clash.Statement.{statement}
 use Rattle.exported.proofs.bradovusc_clash.Tie as tie

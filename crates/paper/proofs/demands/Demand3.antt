@@ -15,7 +15,7 @@ use Rattle.paper.specs.Search.{enter, offer, take-next, search}
 use Rattle.paper.specs.Equation.{fld}
 use Rattle.paper.specs.Plain.{plain, Reaches}
 use Rattle.paper.specs.Question.{Question, held-by, acceptor}
-use Rattle.paper.specs.Sheet.{marked, pattern-record, side-record, Reading, read-end, read-right, read-sheet}
+use Rattle.paper.specs.Sheet.{marked, pattern-record, side-record, Reading, read-end, marked-side, next-is, read-sheet}
 use Rattle.paper.specs.Outcome.{room-of, searched, count-of, how-of, outcome-of, outcome}
 use Rattle.paper.specs.Demands.{Good, bound-of, Demand3}
 use Rattle.paper.proofs.places.PlaceSets.{same-equal, equal-same}
@@ -80,7 +80,7 @@ question-S =
     }
 
 pub sheet-S-asks : Good (read-sheet sheet-S) question-S
-unfolding judge marked pattern-record side-record read-end read-right read-sheet
+unfolding judge marked pattern-record side-record read-end marked-side next-is read-sheet
 sheet-S-asks = refl
 
 pub sheet-S-bound : bound-of question-S ≡ 9

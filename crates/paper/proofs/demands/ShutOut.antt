@@ -20,7 +20,7 @@ use Rattle.paper.specs.Search.{enter, offer, take-next, search}
 use Rattle.paper.specs.Situation.{trimmed, strike, put-before, open-moves, child-by, children, question}
 use Rattle.paper.specs.Way.{search-from, texts-of}
 use Rattle.paper.specs.Question.{Question, acceptor}
-use Rattle.paper.specs.Sheet.{marked, pattern-record, side-record, Reading, read-end, read-right, read-sheet}
+use Rattle.paper.specs.Sheet.{marked, pattern-record, side-record, Reading, read-end, marked-side, next-is, read-sheet}
 use Rattle.paper.specs.Outcome.{Outcome, outcome, room-of, searched, standing, value-record, records, some-text-too-long, cleared, clash, count-of, how-of}
 use Rattle.paper.specs.Demands.{Good, Solved, texts-found, records-of, Clash, Demand2}
 use Rattle.paper.proofs.base.Tests.{le-leb}
@@ -84,7 +84,7 @@ record Computed : Type 0 where
       ≡ record { number = 0; count = 6; place = 0; written = 12; answer = bytes-S ++ drop 12 answer; work = cleared six-situations }
 
 computed : Computed
-unfolding set-after may-end judge enter offer take-next search trimmed strike put-before open-moves child-by children question search-from texts-of acceptor marked pattern-record side-record read-end read-right read-sheet outcome room-of searched standing value-record records some-text-too-long clash count-of how-of
+unfolding set-after may-end judge enter offer take-next search trimmed strike put-before open-moves child-by children question search-from texts-of acceptor marked pattern-record side-record read-end marked-side next-is read-sheet outcome room-of searched standing value-record records some-text-too-long clash count-of how-of
 computed = record { of-AB = refl; of-S = λ answer h. rw (le-leb 12 (length answer) h) }
 
 module _ (F : List ℕ → List ℕ → List ℕ → Outcome) (meets : (sheet work answer : List ℕ) → Demand2 (read-sheet sheet) work answer (F sheet work answer)) where

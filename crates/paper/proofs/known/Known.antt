@@ -14,7 +14,7 @@ use Rattle.paper.specs.Search.{enter, offer, take-next, search}
 use Rattle.paper.specs.Situation.{trimmed, strike, put-before, open-moves, child-by, children, question}
 use Rattle.paper.specs.Way.{search-from, texts-of}
 use Rattle.paper.specs.Question.{acceptor}
-use Rattle.paper.specs.Sheet.{marked, pattern-record, side-record, read-end, read-right, read-sheet}
+use Rattle.paper.specs.Sheet.{marked, pattern-record, side-record, read-end, marked-side, next-is, read-sheet}
 use Rattle.paper.specs.Outcome.{Outcome, outcome, room-of, searched, standing, value-record, records, some-text-too-long, clash, count-of, how-of}
 
 -- a sheet, the bytes lent, and what must come: the answer bytes, and whether the working buffer is all zero afterwards or unchanged
@@ -326,5 +326,5 @@ abbrev known-sheets : List Known
 known-sheets = known-in-01 ++ known-rooms ++ known-searches ++ known-patterns ++ known-records
 
 pub known-sheets-met : map got known-sheets ≡ map wanted known-sheets
-unfolding set-after may-end judge enter offer take-next search trimmed strike put-before open-moves child-by children question search-from texts-of acceptor marked pattern-record side-record read-end read-right read-sheet outcome room-of searched standing value-record records some-text-too-long clash count-of how-of
+unfolding set-after may-end judge enter offer take-next search trimmed strike put-before open-moves child-by children question search-from texts-of acceptor marked pattern-record side-record read-end marked-side next-is read-sheet outcome room-of searched standing value-record records some-text-too-long clash count-of how-of
 known-sheets-met = refl

@@ -12,7 +12,7 @@ use Rattle.paper.specs.Written.{judge}
 use Rattle.paper.specs.Search.{enter, offer, take-next, search}
 use Rattle.paper.specs.Equation.{chr, fld, Side}
 use Rattle.paper.specs.Plain.{plain, standings}
-use Rattle.paper.specs.Sheet.{Reading, refused, asked, marked, pattern-record, side-record, read-end, read-right, read-sheet}
+use Rattle.paper.specs.Sheet.{Reading, refused, asked, marked, pattern-record, side-record, read-end, marked-side, next-is, read-sheet}
 use Rattle.paper.specs.Demands.{bound-of}
 use Rattle.paper.proofs.known.Known.{PA, LE, RI, sheet-S}
 
@@ -74,5 +74,5 @@ bound-read (asked q) = bound-of q
 
 pub bounds-known :
     map (λ (k : List ℕ × ℕ). bound-read (read-sheet (k .0))) known-bounds ≡ map (λ (k : List ℕ × ℕ). k .1) known-bounds
-unfolding set-after enter offer take-next search reachable-sets judge marked pattern-record side-record read-end read-right read-sheet
+unfolding set-after enter offer take-next search reachable-sets judge marked pattern-record side-record read-end marked-side next-is read-sheet
 bounds-known = refl

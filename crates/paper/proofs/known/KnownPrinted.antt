@@ -17,7 +17,7 @@ use Rattle.paper.specs.Search.{enter, offer, take-next, search}
 use Rattle.paper.specs.Situation.{trimmed, strike, put-before, open-moves, child-by, children, question}
 use Rattle.paper.specs.Way.{search-from, texts-of}
 use Rattle.paper.specs.Question.{acceptor}
-use Rattle.paper.specs.Sheet.{marked, pattern-record, side-record, read-end, read-right, read-sheet}
+use Rattle.paper.specs.Sheet.{marked, pattern-record, side-record, read-end, marked-side, next-is, read-sheet}
 use Rattle.paper.specs.Outcome.{Outcome, outcome, room-of, searched, standing, value-record, records, some-text-too-long, clash, count-of, how-of}
 use Rattle.paper.specs.Printed.{decimal, printed-of, printed}
 use Rattle.paper.proofs.known.Known.{PA, LE, RI, sheet-S}
@@ -82,7 +82,7 @@ pub sheets-printed :
     "0 1 0\n" ∷
     "12 0 854\n" ∷
     [])
-unfolding set-after may-end judge enter offer take-next search trimmed strike put-before open-moves child-by children question search-from texts-of acceptor marked pattern-record side-record read-end read-right read-sheet outcome room-of searched standing value-record records some-text-too-long clash count-of how-of printed-of printed
+unfolding set-after may-end judge enter offer take-next search trimmed strike put-before open-moves child-by children question search-from texts-of acceptor marked pattern-record side-record read-end marked-side next-is read-sheet outcome room-of searched standing value-record records some-text-too-long clash count-of how-of printed-of printed
 sheets-printed = refl
 
 -- The answer buffer that the program lends is long enough, whatever is found in 455 situations.

@@ -24,9 +24,9 @@ use Rattle.paper.specs.Written.{Judged, judged, judge}
 use Rattle.paper.specs.Written as Written
 use Rattle.paper.specs.Equation.{Token, chr, fld, Side, is-field, stands-in}
 use Rattle.paper.specs.Question.{Question}
-use Rattle.paper.specs.Sheet.{Checked, fault, read, FieldPattern, byte-at, bytes-left, body, PA, LE, RI, marked}
-use Rattle.paper.specs.Sheet.{pattern-judged, pattern-record, is-token, token, side-record, Reading, refused, asked}
-use Rattle.paper.specs.Sheet.{read-end, right-read, read-right, left-read, pattern-read, read-records, read-sheet}
+use Rattle.paper.specs.Sheet.{Checked, fault, read, FieldPattern, byte-at, bytes-left, body, Mark, PA, LE, RI, marked}
+use Rattle.paper.specs.Sheet.{pattern-judged, pattern-record, is-token, token, side-record, marked-side, Records, faulty, records, Fields}
+use Rattle.paper.specs.Sheet.{open-fields, next-is, with-pattern, pattern-read, read-patterns, Reading, refused, asked, read-end, right-read, left-read, sides-read, read-sheet}
 use Rattle.paper.proofs.places.Judged.{judged-takes, judged-leaves}
 
 -- "A token is 0 to 42 (a character) or 64 to 71 (field 0 to 7)."
@@ -114,12 +114,11 @@ set-good (y ∷ held) zero x g h (suc f) = h (suc f)
 set-good (y ∷ held) (suc i) x g h zero = h zero
 set-good (y ∷ held) (suc i) x g h (suc f) = set-good held i x g (λ k. h (suc k)) f
 
-fields-with : (held : List Held) (fp : FieldPattern) → GoodFields held → GoodPattern fp
-    → GoodFields (set held (fp .field) (pattern (fp .its)))
-fields-with held fp h g =
+fields-with : (fs : Fields) (fp : FieldPattern) → GoodFields (fs .held) → GoodPattern fp → GoodFields (with-pattern fs fp .held)
+fields-with fs fp h g =
     record {
-      each-field = length-set held (fp .field) (pattern (fp .its)) ∙ h .each-field;
-      good = set-good held (fp .field) (pattern (fp .its)) g (h .good);
+      each-field = length-set (fs .held) (fp .field) (pattern (fp .its)) ∙ h .each-field;
+      good = set-good (fs .held) (fp .field) (pattern (fp .its)) g (h .good);
     }
 
 open-good : (n f : ℕ) → GoodHeld (getD (replicate n any-text) f any-text)
@@ -128,10 +127,37 @@ open-good (suc n) zero = tt
 open-good (suc n) (suc f) = open-good n f
 
 -- "before the first record every field is" open
-open-fields : GoodFields (replicate fields any-text)
-open-fields = record { each-field = length-replicate fields any-text; good = open-good fields }
+opens-good : GoodFields (open-fields .held)
+opens-good = record { each-field = length-replicate fields any-text; good = open-good fields }
 
--- The records, the last one first.
+-- The patterns' records, up to the first record that is none.
+abbrev Listed : {A : Type 0} → (A → Type 0) → Records A → Type 0
+Listed Good (faulty x at) = Unit {0}
+Listed Good (records a next) = Good a
+
+abbrev Goods : Fields → Type 0
+Goods fs = GoodFields (fs .held)
+
+behind-good : (at : ℕ) (fs : Fields) (go-on : ℕ → Fields → Records Fields) (x : Checked FieldPattern)
+    → ((next : ℕ) (more : Fields) → Goods more → Listed Goods (go-on next more))
+    → Goods fs → Found GoodPattern x → Listed Goods (pattern-read at fs go-on x)
+behind-good at fs go-on (fault x) i h k = tt
+behind-good at fs go-on (read fp next) i h k = i next (with-pattern fs fp) (fields-with fs fp h k)
+
+pub patterns-good : (n : ℕ) (s : List ℕ) (at : ℕ) (fs : Fields) → Goods fs → Listed Goods (read-patterns n s at fs)
+patterns-good zero s at fs h = tt
+patterns-good (suc n) s at fs h =
+    cond-by (Listed Goods) (next-is PA s at)
+    (λ _. behind-good at fs (read-patterns n s) (pattern-record s at (fs .above)) (patterns-good n s) h (pattern-good s at (fs .above)))
+    (λ _. h)
+
+-- A side behind its mark, and the sides.
+pub marked-good : (m : Mark) (s : List ℕ) (at : ℕ) → Found GoodSide (marked-side m s at)
+unfolding marked-side
+marked-good m s at =
+    cond-by (Found GoodSide) (ltb (bytes-left s at) 2) (λ _. tt)
+    (λ _. cond-by (Found GoodSide) (marked m s at) (λ _. side-good s at) (λ _. tt))
+
 abbrev Asks : Reading → Type 0
 Asks (refused x at) = Unit {0}
 Asks (asked q) = GoodQuestion q
@@ -147,30 +173,17 @@ right-asks s at held l (read r next) h g k =
     end-asks s next (record { left = l; right = r; held = held }) (record { left = g; right = k; held = h })
 
 left-asks : (s : List ℕ) (at : ℕ) (held : List Held) (x : Checked Side) → GoodFields held → Found GoodSide x → Asks (left-read s at held x)
-unfolding read-right
 left-asks s at held (fault x) h k = tt
-left-asks s at held (read l next) h k =
-    cond-by Asks (ltb (bytes-left s next) 2) (λ _. tt)
-    (λ _. cond-by Asks (marked RI s next) (λ _. right-asks s next held l (side-record s next) h k (side-good s next)) (λ _. tt))
+left-asks s at held (read l next) h k = right-asks s next held l (marked-side RI s next) h k (marked-good RI s next)
 
-behind-asks : (at : ℕ) (held : List Held) (go-on : ℕ → ℕ → List Held → Reading) (x : Checked FieldPattern)
-    → ((next least : ℕ) (more : List Held) → GoodFields more → Asks (go-on next least more))
-    → GoodFields held → Found GoodPattern x → Asks (pattern-read at held go-on x)
-behind-asks at held go-on (fault x) i h k = tt
-behind-asks at held go-on (read fp next) i h k =
-    i next (suc (fp .field)) (set held (fp .field) (pattern (fp .its))) (fields-with held fp h k)
-
-records-ask : (n : ℕ) (s : List ℕ) (at least : ℕ) (held : List Held) → GoodFields held → Asks (read-records n s at least held)
-records-ask zero s at least held h = tt
-records-ask (suc n) s at least held h =
-    cond-by Asks (ltb (bytes-left s at) 2) (λ _. tt)
-    (λ _. cond-by Asks (marked PA s at)
-    (λ _. behind-asks at held (read-records n s) (pattern-record s at least) (records-ask n s) h (pattern-good s at least))
-    (λ _. cond-by Asks (marked LE s at) (λ _. left-asks s at held (side-record s at) h (side-good s at)) (λ _. tt)))
+sides-ask : (s : List ℕ) (x : Records Fields) → Listed Goods x → Asks (sides-read s x)
+sides-ask s (faulty x at) h = tt
+sides-ask s (records fs at) h = left-asks s at (fs .held) (marked-side LE s at) h (marked-good LE s at)
 
 pub sheet-good : (sheet : List ℕ) → AsksGood (read-sheet sheet)
 unfolding read-sheet
-sheet-good sheet q e = subst Asks e (records-ask (suc (length sheet)) sheet 0 0 (replicate fields any-text) open-fields)
+sheet-good sheet q e =
+    subst Asks e (sides-ask sheet (read-patterns (suc (length sheet)) sheet 0 open-fields) (patterns-good (suc (length sheet)) sheet 0 open-fields opens-good))
 
 -- Every field that stands in the sides is one of the fields.
 standing-known : (f : ℕ) (side : Side) → GoodSide side → stands-in f side ≡ true → f < fields

@@ -1,22 +1,12 @@
 -- `lines` meets its contract: without room nothing is changed, with room the entry is asked. Follows from `no-room` and `with-room`.
-use native.Mathlib.Omega.{arith}
-use Rattle.printing.proofs.Making.{no-room, with-room}
+use mathlib.Core.Path.{sym, _∙_}
 use borrow.Author.Needs.{needs}
+use Rattle.printing.proofs.Making.{no-room, with-room}
 use Rattle.printing.proofs.lines.Statement.{statement}
 use Rattle.printing.proofs.lines.Tie as tie
 
-returns : tie.Need-returns
-returns c =
-    let args = c .before .before .before .before .before .args in
-    no-room (args .sheet .now) (args .work .now) (args .answer .now) (args .out .now) (omega arith)
-
-sub-if2 : tie.Need-sub-if2
-sub-if2 c = search needs
-
-returns-2 : tie.Need-returns-2
-returns-2 c =
-    let args = c .before .before .before .before .before .before .args in
-    no-room (args .sheet .now) (args .work .now) (args .answer .now) (args .out .now) (omega arith)
+has-room-requires : tie.Need-has-room-requires
+has-room-requires c κs = search needs
 
 clash-requires : tie.Need-clash-requires
 clash-requires c κs = search needs
@@ -36,26 +26,35 @@ same-length-2 c = search needs
 same-length-3 : tie.Need-same-length-3
 same-length-3 c = search needs
 
-returns-3 : tie.Need-returns-3
-returns-3 c =
+returns : tie.Need-returns
+returns c =
     let at-put = c .before .before in
     let at-numbers = at-put .before .before .before in
     let at-clash = at-numbers .before .before .before .before .before in
-    let args = at-clash .before .before .before .before .before .before .before .before .before .args in
-    with-room (args .sheet .now) (args .work .now) (args .answer .now) (args .out .now) (at-clash .clash .result) (omega arith)
-    (at-clash .clash .ensures .0) (at-numbers .in-numbers .ensures) (at-put .put-lines .ensures)
+    let at-room = at-clash .before .before .before in
+    let args = at-room .before .before .before .before .before .before .args in
+    with-room (args .sheet .now) (args .work .now) (args .answer .now) (args .out .now) (at-clash .clash .result)
+    (sym (at-room .before .has-room .ensures) ∙ at-room .if1 .taken)
+    (at-clash .clash .kept .1 .1 .0)
+    (at-clash .clash .ensures .0)
+    (at-numbers .in-numbers .ensures)
+    (at-put .put-lines .ensures)
+
+returns-2 : tie.Need-returns-2
+returns-2 c =
+    let args = c .before .before .before .before .before .before .args in
+    no-room (args .sheet .now) (args .work .now) (args .answer .now) (args .out .now) (sym (c .before .has-room .ensures) ∙ c .if1 .left)
 
 pub lines-spec : {M : Type 1} → statement M
 lines-spec =
     tie.close
     (tie.spec
-    returns
-    sub-if2
-    returns-2
+    has-room-requires
     clash-requires
     in-numbers-requires
     put-lines-requires
     same-length
     same-length-2
     same-length-3
-    returns-3)
+    returns
+    returns-2)

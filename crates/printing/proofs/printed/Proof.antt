@@ -1,14 +1,40 @@
--- `printed` meets its contract: the program's part of the input, its buffers, the entry, and the lines. Follows from `program-prints`.
+-- `printed` meets its contract: the program's part of the input, its buffers, and the lines. Follows from `program-prints`.
+use Prim.Native.Nat.{ℕ, _≤_}
 use native.Mathlib.Nat.{sub-zero}
-use Rattle.paper.specs.Numbers.{program-input}
-use Rattle.printing.proofs.Making.{program-prints}
-use Rattle.printing.proofs.Walked.{take-min}
+use native.Mathlib.Omega.{arith}
+use mathlib.Core.Path.{_≡_, sym, ap, _∙_}
+use mathlib.Core.Logic.{⊎-elim}
+use lib.ListN.{length, take}
+use lib.Seq.{take-all}
 use borrow.Author.Needs.{needs}
+use Rattle.paper.specs.Numbers.{program-input}
+use Rattle.paper.specs.Printed.{printed}
+use Rattle.writing.specs.Lines.{Prints}
+use Rattle.printing.proofs.Making.{filled-bytes, program-prints}
 use Rattle.printing.proofs.printed.Statement.{statement}
 use Rattle.printing.proofs.printed.Tie as tie
 
-least-requires : tie.Need-least-requires
-least-requires c κs = search needs
+-- the program's part of the input
+read : (c : tie.Joined1) →
+    let input = c .before .before .args .input .now in
+    (c .if1 .n ≤ length input) × (take (c .if1 .n) input ≡ take program-input input)
+read c =
+    let input = c .before .before .args .input .now in
+    ⊎-elim
+    (λ w. (omega arith, ap (λ (n : ℕ). take n input) (w .1)))
+    (λ w. (omega arith, take-all (c .if1 .n) input (omega arith) ∙ sym (take-all program-input input (omega arith))))
+    (c .if1 .came)
+
+-- the lines of the program's input and buffers
+printed-by : (c : tie.After-lines) →
+    let a = c .before .before .before .before .before .before .before .before .before .before .args in
+    Prints (printed (a .input .now)) (a .out .now) (c .lines .last .1 .1 .1 .0) (filled-bytes (c .lines .result))
+printed-by c =
+    let at-answer = c .before .before .before .before .before .before in
+    let j = at-answer .before .before in
+    let a = j .before .before .args in
+    program-prints (a .input .now) (rw sub-zero (read j .1)) (at-answer .before .zeroed-work .ensures) (at-answer .zeroed-answer .ensures)
+    (search needs) (c .lines .ensures)
 
 zeroed-work-requires : tie.Need-zeroed-work-requires
 zeroed-work-requires c κs = search needs
@@ -16,63 +42,49 @@ zeroed-work-requires c κs = search needs
 zeroed-answer-requires : tie.Need-zeroed-answer-requires
 zeroed-answer-requires c κs = search needs
 
-sub-clash : tie.Need-sub-clash
-sub-clash c = search needs
+sub-lines : tie.Need-sub-lines
+sub-lines c = search needs
 
-part-clash-start : tie.Need-part-clash-start
-part-clash-start c = search needs
+part-lines-start : tie.Need-part-lines-start
+part-lines-start c = search needs
 
-part-clash-end : tie.Need-part-clash-end
-part-clash-end c = search needs
+part-lines-end : tie.Need-part-lines-end
+part-lines-end c = omega (arith, read (c .before .before .before) .0)
 
-slice-aggregate-clash : tie.Need-slice-aggregate-clash
-slice-aggregate-clash c = search needs
+slice-aggregate-lines : tie.Need-slice-aggregate-lines
+slice-aggregate-lines c = search needs
 
-slice-aggregate-clash-2 : tie.Need-slice-aggregate-clash-2
-slice-aggregate-clash-2 c = search needs
+slice-aggregate-lines-2 : tie.Need-slice-aggregate-lines-2
+slice-aggregate-lines-2 c = search needs
 
-clash-requires : tie.Need-clash-requires
-clash-requires c κs = search needs
+lines-requires : tie.Need-lines-requires
+lines-requires c κs = search needs
 
-in-numbers-requires : tie.Need-in-numbers-requires
-in-numbers-requires c κs = search needs
+enum-known-filled : tie.Need-enum-known-filled
+enum-known-filled c = search needs
 
-slice-aggregate-put-lines : tie.Need-slice-aggregate-put-lines
-slice-aggregate-put-lines c = search needs
-
-put-lines-requires : tie.Need-put-lines-requires
-put-lines-requires c κs = search needs
+enum-told : tie.Need-enum-told
+enum-told c = search needs
 
 returns : tie.Need-returns
-returns c =
-    let at-put = c in
-    let at-numbers = at-put .before .before .before in
-    let at-clash = at-numbers .before .before .before in
-    let at-answer = at-clash .before .before .before .before in
-    let at-work = at-answer .before in
-    let at-least = at-work .before in
-    let input = at-least .before .before .args .input .now in
-    program-prints input (at-clash .clash .result) (rw (sub-zero, at-least .least .ensures) (take-min program-input input))
-    (at-work .zeroed-work .ensures)
-    (at-answer .zeroed-answer .ensures)
-    (at-clash .clash .ensures .0)
-    (at-numbers .in-numbers .ensures)
-    (at-put .put-lines .ensures)
+returns c = rw (c .before .filled .given .1) at (printed-by (c .before .before .before .before .before))
+
+returns-2 : tie.Need-returns-2
+returns-2 c = rw (c .enum-told .given .1) at (printed-by (c .before .before .before .before))
 
 pub printed-spec : {M : Type 1} → statement M
 printed-spec =
     tie.close
     (tie.spec
-    least-requires
     zeroed-work-requires
     zeroed-answer-requires
-    sub-clash
-    part-clash-start
-    part-clash-end
-    slice-aggregate-clash
-    slice-aggregate-clash-2
-    clash-requires
-    in-numbers-requires
-    slice-aggregate-put-lines
-    put-lines-requires
-    returns)
+    sub-lines
+    part-lines-start
+    part-lines-end
+    slice-aggregate-lines
+    slice-aggregate-lines-2
+    lines-requires
+    enum-known-filled
+    enum-told
+    returns
+    returns-2)

@@ -10,10 +10,9 @@ use lib.ListN.{length, getD}
 use Rattle.paper.specs.Lists.{any}
 use Rattle.paper.specs.Numbers.{situation-bytes}
 use Rattle.paper.proofs.base.Tests.{by-bool, true-false, not-true, leb-true, leb-false, eqb-true, eq-eqb}
-use Rattle.situations.specs.Coded.{Coded, same-coded}
+use Rattle.inner.specs.Coded.{Coded, same-coded, Short}
 use Rattle.search.specs.Buckets.{buckets, bucket, in-bucket, newest, link, older-at, newest-at, Kept, Sought, Entered-at}
 use Rattle.search.specs.Slots.{key, Slot, slot-at, no-slot}
-use Rattle.situations.specs.Laid.{Short}
 use Rattle.search.specs.declared.buckets.Seen.the-variants.{Nowhere}
 use Rattle.search.proofs.buckets.Newest.{newest-le, newest-passes, newest-none}
 use Rattle.search.proofs.slots.Situations.{same-coded-equal}

@@ -10,8 +10,7 @@ use lib.Seq.{getD-at}
 use borrow.Rule.Slice.PartMut.{putMid}
 use Rattle.paper.specs.Numbers.{situation-bytes}
 use Rattle.paper.proofs.base.Tests.{by-bool, ltb-true, ltb-false, eqb-true, eqb-false}
-use Rattle.situations.specs.Coded.{Coded}
-use Rattle.situations.specs.Laid.{Short}
+use Rattle.inner.specs.Coded.{Coded, Short}
 use Rattle.search.specs.Buckets.{older-at, newest-at, link, newest, buckets, bucket, in-bucket, Linked, Links-put, Kept}
 use Rattle.search.specs.Slots.{Slot, slot-at, no-slot, slot-bytes, slot-part, held-bytes, origin-bytes, key, Holds}
 use Rattle.search.proofs.buckets.Links.{link-is}

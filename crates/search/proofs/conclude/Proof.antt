@@ -1,7 +1,7 @@
 -- `conclude` meets its contract: each arm names the answer for the search's end. Follows from the laws of `Concluding`.
 use borrow.Author.Needs.{needs}
 use mathlib.Core.Path.{refl, ap}
-use Rattle.search.specs.declared.Ended.the-variants.{NoClash, NoRoom, SideTooLong}
+use Rattle.answers.specs.declared.Ended.the-variants.{NoClash, NoRoom, SideTooLong}
 use Rattle.search.specs.declared.search.Status.the-variants as Status
 use Rattle.search.proofs.Concluding.{some-entered, way-there, concluded-by, found-concluded}
 use Rattle.search.proofs.conclude.Statement.{statement}

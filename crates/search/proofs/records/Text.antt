@@ -14,7 +14,8 @@ use lib.Seq.{drop-cons, drop-set-add}
 use Rattle.paper.specs.Lists.{only}
 use Rattle.paper.specs.Numbers.{characters}
 use Rattle.inner.specs.Inner.{field-code, front}
-use Rattle.situations.specs.Coded.{Coded, given-coded}
+use Rattle.inner.specs.Coded.{Coded}
+use Rattle.situations.specs.Children.{given-coded}
 use Rattle.search.specs.Slots.{Slot, slot-at}
 use Rattle.search.specs.Run.{text-back}
 use Rattle.search.specs.Records.{Earlier, Way-to, Steps-back, text-at}

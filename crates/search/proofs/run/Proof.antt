@@ -5,8 +5,8 @@ use lib.ListN.{length, replicate}
 use borrow.Author.Needs.{needs}
 use Rattle.paper.specs.Numbers.{longest-side}
 use Rattle.inner.specs.Inner.{tokens}
-use Rattle.situations.specs.Coded.{Coded, question-coded}
-use Rattle.situations.specs.Laid.{Short}
+use Rattle.inner.specs.Coded.{Coded, Short}
+use Rattle.trimming.specs.Trimming.{question-coded}
 use Rattle.search.specs.Ended.{Over}
 use Rattle.search.specs.Lent.{tables}
 use Rattle.search.proofs.Ending.{first-short, over, ended}

@@ -5,12 +5,13 @@ use mathlib.Core.Path.{_≡_, refl, sym, ap, _∙_}
 use mathlib.Core.List.{List, [], _∷_, _++_}
 use lib.ListN.{getD}
 use Rattle.inner.specs.Inner.{left-struck, right-struck, front, padded}
-use Rattle.situations.specs.Coded.{Coded, Tables, left-strike, right-strike, front-from, as-child, puts-of, children-coded}
-use Rattle.situations.specs.Laid.{held, as-struct, Short}
-use Rattle.situations.specs.declared.Front.{Front}
-use Rattle.situations.specs.declared.Situation.{Situation}
+use Rattle.fronts.specs.Fronts.{front-from}
+use Rattle.fronts.specs.declared.Front.{Front}
+use Rattle.inner.specs.Coded.{Coded, held, as-struct, Short}
+use Rattle.situations.specs.Children.{Tables, left-strike, right-strike, as-child, puts-of, children-coded}
+use Rattle.inner.specs.declared.Situation.{Situation}
 use Rattle.search.specs.Run.{Running, offer-slots}
-use Rattle.situations.proofs.Short.{held-laid}
+use Rattle.inner.proofs.Held.{held-laid}
 use Rattle.search.proofs.search.Offers.{offers-append}
 
 -- the first byte of a side is the token in front

@@ -4,9 +4,8 @@ use mathlib.Core.Path.{_≡_, ap, _∙_}
 use mathlib.Core.List.{List}
 use lib.ListN.{length}
 use Rattle.paper.specs.Numbers.{situation-bytes}
-use Rattle.situations.specs.Coded.{Coded}
-use Rattle.situations.specs.Laid.{as-struct}
-use Rattle.situations.specs.declared.Situation.{Situation}
+use Rattle.inner.specs.Coded.{Coded, as-struct}
+use Rattle.inner.specs.declared.Situation.{Situation}
 use Rattle.search.specs.Buckets.{hash, bucket, buckets}
 use Rattle.search.specs.Slots.{struct-key, key}
 

@@ -10,7 +10,8 @@ use Rattle.paper.specs.Search.{Child, child}
 use Rattle.paper.proofs.base.Tests.{true-false}
 use Rattle.paper.proofs.base.Lists.{mem-any}
 use Rattle.paper.proofs.base.Listed.{upto-snoc, getD-mem}
-use Rattle.situations.specs.Coded.{Coded, Settled, dropped, above, made, as-child, same-coded}
+use Rattle.inner.specs.Coded.{Coded, same-coded}
+use Rattle.situations.specs.Children.{Settled, dropped, above, made, as-child}
 use Rattle.search.specs.Lent.{Lent}
 use Rattle.search.specs.Run.{is-going, Running, enter-slot, offer-going, offer-slot, offer-slots}
 use Rattle.search.specs.Buckets.{Entered-at}

@@ -8,7 +8,7 @@ use mathlib.Core.Bool.{Bool, true, false}
 use mathlib.Core.List.{List}
 use lib.ListN.{length}
 use Rattle.paper.proofs.base.Tests.{le-ltb}
-use Rattle.situations.specs.Coded.{Tables}
+use Rattle.situations.specs.Children.{Tables}
 use Rattle.search.specs.Lent.{Lent}
 use Rattle.search.specs.Run.{is-going, Running, take-slot, slot-turns}
 use Rattle.search.specs.declared.search.Run.{Run}

@@ -9,7 +9,7 @@ use lib.Seq.{take-at, drop-cons, set-at}
 use borrow.Rule.Slice.PartMut.{putMid, postOf}
 use Rattle.paper.specs.Lists.{each}
 use Rattle.paper.specs.Numbers.{set-fields, longest-side}
-use Rattle.situations.specs.declared.Situation.{Situation}
+use Rattle.inner.specs.declared.Situation.{Situation}
 use Rattle.search.specs.Slots.{mask-bytes, key-bytes, right-at, sets-at, sets-bytes, held-bytes, number-width, number-bytes, origin-width, origin-bytes, struct-key, part}
 use Rattle.search.proofs.slots.Parts.{part-back, part-at}
 use Rattle.search.proofs.slots.Sets.{length-sets}

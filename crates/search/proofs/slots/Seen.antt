@@ -11,8 +11,7 @@ use lib.Seq.{getD-take, getD-drop, take-take}
 use Rattle.paper.specs.Lists.{same-by}
 use Rattle.paper.specs.Numbers.{longest-side, situation-bytes}
 use Rattle.inner.specs.Inner.{front, padded}
-use Rattle.situations.specs.Coded.{Coded, same-coded}
-use Rattle.situations.specs.Laid.{Short}
+use Rattle.inner.specs.Coded.{Coded, same-coded, Short}
 use Rattle.search.specs.LowFirst.{number-of}
 use Rattle.search.specs.Slots.{Slot, slot-at, slot-part, key, key-bytes, held-bytes, right-at, number-width, origin-width, origin-bytes, part, Holds}
 use Rattle.search.proofs.numbers.Bytes.{number-back}

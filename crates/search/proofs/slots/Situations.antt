@@ -12,10 +12,9 @@ use Rattle.paper.specs.Lists.{each, same-by}
 use Rattle.paper.specs.Numbers.{longest-side}
 use Rattle.paper.proofs.base.Tests.{and-left, and-right, both-true, same-tests}
 use Rattle.inner.specs.Inner.{padded}
-use Rattle.situations.specs.Coded.{Coded, same-coded}
-use Rattle.situations.specs.Laid.{held, as-struct, Short}
+use Rattle.inner.specs.Coded.{Coded, same-coded, held, as-struct, Short}
 use Rattle.search.specs.Slots.{mask-bytes, origin-width, origin-bytes, held-bytes, Slot, slot-bytes, part, key, key-bytes, right-at, sets-at, sets-bytes}
-use Rattle.situations.proofs.Short.{held-laid}
+use Rattle.inner.proofs.Held.{held-laid}
 use Rattle.search.proofs.slots.Sets.{same-masks}
 use Rattle.search.proofs.slots.Compared.{bytes-equal, equal-bytes}
 use Rattle.search.proofs.slots.Keys.{Sized, length-key, left-part, right-part, sets-part}

@@ -1,99 +1,130 @@
--- `sheets::read` meets its contract, from what reading the patterns and reading the sides find (`Whole`). Assumes nothing.
-use native.Mathlib.Omega.{arith}
-use mathlib.Core.Path.{_≡_, sym, ap, _∙_, subst}
+-- `sheets::read` meets its contract, from what its parts are (`Whole`). Assumes nothing.
+use mathlib.Core.Path.{_≡_, sym, ap, _∙_}
 use denote.Ref.{now}
 use borrow.Author.Needs.{needs}
+use Rattle.paper.specs.Sheet.{LE, RI, marked-side}
+use Rattle.sides.proofs.Told.{Stands, side-fault, side-stands}
+use Rattle.fields.proofs.Told.{Stand, fields-fault, fields-stand}
 use Rattle.sheets.specs.Read.{sheet-of}
-use Rattle.sheets.specs.Walk.{Patterns-read, Sides-read}
-use Rattle.sheets.specs.declared.Found.{Found}
-use Rattle.sheets.specs.declared.walk.Sides.{Sides}
-use Rattle.sheets.proofs.Whole.{reads-whole, whole-asked}
+use Rattle.sheets.proofs.Whole.{patterns-of, patterns-fault, left-fault, right-fault, byte-left, whole}
 use Rattle.sheets.proofs.read.Statement.{statement}
 use Rattle.sheets.proofs.read.Tie as tie
 
-start-requires : tie.Need-start-requires
-start-requires c κs = search needs
+read-requires : tie.Need-read-requires
+read-requires c κs = search needs
 
-read-patterns-requires : tie.Need-read-patterns-requires
-read-patterns-requires c κs = rw (c .start .ensures) (omega arith)
-
-enum-known-found : tie.Need-enum-known-found
-enum-known-found c = search needs
+enum-known-patterns-found : tie.Need-enum-known-patterns-found
+enum-known-patterns-found c = search needs
 
 refuse-requires : tie.Need-refuse-requires
 refuse-requires c κs = search needs
 
--- what reading the patterns found, at what it is known to be
-patterns-read : (c : tie.After-read-patterns) (f : Found) → c .read-patterns .result .found ≡ f →
-    Patterns-read (now (c .before .before .before .args .s)) 0 0 f (c .read-patterns .result)
-patterns-read c f e =
-    subst (λ (g : Found). Patterns-read (now (c .before .before .before .args .s)) 0 0 g (c .read-patterns .result)) e
-    (rw (c .before .start .ensures) at (c .read-patterns .ensures))
+-- what was read, where no fault was found
+patterns : (c : tie.After-enum-told) →
+    let a = c .before .before .before in Stand (patterns-of (now (a .before .before .args .s))) (a .read .result)
+patterns c = let a = c .before .before .before in fields-stand (a .read .result) _ (a .read .ensures) (c .enum-told .given .1)
+
+left-side : (c : tie.After-enum-told2) →
+    let a = c .before .before .before in
+    let p = a .before .before .before .before in
+    Stands (marked-side LE (now (p .before .before .args .s)) (p .read .result .next .at)) (a .side .result)
+left-side c = let a = c .before .before .before in side-stands (a .side .result) _ (a .side .ensures) (c .enum-told2 .given .1)
+
+right-side : (c : tie.After-enum-told3) →
+    let a = c .before .before .before in
+    let l = a .before .before .before .before in
+    let p = l .before .before .before .before in
+    Stands (marked-side RI (now (p .before .before .args .s)) (l .side .result .next .at)) (a .side2 .result)
+right-side c = let a = c .before .before .before in side-stands (a .side2 .result) _ (a .side2 .ensures) (c .enum-told3 .given .1)
 
 returns : tie.Need-returns
 returns c =
-    let told = c .before .before in
+    let p = c .before .before .before .before .before in
     c .refuse .ensures
-    ∙ sym (ap sheet-of (reads-whole _ _ (patterns-read (told .before .before .before) _ (told .found .given .1))))
+    ∙ sym (ap sheet-of (patterns-fault _ _ _ (fields-fault (p .read .result) _ _ (p .read .ensures) (c .before .before .patterns-found .given .1))))
 
 enum-told : tie.Need-enum-told
 enum-told c = search needs
 
-read-sides-requires : tie.Need-read-sides-requires
-read-sides-requires c κs = patterns-read (c .before .before .before) _ (c .enum-told .given .1) .goes-on
+side-requires : tie.Need-side-requires
+side-requires c κs = search needs
 
-enum-known-x : tie.Need-enum-known-x
-enum-known-x c = search needs
+enum-known-left-found : tie.Need-enum-known-left-found
+enum-known-left-found c = search needs
 
 refuse-requires-2 : tie.Need-refuse-requires-2
 refuse-requires-2 c κs = search needs
 
-enum-known-left : tie.Need-enum-known-left
-enum-known-left c = search needs
-
--- what reading the sides found, at what it is known to be
-sides-read : (c : tie.After-read-sides) (x : Sides) → c .read-sides .result ≡ x →
-    let p = c .before .before .before .before in
-    Sides-read (now (p .before .before .before .args .s)) (p .read-patterns .result .next .at) x
-sides-read c x e =
-    let p = c .before .before .before .before in
-    subst (Sides-read (now (p .before .before .before .args .s)) (p .read-patterns .result .next .at)) e (c .read-sides .ensures)
-
-side-at-requires : tie.Need-side-at-requires
-side-at-requires c κs = sides-read (c .before .before .before) _ (c .before .left .given .1) .left-stands
-
-side-at-requires-2 : tie.Need-side-at-requires-2
-side-at-requires-2 c κs = sides-read (c .before .before .before .before) _ (c .before .before .left .given .1) .right-stands
-
 returns-2 : tie.Need-returns-2
 returns-2 c =
-    let sides = c .before .before .before .before in
-    let patterns = patterns-read (sides .before .before .before .before) _ (sides .before .enum-told .given .1) in
+    let l = c .before .before .before .before .before in
+    let p = patterns (l .before) in
     c .refuse2 .ensures
-    ∙ sym (ap sheet-of (reads-whole _ _ (patterns .reads) ∙ sides-read sides _ (c .before .before .x .given .1) (patterns .held)))
+    ∙ sym (ap sheet-of (left-fault _ (p .fields) _ (p .reads) _ (side-fault (l .side .result) _ _ (l .side .ensures) (c .before .before .left-found .given .1))))
+
+enum-told-2 : tie.Need-enum-told-2
+enum-told-2 c = search needs
+
+side-requires-2 : tie.Need-side-requires-2
+side-requires-2 c κs = search needs
+
+enum-known-right-found : tie.Need-enum-known-right-found
+enum-known-right-found c = search needs
+
+refuse-requires-3 : tie.Need-refuse-requires-3
+refuse-requires-3 c κs = search needs
 
 returns-3 : tie.Need-returns-3
 returns-3 c =
-    let told = c .before .before .before in
-    let sides = told .before .before .before in
-    whole-asked _ _ _ _ _ _ (patterns-read (sides .before .before .before .before) _ (sides .before .enum-told .given .1))
-    (sides-read sides _ (told .before .left .given .1)) _ _ (c .before .before .side-at .ensures) (c .before .side-at2 .ensures)
+    let r = c .before .before .before .before .before in
+    let l = left-side (r .before) in
+    let p = patterns (r .before .before .before .before .before) in
+    c .refuse3 .ensures
+    ∙ sym (ap sheet-of (right-fault _ (p .fields) _ (p .reads) (l .side) _ (l .reads) _ (side-fault (r .side2 .result) _ _ (r .side2 .ensures) (c .before .before .right-found .given .1))))
+
+enum-told-3 : tie.Need-enum-told-3
+enum-told-3 c = search needs
+
+refuse-requires-4 : tie.Need-refuse-requires-4
+refuse-requires-4 c κs = search needs
+
+returns-4 : tie.Need-returns-4
+returns-4 c =
+    let e = c .before .before .before in
+    let r = right-side e in
+    let l = left-side (e .before .before .before .before) in
+    let p = patterns (e .before .before .before .before .before .before .before .before) in
+    c .refuse4 .ensures
+    ∙ sym (ap sheet-of (byte-left _ (p .fields) _ (p .reads) (l .side) _ (l .reads) (r .side) _ (r .reads) (c .before .if1 .taken)))
+
+returns-5 : tie.Need-returns-5
+returns-5 c =
+    let f = c .before .before .before in
+    let e = f .before .before in
+    let r = right-side e in
+    let l = left-side (e .before .before .before .before) in
+    let p = patterns (e .before .before .before .before .before .before .before .before) in
+    whole _ (p .fields) _ (p .reads) (l .side) _ (l .reads) (r .side) _ (r .reads) (f .if1 .left) _ _ _ (l .codes) (r .codes) (p .tables)
 
 pub read-spec : {M : Type 1} → statement M
 read-spec =
     tie.close
     (tie.spec
-    start-requires
-    read-patterns-requires
-    enum-known-found
+    read-requires
+    enum-known-patterns-found
     refuse-requires
     returns
     enum-told
-    read-sides-requires
-    enum-known-x
+    side-requires
+    enum-known-left-found
     refuse-requires-2
-    enum-known-left
-    side-at-requires
-    side-at-requires-2
     returns-2
-    returns-3)
+    enum-told-2
+    side-requires-2
+    enum-known-right-found
+    refuse-requires-3
+    returns-3
+    enum-told-3
+    refuse-requires-4
+    returns-4
+    returns-5)

@@ -2,10 +2,9 @@
 use borrow.Author.Needs.{needs}
 use Prim.Native.Nat.{ℕ, _-_}
 use native.Mathlib.Omega.{arith}
-use mathlib.Core.Path.{ap, _∙_}
-use mathlib.Core.Bool.{Bool, cond}
-use Rattle.patterns.specs.Masks.{places, in-mask}
-use Rattle.patterns.proofs.Filling.{Adding, adding-none, adding-more, adding-all}
+use mathlib.Core.Bool.{cond}
+use Rattle.places.specs.Masks.{places, in-mask}
+use Rattle.patterns.proofs.Adding.{Adding, adding-none, adding-more, adding-all}
 use Rattle.patterns.proofs.place_sets.link.Statement.{statement}
 use Rattle.patterns.proofs.place_sets.link.Tie as tie
 
@@ -27,11 +26,8 @@ mul-follow c = search needs
 element-copy-out-follow : tie.Need-element-copy-out-follow Inv-loop μ-loop
 element-copy-out-follow c = search needs
 
-holds-requires : tie.Need-holds-requires Inv-loop μ-loop
-holds-requires c κs = search needs
-
-when-requires : tie.Need-when-requires Inv-loop μ-loop
-when-requires c κs = search needs
+when-holds-requires : tie.Need-when-holds-requires Inv-loop μ-loop
+when-holds-requires c κs = search needs
 
 mul-follow-2 : tie.Need-mul-follow-2 Inv-loop μ-loop
 mul-follow-2 c = search needs
@@ -47,10 +43,10 @@ loop-less c = omega arith
 
 loop-again : tie.Need-loop-again Inv-loop μ-loop
 loop-again c =
-    let l = c .before .before .before .before .loop in
-    let a = c .before .before .before .before .before .args in
-    adding-more places (linked (a .last) (a .first)) (a .follow .now) (l .follow) (l .i) (l .inv) (omega arith) (c .when .result)
-    (c .when .ensures ∙ ap (λ (b : Bool). cond b (a .first) 0) (c .before .holds .ensures))
+    let l = c .before .before .before .loop in
+    let a = c .before .before .before .before .args in
+    adding-more places (linked (a .last) (a .first)) (a .follow .now) (l .follow) (l .i) (l .inv) (omega arith) (c .when-holds .result)
+    (c .when-holds .ensures)
 
 returns : tie.Need-returns Inv-loop μ-loop
 returns c =
@@ -67,8 +63,7 @@ link-spec =
     loop-holds
     mul-follow
     element-copy-out-follow
-    holds-requires
-    when-requires
+    when-holds-requires
     mul-follow-2
     element-write-follow
     add-i

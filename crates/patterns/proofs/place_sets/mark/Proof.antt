@@ -6,7 +6,7 @@ use mathlib.Core.Path.{ap, _∙_}
 use mathlib.Core.Bool.{Bool, cond}
 use Rattle.paper.specs.Numbers.{characters}
 use Rattle.paper.specs.Pattern.{takes, range}
-use Rattle.patterns.proofs.Filling.{Adding, adding-none, adding-more, adding-all}
+use Rattle.patterns.proofs.Adding.{Adding, adding-none, adding-more, adding-all}
 use Rattle.patterns.proofs.place_sets.mark.Statement.{statement}
 use Rattle.patterns.proofs.place_sets.mark.Tie as tie
 

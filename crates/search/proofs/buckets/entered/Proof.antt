@@ -10,7 +10,7 @@ use lib.ListN.{take, drop}
 use lib.Seq.{take-all}
 use Rattle.paper.specs.Lists.{same-by}
 use Rattle.paper.specs.Numbers.{situation-bytes}
-use Rattle.situations.specs.Coded.{Coded, same-coded}
+use Rattle.inner.specs.Coded.{Coded, same-coded}
 use Rattle.search.specs.Buckets.{Sought}
 use Rattle.search.specs.Slots.{Slot, slot-at, key-bytes, key}
 use Rattle.search.proofs.buckets.Chained.{Walked, walk-begins, walk-within, walk-ends, walk-goes-on}

@@ -3,7 +3,7 @@ use Prim.Native.Nat.{_+_}
 use borrow.Author.Tests.{lt-ltb, le-ltb, eq-eqb, ne-eqb}
 use Rattle.paper.specs.Numbers.{characters}
 use Rattle.inner.specs.Inner.{field-code, front}
-use Rattle.situations.specs.Coded.{given-coded}
+use Rattle.situations.specs.Children.{given-coded}
 use Rattle.search.specs.Slots.{slot-at}
 use Rattle.search.proofs.slots.Seen.{left-front-held, right-front-held}
 use borrow.Author.Needs.{needs}

@@ -5,7 +5,7 @@ use mathlib.Core.Bool.{true, false}
 use lib.ListN.{length, length-append}
 use borrow.Author.Needs.{needs}
 use Rattle.paper.proofs.base.Tests.{lt-leb}
-use Rattle.situations.specs.Coded.{finished-coded}
+use Rattle.inner.specs.Coded.{finished-coded}
 use Rattle.search.specs.Run.{enter-slot}
 use Rattle.search.proofs.search.Children.{held-is}
 use Rattle.search.proofs.search.enter_with.Statement.{statement}

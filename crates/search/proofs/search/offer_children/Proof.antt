@@ -4,7 +4,8 @@ use native.Mathlib.Omega.{arith}
 use mathlib.Core.Path.{ap, subst, _∙_}
 use borrow.Author.Needs.{needs}
 use Rattle.inner.specs.Inner.{left-struck, right-struck}
-use Rattle.situations.specs.Coded.{Coded, left-strike, right-strike, as-child}
+use Rattle.inner.specs.Coded.{Coded}
+use Rattle.situations.specs.Children.{left-strike, right-strike, as-child}
 use Rattle.situations.specs.Laid.{child-of}
 use Rattle.search.specs.Lent.{Lent, tables}
 use Rattle.search.specs.Run.{offer-slots}

@@ -6,8 +6,7 @@ use mathlib.Core.List.{List}
 use lib.ListN.{length}
 use borrow.Author.Needs.{needs}
 use Rattle.paper.proofs.base.Tests.{le-leb}
-use Rattle.situations.specs.Coded.{Coded}
-use Rattle.situations.specs.Laid.{as-struct, Short}
+use Rattle.inner.specs.Coded.{Coded, as-struct, Short}
 use Rattle.search.specs.Buckets.{Kept, Entered-at}
 use Rattle.search.specs.Run.{enter-slot}
 use Rattle.search.specs.Slots.{Slot}

@@ -2,7 +2,7 @@
 use Prim.Native.Nat.{ℕ, _-_, _≤_}
 use native.Mathlib.Omega.{arith}
 use native.Mathlib.Nat.{le-refl}
-use mathlib.Core.Path.{_≡_, refl, ap, _∙_}
+use mathlib.Core.Path.{_≡_, refl, sym, ap, _∙_}
 use mathlib.Core.List.{List}
 use mathlib.Core.Logic.{⊎-elim}
 use lib.ListN.{length}
@@ -10,12 +10,14 @@ use borrow.Author.Needs.{needs}
 use Rattle.paper.specs.Lists.{each, upto}
 use Rattle.paper.specs.Numbers.{characters}
 use Rattle.paper.specs.Search.{Child}
-use Rattle.situations.specs.Coded.{Coded, as-child, put-of}
+use Rattle.fronts.specs.Fronts.{set-by}
+use Rattle.fronts.specs.declared.Front.{Front}
+use Rattle.inner.specs.Coded.{Coded}
+use Rattle.situations.specs.Children.{put-child, put-of, as-child}
 use Rattle.situations.specs.Laid.{child-of}
-use Rattle.situations.specs.declared.Front.{Front}
 use Rattle.search.specs.Lent.{Offers}
 use Rattle.search.specs.Run.{Running, offer-slots}
-use Rattle.situations.proofs.Short.{put-short, put-not-taken}
+use Rattle.situations.proofs.Short.{put-short, put-taken, put-not-taken}
 use Rattle.search.proofs.search.Children.{held-is}
 use Rattle.search.proofs.search.Offers.{lent-more}
 use Rattle.search.proofs.search.offer_puts.Statement.{statement}
@@ -101,8 +103,9 @@ loop-again c =
             more R (by-character k (a .t6) (a .t7)) i
             (rw (w .6, w .7)
             (w .3 .ensures .lent (done R k) (put-of k (a .t6) (a .t7) i) (v .lent R k l e h)
-            (w .1 .ensures ∙ ap (λ (x : Coded). child-of (put-of x (a .t6) (a .t7) i)) (held-is h e))
-            (λ u f. put-short (a .t6) (a .t7) i h f)));
+            (w .1 .ensures ∙ ap (λ (x : Coded). child-of (put-child x i (set-by (a .t6) i) (set-by (a .t7) i))) (held-is h e)
+            ∙ sym (ap child-of (put-taken k (a .t6) (a .t7) i (b .result) (b .ensures) (w .0 .taken))))
+            (λ u f. put-short (a .t6) (a .t7) i (c .before .before .before .before .loop-test .taken) h f)));
       },
     ))
     (λ w. (

@@ -8,10 +8,10 @@ use mathlib.Core.List.{[]}
 use lib.ListN.{length}
 use borrow.Author.Needs.{needs}
 use Rattle.paper.proofs.base.Tests.{not-is-true, not-is-false}
-use Rattle.situations.specs.Coded.{Coded, Tables}
+use Rattle.inner.specs.Coded.{Coded, as-struct, Short}
+use Rattle.situations.specs.Children.{Tables}
 use Rattle.search.specs.Lent.{Lent, tables}
 use Rattle.search.specs.Run.{Running, is-going, enter-slot, slot-search}
-use Rattle.situations.specs.Laid.{as-struct, Short}
 use Rattle.search.proofs.buckets.Kept.{kept-none}
 use Rattle.search.proofs.search.Turns.{Standing, begun, ended, used-up, taken}
 use Rattle.search.proofs.search.search.Statement.{statement}

@@ -7,7 +7,7 @@ use borrow.Author.Needs.{needs}
 use Rattle.paper.specs.Numbers.{set-fields}
 use Rattle.paper.proofs.base.Tests.{lt-leb, le-leb, lt-ltb, right-false}
 use Rattle.inner.specs.Inner.{field-code, no-token, field-of, is-field}
-use Rattle.situations.specs.Coded.{may-end-at}
+use Rattle.situations.specs.Children.{may-end-at}
 use Rattle.situations.proofs.children.may_end.Statement.{statement}
 use Rattle.situations.proofs.children.may_end.Tie as tie
 

@@ -1,7 +1,7 @@
 -- `children::strike_left` meets its contract. Follows from what `front_in`, `may_end` and `strike` ensure.
 use mathlib.Core.Path.{sym, _∙_}
 use borrow.Author.Needs.{needs}
-use Rattle.situations.specs.Coded.{left-strike}
+use Rattle.situations.specs.Children.{left-strike}
 use Rattle.situations.proofs.children.strike_left.Statement.{statement}
 use Rattle.situations.proofs.children.strike_left.Tie as tie
 
@@ -20,14 +20,14 @@ returns c =
     let m = c .before .before in
     rw (sym (m .before .front-in .ensures), sym (m .may-end .ensures) ∙ c .before .if1 .taken) (c .strike .ensures)
 
-dropped-requires : tie.Need-dropped-requires
-dropped-requires c κs = search needs
+unmade-requires : tie.Need-unmade-requires
+unmade-requires c κs = search needs
 
 returns-2 : tie.Need-returns-2
 unfolding left-strike
 returns-2 c =
     let m = c .before .before in
-    rw (sym (m .before .front-in .ensures), sym (m .may-end .ensures) ∙ c .before .if1 .left) (c .dropped .ensures)
+    rw (sym (m .before .front-in .ensures), sym (m .may-end .ensures) ∙ c .before .if1 .left) (c .unmade .ensures)
 
 pub strike-left-spec : {M : Type 1} → statement M
 strike-left-spec =
@@ -37,5 +37,5 @@ strike-left-spec =
     may-end-requires
     strike-requires
     returns
-    dropped-requires
+    unmade-requires
     returns-2)

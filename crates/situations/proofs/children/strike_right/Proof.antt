@@ -3,7 +3,7 @@ use mathlib.Core.Path.{refl, sym, _∙_}
 use mathlib.Core.Bool.{false}
 use borrow.Author.Needs.{needs}
 use Rattle.paper.proofs.base.Tests.{eq-eqb, neq-eqb, right-false}
-use Rattle.situations.specs.Coded.{may-end-at, right-strike}
+use Rattle.situations.specs.Children.{may-end-at, right-strike}
 use Rattle.situations.proofs.children.strike_right.Statement.{statement}
 use Rattle.situations.proofs.children.strike_right.Tie as tie
 
@@ -13,8 +13,8 @@ front-in-requires c κs = search needs
 front-in-requires-2 : tie.Need-front-in-requires-2
 front-in-requires-2 c κs = search needs
 
-dropped-requires : tie.Need-dropped-requires
-dropped-requires c κs = search needs
+unmade-requires : tie.Need-unmade-requires
+unmade-requires c κs = search needs
 
 returns : tie.Need-returns
 unfolding right-strike
@@ -25,7 +25,7 @@ returns c =
     let x = l .front-in .result in
     let y = r .front-in2 .result in
     rw (sym (l .front-in .ensures), sym (r .front-in2 .ensures), eq-eqb y x (c .before .if1 .taken), right-false (may-end-at (a .s .sets) (a .last) y) false refl)
-    (c .dropped .ensures)
+    (c .unmade .ensures)
 
 may-end-requires : tie.Need-may-end-requires
 may-end-requires c κs = search needs
@@ -42,15 +42,15 @@ returns-2 c =
     rw (sym (l .front-in .ensures), sym (r .front-in2 .ensures), neq-eqb (r .front-in2 .result) (l .front-in .result) (m .before .if1 .left), sym (m .may-end .ensures) ∙ c .before .if2 .taken)
     (c .strike .ensures)
 
-dropped-requires-2 : tie.Need-dropped-requires-2
-dropped-requires-2 c κs = search needs
+unmade-requires-2 : tie.Need-unmade-requires-2
+unmade-requires-2 c κs = search needs
 
 returns-3 : tie.Need-returns-3
 unfolding right-strike
 returns-3 c =
     let m = c .before .before in
     let r = m .before .before in
-    rw (sym (r .front-in2 .ensures), sym (m .may-end .ensures) ∙ c .before .if2 .left) (c .dropped2 .ensures)
+    rw (sym (r .front-in2 .ensures), sym (m .may-end .ensures) ∙ c .before .if2 .left) (c .unmade2 .ensures)
 
 pub strike-right-spec : {M : Type 1} → statement M
 strike-right-spec =
@@ -58,10 +58,10 @@ strike-right-spec =
     (tie.spec
     front-in-requires
     front-in-requires-2
-    dropped-requires
+    unmade-requires
     returns
     may-end-requires
     strike-requires
     returns-2
-    dropped-requires-2
+    unmade-requires-2
     returns-3)

@@ -11,18 +11,19 @@ use borrow.Author.Needs.{needs}
 use Rattle.paper.specs.Lists.{only}
 use Rattle.paper.specs.Numbers.{longest-side}
 use Rattle.inner.specs.Inner.{field-code}
-use Rattle.situations.specs.Coded.{put-codes}
-use Rattle.situations.specs.Laid.{In-front, widest-side}
-use Rattle.situations.proofs.InFront.{in-front-none, in-front-more, in-front-taken, in-front-left, in-front-part}
+use Rattle.situations.specs.Children.{put-codes}
+use Rattle.inner.specs.InFront.{In-front}
+use Rattle.situations.specs.Laid.{widest-side}
+use Rattle.inner.proofs.InFront.{in-front-none, in-front-more, in-front-taken, in-front-left, in-front-part}
 use Rattle.situations.proofs.Turns.{put-more}
 use Rattle.situations.proofs.sides.put_side.Statement.{statement}
 use Rattle.situations.proofs.sides.put_side.Tie as tie
 
 abbrev Inv-loop : tie.InvT-loop
-Inv-loop len c a b side bytes₀ n₀ i₀ bytes n i = (i ≤ len) × (n ≤ i + i) × In-front bytes₀ bytes n (put-codes c a b (take i side))
+Inv-loop c a b side len bytes₀ n₀ i₀ bytes n i = (i ≤ len) × (n ≤ i + i) × In-front bytes₀ bytes n (put-codes c a b (take i side))
 
 abbrev μ-loop : tie.MeasureT-loop
-μ-loop len c a b side bytes₀ n₀ i₀ bytes n i = len - i
+μ-loop c a b side len bytes₀ n₀ i₀ bytes n i = len - i
 
 -- there is room for one token more than twice the tokens passed
 room : (c : tie.At-loop Inv-loop μ-loop) → length (c .before .no-wide-side .result) ≡ widest-side
@@ -32,12 +33,12 @@ room c = search needs
 joined : (c : tie.Joined1 Inv-loop μ-loop) →
     let l = c .before .before .before .loop in
     let d = c .before .before .before .before in
-    let a = d .before .args in
+    let a = d .before .before .args in
     let x = getD (a .t1) (l .i) 0 in
     (c .if1 .n ≤ l .i + l .i + 1) × In-front (d .no-wide-side .result) (c .if1 .bytes) (c .if1 .n) (put-codes (a .c) (a .a) (a .b) (take (l .i) (a .t1)) ++ only (leb field-code x && (eqb x (a .a) || eqb x (a .b))) (a .c))
 joined c =
     let l = c .before .before .before .loop in
-    let a = c .before .before .before .before .before .args in
+    let a = c .before .before .before .before .before .before .args in
     let x = getD (a .t1) (l .i) 0 in
     let t = leb field-code x && (eqb x (a .a) || eqb x (a .b)) in
     let few = room (c .before .before .before) in
@@ -45,6 +46,9 @@ joined c =
     (λ w. (omega arith, in-front-taken (l .inv .2) (omega arith) t (a .c) (sym (c .before .is-front .ensures) ∙ w .0 .taken) (w .1) (w .2)))
     (λ w. (omega arith, in-front-left (l .inv .2) t (a .c) (sym (c .before .is-front .ensures) ∙ w .0 .left) (w .1) (w .2)))
     (c .if1 .came)
+
+length-of-requires : tie.Need-length-of-requires Inv-loop μ-loop
+length-of-requires c κs = search needs
 
 no-wide-side-requires : tie.Need-no-wide-side-requires Inv-loop μ-loop
 no-wide-side-requires c κs = search needs
@@ -79,7 +83,7 @@ loop-less c = omega arith
 loop-again : tie.Need-loop-again Inv-loop μ-loop
 loop-again c =
     let d = c .before .before .before .before in
-    let a = d .before .before .args in
+    let a = d .before .before .before .args in
     let i = d .loop .i in
     let j = joined (c .before) in
     let side : length (a .t1) ≡ longest-side = search needs in
@@ -89,8 +93,9 @@ loop-again c =
 returns : tie.Need-returns Inv-loop μ-loop
 returns c =
     let l = c .before .loop in
-    let e : l .i ≡ c .before .before .before .args .len = omega arith in
-    record { few = omega arith; has = in-front-part (rw e at (l .inv .2)) }
+    let n = c .before .before .before .length-of in
+    let e : l .i ≡ n .result = omega arith in
+    record { few = omega arith; has = in-front-part (rw (e, n .ensures .2) at (l .inv .2)) }
 
 pub put-side-spec : {M : Type 1} → statement M
 put-side-spec =
@@ -98,6 +103,7 @@ put-side-spec =
     (tie.spec
     Inv-loop
     μ-loop
+    length-of-requires
     no-wide-side-requires
     loop-holds
     array-read-x

@@ -9,18 +9,22 @@ use lib.ListN.{length, take, getD}
 use borrow.Author.Needs.{needs}
 use Rattle.paper.specs.Numbers.{longest-side}
 use Rattle.paper.proofs.base.Tests.{eq-eqb, neq-eqb, true-not, false-not}
-use Rattle.situations.specs.Coded.{strike-codes}
-use Rattle.situations.specs.Laid.{In-front, widest-side}
-use Rattle.situations.proofs.InFront.{in-front-none, in-front-taken, in-front-left, in-front-part}
+use Rattle.situations.specs.Children.{strike-codes}
+use Rattle.inner.specs.InFront.{In-front}
+use Rattle.situations.specs.Laid.{widest-side}
+use Rattle.inner.proofs.InFront.{in-front-none, in-front-taken, in-front-left, in-front-part}
 use Rattle.situations.proofs.Turns.{strike-more}
 use Rattle.situations.proofs.sides.struck_side.Statement.{statement}
 use Rattle.situations.proofs.sides.struck_side.Tie as tie
 
 abbrev Inv-loop : tie.InvT-loop
-Inv-loop len b side bytes₀ n₀ i₀ bytes n i = (i ≤ len) × (n ≤ i) × In-front bytes₀ bytes n (strike-codes b (take i side))
+Inv-loop b side len bytes₀ n₀ i₀ bytes n i = (i ≤ len) × (n ≤ i) × In-front bytes₀ bytes n (strike-codes b (take i side))
 
 abbrev μ-loop : tie.MeasureT-loop
-μ-loop len b side bytes₀ n₀ i₀ bytes n i = len - i
+μ-loop b side len bytes₀ n₀ i₀ bytes n i = len - i
+
+length-of-requires : tie.Need-length-of-requires Inv-loop μ-loop
+length-of-requires c κs = search needs
 
 no-wide-side-requires : tie.Need-no-wide-side-requires Inv-loop μ-loop
 no-wide-side-requires c κs = search needs
@@ -46,7 +50,7 @@ loop-less c = omega arith
 loop-again : tie.Need-loop-again Inv-loop μ-loop
 loop-again c =
     let d = c .before .before .before in
-    let a = d .before .args in
+    let a = d .before .before .args in
     let l = c .before .before .loop in
     let x = getD (a .t1) (l .i) 0 in
     let t = not (eqb x (a .b)) in
@@ -61,8 +65,9 @@ loop-again c =
 returns : tie.Need-returns Inv-loop μ-loop
 returns c =
     let l = c .before .loop in
-    let e : l .i ≡ c .before .before .before .args .len = omega arith in
-    record { few = omega arith; has = in-front-part (rw e at (l .inv .2)) }
+    let n = c .before .before .before .length-of in
+    let e : l .i ≡ n .result = omega arith in
+    record { few = omega arith; has = in-front-part (rw (e, n .ensures .2) at (l .inv .2)) }
 
 pub struck-side-spec : {M : Type 1} → statement M
 struck-side-spec =
@@ -70,6 +75,7 @@ struck-side-spec =
     (tie.spec
     Inv-loop
     μ-loop
+    length-of-requires
     no-wide-side-requires
     loop-holds
     array-read-x

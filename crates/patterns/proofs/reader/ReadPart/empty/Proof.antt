@@ -1,7 +1,7 @@
 -- `ReadPart::empty` meets its contract: the empty text has no leaf, so every mask is 0.
 use native.Mathlib.Omega.{arith}
 use mathlib.Core.Path.{refl, sym}
-use Rattle.patterns.proofs.MaskOf.{mask-of-none}
+use Rattle.places.proofs.MaskOf.{mask-of-none}
 use Rattle.patterns.proofs.reader.ReadPart.empty.Statement.{statement}
 use Rattle.patterns.proofs.reader.ReadPart.empty.Tie as tie
 

@@ -5,7 +5,7 @@ use mathlib.Core.Path.{ap₂, _∙_}
 use mathlib.Core.Bool.{_||_}
 use lib.Bits.{bitOr}
 use Rattle.paper.specs.Places.{leaves, may-be-first, may-be-last}
-use Rattle.patterns.proofs.MaskOf.{mask-of-or}
+use Rattle.places.proofs.MaskOf.{mask-of-or}
 use Rattle.patterns.proofs.reader.ReadPart.or.Statement.{statement}
 use Rattle.patterns.proofs.reader.ReadPart.or.Tie as tie
 

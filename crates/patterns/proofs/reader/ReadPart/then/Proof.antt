@@ -6,7 +6,7 @@ use mathlib.Core.Path.{ap₂, _∙_}
 use mathlib.Core.Bool.{Bool, cond, _&&_}
 use lib.Bits.{bitOr}
 use Rattle.paper.specs.Places.{leaves, takes-empty, may-be-first, may-be-last}
-use Rattle.patterns.proofs.MaskOf.{mask-of-or, mask-of-cond}
+use Rattle.places.proofs.MaskOf.{mask-of-or, mask-of-cond}
 use Rattle.patterns.proofs.reader.ReadPart.then.Statement.{statement}
 use Rattle.patterns.proofs.reader.ReadPart.then.Tie as tie
 

@@ -1,0 +1,3 @@
+pub mod Verdicts
+pub mod Reached
+pub mod Told

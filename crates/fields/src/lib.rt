@@ -1,0 +1,182 @@
+// The patterns' records, from an offset to the first record that is none: "no, one or several `PA`, field numbers rising".
+use answers::Fault;
+use answers::Found;
+use inner::SHEET_FIELDS;
+use patterns::Verdict;
+use places::PlaceTables;
+use sides::Cursor;
+use sides::Mark;
+ghost use mathlib.Core.Path.{_≡_};
+ghost use mathlib.Core.Bool.{_||_};
+ghost use Prim.Native.Nat.{suc, _+_, _≤_};
+ghost use lib.Dec.{leb, ltb, eqb};
+ghost use lib.ListN.{length, replicate};
+ghost use Rattle.paper.specs.Numbers.{fields, pattern-bytes};
+ghost use Rattle.paper.specs.Pattern.{any-text};
+ghost use Rattle.paper.specs.Sheet.{PA, next-is, faulty, open-fields, read-patterns};
+ghost use Rattle.places.specs.WorkedOut.{worked-out};
+ghost use Rattle.answers.specs.Faults.{fault-of};
+ghost use Rattle.answers.specs.declared.Found.the-variants as Found;
+ghost use Rattle.fields.specs.Walk.{fields-of, Pattern-read};
+
+// "length byte n 1 to 96"
+const PATTERN_BYTES: usize = 96;
+
+// What the patterns' records say.
+pub struct Fields {
+    pub found: Found,
+    // behind the last pattern's record, or where the record with the fault stands
+    pub next: Cursor,
+    // one above the last pattern's field; 0 where there is none, or a fault
+    pub above: usize,
+    // what is worked out of each field's pattern; with a fault all fields are open
+    pub tables: [PlaceTables; SHEET_FIELDS],
+}
+
+// "A field without `PA` is open": before the first record every field is.
+fn all_open() -> [PlaceTables; SHEET_FIELDS]
+    ensures { λ r. ⌜ r ≡ replicate fields (worked-out any-text) ⌝ }
+{
+    let open = places::open_tables();
+    [open; SHEET_FIELDS]
+}
+
+// Reads them: "Reading goes on from where the last record ended."
+pub fn read(s: &[u8], start: Cursor) -> Fields
+    ensures { λ r. ⌜ r ≡ fields-of (read-patterns (suc (length (now (s .entry)))) (now (s .entry)) (start .at) open-fields) ⌝ }
+{
+    let mut tables = all_open();
+    let mut c = PatternCursor {
+        at: start.at,
+        above: 0,
+    };
+    while c.next_is_pattern(s) {
+        let r = c.pattern(s);
+        let found = r.found;
+        if let Found::Refused(x) = found {
+            return refuse(x, c.at);
+        }
+        let field = r.field;
+        let its = r.tables;
+        tables[field] = its;
+        c = r.next;
+    }
+    Fields {
+        found: Found::Good,
+        next: Cursor { at: c.at },
+        above: c.above,
+        tables,
+    }
+}
+
+fn refuse(x: Fault, at: usize) -> Fields
+    ensures { λ r. ⌜ r ≡ fields-of (faulty (fault-of x) at) ⌝ }
+{
+    let tables = all_open();
+    Fields {
+        found: Found::Refused(x),
+        next: Cursor { at },
+        above: 0,
+        tables,
+    }
+}
+
+// A cursor from one pattern's record to the next: where its mark stands, and the least field number that it may have.
+struct PatternCursor {
+    at: usize,
+    above: usize,
+}
+
+// What the checks on a pattern's record find: the first fault, or the field, what is worked out of its pattern and the next cursor.
+struct PatternRecord {
+    found: Found,
+    field: usize,
+    tables: PlaceTables,
+    next: PatternCursor,
+}
+
+impl PatternCursor {
+    // Does a pattern's record come next?
+    fn next_is_pattern(self, s: &[u8]) -> bool
+        ensures { λ r. ⌜ r ≡ next-is PA (now (s .entry)) (self .at) ⌝ }
+    {
+        let c = Cursor { at: self.at };
+        c.next_is(s, Mark::PA)
+    }
+
+    // A pattern's record, behind its mark: "missing field or length byte 11; field above 7 or not above the field before it 13; length out
+    // of its range 14; missing body 11; then for a pattern 15, then 16".
+    fn pattern(self, s: &[u8]) -> PatternRecord
+        requires { ⌜ self .at + 2 ≤ length (now s) ⌝ }
+        ensures { λ r. ⌜ Pattern-read (now (s .entry)) (self .at) (self .above) (r .found) r ⌝ }
+    {
+        let at = self.at;
+        let left = s.len() - at;
+        if left < 4 {
+            return self.refuse(Fault::CutShort);
+        }
+        let field = s[at + 2] as usize;
+        if wrong_field(field, self.above) {
+            return self.refuse(Fault::WrongField);
+        }
+        let len = s[at + 3] as usize;
+        if wrong_length(len) {
+            return self.refuse(Fault::WrongLength);
+        }
+        if left < 4 + len {
+            return self.refuse(Fault::CutShort);
+        }
+        let start = at + 4;
+        let end = start + len;
+        let worked = patterns::tables(&s[start..end]);
+        let verdict = worked.verdict;
+        match verdict {
+            Verdict::NotOnePattern => self.refuse(Fault::NotOnePattern),
+            Verdict::TooManyLeaves => self.refuse(Fault::TooManyLeaves),
+            Verdict::Good => {
+                let tables = worked.tables;
+                PatternRecord {
+                    found: Found::Good,
+                    field,
+                    tables,
+                    next: PatternCursor {
+                        at: end,
+                        above: field + 1,
+                    },
+                }
+            }
+        }
+    }
+
+    fn refuse(self, x: Fault) -> PatternRecord
+        ensures { λ r. ⌜ r .found ≡ Found.Refused x ⌝ }
+    {
+        let tables = places::open_tables();
+        PatternRecord {
+            found: Found::Refused(x),
+            field: 0,
+            tables,
+            next: self,
+        }
+    }
+}
+
+// "field above 7 or not above the field before it"
+fn wrong_field(field: usize, least: usize) -> bool
+    ensures { λ r. ⌜ r ≡ (leb fields field || ltb field least) ⌝ }
+{
+    if SHEET_FIELDS <= field {
+        return true;
+    }
+    field < least
+}
+
+// "length byte n 1 to 96"
+fn wrong_length(len: usize) -> bool
+    ensures { λ r. ⌜ r ≡ (eqb len 0 || ltb pattern-bytes len) ⌝ }
+{
+    if len == 0 {
+        return true;
+    }
+    PATTERN_BYTES < len
+}

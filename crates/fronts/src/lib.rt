@@ -1,0 +1,80 @@
+// The fronts of a situation: what is worked out once of a token in front, and which characters both fronts take.
+use inner::FIELD_CODE;
+use inner::FIELDS;
+use inner::NO_TOKEN;
+use inner::field_of;
+use places::CHARACTERS;
+use places::PLACES;
+ghost use mathlib.Core.Bool.{_&&_};
+ghost use mathlib.Core.List.{[]};
+ghost use mathlib.Core.Path.{_≡_};
+ghost use lib.ListN.{getD};
+ghost use Rattle.places.specs.Masks.{followers-of};
+ghost use Rattle.inner.specs.Inner.{field-of};
+ghost use Rattle.fronts.specs.Fronts.{row-at, front-from, takes-next};
+
+// A token in front with what is worked out once of it for all characters: the places that may follow those of its field's set, and what
+// each character lets through.
+pub struct Front {
+    pub token: u8,
+    pub followers: u32,
+    pub row: [u32; CHARACTERS],
+}
+
+// The places that may follow those of the set of the field with the token b.
+fn gather(sets: [u32; FIELDS], b: u8, follow: [[u32; PLACES]; FIELDS]) -> u32
+    ensures { λ r. ⌜ r ≡ followers-of (getD follow (field-of b) []) (getD sets (field-of b) 0) ⌝ }
+{
+    let f = field_of(b);
+    if f < FIELDS {
+        let masks = follow[f];
+        return places::followers(masks, sets[f]);
+    }
+    0
+}
+
+// What each character lets through in the field with the token b.
+fn row(b: u8, taking: [[u32; CHARACTERS]; FIELDS]) -> [u32; CHARACTERS]
+    ensures { λ r. ⌜ r ≡ row-at taking b ⌝ }
+{
+    let f = field_of(b);
+    if f < FIELDS { taking[f] } else { taking[0] }
+}
+
+// What is worked out once of a token in front.
+pub fn front_with(
+    token: u8,
+    sets: [u32; FIELDS],
+    follow: [[u32; PLACES]; FIELDS],
+    taking: [[u32; CHARACTERS]; FIELDS],
+) -> Front
+    ensures { λ r. ⌜ r ≡ front-from follow taking sets token ⌝ }
+{
+    let followers = gather(sets, token, follow);
+    let row = row(token, taking);
+    Front {
+        token,
+        followers,
+        row,
+    }
+}
+
+// "a character in front must be c, and each front field's set after c must not be empty"
+fn takes(b: u8, next: u32, c: u8) -> bool
+    ensures { λ r. ⌜ r ≡ takes-next b next c ⌝ }
+{
+    if b < FIELD_CODE {
+        b == c
+    } else if b == NO_TOKEN {
+        b == c
+    } else {
+        next != 0
+    }
+}
+
+// Do both tokens in front take c, where the sets of their fields after c are m and n?
+pub fn both_take(a: u8, m: u32, b: u8, n: u32, c: u8) -> bool
+    ensures { λ r. ⌜ r ≡ (takes-next a m c && takes-next b n c) ⌝ }
+{
+    takes(a, m, c) && takes(b, n, c)
+}

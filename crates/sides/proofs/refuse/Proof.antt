@@ -1,0 +1,11 @@
+-- `sides::refuse` meets its contract: the code's fault is that of the paper. Assumes nothing.
+use borrow.Author.Needs.{needs}
+use Rattle.answers.proofs.Same.{same-fault}
+use Rattle.sides.proofs.refuse.Statement.{statement}
+use Rattle.sides.proofs.refuse.Tie as tie
+
+returns : tie.Need-returns
+returns c = rw (same-fault (c .args .x))
+
+pub refuse-spec : {M : Type 1} → statement M
+refuse-spec = tie.close (tie.spec returns)

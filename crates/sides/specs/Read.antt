@@ -1,0 +1,25 @@
+-- What reading a side hands on: its tokens by inner codes, and the next cursor.
+use Prim.Native.Nat.{ℕ}
+use mathlib.Core.List.{[]}
+use Rattle.paper.specs.Equation.{Side}
+use Rattle.paper.specs.Sheet.{Mark, PA, LE, RI, Checked, fault, read, token}
+use Rattle.inner.specs.Inner.{token-code, side-code, padded}
+use Rattle.answers.specs.Faults.{as-fault}
+use Rattle.answers.specs.declared.Found.the-variants.{Good, Refused}
+use Rattle.sides.specs.declared.Mark as Code
+use Rattle.sides.specs.declared.Mark.the-variants as Code-mark
+use Rattle.sides.specs.declared.SideRecord.{SideRecord}
+
+abbrev pub mark-of : Code.Mark → Mark
+mark-of Code-mark.PA = PA
+mark-of Code-mark.LE = LE
+mark-of Code-mark.RI = RI
+
+-- the inner code of a token's byte
+abbrev pub code-of : ℕ → ℕ
+code-of b = token-code (token b)
+
+-- a fault hands on no token
+abbrev pub side-of : Checked Side → SideRecord
+side-of (fault x) = record { found = Refused (as-fault x); codes = padded []; next = record { at = 0 } }
+side-of (read side next) = record { found = Good; codes = padded (side-code side); next = record { at = next } }

@@ -1,0 +1,4 @@
+pub mod Turns
+pub mod FirstSets
+-- what callers go by
+pub mod Short

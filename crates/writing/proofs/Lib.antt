@@ -1,0 +1,4 @@
+pub mod Decimal
+pub mod Putting
+pub mod Walked
+pub mod Making
