@@ -3,11 +3,13 @@
  *
  * A rule is fixed Code 39 characters with fields between them; a field may have a pattern. Two rules clash when one label can be
  * read by both. The two rules stand on a question sheet; the answer is a number, and after a clash a text for each field.
+ * A catalogue has up to 32 rules in one buffer. A rule is added only if it clashes with none that is there; it can be withdrawn.
  *
- * The static library libexported.a, for x86-64 Linux, defines one function, bradovusc_clash. It keeps nothing from one call to the
- * next, asks for no memory, and touches nothing but what it is lent, so calls in several threads don't meet. It takes at most about
- * 40 KiB of stack. All else is in this header: bradovusc_ask calls it with any buffers, bradovusc_text says a number in words,
- * bradovusc_next walks the texts of a clash, bradovusc_sign and bradovusc_value go between values and signs.
+ * The static library libexported.a, for x86-64 Linux, defines three functions: bradovusc_clash, bradovusc_add, bradovusc_withdraw.
+ * They keep nothing from one call to the next, ask for no memory, and touch nothing but what they are lent, so calls in several
+ * threads don't meet. Each takes at most about 40 KiB of stack; 35 were measured, in bradovusc_add. All else is in this header:
+ * bradovusc_ask, bradovusc_enter and bradovusc_remove call them with any buffers, bradovusc_text and bradovusc_catalogue_text say a
+ * number in words, bradovusc_next walks the texts of a clash, bradovusc_sign and bradovusc_value go between values and signs.
  *
  * The header is C99 and C++11. The rules in full: docs/RULES.md.
  */
@@ -19,9 +21,9 @@
 
 /* The version of this header, of the library and of the Rust package. It rises where one of them, or a rule, changes for callers. */
 #define BRADOVUSC_VERSION_MAJOR 0
-#define BRADOVUSC_VERSION_MINOR 1
+#define BRADOVUSC_VERSION_MINOR 2
 #define BRADOVUSC_VERSION_PATCH 0
-#define BRADOVUSC_VERSION "0.1.0"
+#define BRADOVUSC_VERSION "0.2.0"
 
 #ifdef __cplusplus
 extern "C" {
@@ -30,8 +32,10 @@ extern "C" {
 /*
  * The number of an answer.
  *
- * 0 and 1 settle the question. So do 20 and 21: the rules clash, but the texts couldn't be written. 18 and 19 are neither yes nor
- * no. 11 to 17 say what is wrong with the sheet: the first fault met.
+ * Of a sheet, 0 and 1 settle the question. So do 20 and 21: the rules clash, but the texts couldn't be written. 18 and 19 are
+ * neither yes nor no. 11 to 17 say what is wrong with the sheet: the first fault met.
+ *
+ * Of a catalogue's call, 0 is success. 11 to 17 say what is wrong with the rule that was to be added, 30 to 34 why it can't be done.
  */
 enum bradovusc_number {
     /* The rules clash. The answer buffer says what each field holds on a label that both can make. */
@@ -39,9 +43,9 @@ enum bradovusc_number {
     /* The rules don't clash: no label, however long, can be made by both. */
     BRADOVUSC_NO_CLASH = 1,
 
-    /* The sheet ends too early: a mark, a field byte, a length byte or a body is not all there. */
+    /* The sheet, or the rule, ends too early: a mark, a field byte, a length byte or a body is not all there. */
     BRADOVUSC_CUT_SHORT = 11,
-    /* A mark is not PA, LE or RI, or stands where it isn't allowed; or bytes follow the right side. */
+    /* A mark is not PA, LE or RI, in a rule not RU, PA or LE, or stands where it isn't allowed; or bytes follow the last side. */
     BRADOVUSC_WRONG_MARK = 12,
     /* A pattern's field is above 7, or not above the field of the pattern before it. */
     BRADOVUSC_WRONG_FIELD = 13,
@@ -61,10 +65,23 @@ enum bradovusc_number {
     /* The rules clash, but the answer buffer is too short for the texts. Lend a longer one. */
     BRADOVUSC_ANSWER_TOO_SHORT = 20,
     /* The rules clash, but a text has more than 65,535 characters, too many for its record. */
-    BRADOVUSC_TEXT_TOO_LONG = 21
+    BRADOVUSC_TEXT_TOO_LONG = 21,
+
+    /* Of a catalogue's call: the rule was added, or withdrawn. */
+    BRADOVUSC_DONE = 0,
+    /* The new rule clashes with one that is there, or that is not decided. That rule and the answer of the pair are told. */
+    BRADOVUSC_NOT_APART = 30,
+    /* The new rule names a field above 3. */
+    BRADOVUSC_FOREIGN_FIELD = 31,
+    /* 32 rules are there, or the new rule's bytes don't fit behind them. */
+    BRADOVUSC_FULL = 32,
+    /* No rule has the number that was to be withdrawn. */
+    BRADOVUSC_NO_RULE = 33,
+    /* The buffer is no catalogue. */
+    BRADOVUSC_NO_CATALOGUE = 34
 };
 
-/* The number in words. Never null. */
+/* The number in words, 0 as the answer of a sheet or a pair. Never null. */
 static inline const char *bradovusc_text(uint32_t number) {
     switch (number) {
     case BRADOVUSC_CLASH:
@@ -72,9 +89,9 @@ static inline const char *bradovusc_text(uint32_t number) {
     case BRADOVUSC_NO_CLASH:
         return "no clash";
     case BRADOVUSC_CUT_SHORT:
-        return "the sheet is cut short";
+        return "cut short";
     case BRADOVUSC_WRONG_MARK:
-        return "a wrong mark, or bytes behind the right side";
+        return "a wrong mark, or bytes behind the last side";
     case BRADOVUSC_WRONG_FIELD:
         return "a wrong field number";
     case BRADOVUSC_WRONG_LENGTH:
@@ -93,9 +110,24 @@ static inline const char *bradovusc_text(uint32_t number) {
         return "clash, but the answer buffer is too short for the texts";
     case BRADOVUSC_TEXT_TOO_LONG:
         return "clash, but a text is too long for its record";
+    case BRADOVUSC_NOT_APART:
+        return "not apart from a rule of the catalogue";
+    case BRADOVUSC_FOREIGN_FIELD:
+        return "a field above 3";
+    case BRADOVUSC_FULL:
+        return "no room in the catalogue";
+    case BRADOVUSC_NO_RULE:
+        return "no rule has that number";
+    case BRADOVUSC_NO_CATALOGUE:
+        return "the buffer is no catalogue";
     default:
         return "no number of an answer";
     }
+}
+
+/* The same for what a catalogue's call returned: 0 is "done". */
+static inline const char *bradovusc_catalogue_text(uint32_t number) {
+    return number == BRADOVUSC_DONE ? "done" : bradovusc_text(number);
 }
 
 /* The signs of the 43 characters, by value. */
@@ -256,6 +288,92 @@ static inline struct bradovusc_answer bradovusc_ask(const uint8_t *sheet, size_t
     given.place = told[BRADOVUSC_PLACE];
     given.written = told[BRADOVUSC_WRITTEN];
     return given;
+}
+
+/*
+ * The catalogue. A rule's record begins with a mark, as those of a sheet do:
+ *
+ *   RU  then PA records as in a sheet, of fields 0 to 3, and one LE; the record ends behind it
+ *
+ * A rule's fields are its own: field 0 of another rule is another field. In the buffer the records stand one behind the other from
+ * the first byte on, at most 32 of them, and all bytes behind the last one are zero. A rule's number is its place in that order,
+ * from 0. All bytes zero, or no byte at all, is the empty catalogue. Between calls the buffer may be stored and moved.
+ *
+ * A catalogue that began empty and was changed by these calls alone has no two rules that make the same label. Of a buffer filled
+ * otherwise only the form is looked at, at each call, and not whether its rules clash.
+ *
+ * A record has at most 429 bytes, so a buffer of that many for each rule is always long enough.
+ */
+#define BRADOVUSC_RULES 32
+#define BRADOVUSC_RULE_FIELDS 4
+#define BRADOVUSC_RULE_BYTES 429
+#define BRADOVUSC_CATALOGUE_BYTES(rules) ((size_t)BRADOVUSC_RULE_BYTES * (size_t)(rules))
+
+/*
+ * What bradovusc_add tells beside the number, by its index in `told`; each is 0 where nothing is said of it. Fewer elements than
+ * these are filled as far as there are any; elements behind them are left as they are.
+ */
+enum bradovusc_told_added {
+    /* after 30 the situations entered for the pair that was not apart */
+    BRADOVUSC_ADDED_COUNT = 0,
+    /* after 11 to 17 the offset, from RU, at which the record at fault has, or should have, its mark */
+    BRADOVUSC_ADDED_PLACE = 1,
+    /* after 30 the number of the first rule that the new one is not apart from .. */
+    BRADOVUSC_ADDED_RULE = 2,
+    /* .. and the answer of their pair: BRADOVUSC_CLASH, BRADOVUSC_NO_ROOM or BRADOVUSC_SIDE_TOO_LONG */
+    BRADOVUSC_ADDED_PAIR = 3,
+    BRADOVUSC_ADDED_TOLD = 4
+};
+
+/*
+ * Adds a rule behind the last one, if it clashes with none that is there. The present rules are tried by rising number, each pair in
+ * the whole working buffer; where one is not decided, the rule is not added. Afterwards
+ *
+ *   number                  catalogue                               working buffer
+ *   0                       the rule's bytes behind the last        all zero; unchanged if the catalogue was empty
+ *                           record, the rest unchanged
+ *   30                      unchanged                               all zero
+ *   11 to 17, 31, 32, 34    unchanged                               unchanged
+ *
+ * 34 comes before 11 to 17, then 31, then 32, then 30. Any bytes and any lengths are taken, 0 included. Each pointer must be that of
+ * so many elements, and not null, also where the length is 0; the four must not overlap.
+ */
+uint32_t bradovusc_add(uint8_t *catalogue, size_t catalogue_length, const uint8_t *rule, size_t rule_length, uint8_t *work,
+                       size_t work_length, uint64_t *told, size_t told_length);
+
+/*
+ * Withdraws the rule with this number: its record goes, those behind it move up, and the bytes freed at the end are zero. 34 comes
+ * before 33; after either the catalogue is unchanged. The pointer must not be null, also where the length is 0.
+ */
+uint32_t bradovusc_withdraw(uint8_t *catalogue, size_t catalogue_length, size_t number);
+
+/* An addition's answer: the number, and what is told beside it. */
+struct bradovusc_added {
+    uint32_t number;
+    uint64_t count, place, rule;
+    uint32_t pair;
+};
+
+/* bradovusc_add with all five numbers at once, and each pointer may be null where its length is 0. This is the one to call. */
+static inline struct bradovusc_added bradovusc_enter(uint8_t *catalogue, size_t catalogue_length, const uint8_t *rule,
+                                                     size_t rule_length, uint8_t *work, size_t work_length) {
+    uint8_t no_catalogue = 0, no_rule = 0, no_work = 0;
+    uint64_t told[BRADOVUSC_ADDED_TOLD] = {0, 0, 0, 0};
+    struct bradovusc_added added;
+    added.number = bradovusc_add(catalogue == NULL && catalogue_length == 0 ? &no_catalogue : catalogue, catalogue_length,
+                                 rule == NULL && rule_length == 0 ? &no_rule : rule, rule_length,
+                                 work == NULL && work_length == 0 ? &no_work : work, work_length, told, BRADOVUSC_ADDED_TOLD);
+    added.count = told[BRADOVUSC_ADDED_COUNT];
+    added.place = told[BRADOVUSC_ADDED_PLACE];
+    added.rule = told[BRADOVUSC_ADDED_RULE];
+    added.pair = (uint32_t)told[BRADOVUSC_ADDED_PAIR];
+    return added;
+}
+
+/* bradovusc_withdraw, and the pointer may be null where the length is 0. This is the one to call. */
+static inline uint32_t bradovusc_remove(uint8_t *catalogue, size_t catalogue_length, size_t number) {
+    uint8_t no_catalogue = 0;
+    return bradovusc_withdraw(catalogue == NULL && catalogue_length == 0 ? &no_catalogue : catalogue, catalogue_length, number);
 }
 
 #ifdef __cplusplus

@@ -1,8 +1,8 @@
 /*
- * Two rules: one makes labels of any digits, the other the label 4. Do they clash?
+ * Two rules: one makes labels of any digits, the other the label 4. Do they clash? Then a catalogue of rules is kept.
  *
  * The first line printed is number, count and place, and the number in words; after a clash follows a line for each field: its number
- * and its text.
+ * and its text. Then comes a line for each call of the catalogue.
  */
 #include <inttypes.h>
 #include <stdio.h>
@@ -21,8 +21,22 @@ static uint8_t sheet[] = {
 };
 enum { CHARACTER_OF_FIELD_1 = 12 };
 
+/* Latches are marked LT and two digits. */
+static const uint8_t latch[] = {
+    'R', 'U',                               /* a rule of a catalogue */
+    'P', 'A', 0, 7, 66, 65, 0, 9, 65, 0, 9, /* its field 0: two characters, each from 0 to 9 */
+    'L', 'E', 3, 21, 29, 64                 /* its side: L, T, field 0 */
+};
+/* Levers are to be marked LT and any digits. */
+static const uint8_t lever[] = {
+    'R', 'U',                     /* a rule of a catalogue */
+    'P', 'A', 0, 4, 68, 65, 0, 9, /* its field 0: any number of characters from 0 to 9 */
+    'L', 'E', 3, 21, 29, 64       /* its side: L, T, field 0 */
+};
+
 static uint8_t work[BRADOVUSC_WORK_BYTES(455)];
 static uint8_t answer[BRADOVUSC_ANSWER_BYTES(455)];
+static uint8_t catalogue[BRADOVUSC_CATALOGUE_BYTES(BRADOVUSC_RULES)]; /* all zero: no rule is there */
 
 static void print_texts(uint64_t written) {
     struct bradovusc_records texts = bradovusc_records_in(answer, (size_t)written);
@@ -35,10 +49,30 @@ static void print_texts(uint64_t written) {
     }
 }
 
+static void add(const char *name, const uint8_t *rule, size_t rule_length) {
+    struct bradovusc_added added = bradovusc_enter(catalogue, sizeof catalogue, rule, rule_length, work, sizeof work);
+    printf("add the %s: %" PRIu32 ", %s", name, added.number, bradovusc_catalogue_text(added.number));
+    if (added.number == BRADOVUSC_NOT_APART) {
+        printf(": rule %" PRIu64 ", %s", added.rule, bradovusc_text(added.pair));
+    }
+    putchar('\n');
+}
+
+static void withdraw(size_t number) {
+    uint32_t withdrawn = bradovusc_remove(catalogue, sizeof catalogue, number);
+    printf("withdraw rule %zu: %" PRIu32 ", %s\n", number, withdrawn, bradovusc_catalogue_text(withdrawn));
+}
+
 int main(void) {
     sheet[CHARACTER_OF_FIELD_1] = (uint8_t)bradovusc_value('4');
     struct bradovusc_answer given = bradovusc_ask(sheet, sizeof sheet, work, sizeof work, answer, sizeof answer);
     printf("%" PRIu32 " %" PRIu64 " %" PRIu64 ": %s\n", given.number, given.count, given.place, bradovusc_text(given.number));
     print_texts(given.written);
+
+    add("latch", latch, sizeof latch);
+    add("lever", lever, sizeof lever); /* LT42 would be on two shelves */
+    withdraw(0);
+    add("lever", lever, sizeof lever);
+    add("latch", latch, sizeof latch);
     return 0;
 }

@@ -1,22 +1,32 @@
 /*
  * Tries what bradovusc.h itself defines: the texts of the numbers, the signs, the walk over records, null pointers of length 0, the
- * version, the lengths of buffers. C99, and C++11 too. Prints what does not hold, and how many checks there were; the exit status is 0
- * if all hold.
+ * calls of a catalogue, the version, the lengths of buffers. C99, and C++11 too. Prints what does not hold, and how many checks there
+ * were; the exit status is 0 if all hold.
  */
 #include <stdio.h>
 #include <stdlib.h>
 #include <string.h>
 
-/* What the header defines calls `watched_clash` here, which looks at the pointers and calls the library. */
+/* What the header defines calls `watched_clash` and the like here, which look at the pointers and call the library. */
 #define bradovusc_clash watched_clash
+#define bradovusc_add watched_add
+#define bradovusc_withdraw watched_withdraw
 #include "bradovusc.h"
 #undef bradovusc_clash
+#undef bradovusc_add
+#undef bradovusc_withdraw
 
 #ifdef __cplusplus
-extern "C"
+extern "C" {
 #endif
 uint32_t bradovusc_clash(const uint8_t *sheet, size_t sheet_length, uint8_t *work, size_t work_length, uint8_t *answer,
                          size_t answer_length, uint64_t *told, size_t told_length);
+uint32_t bradovusc_add(uint8_t *catalogue, size_t catalogue_length, const uint8_t *rule, size_t rule_length, uint8_t *work,
+                       size_t work_length, uint64_t *told, size_t told_length);
+uint32_t bradovusc_withdraw(uint8_t *catalogue, size_t catalogue_length, size_t number);
+#ifdef __cplusplus
+}
+#endif
 
 static unsigned checks, failed;
 
@@ -37,6 +47,20 @@ uint32_t watched_clash(const uint8_t *sheet, size_t sheet_length, uint8_t *work,
     return bradovusc_clash(sheet, sheet_length, work, work_length, answer, answer_length, told, told_length);
 }
 
+uint32_t watched_add(uint8_t *catalogue, size_t catalogue_length, const uint8_t *rule, size_t rule_length, uint8_t *work,
+                     size_t work_length, uint64_t *told, size_t told_length) {
+    check(catalogue != NULL, "the catalogue's pointer is not null", (long)catalogue_length);
+    check(rule != NULL, "the rule's pointer is not null", (long)rule_length);
+    check(work != NULL, "the working buffer's pointer is not null", (long)work_length);
+    check(told != NULL, "the pointer of what is told is not null", (long)told_length);
+    return bradovusc_add(catalogue, catalogue_length, rule, rule_length, work, work_length, told, told_length);
+}
+
+uint32_t watched_withdraw(uint8_t *catalogue, size_t catalogue_length, size_t number) {
+    check(catalogue != NULL, "the catalogue's pointer is not null", (long)catalogue_length);
+    return bradovusc_withdraw(catalogue, catalogue_length, number);
+}
+
 /* ---- the texts of the numbers */
 
 static const struct {
@@ -45,8 +69,8 @@ static const struct {
 } texts[] = {
     {0, "clash"},
     {1, "no clash"},
-    {11, "the sheet is cut short"},
-    {12, "a wrong mark, or bytes behind the right side"},
+    {11, "cut short"},
+    {12, "a wrong mark, or bytes behind the last side"},
     {13, "a wrong field number"},
     {14, "a wrong length"},
     {15, "not one pattern"},
@@ -56,6 +80,11 @@ static const struct {
     {19, "not decided: a side grew too long"},
     {20, "clash, but the answer buffer is too short for the texts"},
     {21, "clash, but a text is too long for its record"},
+    {30, "not apart from a rule of the catalogue"},
+    {31, "a field above 3"},
+    {32, "no room in the catalogue"},
+    {33, "no rule has that number"},
+    {34, "the buffer is no catalogue"},
 };
 
 static void try_texts(void) {
@@ -68,8 +97,10 @@ static void try_texts(void) {
             expected = texts[next++].text;
         }
         check(strcmp(bradovusc_text(number), expected) == 0, "the text of a number", (long)number);
+        expected = number == 0 ? "done" : expected;
+        check(strcmp(bradovusc_catalogue_text(number), expected) == 0, "the text of a catalogue's number", (long)number);
     }
-    check(next == 13, "13 numbers have a text", (long)next);
+    check(next == 18, "18 numbers have a text", (long)next);
     check(strcmp(bradovusc_text(UINT32_MAX), none) == 0, "the greatest number has no text", -1);
 }
 
@@ -183,16 +214,127 @@ static void try_null(void) {
     check(told[0] == 6 && told[1] == 0 && told[2] == 0 && told[3] == 7, "three numbers told, no more", 0);
 }
 
+/* ---- the catalogue */
+
+static int is_added(struct bradovusc_added added, uint32_t number, uint64_t count, uint64_t place, uint64_t rule, uint32_t pair) {
+    return added.number == number && added.count == count && added.place == place && added.rule == rule && added.pair == pair;
+}
+
+static int all_zero(const uint8_t *bytes, size_t length) {
+    while (length > 0 && bytes[length - 1] == 0) {
+        length--;
+    }
+    return length == 0;
+}
+
+/* the rules A, B and x, of one token each; x is field 0 */
+static const uint8_t rule_a[] = {'R', 'U', 'L', 'E', 1, 10}, rule_b[] = {'R', 'U', 'L', 'E', 1, 11};
+static const uint8_t rule_x[] = {'R', 'U', 'L', 'E', 1, 64};
+
+static void try_catalogue(void) {
+    static const uint8_t one_more[] = {'R', 'U', 'L', 'E', 1, 10, 0}, field_4[] = {'R', 'U', 'L', 'E', 1, 68};
+    uint8_t catalogue[] = {0, 0, 0, 0, 0, 0, 0, 0, 0, 0, 0, 0, 0};
+    size_t length = sizeof catalogue;
+    memset(work, 7, sizeof work);
+
+    check(is_added(bradovusc_enter(catalogue, length, rule_a, 6, work, sizeof work), 0, 0, 0, 0, 0), "a rule added", 0);
+    check(memcmp(catalogue, rule_a, 6) == 0 && all_zero(catalogue + 6, 7), "its bytes", 0);
+    check(work[0] == 7 && work[sizeof work - 1] == 7, "nothing was searched", 0);
+    check(is_added(bradovusc_enter(catalogue, length, rule_b, 6, work, sizeof work), 0, 0, 0, 0, 0), "another", 1);
+    check(memcmp(catalogue + 6, rule_b, 6) == 0 && catalogue[12] == 0, "the other's bytes", 1);
+    check(all_zero(work, sizeof work), "the working buffer is all zero", 1);
+    check(is_added(bradovusc_enter(catalogue, length, rule_a, 6, work, sizeof work), 32, 0, 0, 0, 0), "a byte is left", 32);
+    check(is_added(bradovusc_enter(catalogue, length, one_more, 7, work, sizeof work), 12, 0, 6, 0, 0), "a byte too many", 12);
+    check(is_added(bradovusc_enter(catalogue, length, field_4, 6, work, sizeof work), 31, 0, 0, 0, 0), "field 4", 31);
+    check(bradovusc_remove(catalogue, length, 2) == 33, "there is no rule 2", 33);
+    check(bradovusc_remove(catalogue, length, (size_t)-1) == 33, "nor one with the greatest number", 33);
+    check(bradovusc_remove(catalogue, length, 0) == 0, "the first rule withdrawn", 0);
+    check(memcmp(catalogue, rule_b, 6) == 0 && all_zero(catalogue + 6, 7), "the gap is closed", 0);
+    check(is_added(bradovusc_enter(catalogue, length, rule_x, 6, work, sizeof work), 30, 3, 0, 0, 0), "a clash", 30);
+    check(is_added(bradovusc_enter(catalogue, length, rule_x, 6, work, 144), 30, 1, 0, 0, 18), "room for one situation", 18);
+    check(memcmp(catalogue, rule_b, 6) == 0 && all_zero(catalogue + 6, 7), "no byte changed", 30);
+    catalogue[length - 1] = 1;
+    check(is_added(bradovusc_enter(catalogue, length, rule_a, 6, work, sizeof work), 34, 0, 0, 0, 0), "no catalogue", 34);
+    check(bradovusc_remove(catalogue, length, 0) == 34, "nothing to withdraw from", 34);
+}
+
+static void try_catalogue_of_nothing(void) {
+    uint8_t catalogue[12];
+    memset(catalogue, 0, sizeof catalogue);
+    check(is_added(bradovusc_enter(NULL, 0, rule_a, 6, work, sizeof work), 32, 0, 0, 0, 0), "no catalogue's byte", 32);
+    check(is_added(bradovusc_enter(catalogue, 12, NULL, 0, work, sizeof work), 11, 0, 0, 0, 0), "no rule's byte", 11);
+    check(is_added(bradovusc_enter(catalogue, 12, rule_a, 6, NULL, 0), 0, 0, 0, 0, 0), "no working buffer, no pair", 0);
+    check(is_added(bradovusc_enter(catalogue, 12, rule_b, 6, NULL, 0), 30, 0, 0, 0, 18), "no working buffer", 18);
+    check(is_added(bradovusc_enter(NULL, 0, NULL, 0, NULL, 0), 11, 0, 0, 0, 0), "nothing at all", 11);
+    check(bradovusc_remove(NULL, 0, 0) == 33, "nothing to withdraw", 33);
+}
+
+/* 30 told in so many elements */
+static void try_told(void) {
+    uint8_t catalogue[18];
+    size_t length, i;
+    memset(catalogue, 0, sizeof catalogue);
+    memcpy(catalogue, rule_b, 6);
+    memcpy(catalogue + 6, rule_x, 6);
+    for (length = 0; length <= 5; length++) {
+        uint64_t told[] = {7, 7, 7, 7, 7};
+        static const uint64_t expected[] = {2, 0, 1, 18, 7};
+        check(bradovusc_add(catalogue, 18, rule_a, 6, work, 288, told, length) == 30, "not apart", (long)length);
+        for (i = 0; i < 5; i++) {
+            check(told[i] == (i < length ? expected[i] : 7), "an element of what is told", (long)i);
+        }
+    }
+}
+
+/* a rule of the greatest length fits into the bytes for one rule, and the rules that a catalogue may hold into those for them */
+static void try_longest_rules(void) {
+    static uint8_t rule[BRADOVUSC_RULE_BYTES], catalogue[BRADOVUSC_CATALOGUE_BYTES(BRADOVUSC_RULES) + 1];
+    uint8_t *at = rule;
+    int field, i;
+    *at++ = 'R';
+    *at++ = 'U';
+    for (field = 0; field < BRADOVUSC_RULE_FIELDS; field++) {
+        *at++ = 'P';
+        *at++ = 'A';
+        *at++ = (uint8_t)field;
+        *at++ = 96;
+        memset(at, 68, 95);
+        at[95] = 10;
+        at += 96;
+    }
+    *at++ = 'L';
+    *at++ = 'E';
+    *at++ = 24;
+    memset(at, 64, 24);
+    check(at + 24 == rule + sizeof rule, "the longest rule", (long)(at - rule));
+    check(bradovusc_enter(catalogue, sizeof rule - 1, rule, sizeof rule, work, sizeof work).number == 32, "a byte too few", 428);
+    check(bradovusc_enter(catalogue, sizeof rule, rule, sizeof rule, work, sizeof work).number == 0, "just enough", 429);
+    memset(catalogue, 0, sizeof catalogue);
+    for (i = 0; i < BRADOVUSC_RULES; i++) {
+        *at = (uint8_t)i; /* a character in front, another for each */
+        check(bradovusc_enter(catalogue, sizeof catalogue - 1, rule, sizeof rule, work, sizeof work).number == 0, "a long rule", i);
+    }
+    *at = BRADOVUSC_RULES;
+    check(bradovusc_enter(catalogue, sizeof catalogue, rule_x, 6, work, sizeof work).number == 32, "no 33rd rule", 32);
+    check(bradovusc_remove(catalogue, sizeof catalogue, 31) == 0, "the last one withdrawn", 31);
+    check(bradovusc_enter(catalogue, sizeof catalogue, rule, sizeof rule, work, sizeof work).number == 0, "its room used again", 31);
+}
+
 int main(void) {
     char version[64];
     snprintf(version, sizeof version, "%d.%d.%d", BRADOVUSC_VERSION_MAJOR, BRADOVUSC_VERSION_MINOR, BRADOVUSC_VERSION_PATCH);
     check(strcmp(version, BRADOVUSC_VERSION) == 0, "the version's string", 0);
     check(BRADOVUSC_WORK_BYTES(455) == 65520, "455 situations of work", 455);
     check(BRADOVUSC_ANSWER_BYTES(455) == 3680, "an answer buffer for them", 455);
+    check(BRADOVUSC_CATALOGUE_BYTES(32) == 13728, "a catalogue of 32 rules", 32);
     try_texts();
     try_signs();
     try_records();
     try_null();
+    try_catalogue();
+    try_catalogue_of_nothing();
+    try_told();
+    try_longest_rules();
     printf("%u checks, %u failed\n", checks, failed);
     return failed == 0 ? EXIT_SUCCESS : EXIT_FAILURE;
 }

@@ -6,55 +6,13 @@
  * one by one, the others in a word where they are as they were lent, or all zero, and one by one where they are neither.
  */
 #include <inttypes.h>
-#include <stdbool.h>
 #include <stdio.h>
 #include <stdlib.h>
-#include <string.h>
 
 #include "bradovusc.h"
+#include "streams.h"
 
-enum { HEAD = 10, LONGEST_SHEET = 65535, WORK_FILL = 90, ANSWER_FILL = 165 };
-
-static uint32_t low_first(const uint8_t *bytes, size_t length) {
-    uint32_t number = 0;
-    while (length-- > 0) {
-        number = number * 256 + bytes[length];
-    }
-    return number;
-}
-
-static bool all(const uint8_t *bytes, size_t length, uint8_t byte) {
-    for (size_t i = 0; i < length; i++) {
-        if (bytes[i] != byte) {
-            return false;
-        }
-    }
-    return true;
-}
-
-static void print_each(const uint8_t *bytes, size_t length) {
-    for (size_t i = 0; i < length; i++) {
-        printf(" %02x", bytes[i]);
-    }
-}
-
-static void print_lent(const uint8_t *bytes, size_t length, uint8_t fill) {
-    if (all(bytes, length, fill)) {
-        fputs(" unchanged", stdout);
-    } else {
-        print_each(bytes, length);
-    }
-}
-
-/* A buffer of just this length; one byte where none is asked for. */
-static uint8_t *lend(size_t length, int fill) {
-    uint8_t *buffer = malloc(length > 0 ? length : 1);
-    if (buffer == NULL) {
-        fputs("many: no memory\n", stderr);
-        exit(EXIT_FAILURE);
-    }
-    return memset(buffer, fill, length);
-}
+enum { HEAD = 10, LONGEST_SHEET = 65535, ANSWER_FILL = 165 };
 
 static void answer_case(const uint8_t *sheet, size_t sheet_length, size_t work_length, size_t answer_length) {
     uint8_t *work = lend(work_length, WORK_FILL);
@@ -73,12 +31,7 @@ static void answer_case(const uint8_t *sheet, size_t sheet_length, size_t work_l
         fputs(", more than the answer buffer", stdout);
         print_each(answer, answer_length);
     }
-    fputs(", work", stdout);
-    if (all(work, work_length, 0)) {
-        fputs(" all zero", stdout);
-    } else {
-        print_lent(work, work_length, WORK_FILL);
-    }
+    print_work(work, work_length);
     putchar('\n');
     free(work);
     free(answer);

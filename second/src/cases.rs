@@ -79,18 +79,23 @@ impl After {
                 push_each(&mut line, &self.answer);
             }
         }
-        line += ", work";
-        if self.work.iter().all(|&byte| byte == 0) {
-            line += " all zero";
-        } else {
-            push_lent(&mut line, &self.work, WORK_FILL);
-        }
+        push_work(&mut line, &self.work);
         line
     }
 
     /// What the program `clash` prints.
     pub fn lines(&self) -> String {
         crate::lines(&self.outcome, &self.answer)
+    }
+}
+
+/// What the working buffer holds.
+pub fn push_work(line: &mut String, work: &[u8]) {
+    *line += ", work";
+    if work.iter().all(|&byte| byte == 0) {
+        *line += " all zero";
+    } else {
+        push_lent(line, work, WORK_FILL);
     }
 }
 
@@ -102,7 +107,8 @@ fn push_lent(line: &mut String, bytes: &[u8], fill: u8) {
     }
 }
 
-fn push_each(line: &mut String, bytes: &[u8]) {
+/// Each byte in two hexadecimal digits.
+pub fn push_each(line: &mut String, bytes: &[u8]) {
     for byte in bytes {
         *line += &format!(" {byte:02x}");
     }

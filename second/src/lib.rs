@@ -6,10 +6,16 @@
 //! `scan::answer` does the same with the situations in the lent working buffer
 //! and a plain scan over them.
 //!
+//! `catalogue::add` and `catalogue::withdraw` keep a catalogue of rules of which
+//! no two can make the same label; they search by `searched` or by
+//! `scan::searched`.
+//!
 //! Sentences in quotation marks in the comments are those of the text in which
 //! the rules were first given; docs/RULES.md says the same in other words.
 
+pub mod calls;
 pub mod cases;
+pub mod catalogue;
 pub mod make;
 pub mod pattern;
 pub mod printed;
@@ -17,9 +23,11 @@ pub mod scan;
 pub mod search;
 pub mod sheet;
 pub mod situation;
+pub mod storeroom;
+pub mod write;
 
-use search::Ending;
-use sheet::Fault;
+use search::{Ending, Texts};
+use sheet::{Fault, Question};
 
 /// The answers of the search, by the table's "No.".
 pub const CLASH: u8 = 0;
@@ -86,9 +94,6 @@ pub fn answer(sheet: &[u8], work: &mut [u8], answer: &mut [u8]) -> Outcome {
     // answer"
     work.fill(0);
     let (number, written) = match found.ending {
-        Ending::NoClash => (NO_CLASH, 0),
-        Ending::NoRoom => (NO_ROOM, 0),
-        Ending::SideTooLong => (SIDE_TOO_LONG, 0),
         Ending::Clash(texts) => {
             // "21 comes before 20."
             if texts.iter().any(|(_, text)| text.len() > MOST_TEXT) {
@@ -104,14 +109,23 @@ pub fn answer(sheet: &[u8], work: &mut [u8], answer: &mut [u8]) -> Outcome {
                 }
             }
         }
+        other => (other.number(), 0),
     };
     Outcome::of_search(number, found.count, written)
+}
+
+/// Searches in the room of the working buffer and writes no text: the answer's
+/// number and the count.
+pub fn searched(question: &Question, work: &mut [u8]) -> (u8, usize) {
+    let found = search::search(question, room(work.len()));
+    work.fill(0);
+    (found.ending.number(), found.count)
 }
 
 /// "Answer records, for each field standing in the sides, by rising number,
 /// each record written directly behind the one before: `VA`, field byte,
 /// length in two bytes (low first), the values."
-fn records(texts: &[(u8, Vec<u8>)]) -> Vec<u8> {
+fn records(texts: &Texts) -> Vec<u8> {
     let mut bytes = Vec::new();
     for (field, text) in texts {
         bytes.extend_from_slice(b"VA");

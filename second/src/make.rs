@@ -1,8 +1,14 @@
 //! Makes cases from a seed: good sheets of all kinds, damaged sheets, rooms
-//! and answer buffers near their bounds.
+//! and answer buffers near their bounds. `calls` makes operations on a
+//! catalogue with the same parts.
+
+pub mod calls;
+
+use std::ops::Range;
 
 use crate::cases::Case;
 use crate::pattern::CHARACTERS;
+use crate::sheet::{FIELDS, LEFT, PATTERN, RIGHT};
 use crate::{ANSWER_BUFFER_TOO_SHORT, CLASH, SITUATION_BYTES};
 
 /// A small deterministic generator (xorshift with a multiplication).
@@ -68,7 +74,7 @@ struct Record {
 
 impl Record {
     fn pattern(field: u8, body: Vec<u8>) -> Record {
-        Record { mark: *b"PA", field: Some(field), length: body.len() as u8, body }
+        Record { mark: *PATTERN, field: Some(field), length: body.len() as u8, body }
     }
 
     fn side(mark: &[u8; 2], body: Vec<u8>) -> Record {
@@ -95,7 +101,7 @@ pub fn case(dice: &mut Dice) -> Case {
     }
     let records = good(dice);
     if dice.below(10) < 3 {
-        let sheet = damaged(dice, records);
+        let sheet = damaged(dice, &[], 2, records);
         return with_any_buffers(dice, sheet);
     }
     with_chosen_buffers(dice, write_out(&records))
@@ -163,16 +169,31 @@ fn with_chosen_buffers(dice: &mut Dice, sheet: Vec<u8>) -> Case {
 /// A good sheet.
 fn good(dice: &mut Dice) -> Vec<Record> {
     let alphabet = alphabet(dice);
-    let mut fields: Vec<u8> = (0..8).collect();
+    let fields = some_fields(dice, FIELDS as u8);
+    let (left, right, texts) = sides(dice, &alphabet, &fields);
+    let standing = [&left[..], &right].concat();
+    let mut records = patterns(dice, &alphabet, 0..FIELDS as u8, &standing, &texts);
+    records.push(Record::side(LEFT, left));
+    records.push(Record::side(RIGHT, right));
+    records
+}
+
+/// A few of the fields below this one, in any order.
+fn some_fields(dice: &mut Dice, below: u8) -> Vec<u8> {
+    let mut fields: Vec<u8> = (0..below).collect();
     dice.shuffle(&mut fields);
     let number = if dice.one_in(20) { 0 } else { dice.pick(&[1, 1, 2, 2, 2, 2, 3, 3, 4, 8]) };
     fields.truncate(number);
+    fields
+}
 
+/// Two sides with these fields.
+fn sides(dice: &mut Dice, alphabet: &[u8], fields: &[u8]) -> Sides {
     let (mut left, mut right, texts) = match dice.below(10) {
-        0 | 1 => plain(dice, &alphabet, &fields),
-        2..=4 => mixed(dice, &alphabet, &fields),
-        5..=8 => planted(dice, &alphabet, &fields),
-        _ => many_times(dice, &alphabet, &fields),
+        0 | 1 => plain(dice, alphabet, fields),
+        2..=4 => mixed(dice, alphabet, fields),
+        5..=8 => planted(dice, alphabet, fields),
+        _ => many_times(dice, alphabet, fields),
     };
     // Often a field comes to the front, so that there is something to search.
     for side in [&mut left, &mut right] {
@@ -182,28 +203,33 @@ fn good(dice: &mut Dice) -> Vec<Record> {
             }
         }
     }
+    (left, right, texts)
+}
 
-    // Patterns for no, for some or for all fields; sometimes for fields that
-    // do not stand.
+/// Patterns for no, for some or for all of the fields that stand; sometimes
+/// for fields that do not stand.
+fn patterns(
+    dice: &mut Dice,
+    alphabet: &[u8],
+    fields: Range<u8>,
+    standing: &[u8],
+    texts: &[(u8, Vec<u8>)],
+) -> Vec<Record> {
     let some = dice.pick(if texts.is_empty() { &[0, 0, 1, 1, 2, 2] } else { &[0, 1, 2, 2, 2] });
     let mut patterns = Vec::new();
-    for field in 0..8 {
-        let stands = left.contains(&(64 + field)) || right.contains(&(64 + field));
+    for field in fields {
         let wanted = match some {
             0 => false,
             1 => dice.one_in(2),
             _ => true,
         };
-        let wanted = if stands { wanted } else { dice.one_in(60) };
+        let wanted = if standing.contains(&(64 + field)) { wanted } else { dice.one_in(60) };
         if wanted {
             let text = texts.iter().find(|(of, _)| *of == field).map(|(_, text)| &text[..]);
-            patterns.push(Record::pattern(field, field_pattern(dice, &alphabet, text)));
+            patterns.push(Record::pattern(field, field_pattern(dice, alphabet, text)));
         }
     }
-    let mut records = patterns;
-    records.push(Record::side(b"LE", left));
-    records.push(Record::side(b"RI", right));
-    records
+    patterns
 }
 
 /// A few characters, so that clashes and no clashes both come up; now and then
@@ -444,39 +470,44 @@ fn random_bytes(dice: &mut Dice) -> Vec<u8> {
     }
 }
 
-/// A sheet with one damage at some record, now and then with two.
-fn damaged(dice: &mut Dice, mut records: Vec<Record>) -> Vec<u8> {
+/// Records behind a front, the last of them sides, with one damage at some
+/// record, now and then with two.
+fn damaged(dice: &mut Dice, front: &[u8], sides: usize, mut records: Vec<Record>) -> Vec<u8> {
     // A damage to a pattern needs a pattern.
-    if records.len() == 2 && dice.one_in(2) {
+    if records.len() == sides && dice.one_in(2) {
         for _ in 0..dice.between(1, 2) {
             let field = dice.below(8) as u8;
             let body = pattern(dice, &[10, 11], 2);
             records.insert(0, Record::pattern(field, body));
         }
-        let sides = records.len() - 2;
-        records[..sides].sort_by_key(|record| record.field);
-        if sides == 2 && records[0].field == records[1].field {
-            return write_out(&records);
+        let patterns = records.len() - sides;
+        records[..patterns].sort_by_key(|record| record.field);
+        if patterns == 2 && records[0].field == records[1].field {
+            return [front, &write_out(&records)].concat();
         }
     }
     if dice.one_in(8) {
         damage(dice, &mut records);
     }
     damage(dice, &mut records);
-    let mut sheet = write_out(&records);
+    let mut bytes = [front, &write_out(&records)].concat();
     match dice.below(6) {
         // "sheet cut short", at every place
-        0 | 1 => sheet.truncate(dice.below(sheet.len() + 1)),
-        // bytes left over after `RI`
+        0 | 1 => bytes.truncate(dice.below(bytes.len() + 1)),
+        // bytes left over after the last side
         2 if dice.one_in(2) => {
-            sheet.extend((0..dice.between(1, 3)).map(|_| dice.pick(b"PALERI\0")))
+            bytes.extend((0..dice.between(1, 3)).map(|_| dice.pick(b"PALERI\0")))
         }
         _ => {}
     }
-    sheet
+    bytes
 }
 
 fn damage(dice: &mut Dice, records: &mut Vec<Record>) {
+    // The damage before this one may have taken the only record.
+    if records.is_empty() {
+        return;
+    }
     let at = dice.below(records.len());
     let is_pattern = records[at].field.is_some();
     match dice.below(14) {

@@ -166,21 +166,21 @@ fn members(set: PlaceSet) -> impl Iterator<Item = usize> {
 
 /// What a field may stand for.
 #[derive(Clone, Debug)]
-pub enum Rule {
+pub enum Allowed {
     /// "A field without `PA` is open: any text, the empty one included."
     Open,
     /// A field with a pattern.
     Pattern(Box<Places>),
 }
 
-impl Rule {
+impl Allowed {
     /// "After a character c it holds each leaf that may follow some place of
     /// the set and that takes c." "An open field has one place set that never
     /// changes ..."
     pub fn after(&self, set: PlaceSet, character: u8) -> PlaceSet {
         match self {
-            Rule::Open => set,
-            Rule::Pattern(places) => {
+            Allowed::Open => set,
+            Allowed::Pattern(places) => {
                 let following = members(set).fold(0, |all, place| all | places.follow[place]);
                 following & places.takes[usize::from(character)]
             }
@@ -191,8 +191,8 @@ impl Rule {
     /// "... and may always end."
     pub fn may_end(&self, set: PlaceSet) -> bool {
         match self {
-            Rule::Open => true,
-            Rule::Pattern(places) => set & places.last != 0,
+            Allowed::Open => true,
+            Allowed::Pattern(places) => set & places.last != 0,
         }
     }
 }

@@ -2,7 +2,8 @@
 //! `printed_many`, and as the first one the stored sheet of `clash`.
 
 use crate::cases::Case;
-use crate::{CODE_39, SITUATION_BYTES};
+use crate::write::{field, many, patterns, row, sheet, text, values};
+use crate::SITUATION_BYTES;
 
 /// "lends 65,520 bytes of work (455 situations) and 4,096 of answer"
 const ROOM: usize = 455;
@@ -10,11 +11,6 @@ const ANSWER: u32 = 4_096;
 
 const A: u8 = 10;
 const B: u8 = 11;
-
-/// The token of a field.
-const fn field(number: u8) -> u8 {
-    64 + number
-}
 
 pub fn cases() -> Vec<Case> {
     let seven: Vec<(u8, Vec<u8>)> = (0..7).map(|number| (number, full(0, 42))).collect();
@@ -47,13 +43,13 @@ pub fn cases() -> Vec<Case> {
         case(ROOM, 12, sheet(&[], &[field(0), field(1)], &[A, B])),
         // 11 at 0 and at 800
         plain(Vec::new()),
-        plain(records(&eight)),
+        plain(patterns(&eight)),
         // 12 behind `RI`, and at 700
         plain([sheet(&[], &[], &[]), vec![0]].concat()),
-        plain([records(&seven), b"PE".to_vec()].concat()),
+        plain([patterns(&seven), b"PE".to_vec()].concat()),
         // 13, 14, 15, 16, 17
-        plain([records(&eight), b"PA\x03".to_vec(), vec![1, 0]].concat()),
-        plain([records(&seven[..3]), b"LE".to_vec(), vec![25]].concat()),
+        plain([patterns(&eight), b"PA\x03".to_vec(), vec![1, 0]].concat()),
+        plain([patterns(&seven[..3]), b"LE".to_vec(), vec![25]].concat()),
         plain(sheet(&[(0, vec![64]), (1, vec![66, 1])], &[], &[])),
         plain(sheet(&[(0, full(0, 9)), (7, row(vec![vec![A]; 32]))], &[], &[])),
         plain(sheet(&seven[..1], &[], &[43])),
@@ -67,12 +63,11 @@ pub fn cases() -> Vec<Case> {
 /// stand nowhere make the sheet longer than 512 bytes.
 fn long_texts() -> Vec<u8> {
     let (x, w, y, z) = (0, 1, 3, 7);
-    let text = values(b"-. $/");
-    let mut round = vec![values(b"+"); 20];
-    round.push(values(b"%"));
+    let mut round = vec![values("+"); 20];
+    round.push(values("%"));
     let patterns = [
-        (x, many_then(round, vec![values(b"+"); 7])),
-        (w, row(text.iter().map(|&value| vec![value]).collect())),
+        (x, many_then(round, vec![values("+"); 7])),
+        (w, text("-. $/")),
         (2, full(0, 9)),
         (y, many_then(vec![vec![65, 41, 42]; 19], vec![vec![65, 41, 42]; 5])),
         (4, full(10, 35)),
@@ -80,7 +75,7 @@ fn long_texts() -> Vec<u8> {
         (6, full(0, 42)),
         (z, vec![64]),
     ];
-    sheet(&patterns, &[field(w), field(x), field(z)], &[text, vec![field(y)]].concat())
+    sheet(&patterns, &[field(w), field(x), field(z)], &[values("-. $/"), vec![field(y)]].concat())
 }
 
 /// x is the first 31 characters, z the other 12; xz and y: y is all of them.
@@ -107,46 +102,13 @@ fn case(room: usize, answer: u32, sheet: Vec<u8>) -> Case {
     Case { work: (room * SITUATION_BYTES) as u32, answer, sheet }
 }
 
-fn sheet(patterns: &[(u8, Vec<u8>)], left: &[u8], right: &[u8]) -> Vec<u8> {
-    let mut sheet = records(patterns);
-    for (mark, tokens) in [(b"LE", left), (b"RI", right)] {
-        sheet.extend_from_slice(mark);
-        sheet.push(tokens.len() as u8);
-        sheet.extend_from_slice(tokens);
-    }
-    sheet
-}
-
-fn records(patterns: &[(u8, Vec<u8>)]) -> Vec<u8> {
-    let mut records = Vec::new();
-    for (number, body) in patterns {
-        records.extend_from_slice(b"PA");
-        records.extend([*number, body.len() as u8]);
-        records.extend_from_slice(body);
-    }
-    records
-}
-
-/// The characters' values.
-fn values(text: &[u8]) -> Vec<u8> {
-    let value = |sign: &u8| CODE_39.iter().position(|other| other == sign).unwrap() as u8;
-    text.iter().map(value).collect()
-}
-
-/// These patterns one after the other.
-fn row(parts: Vec<Vec<u8>>) -> Vec<u8> {
-    let mut parts = parts.into_iter().rev();
-    let last = parts.next().unwrap_or(vec![64]);
-    parts.fold(last, |rest, part| [vec![66], part, rest].concat())
-}
-
 /// A row any number of times, and then another.
 fn many_then(round: Vec<Vec<u8>>, end: Vec<Vec<u8>>) -> Vec<u8> {
-    let many = [vec![68], row(round)].concat();
+    let rounds = many(row(round));
     if end.is_empty() {
-        many
+        rounds
     } else {
-        row(vec![many, row(end)])
+        row(vec![rounds, row(end)])
     }
 }
 

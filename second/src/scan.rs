@@ -15,11 +15,12 @@
 //!
 //! Bytes 0 to 129 are the situation, the others its way.
 
-use crate::pattern::{PlaceSet, Rule, CHARACTERS, ONLY_START};
+use crate::pattern::{Allowed, PlaceSet, CHARACTERS, ONLY_START};
+use crate::search::Ending;
 use crate::sheet::{self, Question, Token, FIELDS};
 use crate::{
     room, Outcome, ANSWER_BUFFER_TOO_SHORT, ANSWER_RECORD_HEAD, CLASH, MOST_TEXT, MOST_TOKENS,
-    NO_CLASH, NO_ROOM, SIDE_TOO_LONG, SITUATION_BYTES, TEXT_TOO_LONG,
+    SITUATION_BYTES, TEXT_TOO_LONG,
 };
 
 const LEFT: usize = 2;
@@ -43,13 +44,21 @@ pub fn answer(sheet: &[u8], work: &mut [u8], answer: &mut [u8]) -> Outcome {
     let mut slots = Slots { room: room(work.len()), work, count: 0 };
     let (number, written) = match search(&question, &mut slots) {
         Ending::Clash(finish) => write_answer(&question, &slots, finish, answer),
-        Ending::NoClash => (NO_CLASH, 0),
-        Ending::NoRoom => (NO_ROOM, 0),
-        Ending::SideTooLong => (SIDE_TOO_LONG, 0),
+        other => (other.number(), 0),
     };
     let count = slots.count;
     work.fill(0);
     Outcome::of_search(number, count, written)
+}
+
+/// Searches in the room of the working buffer and writes no text: the answer's
+/// number and the count.
+pub fn searched(question: &Question, work: &mut [u8]) -> (u8, usize) {
+    let mut slots = Slots { room: room(work.len()), work, count: 0 };
+    let number = search(question, &mut slots).number();
+    let count = slots.count;
+    work.fill(0);
+    (number, count)
 }
 
 /// The entered situations in the working buffer.
@@ -244,9 +253,9 @@ impl Flat {
     }
 
     /// The child with a field struck, if its set may end.
-    fn strike(&self, token: u8, rules: &[Rule; FIELDS]) -> Option<Flat> {
+    fn strike(&self, token: u8, allowed: &[Allowed; FIELDS]) -> Option<Flat> {
         let field = field(token)?;
-        if !rules[field].may_end(self.sets[field]) {
+        if !allowed[field].may_end(self.sets[field]) {
             return None;
         }
         let mut sets = self.sets;
@@ -256,7 +265,7 @@ impl Flat {
 
     /// The child with the character put before the front fields, if both
     /// fronts allow it.
-    fn put(&self, character: u8, fronts: (u8, u8), rules: &[Rule; FIELDS]) -> Option<Flat> {
+    fn put(&self, character: u8, fronts: (u8, u8), allowed: &[Allowed; FIELDS]) -> Option<Flat> {
         let mut sets = self.sets;
         for front in [fronts.0, fronts.1] {
             match field(front) {
@@ -268,7 +277,7 @@ impl Flat {
                 // From the parent's set, so that one field in both fronts
                 // takes the character once.
                 Some(field) => {
-                    sets[field] = rules[field].after(self.sets[field], character);
+                    sets[field] = allowed[field].after(self.sets[field], character);
                     if sets[field] == 0 {
                         return None;
                     }
@@ -283,16 +292,9 @@ impl Flat {
     }
 }
 
-/// How the search ended; a clash with the number of the finished situation.
-enum Ending {
-    Clash(usize),
-    NoClash,
-    NoRoom,
-    SideTooLong,
-}
-
-fn search(question: &Question, slots: &mut Slots) -> Ending {
-    let rules = &question.rules;
+/// A clash is given with the number of the finished situation.
+fn search(question: &Question, slots: &mut Slots) -> Ending<usize> {
+    let allowed = &question.allowed;
     if slots.room == 0 {
         return Ending::NoRoom;
     }
@@ -308,13 +310,13 @@ fn search(question: &Question, slots: &mut Slots) -> Ending {
         let parent = slots.situation(taken);
         let (left, right) = (parent.left.front(), parent.right.front());
         if !parent.dead() {
-            if let Some(child) = left.and_then(|left| parent.strike(left, rules)) {
+            if let Some(child) = left.and_then(|left| parent.strike(left, allowed)) {
                 if let Some(ending) = offer(child, taken, NOTHING_PUT, slots) {
                     return ending;
                 }
             }
             if left != right {
-                if let Some(child) = right.and_then(|right| parent.strike(right, rules)) {
+                if let Some(child) = right.and_then(|right| parent.strike(right, allowed)) {
                     if let Some(ending) = offer(child, taken, NOTHING_PUT, slots) {
                         return ending;
                     }
@@ -322,7 +324,7 @@ fn search(question: &Question, slots: &mut Slots) -> Ending {
             }
             if let (Some(left), Some(right)) = (left, right) {
                 for character in 0..CHARACTERS {
-                    if let Some(child) = parent.put(character, (left, right), rules) {
+                    if let Some(child) = parent.put(character, (left, right), allowed) {
                         if let Some(ending) = offer(child, taken, character, slots) {
                             return ending;
                         }
@@ -338,7 +340,7 @@ fn search(question: &Question, slots: &mut Slots) -> Ending {
 /// "Each child is trimmed, then: dead is dropped; a side above 48 tokens gives
 /// 19; one already entered is dropped; no room gives 18; otherwise it is
 /// entered, and a finished one ends the search at once."
-fn offer(mut child: Flat, parent: usize, step: u8, slots: &mut Slots) -> Option<Ending> {
+fn offer(mut child: Flat, parent: usize, step: u8, slots: &mut Slots) -> Option<Ending<usize>> {
     child.trim();
     if child.dead() {
         return None;

@@ -5,23 +5,36 @@ use std::rc::Rc;
 
 use crate::sheet::{Question, Token};
 use crate::situation::{Situation, State, Step};
-use crate::MOST_TOKENS;
+use crate::{CLASH, MOST_TOKENS, NO_CLASH, NO_ROOM, SIDE_TOO_LONG};
 
-/// How the search ended.
+/// How a search ended; a clash with what is known of its way.
 #[derive(Clone, Debug, PartialEq, Eq)]
-pub enum Ending {
-    /// A clash, with each field that stands in the sides, by rising number,
-    /// and its text.
-    Clash(Vec<(u8, Vec<u8>)>),
+pub enum Ending<W> {
+    Clash(W),
     NoClash,
     NoRoom,
     SideTooLong,
 }
 
+impl<W> Ending<W> {
+    /// The answer where no text is written.
+    pub fn number(&self) -> u8 {
+        match self {
+            Ending::Clash(_) => CLASH,
+            Ending::NoClash => NO_CLASH,
+            Ending::NoRoom => NO_ROOM,
+            Ending::SideTooLong => SIDE_TOO_LONG,
+        }
+    }
+}
+
+/// Each field that stands in the sides, by rising number, and its text.
+pub type Texts = Vec<(u8, Vec<u8>)>;
+
 /// The ending and the number of situations entered.
 #[derive(Clone, Debug, PartialEq, Eq)]
 pub struct Found {
-    pub ending: Ending,
+    pub ending: Ending<Texts>,
     pub count: usize,
 }
 
@@ -56,7 +69,7 @@ pub fn search(question: &Question, room: usize) -> Found {
             // children."
             State::Finished => return clash(question, &entered, taken),
             State::Dead => Vec::new(),
-            State::Open => situation.children(&question.rules),
+            State::Open => situation.children(&question.allowed),
         };
         for (child, step) in children {
             // "Each child is trimmed, then: dead is dropped;"

@@ -1,6 +1,8 @@
-//! The question sheet and the checks on it.
+//! Records and the checks on them, and the question sheet.
 
-use crate::pattern::{Pattern, Places, Rule, MOST_LEAVES};
+use std::ops::RangeInclusive;
+
+use crate::pattern::{Allowed, Pattern, Places, MOST_LEAVES};
 
 /// Fields 0 to 7.
 pub const FIELDS: usize = 8;
@@ -12,6 +14,17 @@ pub const WRONG_LENGTH: u8 = 14;
 pub const NOT_ONE_PATTERN: u8 = 15;
 pub const TOO_MANY_LEAVES: u8 = 16;
 pub const WRONG_TOKEN: u8 = 17;
+
+pub const PATTERN: &[u8; 2] = b"PA";
+pub const LEFT: &[u8; 2] = b"LE";
+pub const RIGHT: &[u8; 2] = b"RI";
+
+/// Mark, field byte and length byte.
+const PATTERN_HEAD: usize = 4;
+const PATTERN_LENGTHS: RangeInclusive<u8> = 1..=96;
+/// Mark and length byte.
+const SIDE_HEAD: usize = 3;
+const SIDE_LENGTHS: RangeInclusive<u8> = 0..=24;
 
 /// "A token is 0 to 42 (a character) or 64 to 71 (field 0 to 7)."
 #[derive(Clone, Copy, Debug, PartialEq, Eq, Hash)]
@@ -43,7 +56,7 @@ pub struct Question {
     pub left: Vec<Token>,
     pub right: Vec<Token>,
     /// What each field may stand for.
-    pub rules: [Rule; FIELDS],
+    pub allowed: [Allowed; FIELDS],
 }
 
 /// "The first fault met decides. Its place is the offset at which that
@@ -54,87 +67,119 @@ pub struct Fault {
     pub place: usize,
 }
 
-/// The three kinds of record.
-#[derive(Clone, Copy, PartialEq, Eq)]
-enum Mark {
-    Pattern,
-    Left,
-    Right,
-}
-
-/// Reads and judges a whole sheet.
+/// Reads and judges a whole sheet: "no, one or several `PA`, field numbers
+/// rising; one `LE`; one `RI`; the end".
 pub fn read(sheet: &[u8]) -> Result<Question, Fault> {
-    let mut rules: [Rule; FIELDS] = std::array::from_fn(|_| Rule::Open);
-    let mut field_before: Option<u8> = None;
-    let mut left: Option<Vec<Token>> = None;
-    // "Reading goes on from where the last record ended."
-    let mut place = 0;
-    loop {
-        let fault = |number| Fault { number, place };
-        let rest = &sheet[place..];
-
-        // "otherwise fewer than two bytes left give 11"
-        if rest.len() < 2 {
-            return Err(fault(CUT_SHORT));
-        }
-        // "an unknown mark or one not allowed here gives 12"; "Order: no, one
-        // or several `PA`, field numbers rising; one `LE`; one `RI`; the end."
-        let mark = match (&rest[..2], left.is_some()) {
-            (b"PA", false) => Mark::Pattern,
-            (b"LE", false) => Mark::Left,
-            (b"RI", true) => Mark::Right,
-            _ => return Err(fault(WRONG_MARK)),
-        };
-        // "missing field or length byte 11"
-        let head = if mark == Mark::Pattern { 4 } else { 3 };
-        if rest.len() < head {
-            return Err(fault(CUT_SHORT));
-        }
-        // "field above 7 or not above the field before it 13"
-        if mark == Mark::Pattern {
-            let field = rest[2];
-            if usize::from(field) >= FIELDS || field_before.is_some_and(|before| field <= before) {
-                return Err(fault(WRONG_FIELD));
-            }
-        }
-        // "length out of its range 14"
-        let length = rest[head - 1];
-        let range = if mark == Mark::Pattern { 1..=96 } else { 0..=24 };
-        if !range.contains(&length) {
-            return Err(fault(WRONG_LENGTH));
-        }
-        // "missing body 11"
-        let end = head + usize::from(length);
-        let body = rest.get(head..end).ok_or(fault(CUT_SHORT))?;
-
-        match mark {
-            Mark::Pattern => {
-                // "then for a pattern 15, then 16"
-                let pattern = Pattern::read(body).ok_or(fault(NOT_ONE_PATTERN))?;
-                if pattern.leaves() > MOST_LEAVES {
-                    return Err(fault(TOO_MANY_LEAVES));
-                }
-                // A pattern of a field that stands nowhere stays here unused:
-                // it "is read, judged and then ignored".
-                rules[usize::from(rest[2])] = Rule::Pattern(Box::new(Places::of(&pattern)));
-                field_before = Some(rest[2]);
-            }
-            // "for a side 17"
-            Mark::Left => left = Some(side(body).ok_or(fault(WRONG_TOKEN))?),
-            Mark::Right => {
-                let right = side(body).ok_or(fault(WRONG_TOKEN))?;
-                // "after `RI`, any byte left gives 12"
-                if rest.len() > end {
-                    return Err(Fault { number: WRONG_MARK, place: place + end });
-                }
-                return Ok(Question { left: left.unwrap_or_default(), right, rules });
-            }
-        }
-        place += end;
-    }
+    let mut cursor = Cursor::new(sheet);
+    let allowed = cursor.patterns()?;
+    let left = cursor.side(LEFT)?;
+    let right = cursor.side(RIGHT)?;
+    cursor.end()?;
+    Ok(Question { left, right, allowed })
 }
 
-/// The tokens of a side, if each byte is one.
-fn side(body: &[u8]) -> Option<Vec<Token>> {
-    body.iter().map(|&byte| Token::of_byte(byte)).collect()
+/// Bytes and how far they are read: "Reading goes on from where the last
+/// record ended."
+pub struct Cursor<'a> {
+    bytes: &'a [u8],
+    place: usize,
+}
+
+impl<'a> Cursor<'a> {
+    pub fn new(bytes: &'a [u8]) -> Cursor<'a> {
+        Cursor { bytes, place: 0 }
+    }
+
+    /// The offset at which the next record's mark stands or should stand.
+    pub fn place(&self) -> usize {
+        self.place
+    }
+
+    fn fault(&self, number: u8) -> Fault {
+        Fault { number, place: self.place }
+    }
+
+    /// The bytes of the next record up to this length of its head. "fewer than
+    /// two bytes left give 11"; "missing field or length byte 11".
+    fn head(&self, length: usize) -> Result<&'a [u8], Fault> {
+        self.bytes[self.place..].get(..length).ok_or(self.fault(CUT_SHORT))
+    }
+
+    /// "an unknown mark or one not allowed here gives 12", where just this one
+    /// is allowed.
+    fn only(&self, mark: &[u8; 2]) -> Result<(), Fault> {
+        if self.head(2)? == mark {
+            Ok(())
+        } else {
+            Err(self.fault(WRONG_MARK))
+        }
+    }
+
+    /// "length out of its range 14; missing body 11". The length byte is the
+    /// head's last.
+    fn body(&self, head: usize, lengths: RangeInclusive<u8>) -> Result<&'a [u8], Fault> {
+        let length = self.head(head)?[head - 1];
+        if !lengths.contains(&length) {
+            return Err(self.fault(WRONG_LENGTH));
+        }
+        Ok(&self.head(head + usize::from(length))?[head..])
+    }
+
+    /// A mark that is all of its record.
+    pub fn mark(&mut self, mark: &[u8; 2]) -> Result<(), Fault> {
+        self.only(mark)?;
+        self.place += mark.len();
+        Ok(())
+    }
+
+    /// "no, one or several `PA`, field numbers rising": what each field may
+    /// stand for. A pattern of a field that stands nowhere stays there unused:
+    /// it "is read, judged and then ignored".
+    pub fn patterns(&mut self) -> Result<[Allowed; FIELDS], Fault> {
+        let mut allowed = std::array::from_fn(|_| Allowed::Open);
+        let mut before = None;
+        while self.head(2)? == PATTERN {
+            let (field, pattern) = self.pattern(before)?;
+            allowed[usize::from(field)] = Allowed::Pattern(Box::new(Places::of(&pattern)));
+            before = Some(field);
+        }
+        Ok(allowed)
+    }
+
+    /// A `PA` record behind that of the field before it.
+    fn pattern(&mut self, before: Option<u8>) -> Result<(u8, Pattern), Fault> {
+        let field = self.head(PATTERN_HEAD)?[2];
+        // "field above 7 or not above the field before it 13"
+        if usize::from(field) >= FIELDS || before.is_some_and(|before| field <= before) {
+            return Err(self.fault(WRONG_FIELD));
+        }
+        let body = self.body(PATTERN_HEAD, PATTERN_LENGTHS)?;
+        // "then for a pattern 15, then 16"
+        let pattern = Pattern::read(body).ok_or(self.fault(NOT_ONE_PATTERN))?;
+        if pattern.leaves() > MOST_LEAVES {
+            return Err(self.fault(TOO_MANY_LEAVES));
+        }
+        self.place += PATTERN_HEAD + body.len();
+        Ok((field, pattern))
+    }
+
+    /// A side's record with this mark.
+    pub fn side(&mut self, mark: &[u8; 2]) -> Result<Vec<Token>, Fault> {
+        self.only(mark)?;
+        let body = self.body(SIDE_HEAD, SIDE_LENGTHS)?;
+        // "for a side 17"
+        let tokens: Option<Vec<Token>> = body.iter().map(|&byte| Token::of_byte(byte)).collect();
+        let tokens = tokens.ok_or(self.fault(WRONG_TOKEN))?;
+        self.place += SIDE_HEAD + body.len();
+        Ok(tokens)
+    }
+
+    /// "after `RI`, any byte left gives 12"
+    pub fn end(&self) -> Result<(), Fault> {
+        if self.place == self.bytes.len() {
+            Ok(())
+        } else {
+            Err(self.fault(WRONG_MARK))
+        }
+    }
 }

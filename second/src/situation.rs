@@ -2,7 +2,7 @@
 
 use std::collections::BTreeMap;
 
-use crate::pattern::{PlaceSet, Rule, CHARACTERS, ONLY_START};
+use crate::pattern::{Allowed, PlaceSet, CHARACTERS, ONLY_START};
 use crate::sheet::{Question, Token, FIELDS};
 
 /// "A situation is the two token lists and the place set of each field still
@@ -79,21 +79,21 @@ impl Situation {
     }
 
     /// The children of an open situation in their order, not yet trimmed.
-    pub fn children(&self, rules: &[Rule; FIELDS]) -> Vec<(Situation, Step)> {
+    pub fn children(&self, allowed: &[Allowed; FIELDS]) -> Vec<(Situation, Step)> {
         let left = self.left.first().copied();
         let right = self.right.first().copied();
         let mut children = Vec::new();
 
         // "the left front is a field whose set may end: strike it everywhere"
         if let Some(Token::Field(field)) = left {
-            if rules[usize::from(field)].may_end(self.sets[&field]) {
+            if allowed[usize::from(field)].may_end(self.sets[&field]) {
                 children.push((self.strike(field), Step::Strike));
             }
         }
         // "the right front is a field, not the same as the left front, whose
         // set may end: strike it everywhere"
         if let Some(Token::Field(field)) = right {
-            if left != right && rules[usize::from(field)].may_end(self.sets[&field]) {
+            if left != right && allowed[usize::from(field)].may_end(self.sets[&field]) {
                 children.push((self.strike(field), Step::Strike));
             }
         }
@@ -102,7 +102,7 @@ impl Situation {
             // "Where both fronts are one field, this is done once."
             let fronts = if left == right { vec![left] } else { vec![left, right] };
             for character in 0..CHARACTERS {
-                children.extend(self.put(character, &fronts, rules));
+                children.extend(self.put(character, &fronts, allowed));
             }
         }
         children
@@ -124,7 +124,7 @@ impl Situation {
         &self,
         character: u8,
         fronts: &[Token],
-        rules: &[Rule; FIELDS],
+        allowed: &[Allowed; FIELDS],
     ) -> Option<(Situation, Step)> {
         let mut child = self.clone();
         let mut fields = Vec::new();
@@ -136,7 +136,7 @@ impl Situation {
                     }
                 }
                 Token::Field(field) => {
-                    let set = rules[usize::from(field)].after(self.sets[&field], character);
+                    let set = allowed[usize::from(field)].after(self.sets[&field], character);
                     if set == 0 {
                         return None;
                     }

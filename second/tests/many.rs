@@ -5,7 +5,7 @@ use std::collections::{BTreeMap, BTreeSet};
 
 use second::cases::{After, Case};
 use second::make::{case, long, Dice};
-use second::pattern::{Pattern, Places, Rule, ONLY_START};
+use second::pattern::{Allowed, Pattern, Places, ONLY_START};
 use second::{printed, Outcome, CODE_39};
 
 fn cases(seed: u64, number: usize) -> Vec<Case> {
@@ -244,7 +244,7 @@ fn place_sets_take_the_same_texts_as_the_pattern() {
             continue;
         }
         for pattern in rules(&case.sheet).patterns.values() {
-            let rule = Rule::Pattern(Box::new(Places::of(pattern)));
+            let allowed = Allowed::Pattern(Box::new(Places::of(pattern)));
             // Characters of the pattern's leaves.
             let mut characters = BTreeSet::new();
             gather(pattern, &mut characters);
@@ -253,8 +253,8 @@ fn place_sets_take_the_same_texts_as_the_pattern() {
             for a in &pairs {
                 for b in &pairs {
                     let text = [&a[..], b].concat();
-                    let set = text.iter().fold(ONLY_START, |set, &c| rule.after(set, c));
-                    assert_eq!(rule.may_end(set), takes(pattern, &text), "{pattern:?} {text:?}");
+                    let set = text.iter().fold(ONLY_START, |set, &c| allowed.after(set, c));
+                    assert_eq!(allowed.may_end(set), takes(pattern, &text), "{pattern:?} {text:?}");
                     compared += 1;
                 }
             }

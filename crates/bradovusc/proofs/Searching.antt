@@ -1,23 +1,18 @@
 -- A good sheet's question, searched: from what reading and the search promise to the whole outcome. Follows from `run-told` and the laws of
 -- good sheets.
 use Prim.Native.Nat.{ℕ}
-use native.Mathlib.Omega.{arith}
 use mathlib.Core.Path.{_≡_, refl, _∙_}
-use mathlib.Core.Bool.{true}
-use mathlib.Core.List.{List, [], _∷_, map, map-map, List·Memᴰ, List·Memᴰ·head, List·Memᴰ·tail}
+use mathlib.Core.List.{List, map, map-map}
 use lib.ListN.{length, replicate}
-use Rattle.paper.specs.Lists.{all, upto}
+use Rattle.paper.specs.Lists.{upto}
 use Rattle.paper.specs.Numbers.{set-fields}
-use Rattle.paper.specs.Equation.{Token, chr, fld, Side}
 use Rattle.paper.specs.Question.{Question, held-by}
 use Rattle.paper.specs.Sheet.{asked, read-sheet}
 use Rattle.paper.specs.Outcome.{outcome, room-of}
-use Rattle.paper.proofs.base.Tests.{neq-eqb, false-not, both-true}
-use Rattle.paper.proofs.sheets.Asked.{InRange, GoodQuestion, sheet-good}
+use Rattle.paper.proofs.sheets.Asked.{GoodQuestion, sheet-good}
 use Rattle.places.specs.WorkedOut.{worked-out}
 use Rattle.places.specs.declared.PlaceTables.{PlaceTables}
-use Rattle.inner.specs.Inner.{no-token, is-token, token-code, side-code, tokens, padded}
-use Rattle.inner.proofs.Tokens.{tokens-padded}
+use Rattle.inner.specs.Inner.{side-code, tokens}
 use Rattle.trimming.specs.Trimming.{question-coded}
 use Rattle.situations.specs.Coding.{tables-of}
 use Rattle.search.specs.Ended.{room-for, ended-with, buffer-with, told-end}
@@ -25,6 +20,7 @@ use Rattle.search.specs.Lent.{tables}
 use Rattle.answers.specs.declared.Ended.{Ended}
 use Rattle.answers.specs.declared.Ended.the-variants as Ended-as
 use Rattle.search.proofs.Told.{run-told}
+use Rattle.sides.proofs.Codes.{side-back}
 use Rattle.sheets.specs.Read.{sheet-of}
 use Rattle.tables.specs.Tables.{follow-of, taking-of, last-of}
 use Rattle.sheets.specs.declared.Sheet.{Sheet}
@@ -40,25 +36,9 @@ end-told (Ended-as.SideTooLong n) answer work = refl
 end-told (Ended-as.AnswerTooShort n) answer work = refl
 end-told (Ended-as.TextTooLong n) answer work = refl
 
--- the code of a token that a sheet may have is no 255
-code-is-token : (t : Token) → InRange t → is-token (token-code t) ≡ true
-code-is-token (chr c) h = false-not (neq-eqb c no-token (λ e. omega arith))
-code-is-token (fld f) h = false-not (neq-eqb (token-code (fld f)) no-token (λ e. omega arith))
-
-codes-are-tokens : (side : Side) → ((t : Token) → List·Memᴰ t side → InRange t) → all is-token (side-code side) ≡ true
-codes-are-tokens [] h = refl
-codes-are-tokens (t ∷ side) h =
-    both-true (code-is-token t (h t (List·Memᴰ·head refl))) (codes-are-tokens side (λ u d. h u (List·Memᴰ·tail d)))
-
 module _ (sheet : List ℕ) (q : Question) (g : read-sheet sheet ≡ asked q) where
   good : GoodQuestion q
   good = sheet-good sheet q g
-
-  left-read : tokens (padded (side-code (q .left))) ≡ side-code (q .left)
-  left-read = tokens-padded (side-code (q .left)) (codes-are-tokens (q .left) (good .left .tokens))
-
-  right-read : tokens (padded (side-code (q .right))) ≡ side-code (q .right)
-  right-read = tokens-padded (side-code (q .right)) (codes-are-tokens (q .right) (good .right .tokens))
 
   module _ (s : Sheet) (e : s ≡ sheet-of (asked q)) where
     -- the tables of the fields
@@ -82,6 +62,6 @@ module _ (sheet : List ℕ) (q : Question) (g : read-sheet sheet ≡ asked q) wh
     unfolding outcome room-of
     searched-told follow taking last a b c work answer after worked end r h k w n =
         let first = question-coded (side-code (q .left)) (side-code (q .right)) in
-        rw (n, h, k, w, tables-read follow taking last a b c, e, left-read, right-read, g)
+        rw (n, h, k, w, tables-read follow taking last a b c, e, side-back (q .left) (good .left), side-back (q .right) (good .right), g)
         (end-told (ended-with (tables-of q) (room-of work) first answer) (buffer-with (tables-of q) (room-of work) first answer) (replicate (length work) 0)
         ∙ run-told q good (room-of work) work answer)

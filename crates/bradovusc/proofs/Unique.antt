@@ -6,20 +6,11 @@ use mathlib.Core.Bool.{cond}
 use mathlib.Core.List.{List}
 use lib.Dec.{eqb}
 use Rattle.paper.specs.Outcome.{Outcome, outcome}
-use Rattle.answers.specs.declared.Fault.{Fault}
 use Rattle.answers.specs.declared.Fault.the-variants.{CutShort, WrongMark, WrongField, WrongLength, NotOnePattern, TooManyLeaves, WrongToken}
+use Rattle.answers.proofs.Same.{fault-from}
 use Rattle.answers.specs.Told.{told}
 use Rattle.answers.specs.declared.Answer.{Answer}
 use Rattle.answers.specs.declared.Answer.the-variants.{Clash, NoClash, Refused, NoRoom, SideTooLong, AnswerTooShort, TextTooLong}
-
-fault-from : ℕ → Fault
-fault-from n =
-    cond (eqb n 11) CutShort
-    (cond (eqb n 12) WrongMark
-    (cond (eqb n 13) WrongField
-    (cond (eqb n 14) WrongLength
-    (cond (eqb n 15) NotOnePattern
-    (cond (eqb n 16) TooManyLeaves WrongToken)))))
 
 -- the answer with these numbers
 answer-from : Outcome → Answer

@@ -1,8 +1,7 @@
 // `clash`: reads a question sheet from standard input and prints the answer. What it prints is made, and proved, in `printing`; here it is
 // read and written. There is no exit status: a failure is told on standard error.
-use libc::STDERR_FILENO;
 use libc::STDIN_FILENO;
-use libc::STDOUT_FILENO;
+use lines::tell;
 use printing::INPUT;
 use printing::PRINTED;
 ghost use Prim.Native.Nat.{_≤_};
@@ -59,11 +58,7 @@ fn read_some(part: &mut [u8]) -> Got
 fn print(input: &[u8]) {
     let mut out = [0u8; PRINTED];
     let n = printing::printed(input, &mut out);
-    if !io::write_all(STDOUT_FILENO, &out[0..n]) {
+    if !lines::print(&out[0..n]) {
         tell(b"clash: standard output can't be written\n");
     }
-}
-
-fn tell(what: &[u8]) {
-    io::write_all(STDERR_FILENO, what);
 }

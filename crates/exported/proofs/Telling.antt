@@ -12,7 +12,7 @@ use Rattle.answers.specs.declared.Answer.the-variants.{Clash, NoClash, Refused,
 use Rattle.answers.specs.declared.Numbers.{Numbers}
 use Rattle.exported.specs.Exported.{with-numbers, telling}
 
-fault-below : (x : Fault) → fault-number x < 22
+pub fault-below : (x : Fault) → fault-number x < 22
 fault-below cut-short = lit< tt
 fault-below wrong-mark = lit< tt
 fault-below wrong-field = lit< tt

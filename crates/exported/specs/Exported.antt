@@ -3,11 +3,16 @@ use Prim.Native.Nat.{ℕ}
 use mathlib.Core.List.{List}
 use lib.ListN.{set}
 use Rattle.paper.specs.Outcome.{Outcome}
+use Rattle.paper.specs.Catalogue.{Added}
 
 -- three numbers in the first three elements. `set` past the end changes nothing, so there are as many as there is room for.
 abbrev pub with-numbers : List ℕ → ℕ → ℕ → ℕ → List ℕ
-with-numbers told count place written = set (set (set told 0 count) 1 place) 2 written
+with-numbers told count place third = set (set (set told 0 count) 1 place) 2 third
 
 -- those of an outcome
 abbrev pub telling : List ℕ → Outcome → List ℕ
 telling told o = with-numbers told (o .count) (o .place) (o .written)
+
+-- those of an addition, and a fourth
+abbrev pub telling-added : List ℕ → Added → List ℕ
+telling-added told a = set (with-numbers told (a .count) (a .place) (a .rule)) 3 (a .answer)

@@ -1,8 +1,9 @@
-// The library for other languages: one function on slices and numbers.
+// The library for other languages: functions on slices and numbers.
 ghost use mathlib.Core.Path.{_≡_};
 ghost use lib.ListN.{set};
 ghost use Rattle.paper.specs.Outcome.{outcome};
-ghost use Rattle.exported.specs.Exported.{telling, with-numbers};
+ghost use Rattle.paper.specs.Catalogue.{adding, withdrawing};
+ghost use Rattle.exported.specs.Exported.{telling, telling-added, with-numbers};
 
 // Can the two rules of the sheet make the same label? Returns document 01's number; count, place and written length go into the first three
 // elements of `told`, as many as there is room for.
@@ -24,12 +25,44 @@ pub extern "C" fn bradovusc_clash(
     numbers.number as u32
 }
 
-fn tell(told: &mut [u64], count: usize, place: usize, written: usize)
-    ensures { λ _. ⌜ now (told .exit) ≡ with-numbers (now (told .entry)) count place written ⌝ }
+// Enters a rule behind the last one of the catalogue if its pair with every rule present is answered 1. Returns request K1's number; count,
+// place, the rule's number and the pair's answer go into the first four elements of `told`, as many as there is room for.
+#[no_mangle]
+pub extern "C" fn bradovusc_add(
+    catalogue: &mut [u8],
+    rule: &[u8],
+    work: &mut [u8],
+    told: &mut [u64],
+) -> u32
+    ensures number { λ r. ⌜ r ≡ adding (now (catalogue .entry)) (now (rule .entry)) (now (work .entry)) .number ⌝ }
+    ensures told { λ _. ⌜ now (told .exit) ≡ telling-added (now (told .entry)) (adding (now (catalogue .entry)) (now (rule .entry)) (now (work .entry))) ⌝ }
+    ensures catalogue { λ _. ⌜ now (catalogue .exit) ≡ adding (now (catalogue .entry)) (now (rule .entry)) (now (work .entry)) .catalogue ⌝ }
+    ensures work { λ _. ⌜ now (work .exit) ≡ adding (now (catalogue .entry)) (now (rule .entry)) (now (work .entry)) .work ⌝ }
+{
+    let added = storeroom::add(catalogue, rule, work);
+    let numbers = numbered::added(added);
+    tell(told, numbers.count, numbers.place, numbers.rule);
+    put(told, 3, numbers.answer);
+    numbers.number as u32
+}
+
+// Withdraws the rule with this number and closes the gap. Returns request K1's number.
+#[no_mangle]
+pub extern "C" fn bradovusc_withdraw(catalogue: &mut [u8], number: usize) -> u32
+    ensures number { λ r. ⌜ r ≡ withdrawing (now (catalogue .entry)) number .number ⌝ }
+    ensures catalogue { λ _. ⌜ now (catalogue .exit) ≡ withdrawing (now (catalogue .entry)) number .catalogue ⌝ }
+{
+    let withdrawn = storeroom::withdraw(catalogue, number);
+    numbered::withdrawn(withdrawn) as u32
+}
+
+// Three numbers into the first three elements.
+fn tell(told: &mut [u64], count: usize, place: usize, third: usize)
+    ensures { λ _. ⌜ now (told .exit) ≡ with-numbers (now (told .entry)) count place third ⌝ }
 {
     put(told, 0, count);
     put(told, 1, place);
-    put(told, 2, written);
+    put(told, 2, third);
 }
 
 // A number into the element at i, where there is one.

@@ -2,3 +2,4 @@ pub mod Known
 pub mod KnownLengths
 pub mod KnownBounds
 pub mod KnownPrinted
+pub mod KnownCatalogue

@@ -19,7 +19,11 @@ pub mod Question
 pub mod Written
 pub mod Sheet
 pub mod Outcome
+pub mod Rule
+pub mod Catalogue
+pub mod Saying
 pub mod Printed
 -- what is promised of the whole
 pub mod Buffers
 pub mod Demands
+pub mod Calls

@@ -61,6 +61,14 @@ most-room = 65535
 abbrev pub longest-text : ℕ
 longest-text = 65535
 
+-- "its own fields, numbered 0 to 3"
+abbrev pub rule-fields : ℕ
+rule-fields = 4
+
+-- "a catalogue of up to 32 rules"
+abbrev pub catalogue-rules : ℕ
+catalogue-rules = 32
+
 -- "`clash` reads the first 1,024 bytes of standard input, lends 65,520 bytes of work (455 situations) and 4,096 of answer"
 abbrev pub program-input : ℕ
 program-input = 1024

@@ -53,21 +53,24 @@ bytes-left s at = length s - at
 abbrev pub body : List ℕ → ℕ → ℕ → List ℕ
 body s at n = take n (drop at s)
 
--- "Every record begins with a two-byte mark": `PA`, `LE`, `RI`
+-- "Every record begins with a two-byte mark": `PA`, `LE`, `RI`, and `RU` for a rule of a catalogue
 pub data Mark : Type 0 where
   PA : Mark
   LE : Mark
   RI : Mark
+  RU : Mark
 
 abbrev pub first-letter : Mark → ℕ
 first-letter PA = 80
 first-letter LE = 76
 first-letter RI = 82
+first-letter RU = 82
 
 abbrev pub second-letter : Mark → ℕ
 second-letter PA = 65
 second-letter LE = 69
 second-letter RI = 73
+second-letter RU = 85
 
 unfoldable pub marked : Mark → List ℕ → ℕ → Bool
 marked m s at = eqb (byte-at s at) (first-letter m) && eqb (byte-at s (at + 1)) (second-letter m)

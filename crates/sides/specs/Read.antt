@@ -2,7 +2,7 @@
 use Prim.Native.Nat.{ℕ}
 use mathlib.Core.List.{[]}
 use Rattle.paper.specs.Equation.{Side}
-use Rattle.paper.specs.Sheet.{Mark, PA, LE, RI, Checked, fault, read, token}
+use Rattle.paper.specs.Sheet.{Mark, PA, LE, RI, RU, Checked, fault, read, token}
 use Rattle.inner.specs.Inner.{token-code, side-code, padded}
 use Rattle.answers.specs.Faults.{as-fault}
 use Rattle.answers.specs.declared.Found.the-variants.{Good, Refused}
@@ -14,6 +14,7 @@ abbrev pub mark-of : Code.Mark → Mark
 mark-of Code-mark.PA = PA
 mark-of Code-mark.LE = LE
 mark-of Code-mark.RI = RI
+mark-of Code-mark.RU = RU
 
 -- the inner code of a token's byte
 abbrev pub code-of : ℕ → ℕ

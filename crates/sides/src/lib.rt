@@ -28,6 +28,7 @@ pub enum Mark {
     PA,
     LE,
     RI,
+    RU,
 }
 
 fn first_letter(m: Mark) -> u8
@@ -37,6 +38,7 @@ fn first_letter(m: Mark) -> u8
         Mark::PA => b'P',
         Mark::LE => b'L',
         Mark::RI => b'R',
+        Mark::RU => b'R',
     }
 }
 
@@ -47,6 +49,7 @@ fn second_letter(m: Mark) -> u8
         Mark::PA => b'A',
         Mark::LE => b'E',
         Mark::RI => b'I',
+        Mark::RU => b'U',
     }
 }
 

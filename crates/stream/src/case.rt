@@ -1,6 +1,9 @@
 // A case of a stream: the length of the working buffer and that of the answer buffer in four bytes each, the sheet's length in two, all
 // low first, and the sheet.
 use libc::STDIN_FILENO;
+use lines::WORK_FILL;
+use lines::fill;
+use lines::low_first;
 ghost use lib.ListN.{length};
 ghost use Rattle.stream.specs.Case.{Within};
 
@@ -9,9 +12,7 @@ const HEAD: usize = 10;
 // the longest sheet that two bytes can tell
 pub const SHEET: usize = 65535;
 
-// The bytes with which the buffers are filled before each case.
-pub const WORK_FILL: u8 = 90;
-
+// The byte with which the answer buffer is filled before each case.
 pub const ANSWER_FILL: u8 = 165;
 
 // Whether there is a case, and its lengths.
@@ -59,10 +60,6 @@ fn head() -> Case {
     }
 }
 
-fn low_first(a: u8, b: u8, c: u8, d: u8) -> usize {
-    a as usize + 256 * (b as usize) + 65536 * (c as usize) + 16777216 * (d as usize)
-}
-
 fn none() -> Case
     ensures { λ r. ⌜ Within r 0 0 0 ⌝ }
 {
@@ -71,13 +68,5 @@ fn none() -> Case
         sheet: 0,
         work: 0,
         answer: 0,
-    }
-}
-
-fn fill(buffer: &mut [u8], byte: u8) {
-    let mut i = 0;
-    while i < buffer.len() {
-        buffer[i] = byte;
-        i += 1;
     }
 }

@@ -1,18 +1,16 @@
 // Answers every case of a stream on standard input and prints what is asked for of each. For programs that try the library on many sheets.
 mod bytes;
 mod case;
-mod print;
 
 use answers::Numbers;
-use print::print;
-use print::print_number;
+use lines::WORK;
+use lines::print;
+use lines::print_number;
 use printing::FIRST_LINE;
 use printing::Filled;
 use printing::PRINTED;
 
-// "65,520 bytes of work (455 situations) and 4,096 of answer", and as much of one more situation as gives no room for it.
-const WORK: usize = 65663;
-
+// "65,520 bytes of work (455 situations) and 4,096 of answer"
 const ANSWER: usize = 4096;
 
 // What is printed of a case.
@@ -86,17 +84,19 @@ fn print_lines(sheet: &[u8], work: &mut [u8], answer: &mut [u8], out: &mut [u8])
                 print(&out[0..n]);
             }
         }
-        Filled::NoRoom => print(b"no room\n"),
+        Filled::NoRoom => {
+            print(b"no room\n");
+        }
     }
 }
 
 // Number, count, place and written length.
 fn print_answer(told: Numbers) {
-    print_number(told.number as u64);
+    print_number(told.number);
     print(b" ");
-    print_number(told.count as u64);
+    print_number(told.count);
     print(b" ");
-    print_number(told.place as u64);
+    print_number(told.place);
     print(b" ");
-    print_number(told.written as u64);
+    print_number(told.written);
 }

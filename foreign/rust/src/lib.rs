@@ -19,6 +19,32 @@
 //!     texts(&answer[..given.written()]).map(|text| text.to_string()).collect();
 //! assert_eq!(texts, ["4", "4"]);
 //! ```
+//!
+//! A catalogue has up to 32 rules in a lent buffer. [`add`] enters a rule only if it clashes with
+//! none that is there; [`withdraw`] takes one out.
+//!
+//! ```
+//! use bradovusc::{add, catalogue_bytes, withdraw, Added, Answer, Withdrawn, SITUATION_BYTES};
+//!
+//! let mut catalogue = [0; catalogue_bytes(32)];
+//! let mut work = [0; 455 * SITUATION_BYTES];
+//! // Any digits; then the digit 4.
+//! let digits = b"RUPA\x00\x04\x44\x41\x00\x09LE\x01\x40";
+//! let four = b"RULE\x01\x04";
+//! assert_eq!(add(&mut catalogue, digits, &mut work), Added::Entered);
+//! let refused = add(&mut catalogue, four, &mut work);
+//! let pair = Answer::Clash { count: 3, written: 0 };
+//! assert_eq!(refused, Added::NotApart { rule: 0, pair });
+//! assert_eq!(refused.to_string(), "not apart from a rule of the catalogue: rule 0, clash");
+//! assert_eq!(withdraw(&mut catalogue, 0), Withdrawn::Gone);
+//! assert_eq!(add(&mut catalogue, four, &mut work), Added::Entered);
+//! ```
+
+mod catalogue;
+
+pub use catalogue::{
+    add, catalogue_bytes, withdraw, Added, Withdrawn, MOST_RULES, RULE_BYTES, RULE_FIELDS,
+};
 
 use std::error::Error;
 use std::fmt::{self, Write};
@@ -59,12 +85,12 @@ pub const fn answer_bytes(situations: usize) -> usize {
     FIELDS * (RECORD_HEAD + situations)
 }
 
-/// What is wrong with a sheet.
+/// What is wrong with a sheet, or with a rule by itself.
 #[derive(Clone, Copy, Debug, PartialEq, Eq)]
 pub enum Fault {
-    /// 11: the sheet ends too early.
+    /// 11: the sheet or the rule ends too early.
     CutShort,
-    /// 12: a mark that is unknown or not allowed here, or bytes behind the right side.
+    /// 12: a mark that is unknown or not allowed here, or bytes behind the last side.
     WrongMark,
     /// 13: a pattern's field is above 7, or not above the field of the pattern before it.
     WrongField,
@@ -91,14 +117,28 @@ impl Fault {
             Fault::WrongToken => 17,
         }
     }
+
+    /// The fault with this number.
+    fn numbered(number: u32) -> Fault {
+        match number {
+            11 => Fault::CutShort,
+            12 => Fault::WrongMark,
+            13 => Fault::WrongField,
+            14 => Fault::WrongLength,
+            15 => Fault::NotOnePattern,
+            16 => Fault::TooManyLeaves,
+            17 => Fault::WrongToken,
+            _ => unreachable!("the library promises its numbers"),
+        }
+    }
 }
 
 /// In words.
 impl fmt::Display for Fault {
     fn fmt(&self, to: &mut fmt::Formatter<'_>) -> fmt::Result {
         to.write_str(match self {
-            Fault::CutShort => "the sheet is cut short",
-            Fault::WrongMark => "a wrong mark, or bytes behind the right side",
+            Fault::CutShort => "cut short",
+            Fault::WrongMark => "a wrong mark, or bytes behind the last side",
             Fault::WrongField => "a wrong field number",
             Fault::WrongLength => "a wrong length",
             Fault::NotOnePattern => "not one pattern",
@@ -132,6 +172,19 @@ pub enum Answer {
 }
 
 impl Answer {
+    /// The answer with these numbers.
+    fn numbered(number: u32, count: usize, place: usize, written: usize) -> Answer {
+        match number {
+            0 => Answer::Clash { count, written },
+            1 => Answer::NoClash { count },
+            18 => Answer::NoRoom { count },
+            19 => Answer::SideTooLong { count },
+            20 => Answer::AnswerTooShort { count },
+            21 => Answer::TextTooLong { count },
+            _ => Answer::Refused { fault: Fault::numbered(number), place },
+        }
+    }
+
     /// Its number, as in the table of the rules.
     pub fn number(self) -> u32 {
         match self {
@@ -221,23 +274,7 @@ pub fn clash(sheet: &[u8], work: &mut [u8], answer: &mut [u8]) -> Answer {
     };
     // These are lengths and offsets of slices, and the number of situations that one holds.
     let [count, place, written] = told.map(|number| number as usize);
-    let refused = |fault| Answer::Refused { fault, place };
-    match number {
-        0 => Answer::Clash { count, written },
-        1 => Answer::NoClash { count },
-        11 => refused(Fault::CutShort),
-        12 => refused(Fault::WrongMark),
-        13 => refused(Fault::WrongField),
-        14 => refused(Fault::WrongLength),
-        15 => refused(Fault::NotOnePattern),
-        16 => refused(Fault::TooManyLeaves),
-        17 => refused(Fault::WrongToken),
-        18 => Answer::NoRoom { count },
-        19 => Answer::SideTooLong { count },
-        20 => Answer::AnswerTooShort { count },
-        21 => Answer::TextTooLong { count },
-        _ => unreachable!("the library promises the numbers above"),
-    }
+    Answer::numbered(number, count, place, written)
 }
 
 extern "C" {

@@ -1,6 +1,9 @@
 //! Numbers in words, signs, texts of records cut short, the version: as the C header has them.
 
-use bradovusc::{sign, texts, value, Answer, Fault, Text, SIGNS, VERSION};
+use bradovusc::{
+    catalogue_bytes, sign, texts, value, Added, Answer, Fault, Text, Withdrawn, MOST_RULES,
+    RULE_BYTES, RULE_FIELDS, SIGNS, VERSION,
+};
 
 const HEADER: &str = include_str!("../../c/bradovusc.h");
 
@@ -24,6 +27,8 @@ const OTHERS: [Answer; 6] = [
     Answer::TextTooLong { count: 7 },
 ];
 
+const NOT_APART: Added = Added::NotApart { rule: 5, pair: Answer::NoRoom { count: 7 } };
+
 /// The number and the text that the header has behind each `case`.
 fn header_texts() -> Vec<(u32, &'static str)> {
     let number = |name: &str| {
@@ -40,10 +45,15 @@ fn header_texts() -> Vec<(u32, &'static str)> {
 #[test]
 fn answers_in_words() {
     let expected = header_texts();
-    assert_eq!(expected.len(), 13);
+    assert_eq!(expected.len(), 18);
     let faults = FAULTS.map(|fault| (fault.number(), fault.to_string()));
     let others = OTHERS.map(|answer| (answer.number(), answer.to_string()));
-    let mut ours = [&faults[..], &others].concat();
+    let added = [Added::ForeignField, Added::Full, Added::NoCatalogue]
+        .map(|added| (added.number(), added.to_string()));
+    let not_apart = NOT_APART.to_string().split(':').next().unwrap().to_string();
+    let no_rule = (Withdrawn::NoRule.number(), Withdrawn::NoRule.to_string());
+    let mut ours =
+        [&faults[..], &others, &added, &[(NOT_APART.number(), not_apart), no_rule]].concat();
     ours.sort();
     assert!(ours.iter().map(|(number, text)| (*number, text.as_str())).eq(expected));
 }
@@ -55,6 +65,24 @@ fn a_sheet_at_fault_in_words() {
         assert_eq!(answer.to_string(), format!("{fault}, in the record at offset 13"));
         assert_eq!((answer.number(), answer.count(), answer.written()), (fault.number(), 0, 0));
         assert_eq!(answer.clashes(), None);
+    }
+}
+
+#[test]
+fn calls_of_a_catalogue_in_words() {
+    for fault in FAULTS {
+        let added = Added::Refused { fault, place: 13 };
+        assert_eq!(added.to_string(), format!("{fault}, in the record at offset 13"));
+        assert_eq!(added.number(), fault.number());
+    }
+    let pair = "rule 5, not decided: no room for a situation";
+    assert_eq!(NOT_APART.to_string(), format!("not apart from a rule of the catalogue: {pair}"));
+    assert_eq!(Withdrawn::NoCatalogue.number(), Added::NoCatalogue.number());
+    assert_eq!(Withdrawn::NoCatalogue.to_string(), Added::NoCatalogue.to_string());
+    assert_eq!((Added::Entered.number(), Withdrawn::Gone.number()), (0, 0));
+    let done = HEADER.split("BRADOVUSC_DONE ? ").nth(1).unwrap();
+    for ours in [Added::Entered.to_string(), Withdrawn::Gone.to_string()] {
+        assert_eq!(done.split('"').nth(1), Some(ours.as_str()));
     }
 }
 
@@ -92,6 +120,17 @@ fn records_cut_short() {
     assert_eq!(texts(b"WA\x00\x00\x00").next(), None);
     assert_eq!(texts(b"VB\x00\x00\x00").next(), None);
     assert_eq!(texts(b"VA\x00\xFF\xFF\x01\x02").next(), None);
+}
+
+#[test]
+fn lengths_of_a_catalogue() {
+    let defined = |name: &str, number: usize| {
+        assert!(HEADER.contains(&format!("#define BRADOVUSC_{name} {number}\n")), "{name}");
+    };
+    defined("RULES", MOST_RULES);
+    defined("RULE_FIELDS", RULE_FIELDS);
+    defined("RULE_BYTES", RULE_BYTES);
+    assert_eq!(catalogue_bytes(MOST_RULES), 13_728);
 }
 
 #[test]

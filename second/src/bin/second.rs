@@ -4,11 +4,15 @@
 //! - `second WORK ANSWER`: with these lengths of the two buffers
 //! - `second --many [--scan]`: a stream of cases, a line for each
 //! - `second --many --lines`: a stream of cases, what `clash` prints for each
+//! - `second --calls [--scan]`: a stream of operations, a line for each
+//! - `second --calls --lines`: a stream of operations, what `catalogue` prints
 
 use std::io::{self, BufWriter, Read, Write};
 use std::process::ExitCode;
 
+use second::calls::{self, Calls, Operation};
 use second::cases::{After, Answerer, Case};
+use second::catalogue::{Searcher, HASHING, SCANNING};
 
 /// "`clash` reads the first 1,024 bytes of standard input, lends 65,520 bytes
 /// of work (455 situations) and 4,096 of answer."
@@ -24,6 +28,9 @@ fn main() -> ExitCode {
         ["--many"] => many(second::answer, a_line),
         ["--many", "--scan"] => many(second::scan::answer, a_line),
         ["--many", "--lines"] => many(second::answer, After::lines),
+        ["--calls"] => calls(HASHING, calls::After::line),
+        ["--calls", "--scan"] => calls(SCANNING, calls::After::line),
+        ["--calls", "--lines"] => calls(HASHING, calls::After::numbers),
         [work, answer] => match (work.parse(), answer.parse()) {
             (Ok(work), Ok(answer)) => one(work, answer),
             _ => return usage(),
@@ -40,7 +47,7 @@ fn main() -> ExitCode {
 }
 
 fn usage() -> ExitCode {
-    eprintln!("usage: second | second WORK ANSWER | second --many [--scan | --lines]");
+    eprintln!("usage: second | second WORK ANSWER | second --many|--calls [--scan | --lines]");
     ExitCode::from(2)
 }
 
@@ -70,6 +77,22 @@ fn many(answerer: Answerer, shown: fn(&After) -> String) -> io::Result<()> {
             return Err(io::Error::other("the stream stops inside a case"));
         };
         out.write_all(shown(&case.run(answerer)).as_bytes())?;
+        rest = behind;
+    }
+    out.flush()
+}
+
+/// A stream of operations; what stands before its end is done.
+fn calls(search: Searcher, shown: fn(&calls::After) -> String) -> io::Result<()> {
+    let mut stream = Vec::new();
+    io::stdin().lock().read_to_end(&mut stream)?;
+    let mut out = BufWriter::new(io::stdout().lock());
+    let mut calls = Calls::new(search);
+    let mut rest = &stream[..];
+    while let Some((operation, behind)) = Operation::read(rest) {
+        if let Some(after) = calls.run(&operation) {
+            writeln!(out, "{}", shown(&after))?;
+        }
         rest = behind;
     }
     out.flush()

@@ -5,13 +5,14 @@
 //! - `sheets --long ROOM N`: the sheet alone of the N-th of these
 //! - `sheets --printed`: those whose lines tell wrong printers apart
 //! - `sheets --printed N`: the sheet alone of the N-th of these
+//! - `sheets --pairs`: each pair of the rules of `calls --full`
 
 use std::io::{self, Write};
 use std::process::ExitCode;
 
 use second::cases::Case;
 use second::make::{case, long, Dice};
-use second::{printed, MOST_ROOM};
+use second::{printed, storeroom, MOST_ROOM};
 
 fn main() -> ExitCode {
     let arguments: Vec<String> = std::env::args().skip(1).collect();
@@ -28,6 +29,7 @@ fn main() -> ExitCode {
             };
         }
         ["--printed"] => printed::cases(),
+        ["--pairs"] => storeroom::full_pairs(),
         ["--printed", number] => return put_one(&printed::cases(), number),
         [seed, number] => match (seed.parse(), number.parse::<usize>()) {
             (Ok(seed), Ok(number)) => {
@@ -70,7 +72,7 @@ fn put(bytes: &[u8]) -> ExitCode {
 }
 
 fn usage() -> ExitCode {
-    eprintln!("usage: sheets SEED NUMBER | sheets --long ROOM [N] | sheets --printed [N]");
+    eprintln!("usage: sheets SEED NUMBER | sheets --long ROOM [N] | sheets --printed [N] | sheets --pairs");
     eprintln!("ROOM is at most 65535");
     ExitCode::from(2)
 }

@@ -1,5 +1,6 @@
 -- Good questions: what every question has that a sheet asks.
 --   sheet-good       : read-sheet sheet ≡ asked q → GoodQuestion q
+--   patterns-by      : what each pattern's record keeps, all of them keep, one behind the other
 --   fields-known     : a field that stands in the sides of a good question is one of the fields
 --   fields-have-sets : and a situation has a place set for it
 -- The tokens are 01's characters and fields, a side has at most 24 of them, there is a pattern or any text for each field, and a pattern has at
@@ -15,7 +16,7 @@ use lib.Dec.{leb, ltb, eqb}
 use lib.ListN.{length, getD, drop, set, replicate, length-set, length-map, length-take, length-replicate}
 use Rattle.paper.specs.Lists.{all}
 use Rattle.paper.specs.Numbers.{characters, fields, set-fields, field-token, pattern-bytes, most-leaves, sheet-side}
-use Rattle.paper.proofs.base.Tests.{cond-by, true-false, and-right, or-is-true, ltb-true, ltb-false, eqb-true}
+use Rattle.paper.proofs.base.Tests.{cond-by, true-false, and-right, or-is-true, or-right-false, ltb-true, ltb-false, eqb-true}
 use Rattle.paper.proofs.base.Lists.{all-true, any-true, any-append, mem-map}
 use Rattle.paper.specs.Pattern.{Held, any-text, pattern}
 use Rattle.paper.specs.Places.{leaves}
@@ -66,7 +67,7 @@ token-in-range b e =
     (or-is-true (ltb b characters) (leb field-token b && ltb b (field-token + fields)) e))
 
 -- what a check on a record finds, if it is no fault
-abbrev Found : {A : Type 0} → (A → Type 0) → Checked A → Type 0
+abbrev pub Found : {A : Type 0} → (A → Type 0) → Checked A → Type 0
 Found Good (fault x) = Unit {0}
 Found Good (read a next) = Good a
 
@@ -85,71 +86,86 @@ side-good s at =
     })
     (λ _. tt))))
 
--- Patterns.
-abbrev GoodPattern : FieldPattern → Type 0
-GoodPattern fp = GoodHeld (pattern (fp .its))
+-- Patterns: what the checks on a record say of the field and the pattern that were read.
+pub record PatternRead (s : List ℕ) (at least : ℕ) (fp : FieldPattern) : Type 0 where
+  pub rises : least ≤ fp .field
+  pub short : byte-at s (at + 3) ≤ pattern-bytes
+  pub its-bytes : judge (body s (at + 4) (byte-at s (at + 3))) ≡ judged (fp .its)
 
-judged-good : (s : List ℕ) (f next : ℕ) (j : Judged) → judge s ≡ j → Found GoodPattern (pattern-judged j f next)
-judged-good s f next Written.not-one-pattern e = tt
-judged-good s f next Written.too-many-leaves e = tt
-judged-good s f next (judged p) e = (judged-takes s e, judged-leaves s e)
+judged-read : (s : List ℕ) (at least f next : ℕ) (j : Judged) → judge (body s (at + 4) (byte-at s (at + 3))) ≡ j
+    → least ≤ f → byte-at s (at + 3) ≤ pattern-bytes → Found (PatternRead s at least) (pattern-judged j f next)
+judged-read s at least f next Written.not-one-pattern e rises short = tt
+judged-read s at least f next Written.too-many-leaves e rises short = tt
+judged-read s at least f next (judged p) e rises short = record { rises = rises; short = short; its-bytes = e }
 
-pattern-good : (s : List ℕ) (at least : ℕ) → Found GoodPattern (pattern-record s at least)
+record-read : (s : List ℕ) (at least : ℕ) → Found (PatternRead s at least) (pattern-record s at least)
 unfolding pattern-record
-pattern-good s at least =
+record-read s at least =
     let f = byte-at s (at + 2) in
     let n = byte-at s (at + 3) in
     let b = body s (at + 4) n in
-    cond-by (Found GoodPattern) (ltb (bytes-left s at) 4) (λ _. tt)
-    (λ _. cond-by (Found GoodPattern) (leb fields f || ltb f least) (λ _. tt)
-    (λ _. cond-by (Found GoodPattern) (eqb n 0 || ltb pattern-bytes n) (λ _. tt)
-    (λ _. cond-by (Found GoodPattern) (ltb (bytes-left s at) (4 + n)) (λ _. tt)
-    (λ _. judged-good b f (at + (4 + n)) (judge b) refl))))
+    cond-by (Found (PatternRead s at least)) (ltb (bytes-left s at) 4) (λ _. tt)
+    (λ _. cond-by (Found (PatternRead s at least)) (leb fields f || ltb f least) (λ _. tt)
+    (λ i. cond-by (Found (PatternRead s at least)) (eqb n 0 || ltb pattern-bytes n) (λ _. tt)
+    (λ j. cond-by (Found (PatternRead s at least)) (ltb (bytes-left s at) (4 + n)) (λ _. tt)
+    (λ _. judged-read s at least f (at + (4 + n)) (judge b) refl
+    (ltb-false f least (or-right-false (leb fields f) (ltb f least) i))
+    (ltb-false pattern-bytes n (or-right-false (eqb n 0) (ltb pattern-bytes n) j))))))
 
-set-good : (held : List Held) (i : ℕ) (x : Held) → GoodHeld x → ((f : ℕ) → GoodHeld (getD held f any-text))
-    → (f : ℕ) → GoodHeld (getD (set held i x) f any-text)
-set-good [] i x g h f = h f
-set-good (y ∷ held) zero x g h zero = g
-set-good (y ∷ held) zero x g h (suc f) = h (suc f)
-set-good (y ∷ held) (suc i) x g h zero = h zero
-set-good (y ∷ held) (suc i) x g h (suc f) = set-good held i x g (λ k. h (suc k)) f
+-- what is so of all that the fields may hold, where one of it is set, and where every field is open
+module _ (P : Held → Type 0) where
+  pub set-by : (held : List Held) (i : ℕ) (x : Held) → P x → ((f : ℕ) → P (getD held f any-text))
+      → (f : ℕ) → P (getD (set held i x) f any-text)
+  set-by [] i x g h f = h f
+  set-by (y ∷ held) zero x g h zero = g
+  set-by (y ∷ held) zero x g h (suc f) = h (suc f)
+  set-by (y ∷ held) (suc i) x g h zero = h zero
+  set-by (y ∷ held) (suc i) x g h (suc f) = set-by held i x g (λ k. h (suc k)) f
 
-fields-with : (fs : Fields) (fp : FieldPattern) → GoodFields (fs .held) → GoodPattern fp → GoodFields (with-pattern fs fp .held)
-fields-with fs fp h g =
+  pub open-by : P any-text → (n f : ℕ) → P (getD (replicate n any-text) f any-text)
+  open-by g zero f = g
+  open-by g (suc n) zero = g
+  open-by g (suc n) (suc f) = open-by g n f
+
+abbrev pub Goods : Fields → Type 0
+Goods fs = GoodFields (fs .held)
+
+pub fields-with : (s : List ℕ) (at : ℕ) (fs : Fields) (fp : FieldPattern) → Goods fs → PatternRead s at (fs .above) fp → Goods (with-pattern fs fp)
+fields-with s at fs fp h g =
+    let b = body s (at + 4) (byte-at s (at + 3)) in
     record {
       each-field = length-set (fs .held) (fp .field) (pattern (fp .its)) ∙ h .each-field;
-      good = set-good (fs .held) (fp .field) (pattern (fp .its)) g (h .good);
+      good = set-by GoodHeld (fs .held) (fp .field) (pattern (fp .its)) (judged-takes b (g .its-bytes), judged-leaves b (g .its-bytes)) (h .good);
     }
 
-open-good : (n f : ℕ) → GoodHeld (getD (replicate n any-text) f any-text)
-open-good zero f = tt
-open-good (suc n) zero = tt
-open-good (suc n) (suc f) = open-good n f
-
 -- "before the first record every field is" open
-opens-good : GoodFields (open-fields .held)
-opens-good = record { each-field = length-replicate fields any-text; good = open-good fields }
+pub opens-good : GoodFields (open-fields .held)
+opens-good = record { each-field = length-replicate fields any-text; good = open-by GoodHeld tt fields }
 
 -- The patterns' records, up to the first record that is none.
-abbrev Listed : {A : Type 0} → (A → Type 0) → Records A → Type 0
+abbrev pub Listed : {A : Type 0} → (A → Type 0) → Records A → Type 0
 Listed Good (faulty x at) = Unit {0}
 Listed Good (records a next) = Good a
 
-abbrev Goods : Fields → Type 0
-Goods fs = GoodFields (fs .held)
+-- what every pattern's record keeps
+module _
+    (Good : Fields → Type 0)
+    (kept : (s : List ℕ) (at : ℕ) (fs : Fields) (fp : FieldPattern) → Good fs → PatternRead s at (fs .above) fp → Good (with-pattern fs fp)) where
+  behind-by : (s : List ℕ) (at : ℕ) (fs : Fields) (go-on : ℕ → Fields → Records Fields) (x : Checked FieldPattern)
+      → ((next : ℕ) (more : Fields) → Good more → Listed Good (go-on next more))
+      → Good fs → Found (PatternRead s at (fs .above)) x → Listed Good (pattern-read at fs go-on x)
+  behind-by s at fs go-on (fault x) i h k = tt
+  behind-by s at fs go-on (read fp next) i h k = i next (with-pattern fs fp) (kept s at fs fp h k)
 
-behind-good : (at : ℕ) (fs : Fields) (go-on : ℕ → Fields → Records Fields) (x : Checked FieldPattern)
-    → ((next : ℕ) (more : Fields) → Goods more → Listed Goods (go-on next more))
-    → Goods fs → Found GoodPattern x → Listed Goods (pattern-read at fs go-on x)
-behind-good at fs go-on (fault x) i h k = tt
-behind-good at fs go-on (read fp next) i h k = i next (with-pattern fs fp) (fields-with fs fp h k)
+  pub patterns-by : (n : ℕ) (s : List ℕ) (at : ℕ) (fs : Fields) → Good fs → Listed Good (read-patterns n s at fs)
+  patterns-by zero s at fs h = tt
+  patterns-by (suc n) s at fs h =
+      cond-by (Listed Good) (next-is PA s at)
+      (λ _. behind-by s at fs (read-patterns n s) (pattern-record s at (fs .above)) (patterns-by n s) h (record-read s at (fs .above)))
+      (λ _. h)
 
 pub patterns-good : (n : ℕ) (s : List ℕ) (at : ℕ) (fs : Fields) → Goods fs → Listed Goods (read-patterns n s at fs)
-patterns-good zero s at fs h = tt
-patterns-good (suc n) s at fs h =
-    cond-by (Listed Goods) (next-is PA s at)
-    (λ _. behind-good at fs (read-patterns n s) (pattern-record s at (fs .above)) (patterns-good n s) h (pattern-good s at (fs .above)))
-    (λ _. h)
+patterns-good = patterns-by Goods fields-with
 
 -- A side behind its mark, and the sides.
 pub marked-good : (m : Mark) (s : List ℕ) (at : ℕ) → Found GoodSide (marked-side m s at)

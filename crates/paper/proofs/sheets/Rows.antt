@@ -20,7 +20,7 @@ use Rattle.paper.specs.Outcome.{Outcome, room-of, searched, records, cla
 use Rattle.paper.specs.Demands.{Good, end-of, spelt, records-of, number-of}
 use Rattle.paper.proofs.sheets.TextLength.{none-too-long}
 
-fault-range : (x : Fault) → (11 ≤ fault-number x) × (fault-number x ≤ 17)
+pub fault-range : (x : Fault) → (11 ≤ fault-number x) × (fault-number x ≤ 17)
 fault-range cut-short = omega arith
 fault-range wrong-mark = omega arith
 fault-range wrong-field = omega arith

@@ -1,0 +1,3 @@
+pub mod FrontBytes
+pub mod OneMore
+pub mod Reached

@@ -1,0 +1,2 @@
+pub mod Gap
+pub mod Within

@@ -1,0 +1,10 @@
+pub mod Code
+pub mod Saying
+pub mod Local
+pub mod Form
+pub mod GoodRule
+pub mod OwnSheet
+pub mod Pair
+pub mod Adding
+pub mod Withdrawing
+pub mod Apart

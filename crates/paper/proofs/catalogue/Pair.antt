@@ -1,0 +1,176 @@
+-- Two good rules as a question.
+--   pair-apart    : where it is answered 1, no label is made by both
+--   pair-together : where it is answered 0, some label is
+-- The texts of two rules for the same label are one assignment that solves their question: the first's below `rule-fields`, then the second's. So
+-- it follows from the search of a question that is used up, and back from one that has found.
+use Prim.Native.Nat.{ℕ, _+_, _-_, _<_}
+use native.Mathlib.Omega.{arith}
+use mathlib.Core.Path.{_≡_, refl, sym, ap, _∙_, subst}
+use mathlib.Core.Logic.{⊎-elim}
+use mathlib.Core.Bool.{true, cond}
+use mathlib.Core.List.{List, [], _∷_, _++_, map, List·Memᴰ}
+use lib.Dec.{ltb, eqb}
+use lib.ListN.{getD, take, List·getD-append}
+use lib.Seq.{getD-take, getD-append-add}
+use Rattle.paper.specs.Numbers.{characters, set-fields, rule-fields}
+use Rattle.paper.specs.Pattern.{any-text, Holds}
+use Rattle.paper.specs.Places.{PlaceSet}
+use Rattle.paper.specs.Search.{Entry, End, found, used-up, no-room, too-long}
+use Rattle.paper.specs.Equation.{Token, chr, fld, Side, is-field, stands-in, Texts, label, Over}
+use Rattle.paper.specs.Situation.{Situation, Move}
+use Rattle.paper.specs.Question.{held-by, Solution}
+use Rattle.paper.specs.Rule.{Rule, rule-holds, Makes, moved-up, pair}
+use Rattle.paper.specs.Outcome.{searched, how-of}
+use Rattle.paper.specs.Catalogue.{pair-number, pair-answer}
+use Rattle.paper.proofs.base.Tests.{true-false, or-is-true, left-true, right-true, lt-ltb, le-ltb, eqb-true, eqb-same, eq-eqb}
+use Rattle.paper.proofs.base.Lists.{cons-eq, any-true, mem-any, any-append, mem-map, map-mem}
+use Rattle.paper.proofs.sheets.QuestionSearched.{found-solves, used-up-unsolved}
+use Rattle.paper.proofs.catalogue.GoodRule.{GoodRule, own-field, own-held}
+
+-- The side moved up.
+moved-field : (side : Side) (f : ℕ) → stands-in f (map moved-up side) ≡ true → (g : ℕ) × (f ≡ rule-fields + g) × (stands-in g side ≡ true)
+moved-field side f e =
+    let (u, d, k) = any-true (is-field f) (map moved-up side) e in
+    let (t, i, p) = mem-map moved-up side d in
+    back t i (rw p at k)
+  where
+    back : (t : Token) → List·Memᴰ t side → is-field f (moved-up t) ≡ true → (g : ℕ) × (f ≡ rule-fields + g) × (stands-in g side ≡ true)
+    back (chr c) i k = absurd (true-false k refl)
+    back (fld g) i k = (g, eqb-true f (rule-fields + g) k, mem-any (is-field g) side i (eqb-same g))
+
+field-moved : (side : Side) (f : ℕ) → stands-in f side ≡ true → stands-in (rule-fields + f) (map moved-up side) ≡ true
+field-moved side f e =
+    let (t, d, k) = any-true (is-field f) side e in
+    mem-any (is-field (rule-fields + f)) (map moved-up side) (map-mem moved-up d) (moved t k)
+  where
+    moved : (t : Token) → is-field f t ≡ true → is-field (rule-fields + f) (moved-up t) ≡ true
+    moved (chr c) k = k
+    moved (fld g) k = let e = eqb-true f g k in eq-eqb (rule-fields + f) (rule-fields + g) (omega arith)
+
+label-moved : (texts : Texts) (side : Side) → label texts (map moved-up side) ≡ label (λ (f : ℕ). texts (rule-fields + f)) side
+label-moved texts [] = refl
+label-moved texts (chr c ∷ side) = cons-eq refl (label-moved texts side)
+label-moved texts (fld f ∷ side) = ap (λ (l : List ℕ). texts (rule-fields + f) ++ l) (label-moved texts side)
+
+-- A label by the texts of the fields that stand in the side.
+label-same : (a b : Texts) (side : Side) → ((f : ℕ) → stands-in f side ≡ true → a f ≡ b f) → label a side ≡ label b side
+label-same a b [] h = refl
+label-same a b (chr c ∷ side) h = cons-eq refl (label-same a b side h)
+label-same a b (fld g ∷ side) h =
+    rw (h g (left-true (eqb g g) (stands-in g side) (eqb-same g)), label-same a b side (λ f e. h f (right-true (eqb f g) (stands-in f side) e)))
+
+-- The texts of both as one assignment.
+abbrev joined : Texts → Texts → Texts
+joined a b f = cond (ltb f rule-fields) (a f) (b (f - rule-fields))
+
+joined-present : (a b : Texts) (f : ℕ) → f < rule-fields → joined a b f ≡ a f
+joined-present a b f h = rw (lt-ltb f rule-fields h)
+
+joined-new : (a b : Texts) (f : ℕ) → joined a b (rule-fields + f) ≡ b f
+joined-new a b f =
+    let e : (rule-fields + f) - rule-fields ≡ f = omega arith in
+    rw (le-ltb (rule-fields + f) rule-fields (omega arith), e)
+
+-- the search's end, from the pair's answer
+answered-1 : (x : End (Situation PlaceSet) Move) → pair-number x ≡ 1 → x ≡ used-up
+answered-1 (found e) h = absurd (omega (arith, h))
+answered-1 used-up h = refl
+answered-1 no-room h = absurd (omega (arith, h))
+answered-1 too-long h = absurd (omega (arith, h))
+
+answered-0 : (x : End (Situation PlaceSet) Move) → pair-number x ≡ 0 → (e : Entry (Situation PlaceSet) Move) × (x ≡ found e)
+answered-0 (found e) h = (e, refl)
+answered-0 used-up h = absurd (omega (arith, h))
+answered-0 no-room h = absurd (omega (arith, h))
+answered-0 too-long h = absurd (omega (arith, h))
+
+module _ (r s : Rule) (g : GoodRule r) (h : GoodRule s) where
+  -- What a field of the pair may hold: below `rule-fields` what the present rule's may, then what the new one's may.
+  held-present : (f : ℕ) → f < rule-fields → held-by (pair r s) f ≡ rule-holds r f
+  unfolding pair
+  held-present f k =
+      List·getD-append (take rule-fields (r .fields .held)) (take rule-fields (s .fields .held)) any-text f (omega (arith, own-held r g))
+      ∙ getD-take rule-fields (r .fields .held) f any-text k
+
+  held-new : (f : ℕ) → f < rule-fields → held-by (pair r s) (rule-fields + f) ≡ rule-holds s f
+  unfolding pair
+  held-new f k =
+      let a = take rule-fields (r .fields .held) in
+      let b = take rule-fields (s .fields .held) in
+      ap (λ (n : ℕ). getD (a ++ b) (n + f) any-text) (sym (own-held r g)) ∙ getD-append-add a b f any-text
+      ∙ getD-take rule-fields (s .fields .held) f any-text k
+
+  -- A field that stands in the sides of the pair is a field of the one rule or, moved up, of the other.
+  by-rule : (P : ℕ → Type 0)
+      → ((f : ℕ) → stands-in f (r .side) ≡ true → f < rule-fields → P f)
+      → ((f : ℕ) → stands-in f (s .side) ≡ true → f < rule-fields → P (rule-fields + f))
+      → (f : ℕ) → stands-in f (pair r s .left ++ pair r s .right) ≡ true → P f
+  unfolding pair
+  by-rule P present new f e =
+      ⊎-elim
+      (λ (i : stands-in f (r .side) ≡ true). present f i (own-field r g f i))
+      (λ (i : stands-in f (map moved-up (s .side)) ≡ true).
+      let (k, p, j) = moved-field (s .side) f i in subst P (sym p) (new k j (own-field s h k j)))
+      (or-is-true (stands-in f (r .side)) (stands-in f (map moved-up (s .side)))
+      (sym (any-append (is-field f) (r .side) (map moved-up (s .side))) ∙ e))
+
+  -- Texts by which both make the label solve the question.
+  both-solve : (l : List ℕ) (m : Makes r l) (k : Makes s l) → Solution (pair r s) (joined (m .texts) (k .texts))
+  unfolding pair
+  both-solve l m k =
+      let a = m .texts in
+      let b = k .texts in
+      record {
+        same-label =
+            label-same (joined a b) a (r .side) (λ f e. joined-present a b f (own-field r g f e))
+            ∙ m .made ∙ sym (k .made)
+            ∙ label-same b (λ (f : ℕ). joined a b (rule-fields + f)) (s .side) (λ f e. sym (joined-new a b f))
+            ∙ sym (label-moved (joined a b) (s .side));
+        over =
+            by-rule (λ (f : ℕ). Over characters (joined a b f))
+            (λ f e i. rw (joined-present a b f i) (m .over f e))
+            (λ f e i. rw (joined-new a b f) (k .over f e));
+        holds =
+            by-rule (λ (f : ℕ). Holds (held-by (pair r s) f) (joined a b f))
+            (λ f e i. rw (joined-present a b f i, held-present f i) (m .holds f e))
+            (λ f e i. rw (joined-new a b f, held-new f i) (k .holds f e));
+      }
+
+  -- Answered 1, no label is made by both.
+  pub pair-apart : (room : ℕ) → pair-answer r s room ≡ 1 → (l : List ℕ) → Makes r l → Makes s l → ⊥
+  unfolding pair-answer
+  pair-apart room e l m k =
+      used-up-unsolved (pair r s) room (by-rule (λ (f : ℕ). f < set-fields) (λ f _ i. omega arith) (λ f _ i. omega arith))
+      (answered-1 (how-of (searched (pair r s) room)) e) (joined (m .texts) (k .texts)) (both-solve l m k)
+
+  -- Texts that solve the question make both the same label.
+  solve-both : (texts : Texts) → Solution (pair r s) texts → Makes r (label texts (r .side)) × Makes s (label texts (r .side))
+  unfolding pair
+  solve-both texts x =
+      let right = map moved-up (s .side) in
+      let present : (f : ℕ) → stands-in f (r .side) ≡ true → stands-in f (r .side ++ right) ≡ true =
+      λ f e. any-append (is-field f) (r .side) right ∙ left-true (stands-in f (r .side)) (stands-in f right) e in
+      let new : (f : ℕ) → stands-in f (s .side) ≡ true → stands-in (rule-fields + f) (r .side ++ right) ≡ true =
+      λ f e. any-append (is-field (rule-fields + f)) (r .side) right
+      ∙ right-true (stands-in (rule-fields + f) (r .side)) (stands-in (rule-fields + f) right) (field-moved (s .side) f e) in (
+        record {
+          texts = texts;
+          over = λ f e. x .over f (present f e);
+          holds = λ f e. rw (← (held-present f (own-field r g f e))) (x .holds f (present f e));
+          made = refl;
+        },
+        record {
+          texts = λ f. texts (rule-fields + f);
+          over = λ f e. x .over (rule-fields + f) (new f e);
+          holds = λ f e. rw (← (held-new f (own-field s h f e))) (x .holds (rule-fields + f) (new f e));
+          made = sym (label-moved texts (s .side)) ∙ sym (x .same-label);
+        },
+      )
+
+  -- Answered 0, some label is made by both.
+  pub pair-together : (room : ℕ) → pair-answer r s room ≡ 0 → (l : List ℕ) × Makes r l × Makes s l
+  unfolding pair-answer
+  pair-together room e =
+      let (entry, f) = answered-0 (how-of (searched (pair r s) room)) e in
+      let (m, k) = solve-both _ (found-solves (pair r s) room entry f) in
+      (_, m, k)

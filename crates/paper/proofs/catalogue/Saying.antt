@@ -1,0 +1,259 @@
+-- Reading the sheet that says a question gives the question back.
+--   reads-back : Sayable q → read-sheet (sheet-saying q) ≡ asked q
+-- A question can be said if it is good (`Asked`) and the code of each pattern fits into a record: its tokens are characters and fields, a side has
+-- at most 24 of them, there is a pattern or any text for each field, and a pattern has leaves that take characters alone, at most 31 of them, and a
+-- code of at most 96 bytes.
+-- Follows from the checks on the records, test by test, and from the laws of a pattern's code. What is left at an offset is all that a check there
+-- sees, so each law begins with `drop at s ≡ ..`.
+use Prim.Native.Nat.{ℕ, zero, suc, _+_, _≤_, _<_}
+use native.Mathlib.Nat.{add-zero}
+use native.Mathlib.Omega.{arith}
+use mathlib.Core.Path.{_≡_, refl, sym, ap, ap₂, _∙_}
+use mathlib.Core.Bool.{Bool, true, false, _&&_}
+use mathlib.Core.List.{List, [], _∷_, _++_, map, append-assoc, append-nil, List·Memᴰ, List·Memᴰ·head, List·Memᴰ·tail}
+use lib.Dec.{ltb, eqb}
+use lib.ListN.{length, getD, take, drop, replicate, length-append, length-drop, length-map}
+use lib.Seq.{getD-drop, drop-drop, take-append-seam, drop-append-seam, take-at, drop-at, set-at, append-snoc}
+use Rattle.paper.specs.Lists.{all}
+use Rattle.paper.specs.Numbers.{characters, fields, field-token, pattern-bytes, sheet-side}
+use Rattle.paper.proofs.base.Tests.{cond-by, both-true, le-leb, lt-leb, le-ltb, lt-ltb, neq-eqb, eqb-same}
+use Rattle.paper.proofs.base.Lists.{cons-eq}
+use Rattle.paper.specs.Pattern.{Pattern, leaf, char, range, empty, then, either, many, Held, any-text, pattern}
+use Rattle.paper.specs.Equation.{Token, chr, fld, Side}
+use Rattle.paper.specs.Question.{Question}
+use Rattle.paper.specs.Sheet.{read, byte-at, bytes-left, body, Mark, PA, LE, RI, first-letter, second-letter, marked}
+use Rattle.paper.specs.Sheet.{pattern-record, is-token, token, side-record, marked-side, Records, records, Fields}
+use Rattle.paper.specs.Sheet.{open-fields, next-is, read-patterns, asked, read-end, left-read, read-sheet}
+use Rattle.paper.specs.Saying.{pattern-code, token-byte, pattern-saying, patterns-saying, side-saying, sheet-saying}
+use Rattle.paper.proofs.sheets.Asked.{InRange, GoodSide, GoodHeld, GoodQuestion}
+use Rattle.paper.proofs.catalogue.Code.{code-judged}
+
+-- "length byte n 1 to 96": the code of what a field may hold fits into a record
+abbrev pub ShortCode : Held → Type 0
+ShortCode any-text = Unit {0}
+ShortCode (pattern p) = length (pattern-code p) ≤ pattern-bytes
+
+-- a question that a sheet can say
+pub record Sayable (q : Question) : Type 0 where
+  pub good : GoodQuestion q
+  pub codes : (f : ℕ) → ShortCode (getD (q .held) f any-text)
+
+-- What is left at an offset.
+module _ (s : List ℕ) (at : ℕ) (t : List ℕ) (e : drop at s ≡ t) where
+  left-there : bytes-left s at ≡ length t
+  left-there = sym (length-drop at s) ∙ ap length e
+
+  byte-there : (i : ℕ) → byte-at s (at + i) ≡ byte-at t i
+  byte-there i = sym (getD-drop at s i 0) ∙ ap (λ (l : List ℕ). getD l i 0) e
+
+  behind-there : (i : ℕ) → drop (at + i) s ≡ drop i t
+  behind-there i = sym (drop-drop i at s) ∙ ap (drop i) e
+
+  body-there : (i n : ℕ) → body s (at + i) n ≡ body t i n
+  body-there i n = ap (take n) (behind-there i)
+
+  mark-there : (m : Mark) → marked m s at ≡ marked m t 0
+  unfolding marked
+  mark-there m =
+      ap₂ (λ (a b : ℕ). eqb a (first-letter m) && eqb b (second-letter m)) (ap (byte-at s) (sym (add-zero at)) ∙ byte-there 0) (byte-there 1)
+
+-- A pattern's record.
+code-bytes : (p : Pattern) → 0 < length (pattern-code p)
+code-bytes (leaf (char c)) = omega arith
+code-bytes (leaf (range lo hi)) = omega arith
+code-bytes empty = omega arith
+code-bytes (then a b) = omega arith
+code-bytes (either a b) = omega arith
+code-bytes (many a) = omega arith
+
+module _ (s : List ℕ) (at f : ℕ) (p : Pattern) (rest : List ℕ) (e : drop at s ≡ pattern-saying f (pattern p) ++ rest) where
+  record-next : next-is PA s at ≡ true
+  unfolding next-is marked
+  record-next =
+      let t = pattern-saying f (pattern p) ++ rest in
+      rw (left-there s at t e, mark-there s at t e PA, le-ltb (length t) 2 (omega arith))
+
+  record-said : (least : ℕ) → f < fields → least ≤ f → GoodHeld (pattern p) → ShortCode (pattern p)
+      → pattern-record s at least ≡ read (record { field = f; its = p }) (at + (4 + length (pattern-code p)))
+  unfolding pattern-record
+  record-said least known rises good short =
+      let t = pattern-saying f (pattern p) ++ rest in
+      let code = pattern-code p in
+      let some = code-bytes p in
+      let sum = length-append code rest in
+      rw (
+        left-there s at t e,
+        byte-there s at t e 2,
+        byte-there s at t e 3,
+        body-there s at t e 4 (length code),
+        le-ltb (length t) 4 (omega arith),
+        lt-leb fields f known,
+        le-ltb f least rises,
+        neq-eqb (length code) 0 (λ (z : length code ≡ 0). omega arith),
+        le-ltb pattern-bytes (length code) short,
+        le-ltb (length t) (4 + length code) (omega arith),
+        take-append-seam code rest,
+        code-judged p (good .0) (good .1),
+      )
+
+  record-behind : drop (at + (4 + length (pattern-code p))) s ≡ rest
+  record-behind =
+      behind-there s at (pattern-saying f (pattern p) ++ rest) e (4 + length (pattern-code p))
+      ∙ sym (drop-drop (length (pattern-code p)) 4 (pattern-saying f (pattern p) ++ rest)) ∙ drop-append-seam (pattern-code p) rest
+
+-- What comes next is no pattern.
+none-next : (s : List ℕ) (at : ℕ) (rest : List ℕ) → drop at s ≡ rest → marked PA rest 0 ≡ false → next-is PA s at ≡ false
+unfolding next-is
+none-next s at rest e u = cond-by (λ (b : Bool). b ≡ false) (ltb (bytes-left s at) 2) (λ _. refl) (λ _. mark-there s at rest e PA ∙ u)
+
+-- What reading the patterns' records gives: what each field may hold, up to the bytes behind them.
+record Said (s : List ℕ) (held : List Held) (rest : List ℕ) (x : Records Fields) : Type 0 where
+  last : ℕ
+  next : ℕ
+  reads : x ≡ records (record { held = held; above = last }) next
+  behind : drop next s ≡ rest
+
+-- the patterns of some fields are done, the others are left
+abbrev partly : List Held → List Held → ℕ → Fields
+partly done left above = record { held = done ++ replicate (length left) any-text; above = above }
+
+-- an open field has no record
+open-done : (done left : List Held) (n : ℕ) (s : List ℕ) (at above : ℕ) (rest : List ℕ)
+    → Said s (done ++ (any-text ∷ []) ++ left) rest (read-patterns n s at (partly (done ++ (any-text ∷ [])) left above))
+    → Said s (done ++ any-text ∷ left) rest (read-patterns n s at (partly done (any-text ∷ left) above))
+open-done done left n s at above rest h =
+    rw (append-snoc done any-text left, append-snoc done any-text (replicate (length left) any-text)) at h
+
+-- a pattern's record is read
+module _ (done left : List Held) (p : Pattern) (s : List ℕ) (at f : ℕ) (behind : List ℕ) (e : drop at s ≡ pattern-saying f (pattern p) ++ behind) where
+  abbrev with-it : ℕ → Records Fields
+  with-it n = read-patterns n s (at + (4 + length (pattern-code p))) (partly (done ++ (pattern p ∷ [])) left (suc f))
+
+  pattern-done : (n above : ℕ) (rest : List ℕ) → length done ≡ f → f < fields → above ≤ f → GoodHeld (pattern p) → ShortCode (pattern p)
+      → Said s (done ++ (pattern p ∷ []) ++ left) rest (with-it n)
+      → Said s (done ++ pattern p ∷ left) rest (read-patterns (suc n) s at (partly done (pattern p ∷ left) above))
+  pattern-done n above rest d known rises good short h =
+      let others = replicate (length left) any-text in
+      rw (record-next s at f p behind e, record-said s at f p behind e above known rises good short, set-at done any-text others (pattern p) f d)
+      (rw (append-snoc done (pattern p) left, append-snoc done (pattern p) others) at h)
+
+-- The patterns of the fields from f on are read behind those done.
+patterns-said : (left done : List Held) (n : ℕ) (s : List ℕ) (at f above : ℕ) (rest : List ℕ)
+    → drop at s ≡ patterns-saying f left ++ rest → marked PA rest 0 ≡ false → length (patterns-saying f left) < n
+    → length done ≡ f → f + length left ≡ fields → above ≤ f
+    → ((i : ℕ) → GoodHeld (getD left i any-text)) → ((i : ℕ) → ShortCode (getD left i any-text))
+    → Said s (done ++ left) rest (read-patterns n s at (partly done left above))
+patterns-said [] done zero s at f above rest e u k d l r good short = absurd (omega arith)
+patterns-said [] done (suc n) s at f above rest e u k d l r good short =
+    record { last = above; next = at; reads = rw (none-next s at rest e u); behind = e }
+patterns-said (any-text ∷ left) done n s at f above rest e u k d l r good short =
+    let more = length-append done (any-text ∷ []) in
+    open-done done left n s at above rest
+    (patterns-said left (done ++ (any-text ∷ [])) n s at (suc f) above rest e u k (omega arith) (omega arith) (omega arith)
+    (λ i. good (suc i)) (λ i. short (suc i)))
+patterns-said (pattern p ∷ left) done zero s at f above rest e u k d l r good short = absurd (omega arith)
+patterns-said (pattern p ∷ left) done (suc n) s at f above rest e u k d l r good short =
+    let behind = patterns-saying (suc f) left ++ rest in
+    let here = e ∙ append-assoc (pattern-saying f (pattern p)) (patterns-saying (suc f) left) rest in
+    let more = length-append done (pattern p ∷ []) in
+    let bytes = length-append (pattern-code p) (patterns-saying (suc f) left) in
+    pattern-done done left p s at f behind here n above rest d (omega arith) r (good 0) (short 0)
+    (patterns-said left (done ++ (pattern p ∷ [])) n s (at + (4 + length (pattern-code p))) (suc f) (suc f) rest (record-behind s at f p behind here) u
+    (omega arith) (omega arith) (omega arith) (omega arith) (λ i. good (suc i)) (λ i. short (suc i)))
+
+-- Sides: a token's byte is a token, and says it.
+token-byte-is : (t : Token) → InRange t → is-token (token-byte t) ≡ true
+token-byte-is (chr c) h = rw (lt-ltb c characters h)
+token-byte-is (fld f) h =
+    let b = token-byte (fld f) in
+    rw (le-ltb b characters (omega arith), le-leb field-token b (omega arith), lt-ltb b (field-token + fields) (omega arith))
+
+token-byte-says : (t : Token) → InRange t → token (token-byte t) ≡ t
+token-byte-says (chr c) h = rw (lt-ltb c characters h)
+token-byte-says (fld f) h = rw (le-ltb (token-byte (fld f)) characters (omega arith)) (ap fld (omega arith))
+
+bytes-are : (side : Side) → ((t : Token) → List·Memᴰ t side → InRange t) → all is-token (map token-byte side) ≡ true
+bytes-are [] h = refl
+bytes-are (t ∷ side) h = both-true (token-byte-is t (h t (List·Memᴰ·head refl))) (bytes-are side (λ u d. h u (List·Memᴰ·tail d)))
+
+bytes-say : (side : Side) → ((t : Token) → List·Memᴰ t side → InRange t) → map token (map token-byte side) ≡ side
+bytes-say [] h = refl
+bytes-say (t ∷ side) h = cons-eq (token-byte-says t (h t (List·Memᴰ·head refl))) (bytes-say side (λ u d. h u (List·Memᴰ·tail d)))
+
+-- A side's record.
+module _ (m : Mark) (s : List ℕ) (at : ℕ) (side : Side) (rest : List ℕ) (e : drop at s ≡ side-saying m side ++ rest) where
+  record-side : GoodSide side → side-record s at ≡ read side (at + (3 + length side))
+  unfolding side-record
+  record-side good =
+      let t = side-saying m side ++ rest in
+      let bytes = map token-byte side in
+      let sum = length-append bytes rest in
+      let same = length-map side token-byte in
+      rw (
+        left-there s at t e,
+        byte-there s at t e 2,
+        body-there s at t e 3 (length side),
+        le-ltb (length t) 3 (omega arith),
+        le-ltb sheet-side (length side) (good .short),
+        le-ltb (length t) (3 + length side) (omega arith),
+        take-at bytes rest (length side) same,
+        bytes-are side (good .tokens),
+        bytes-say side (good .tokens),
+      )
+
+  side-said : GoodSide side → marked-side m s at ≡ read side (at + (3 + length side))
+  unfolding marked-side marked
+  side-said good =
+      let t = side-saying m side ++ rest in
+      rw (left-there s at t e, mark-there s at t e m, le-ltb (length t) 2 (omega arith), eqb-same (first-letter m), eqb-same (second-letter m))
+      (record-side good)
+
+  side-behind : drop (at + (3 + length side)) s ≡ rest
+  side-behind =
+      behind-there s at (side-saying m side ++ rest) e (3 + length side)
+      ∙ sym (drop-drop (length side) 3 (side-saying m side ++ rest)) ∙ drop-at (map token-byte side) rest (length side) (length-map side token-byte)
+
+-- The end: nothing is left.
+end-said : (s : List ℕ) (at : ℕ) (q : Question) → drop at s ≡ [] → read-end s at q ≡ asked q
+unfolding read-end
+end-said s at q e = let none = left-there s at [] e in rw (le-ltb at (length s) (omega arith))
+
+-- Both sides' records, behind the patterns'.
+sides-said : (s : List ℕ) (at : ℕ) (q : Question) → GoodQuestion q → drop at s ≡ side-saying LE (q .left) ++ side-saying RI (q .right)
+    → left-read s at (q .held) (marked-side LE s at) ≡ asked q
+sides-said s at q good e =
+    let left = q .left in
+    let right = q .right in
+    let after-left = side-behind LE s at left (side-saying RI right) e ∙ sym (append-nil (side-saying RI right)) in
+    let next = at + (3 + length left) in
+    rw (side-said LE s at left (side-saying RI right) e (good .left), side-said RI s next right [] after-left (good .right))
+    (end-said s (next + (3 + length right)) q (side-behind RI s next right [] after-left))
+
+not-marked : (side : Side) (rest : List ℕ) → marked PA (side-saying LE side ++ rest) 0 ≡ false
+unfolding marked
+not-marked side rest = refl
+
+-- All the patterns' records, from the sheet's start.
+abbrev patterns-of : List ℕ → Records Fields
+patterns-of s = read-patterns (suc (length s)) s 0 open-fields
+
+all-said : (q : Question) → Sayable q
+    → Said (sheet-saying q) (q .held) (side-saying LE (q .left) ++ side-saying RI (q .right)) (patterns-of (sheet-saying q))
+unfolding sheet-saying
+all-said q h =
+    let s = sheet-saying q in
+    let patterns = patterns-saying 0 (q .held) in
+    let left = side-saying LE (q .left) in
+    let right = side-saying RI (q .right) in
+    let bytes = length-append (patterns ++ left) right in
+    let first-bytes = length-append patterns left in
+    let every = h .good .held .each-field in
+    rw every at
+    (patterns-said (q .held) [] (suc (length s)) s 0 0 0 (left ++ right) (append-assoc patterns left right) (not-marked (q .left) right)
+    (omega arith) refl (omega arith) (omega arith) (h .good .held .good) (h .codes))
+
+pub reads-back : (q : Question) → Sayable q → read-sheet (sheet-saying q) ≡ asked q
+unfolding read-sheet
+reads-back q h =
+    let said = all-said q h in
+    rw (said .reads) (sides-said (sheet-saying q) (said .next) q (h .good) (said .behind))

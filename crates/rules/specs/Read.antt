@@ -1,0 +1,41 @@
+-- What reading a rule hands on: the fault with its place, or how many bytes it has, whether it names a field above 3, its side by inner
+-- codes and what is worked out of its fields' patterns.
+use Prim.Native.Nat.{ℕ, _+_}
+use mathlib.Core.Bool.{Bool, false, _&&_, not}
+use mathlib.Core.List.{[], map}
+use lib.Dec.{leb, eqb}
+use lib.ListN.{replicate}
+use Rattle.paper.specs.Numbers.{fields, rule-fields}
+use Rattle.paper.specs.Pattern.{any-text}
+use Rattle.paper.specs.Rule.{foreign-field}
+use Rattle.paper.specs.Rule as Paper
+use Rattle.paper.specs.Sheet.{Records, faulty, records}
+use Rattle.inner.specs.Inner.{field-code, no-token, side-code, padded}
+use Rattle.places.specs.WorkedOut.{worked-out}
+use Rattle.answers.specs.Faults.{as-fault}
+use Rattle.answers.specs.declared.Found.the-variants.{Good, Refused}
+use Rattle.rules.specs.declared.Rule.{Rule}
+
+-- the inner code of a field above 3
+abbrev pub foreign-code : ℕ → Bool
+foreign-code b = leb (field-code + rule-fields) b && not (eqb b no-token)
+
+abbrev pub rule-of : Records Paper.Rule → Rule
+rule-of (faulty x at) =
+    record {
+      found = Refused (as-fault x);
+      place = at;
+      bytes = 0;
+      foreign = false;
+      side = padded [];
+      fields = replicate fields (worked-out any-text);
+    }
+rule-of (records r next) =
+    record {
+      found = Good;
+      place = 0;
+      bytes = next;
+      foreign = foreign-field r;
+      side = padded (side-code (r .side));
+      fields = map worked-out (r .fields .held);
+    }

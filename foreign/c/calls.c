@@ -1,0 +1,127 @@
+/*
+ * Does a stream of operations on a catalogue, as the program `second --calls` does.
+ *
+ * An operation is a mark and what follows it, numbers with their low byte first:
+ *
+ *   AD  length in two bytes, that many bytes               add this rule
+ *   WI  one byte                                           withdraw the rule with this number
+ *   CA  length in two bytes, another, that many bytes      the catalogue is now a buffer of the first length: these bytes, then zeros
+ *   WO  length in four bytes                               from now on so many bytes of work are lent to each AD
+ *
+ * The stream ends where it ends, where an operation is cut short, has another mark or asks for more than is allowed. The line of AD
+ * or WI is what is told, and every byte of the catalogue: those up to the last that is not zero one by one, the zeros by their
+ * number; for AD the working buffer too, in a word where it is as it was lent, or all zero, and one by one where it is neither.
+ */
+#include <inttypes.h>
+#include <stdio.h>
+#include <stdlib.h>
+
+#include "bradovusc.h"
+#include "streams.h"
+
+enum { LONGEST_CATALOGUE = 8192, WORK = 65520, MOST_WORK = 65663 };
+
+static uint8_t *catalogue;
+static size_t catalogue_length, work_length;
+
+static bool next(uint8_t *bytes, size_t length) { return fread(bytes, 1, length, stdin) == length; }
+
+/* A number of so many bytes, at most 4. */
+static bool next_number(size_t length, size_t *number) {
+    uint8_t bytes[4];
+    if (!next(bytes, length)) {
+        return false;
+    }
+    *number = low_first(bytes, length);
+    return true;
+}
+
+static void print_catalogue(void) {
+    size_t records = catalogue_length;
+    while (records > 0 && catalogue[records - 1] == 0) {
+        records--;
+    }
+    fputs(", catalogue", stdout);
+    print_each(catalogue, records);
+    printf(", zeros %zu", catalogue_length - records);
+}
+
+static void add(const uint8_t *rule, size_t rule_length) {
+    uint8_t *work = lend(work_length, WORK_FILL);
+    uint64_t told[BRADOVUSC_ADDED_TOLD];
+    uint32_t number =
+        bradovusc_add(catalogue, catalogue_length, rule, rule_length, work, work_length, told, BRADOVUSC_ADDED_TOLD);
+    printf("add %" PRIu32 " %" PRIu64 " %" PRIu64 " %" PRIu64 " %" PRIu64, number, told[BRADOVUSC_ADDED_COUNT],
+           told[BRADOVUSC_ADDED_PLACE], told[BRADOVUSC_ADDED_RULE], told[BRADOVUSC_ADDED_PAIR]);
+    print_catalogue();
+    print_work(work, work_length);
+    putchar('\n');
+    free(work);
+}
+
+static bool next_add(void) {
+    size_t length;
+    if (!next_number(2, &length)) {
+        return false;
+    }
+    uint8_t *rule = lend(length, 0);
+    bool whole = next(rule, length);
+    if (whole) {
+        add(rule, length);
+    }
+    free(rule);
+    return whole;
+}
+
+static bool next_withdraw(void) {
+    size_t number;
+    if (!next_number(1, &number)) {
+        return false;
+    }
+    printf("withdraw %" PRIu32, bradovusc_withdraw(catalogue, catalogue_length, number));
+    print_catalogue();
+    putchar('\n');
+    return true;
+}
+
+static bool next_catalogue(void) {
+    size_t length, front;
+    if (!next_number(2, &length) || !next_number(2, &front) || length > LONGEST_CATALOGUE || front > length) {
+        return false;
+    }
+    free(catalogue);
+    catalogue = lend(length, 0);
+    catalogue_length = length;
+    return next(catalogue, front);
+}
+
+static bool next_work(void) { return next_number(4, &work_length) && work_length <= MOST_WORK; }
+
+static bool next_operation(void) {
+    uint8_t mark[2];
+    if (!next(mark, 2)) {
+        return false;
+    }
+    switch (256 * mark[0] + mark[1]) {
+    case 256 * 'A' + 'D':
+        return next_add();
+    case 256 * 'W' + 'I':
+        return next_withdraw();
+    case 256 * 'C' + 'A':
+        return next_catalogue();
+    case 256 * 'W' + 'O':
+        return next_work();
+    default:
+        return false;
+    }
+}
+
+int main(void) {
+    catalogue = lend(LONGEST_CATALOGUE, 0);
+    catalogue_length = LONGEST_CATALOGUE;
+    work_length = WORK;
+    while (next_operation()) {
+    }
+    free(catalogue);
+    return EXIT_SUCCESS;
+}

@@ -1,0 +1,172 @@
+//! A catalogue of rules in a lent buffer.
+
+use std::fmt;
+
+use crate::{Answer, Fault};
+
+/// A catalogue has at most so many rules.
+pub const MOST_RULES: usize = 32;
+
+/// A rule has fields of its own, 0 to 3.
+pub const RULE_FIELDS: usize = 4;
+
+/// A rule has at most so many bytes.
+pub const RULE_BYTES: usize = 429;
+
+/// A buffer of so many bytes is always long enough for this number of rules.
+pub const fn catalogue_bytes(rules: usize) -> usize {
+    RULE_BYTES * rules
+}
+
+/// The answer to a rule that is to be added.
+#[derive(Clone, Copy, Debug, PartialEq, Eq)]
+pub enum Added {
+    /// 0: its bytes stand behind the last rule.
+    Entered,
+    /// 11 to 17: the rule is at fault. `place` is the offset, from its `RU`, at which that record's
+    /// mark stands or should stand.
+    Refused { fault: Fault, place: usize },
+    /// 30: it clashes with a rule that is there, or that is not decided. `rule` is the number of
+    /// the first such rule. `pair` is the answer of the two: [`Answer::Clash`], of which no texts
+    /// are written, [`Answer::NoRoom`] or [`Answer::SideTooLong`].
+    NotApart { rule: usize, pair: Answer },
+    /// 31: it names a field above 3.
+    ForeignField,
+    /// 32: [`MOST_RULES`] are there, or its bytes don't fit behind them.
+    Full,
+    /// 34: the buffer is no catalogue.
+    NoCatalogue,
+}
+
+impl Added {
+    /// Its number, as in the table of the rules.
+    pub fn number(self) -> u32 {
+        match self {
+            Added::Entered => 0,
+            Added::Refused { fault, .. } => fault.number(),
+            Added::NotApart { .. } => 30,
+            Added::ForeignField => 31,
+            Added::Full => 32,
+            Added::NoCatalogue => 34,
+        }
+    }
+}
+
+/// In words; with the place of a fault, with the rule and the pair's answer where it is not apart.
+impl fmt::Display for Added {
+    fn fmt(&self, to: &mut fmt::Formatter<'_>) -> fmt::Result {
+        match self {
+            Added::Entered => to.write_str("done"),
+            Added::Refused { fault, place } => {
+                write!(to, "{fault}, in the record at offset {place}")
+            }
+            Added::NotApart { rule, pair } => {
+                write!(to, "not apart from a rule of the catalogue: rule {rule}, {pair}")
+            }
+            Added::ForeignField => to.write_str("a field above 3"),
+            Added::Full => to.write_str("no room in the catalogue"),
+            Added::NoCatalogue => to.write_str("the buffer is no catalogue"),
+        }
+    }
+}
+
+/// The answer to a rule's number that is to be withdrawn.
+#[derive(Clone, Copy, Debug, PartialEq, Eq)]
+pub enum Withdrawn {
+    /// 0: the rule's bytes are gone, and the gap is closed.
+    Gone,
+    /// 33: no rule has that number.
+    NoRule,
+    /// 34: the buffer is no catalogue.
+    NoCatalogue,
+}
+
+impl Withdrawn {
+    /// Its number, as in the table of the rules.
+    pub fn number(self) -> u32 {
+        match self {
+            Withdrawn::Gone => 0,
+            Withdrawn::NoRule => 33,
+            Withdrawn::NoCatalogue => 34,
+        }
+    }
+}
+
+/// In words.
+impl fmt::Display for Withdrawn {
+    fn fmt(&self, to: &mut fmt::Formatter<'_>) -> fmt::Result {
+        to.write_str(match self {
+            Withdrawn::Gone => "done",
+            Withdrawn::NoRule => "no rule has that number",
+            Withdrawn::NoCatalogue => "the buffer is no catalogue",
+        })
+    }
+}
+
+/// Adds a rule behind the last one, if it clashes with none that is there.
+///
+/// The rules that are there are tried by rising number, each pair in the whole working buffer;
+/// where one is not decided, the rule is not added. Only [`Added::Entered`] changes the catalogue,
+/// and only the bytes where the rule then stands. The working buffer is all zero after
+/// [`Added::NotApart`], and after [`Added::Entered`] unless the catalogue was empty; otherwise it
+/// is unchanged.
+///
+/// A catalogue is rules one behind the other from the first byte on, and zeros behind them. One
+/// that began as zeros and was changed by [`add`] and [`withdraw`] alone has no two rules that make
+/// the same label.
+pub fn add(catalogue: &mut [u8], rule: &[u8], work: &mut [u8]) -> Added {
+    let mut told = [0; 4];
+    // SAFETY: each pointer and length are those of one slice. No two of the slices overlap, since
+    // three are borrowed mutably. The function keeps no pointer.
+    let number = unsafe {
+        bradovusc_add(
+            catalogue.as_mut_ptr(),
+            catalogue.len(),
+            rule.as_ptr(),
+            rule.len(),
+            work.as_mut_ptr(),
+            work.len(),
+            told.as_mut_ptr(),
+            told.len(),
+        )
+    };
+    // These are an offset in a slice, the number of situations that one holds, and small numbers.
+    let [count, place, rule, pair] = told.map(|number| number as usize);
+    match number {
+        0 => Added::Entered,
+        30 => Added::NotApart { rule, pair: Answer::numbered(pair as u32, count, 0, 0) },
+        31 => Added::ForeignField,
+        32 => Added::Full,
+        34 => Added::NoCatalogue,
+        _ => Added::Refused { fault: Fault::numbered(number), place },
+    }
+}
+
+/// Withdraws the rule with this number.
+///
+/// Its bytes go, those behind it move up, and the bytes freed at the end are zero; so each rule
+/// behind it then has the number before its own. Only [`Withdrawn::Gone`] changes the catalogue.
+pub fn withdraw(catalogue: &mut [u8], number: usize) -> Withdrawn {
+    // SAFETY: pointer and length are those of one slice. The function keeps no pointer.
+    match unsafe { bradovusc_withdraw(catalogue.as_mut_ptr(), catalogue.len(), number) } {
+        0 => Withdrawn::Gone,
+        33 => Withdrawn::NoRule,
+        34 => Withdrawn::NoCatalogue,
+        _ => unreachable!("the library promises its numbers"),
+    }
+}
+
+extern "C" {
+    fn bradovusc_add(
+        catalogue: *mut u8,
+        catalogue_length: usize,
+        rule: *const u8,
+        rule_length: usize,
+        work: *mut u8,
+        work_length: usize,
+        told: *mut u64,
+        told_length: usize,
+    ) -> u32;
+
+    fn bradovusc_withdraw(catalogue: *mut u8, catalogue_length: usize, number: usize) -> u32;
+}

@@ -1,0 +1,96 @@
+//! The library and the crate `second` agree on many generated calls of a catalogue: all that is
+//! told, and both buffers to the last byte.
+
+use std::collections::BTreeSet;
+
+use bradovusc::{add, withdraw, Added};
+use second::calls::{After, Call, Calls, Operation, MOST_CATALOGUE, WORK};
+use second::cases::WORK_FILL;
+use second::catalogue::HASHING;
+use second::make::calls::operations;
+use second::make::Dice;
+use second::storeroom;
+
+/// The library in the form of `second::calls::Calls`.
+struct Library {
+    catalogue: Vec<u8>,
+    work: usize,
+}
+
+impl Library {
+    fn new() -> Library {
+        Library { catalogue: vec![0; MOST_CATALOGUE], work: WORK }
+    }
+
+    fn run(&mut self, operation: &Operation) -> Option<After> {
+        let call = match operation {
+            Operation::Add(rule) => {
+                let mut work = vec![WORK_FILL; self.work];
+                let told = told(add(&mut self.catalogue, rule, &mut work));
+                Call::Add { told, work }
+            }
+            Operation::Withdraw(number) => {
+                let withdrawn = withdraw(&mut self.catalogue, usize::from(*number));
+                Call::Withdraw { number: withdrawn.number() as u8 }
+            }
+            Operation::Catalogue { length, front } => {
+                self.catalogue = front.clone();
+                self.catalogue.resize(*length, 0);
+                return None;
+            }
+            Operation::Work(length) => {
+                self.work = *length;
+                return None;
+            }
+        };
+        Some(After { call, catalogue: self.catalogue.clone() })
+    }
+}
+
+fn told(added: Added) -> second::catalogue::Added {
+    let number = added.number() as u8;
+    let nothing = second::catalogue::Added { number, ..Default::default() };
+    match added {
+        Added::Refused { place, .. } => second::catalogue::Added { place, ..nothing },
+        Added::NotApart { rule, pair } => {
+            let (count, pair) = (pair.count(), pair.number() as u8);
+            second::catalogue::Added { count, rule, pair, ..nothing }
+        }
+        _ => nothing,
+    }
+}
+
+/// Both do these operations; hands back what each call was answered.
+fn agreed(operations: &[Operation]) -> Vec<Call> {
+    let mut library = Library::new();
+    let mut second = Calls::new(HASHING);
+    let mut calls = Vec::new();
+    for operation in operations {
+        let after = library.run(operation);
+        assert_eq!(after, second.run(operation), "{operation:?}");
+        calls.extend(after.map(|after| after.call));
+    }
+    calls
+}
+
+#[test]
+fn generated_calls() {
+    let mut seen = BTreeSet::new();
+    for call in agreed(&operations(&mut Dice::new(39), 4000)) {
+        seen.insert(match call {
+            Call::Add { told, .. } => ("add", told.number, told.pair),
+            Call::Withdraw { number } => ("withdraw", number, 0),
+        });
+    }
+    let alone = [0, 11, 12, 13, 14, 15, 16, 17, 31, 32, 34].map(|number| ("add", number, 0));
+    let pairs = [0, 18, 19].map(|answer| ("add", 30, answer));
+    let withdrawals = [0, 33, 34].map(|number| ("withdraw", number, 0));
+    assert_eq!(seen, alone.into_iter().chain(pairs).chain(withdrawals).collect());
+}
+
+#[test]
+fn a_storeroom() {
+    let operations: Vec<Operation> =
+        storeroom::rows().into_iter().map(|row| row.operation).collect();
+    assert!(agreed(&operations).len() > 40);
+}

@@ -1,0 +1,171 @@
+//! Streams of operations on a catalogue, for comparing programs.
+//!
+//! Numbers have their low byte first. An operation is one of
+//!
+//! | Mark | Then | Meaning |
+//! |---|---|---|
+//! | `AD` | length n in two bytes, n bytes | add this rule |
+//! | `WI` | one byte | withdraw the rule with this number |
+//! | `CA` | length b in two bytes, length n in two bytes, n bytes | from now on the catalogue is a buffer of b bytes that begins with these n, the rest zeros |
+//! | `WO` | length in four bytes | from now on so many bytes of work are lent to each `AD` |
+
+use crate::cases::{push_each, push_work, WORK_FILL};
+use crate::catalogue::{add, withdraw, Added, Searcher};
+
+/// The catalogue's length at the start, and the greatest.
+pub const MOST_CATALOGUE: usize = 8_192;
+/// The bytes of work at the start: 455 situations.
+pub const WORK: usize = 65_520;
+/// The most bytes of work: still 455 situations.
+pub const MOST_WORK: usize = 65_663;
+
+#[derive(Clone, Debug, PartialEq, Eq)]
+pub enum Operation {
+    Add(Vec<u8>),
+    Withdraw(u8),
+    Catalogue { length: usize, front: Vec<u8> },
+    Work(usize),
+}
+
+impl Operation {
+    /// Reads an operation from the front of a stream and hands back the rest;
+    /// none where the operation is cut short, has another mark or asks for
+    /// more than is allowed.
+    pub fn read(stream: &[u8]) -> Option<(Operation, &[u8])> {
+        let (mark, rest) = stream.split_at_checked(2)?;
+        match mark {
+            b"AD" => {
+                let (length, rest) = number(rest, 2)?;
+                let (rule, rest) = rest.split_at_checked(length)?;
+                Some((Operation::Add(rule.to_vec()), rest))
+            }
+            b"WI" => {
+                let (&number, rest) = rest.split_first()?;
+                Some((Operation::Withdraw(number), rest))
+            }
+            b"CA" => {
+                let (length, rest) = number(rest, 2)?;
+                let (front_length, rest) = number(rest, 2)?;
+                if length > MOST_CATALOGUE || front_length > length {
+                    return None;
+                }
+                let (front, rest) = rest.split_at_checked(front_length)?;
+                Some((Operation::Catalogue { length, front: front.to_vec() }, rest))
+            }
+            b"WO" => {
+                let (length, rest) = number(rest, 4)?;
+                (length <= MOST_WORK).then_some((Operation::Work(length), rest))
+            }
+            _ => None,
+        }
+    }
+
+    /// Writes the operation behind the stream.
+    pub fn write(&self, stream: &mut Vec<u8>) {
+        match self {
+            Operation::Add(rule) => {
+                stream.extend_from_slice(b"AD");
+                stream.extend_from_slice(&(rule.len() as u16).to_le_bytes());
+                stream.extend_from_slice(rule);
+            }
+            Operation::Withdraw(number) => {
+                stream.extend_from_slice(b"WI");
+                stream.push(*number);
+            }
+            Operation::Catalogue { length, front } => {
+                stream.extend_from_slice(b"CA");
+                stream.extend_from_slice(&(*length as u16).to_le_bytes());
+                stream.extend_from_slice(&(front.len() as u16).to_le_bytes());
+                stream.extend_from_slice(front);
+            }
+            Operation::Work(length) => {
+                stream.extend_from_slice(b"WO");
+                stream.extend_from_slice(&(*length as u32).to_le_bytes());
+            }
+        }
+    }
+}
+
+/// A number of so many bytes, low byte first, and the rest of the stream.
+fn number(stream: &[u8], bytes: usize) -> Option<(usize, &[u8])> {
+    let (number, rest) = stream.split_at_checked(bytes)?;
+    Some((number.iter().rev().fold(0, |high, &byte| 256 * high + usize::from(byte)), rest))
+}
+
+/// The catalogue and the bytes of work that are lent.
+pub struct Calls {
+    pub catalogue: Vec<u8>,
+    work: usize,
+    search: Searcher,
+}
+
+/// What a call told, and what the lent buffers hold afterwards.
+#[derive(Clone, Debug, PartialEq, Eq)]
+pub struct After {
+    pub call: Call,
+    pub catalogue: Vec<u8>,
+}
+
+#[derive(Clone, Debug, PartialEq, Eq)]
+pub enum Call {
+    Add { told: Added, work: Vec<u8> },
+    Withdraw { number: u8 },
+}
+
+impl Calls {
+    /// "At the start the catalogue is 8192 zero bytes and 65520 bytes of work
+    /// are lent."
+    pub fn new(search: Searcher) -> Calls {
+        Calls { catalogue: vec![0; MOST_CATALOGUE], work: WORK, search }
+    }
+
+    /// Does one operation; `CA` and `WO` tell nothing.
+    pub fn run(&mut self, operation: &Operation) -> Option<After> {
+        let call = match operation {
+            Operation::Add(rule) => {
+                let mut work = vec![WORK_FILL; self.work];
+                let told = add(&mut self.catalogue, rule, &mut work, self.search);
+                Call::Add { told, work }
+            }
+            Operation::Withdraw(number) => {
+                let number = withdraw(&mut self.catalogue, usize::from(*number));
+                Call::Withdraw { number }
+            }
+            Operation::Catalogue { length, front } => {
+                self.catalogue = front.clone();
+                self.catalogue.resize(*length, 0);
+                return None;
+            }
+            Operation::Work(length) => {
+                self.work = *length;
+                return None;
+            }
+        };
+        Some(After { call, catalogue: self.catalogue.clone() })
+    }
+}
+
+impl After {
+    /// What the program `catalogue` prints.
+    pub fn numbers(&self) -> String {
+        match &self.call {
+            Call::Add { told: Added { number, count, place, rule, pair }, .. } => {
+                format!("add {number} {count} {place} {rule} {pair}")
+            }
+            Call::Withdraw { number } => format!("withdraw {number}"),
+        }
+    }
+
+    /// What the program `calls` prints: every byte of the lent buffers too.
+    pub fn line(&self) -> String {
+        let mut line = self.numbers() + ", catalogue";
+        let last = self.catalogue.iter().rposition(|&byte| byte != 0);
+        let (records, zeros) = self.catalogue.split_at(last.map_or(0, |last| last + 1));
+        push_each(&mut line, records);
+        line += &format!(", zeros {}", zeros.len());
+        if let Call::Add { work, .. } = &self.call {
+            push_work(&mut line, work);
+        }
+        line
+    }
+}

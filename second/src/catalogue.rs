@@ -1,0 +1,179 @@
+//! The catalogue: "up to 32 rules in a lent buffer, rules added singly", of
+//! which no two can make the same label.
+
+use std::ops::Range;
+
+use crate::pattern::Allowed;
+use crate::sheet::{Cursor, Fault, Question, Token, FIELDS, LEFT};
+use crate::{scan, NO_CLASH};
+
+/// A rule is entered, or withdrawn.
+pub const DONE: u8 = 0;
+/// The refusals, by their numbers in the request.
+pub const PAIR_NOT_1: u8 = 30;
+pub const FIELD_ABOVE_3: u8 = 31;
+pub const DOES_NOT_FIT: u8 = 32;
+pub const NO_SUCH_RULE: u8 = 33;
+pub const NOT_OF_THIS_FORM: u8 = 34;
+
+/// "A rule's record is the mark `RU` ..."
+pub const RULE: &[u8; 2] = b"RU";
+/// "a catalogue of up to 32 rules"
+pub const MOST_RULES: usize = 32;
+/// "its own fields, numbered 0 to 3", "the new one ... with its fields as 4 to
+/// 7"
+pub const RULE_FIELDS: usize = FIELDS / 2;
+
+/// A rule that passed the checks of reading.
+#[derive(Clone, Debug)]
+pub struct Rule {
+    side: Vec<Token>,
+    allowed: [Allowed; FIELDS],
+}
+
+impl Rule {
+    /// Reads and judges a whole rule.
+    pub fn read(bytes: &[u8]) -> Result<Rule, Fault> {
+        let mut cursor = Cursor::new(bytes);
+        let rule = Rule::record(&mut cursor)?;
+        // "one `LE`, its end as `RI` is a sheet's"
+        cursor.end()?;
+        Ok(rule)
+    }
+
+    /// "the mark `RU`, the `PA` records of its own fields, ..., and one `LE`"
+    fn record(cursor: &mut Cursor) -> Result<Rule, Fault> {
+        cursor.mark(RULE)?;
+        let allowed = cursor.patterns()?;
+        let side = cursor.side(LEFT)?;
+        Ok(Rule { side, allowed })
+    }
+
+    /// "31 for a field above 3", be it a pattern's or a token's.
+    fn names_a_field_above_3(&self) -> bool {
+        let pattern = |allowed: &Allowed| matches!(allowed, Allowed::Pattern(_));
+        let token = |token: &Token| match *token {
+            Token::Field(field) => usize::from(field) >= RULE_FIELDS,
+            Token::Character(_) => false,
+        };
+        self.allowed[RULE_FIELDS..].iter().any(pattern) || self.side.iter().any(token)
+    }
+}
+
+/// "In a pair the present rule is the left side, the new one the right, with
+/// its fields as 4 to 7." Both rules' own fields are 0 to 3.
+fn question(present: &Rule, new: &Rule) -> Question {
+    let renumbered = |token: &Token| match *token {
+        Token::Field(field) => Token::Field(field + RULE_FIELDS as u8),
+        character => character,
+    };
+    Question {
+        left: present.side.clone(),
+        right: new.side.iter().map(renumbered).collect(),
+        allowed: std::array::from_fn(|field| match field.checked_sub(RULE_FIELDS) {
+            None => present.allowed[field].clone(),
+            Some(own) => new.allowed[own].clone(),
+        }),
+    }
+}
+
+/// A rule of the catalogue and where its bytes stand.
+pub struct Present {
+    pub rule: Rule,
+    pub bytes: Range<usize>,
+}
+
+/// "Records stand one behind the other from the buffer's start, then zero
+/// bytes; a rule's number is its place in that order, from 0". None where the
+/// buffer is not of this form.
+pub fn read(catalogue: &[u8]) -> Option<Vec<Present>> {
+    let mut rules = Vec::new();
+    let mut place = 0;
+    while catalogue[place..].iter().any(|&byte| byte != 0) {
+        let mut cursor = Cursor::new(&catalogue[place..]);
+        let rule = Rule::record(&mut cursor).ok()?;
+        if rules.len() == MOST_RULES || rule.names_a_field_above_3() {
+            return None;
+        }
+        let end = place + cursor.place();
+        rules.push(Present { rule, bytes: place..end });
+        place = end;
+    }
+    Some(rules)
+}
+
+/// What `add` tells, each 0 where nothing is said of it.
+#[derive(Clone, Copy, Debug, Default, PartialEq, Eq)]
+pub struct Added {
+    /// The answer's number.
+    pub number: u8,
+    /// With 30, the situations entered for the pair.
+    pub count: usize,
+    /// With 11 to 17, the offset from `RU` of the record with the fault.
+    pub place: usize,
+    /// With 30, "the number of the first rule that gave something else ..."
+    pub rule: usize,
+    /// "... is reported with that answer".
+    pub pair: u8,
+}
+
+impl Added {
+    fn of(number: u8) -> Added {
+        Added { number, ..Added::default() }
+    }
+}
+
+/// Searches a question in the room of a working buffer, which ends all zero:
+/// the answer's number and the count.
+pub type Searcher = fn(&Question, &mut [u8]) -> (u8, usize);
+
+/// By hash, and by a scan over the working buffer.
+pub const HASHING: Searcher = crate::searched;
+pub const SCANNING: Searcher = scan::searched;
+
+/// Enters a rule behind the last one.
+pub fn add(catalogue: &mut [u8], rule: &[u8], work: &mut [u8], search: Searcher) -> Added {
+    // "34 for a buffer not of this form, ..."
+    let Some(present) = read(catalogue) else {
+        return Added::of(NOT_OF_THIS_FORM);
+    };
+    // "... then the rule's own 11 to 17, ..."
+    let new = match Rule::read(rule) {
+        Ok(new) => new,
+        Err(Fault { number, place }) => return Added { place, ..Added::of(number) },
+    };
+    // "... then 31 for a field above 3, ..."
+    if new.names_a_field_above_3() {
+        return Added::of(FIELD_ABOVE_3);
+    }
+    // "... then 32 if 32 rules stand or the record's bytes don't fit, ..."
+    let place = present.last().map_or(0, |last| last.bytes.end);
+    if present.len() == MOST_RULES || rule.len() > catalogue.len() - place {
+        return Added::of(DOES_NOT_FIT);
+    }
+    // "... then 30 for a pair not answered 1"
+    for (number, present) in present.iter().enumerate() {
+        let (answer, count) = search(&question(&present.rule, &new), work);
+        if answer != NO_CLASH {
+            return Added { count, rule: number, pair: answer, ..Added::of(PAIR_NOT_1) };
+        }
+    }
+    catalogue[place..][..rule.len()].copy_from_slice(rule);
+    Added::of(DONE)
+}
+
+/// Takes the rule with this number out; "withdrawing closes the gap".
+pub fn withdraw(catalogue: &mut [u8], number: usize) -> u8 {
+    // "for a withdrawal 34, then 33 if no rule has that number"
+    let Some(present) = read(catalogue) else {
+        return NOT_OF_THIS_FORM;
+    };
+    let Some(Present { bytes: Range { start, end }, .. }) = present.into_iter().nth(number) else {
+        return NO_SUCH_RULE;
+    };
+    // All behind the record moves up, and as many bytes at the end are zero.
+    catalogue.copy_within(end.., start);
+    let kept = catalogue.len() - (end - start);
+    catalogue[kept..].fill(0);
+    DONE
+}

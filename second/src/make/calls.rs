@@ -1,0 +1,511 @@
+//! Makes operations on a catalogue from a seed: rules that clash and rules that
+//! do not, damaged rules, catalogues that are full, short or damaged, rooms of
+//! all sizes.
+
+use super::{alphabet, damaged, patterns, random_bytes, sides, some_fields, write_out};
+use super::{big_pattern, Dice, Record, Sides};
+use crate::calls::{Calls, Operation, MOST_CATALOGUE, MOST_WORK};
+use crate::catalogue::{read, HASHING, MOST_RULES, RULE, RULE_FIELDS};
+use crate::pattern::CHARACTERS;
+use crate::sheet::{FIELDS, LEFT, PATTERN};
+use crate::write::{self, choice, many, row, tokens};
+
+/// A stream of so many `AD` and `WI` together, and an end.
+pub fn stream(dice: &mut Dice, number: usize) -> Vec<u8> {
+    let mut stream = Vec::new();
+    for operation in operations(dice, number) {
+        operation.write(&mut stream);
+    }
+    stream.extend_from_slice(dice.pick(&ENDS));
+    stream
+}
+
+/// What stands behind the operations: nothing, an operation cut short, another
+/// mark, or more than is allowed; where a good `WI` follows it is not done.
+const ENDS: [&[u8]; 12] = [
+    b"",
+    b"A",
+    b"AD\x05\x00RULE",
+    b"WI",
+    b"CA\x02\x00\x02\x00R",
+    b"WO\x00\x00\x00",
+    b"AXWI\x00",
+    b"wi\x00WI\x00",
+    b"CA\x01\x20\x00\x00WI\x00",
+    b"CA\x02\x00\x03\x00RULWI\x00",
+    b"WO\x80\x00\x01\x00WI\x00",
+    b"WO\x00\x00\x00\x01WI\x00",
+];
+
+/// So many `AD` and `WI` together, with the `CA` and `WO` between them.
+pub fn operations(dice: &mut Dice, number: usize) -> Vec<Operation> {
+    let mut maker = Maker::new(dice);
+    while maker.told < number {
+        maker.next();
+    }
+    maker.made
+}
+
+/// Some of them begin alike.
+const PREFIXES: [&str; 8] = ["LT", "RL", "NL", "KP", "KS", "SP", "L", "K"];
+
+/// The style of a catalogue's rules.
+enum Style {
+    /// As storerooms write them, with these prefixes.
+    Storeroom(Vec<&'static str>),
+    /// Small rules of any kind over these characters.
+    Small(Vec<u8>),
+    /// One label each, of one or two characters.
+    Labels,
+}
+
+/// The operations made, and the catalogue as they leave it.
+struct Maker<'a> {
+    dice: &'a mut Dice,
+    made: Vec<Operation>,
+    /// How many of them are `AD` or `WI`.
+    told: usize,
+    calls: Calls,
+    style: Style,
+    /// So many more of them before another catalogue.
+    left: usize,
+    /// Rules to be added soon: one that was withdrawn, one that clashes.
+    soon: Vec<Vec<u8>>,
+}
+
+impl Maker<'_> {
+    /// Begins with the catalogue and the bytes of work that are there at the
+    /// start.
+    fn new(dice: &mut Dice) -> Maker<'_> {
+        let calls = Calls::new(HASHING);
+        let style = Style::Storeroom(PREFIXES.to_vec());
+        Maker { dice, made: Vec::new(), told: 0, calls, style, left: 12, soon: Vec::new() }
+    }
+
+    fn make(&mut self, operation: Operation) {
+        self.told += usize::from(self.calls.run(&operation).is_some());
+        self.made.push(operation);
+    }
+
+    /// One `AD` or `WI`, and what is lent to it.
+    fn next(&mut self) {
+        if self.left == 0 {
+            self.other_catalogue();
+        }
+        self.left -= 1;
+        if self.dice.one_in(16) {
+            self.other_work();
+        }
+        let operation = match self.dice.below(20) {
+            0..=3 => self.withdrawal(),
+            4 => self.just_long_enough(),
+            _ => Operation::Add(self.any_rule()),
+        };
+        self.make(operation);
+    }
+
+    /// The bytes of the rules in the catalogue, if it is of the form.
+    fn present(&self) -> Vec<Vec<u8>> {
+        let present = read(&self.calls.catalogue).unwrap_or_default();
+        present.into_iter().map(|rule| self.calls.catalogue[rule.bytes].to_vec()).collect()
+    }
+
+    fn withdrawal(&mut self) -> Operation {
+        let present = self.present();
+        let number = match self.dice.below(10) {
+            0 | 1 => 0,
+            2 | 3 => present.len().saturating_sub(1),
+            4 => present.len(),
+            5 => self.dice.pick(&[31, 32, 33, 128, 255]),
+            _ => self.dice.below(present.len().max(1)),
+        };
+        if let Some(rule) = present.get(number) {
+            self.soon.push(rule.clone());
+        }
+        Operation::Withdraw(number as u8)
+    }
+
+    /// The same catalogue in a buffer that is just long enough for the next
+    /// rule, or one byte too short, or has no byte left.
+    fn just_long_enough(&mut self) -> Operation {
+        let front = self.present().concat();
+        let rule = self.good_rule();
+        let missing = self.dice.pick(&[0, 0, 1, 1, rule.len()]);
+        let length = front.len() + rule.len() - missing;
+        if length <= MOST_CATALOGUE {
+            self.make(Operation::Catalogue { length, front });
+            self.left = self.dice.below(3);
+        }
+        Operation::Add(rule)
+    }
+
+    // ------------------------------------------------------ lent buffers
+
+    fn other_work(&mut self) {
+        let room = match self.dice.below(20) {
+            0 => 0,
+            1 => 1,
+            2..=6 => self.dice.between(2, 12),
+            7..=11 => self.dice.between(13, 80),
+            _ => 455,
+        };
+        let length = super::work_length(self.dice, room) as usize;
+        self.make(Operation::Work(length.min(MOST_WORK)));
+    }
+
+    fn other_catalogue(&mut self) {
+        self.left = self.dice.between(4, 24);
+        self.soon.clear();
+        self.style = match self.dice.below(8) {
+            0..=3 => {
+                let prefixes = self.dice.between(1, 4);
+                Style::Storeroom((0..prefixes).map(|_| self.dice.pick(&PREFIXES)).collect())
+            }
+            4..=6 => Style::Small(alphabet(self.dice)),
+            _ => Style::Labels,
+        };
+        let operation = match self.dice.below(12) {
+            0..=5 => Operation::Catalogue { length: self.any_length(), front: Vec::new() },
+            6..=8 => {
+                let rules = if self.dice.one_in(30) { 20 } else { self.dice.between(1, 5) };
+                let front = self.rules(rules).concat();
+                self.with_zeros(front)
+            }
+            9 => self.full(),
+            _ => {
+                self.left = self.dice.between(1, 5);
+                let front = self.damaged_catalogue();
+                self.with_zeros(front)
+            }
+        };
+        if matches!(operation, Operation::Catalogue { length: 0..60, .. }) {
+            self.left = self.dice.between(1, 4);
+        }
+        self.make(operation);
+        self.other_work();
+    }
+
+    fn any_length(&mut self) -> usize {
+        match self.dice.below(12) {
+            0 => 0,
+            1 => self.dice.below(40),
+            2 => MOST_CATALOGUE,
+            3 | 4 => self.dice.between(60, 300),
+            _ => self.dice.between(300, 700),
+        }
+    }
+
+    /// A catalogue with these bytes in front and some zeros behind.
+    fn with_zeros(&mut self, front: Vec<u8>) -> Operation {
+        let zeros = match self.dice.below(6) {
+            0 => 0,
+            1 => self.dice.below(12),
+            2 => self.dice.between(12, 60),
+            _ => self.dice.between(60, 400),
+        };
+        Operation::Catalogue { length: front.len() + zeros, front }
+    }
+
+    /// So many good rules, as if they had been entered; their pairs are not
+    /// searched.
+    fn rules(&mut self, number: usize) -> Vec<Vec<u8>> {
+        let mut rules = Vec::new();
+        while rules.len() < number {
+            let rule = self.good_rule();
+            // A big pattern of the small style may have too many leaves. Not
+            // too long, so that 20 of them fit.
+            if read(&rule).is_some() && rule.len() <= 200 {
+                rules.push(rule);
+            }
+        }
+        rules
+    }
+
+    /// 30 to 32 short rules.
+    fn full(&mut self) -> Operation {
+        self.style = Style::Labels;
+        let number = self.dice.between(MOST_RULES - 2, MOST_RULES);
+        let front = labels(self.dice, number).concat();
+        self.with_zeros(front)
+    }
+
+    /// Bytes that are not of a catalogue's form, most of them nearly so.
+    fn damaged_catalogue(&mut self) -> Vec<u8> {
+        let number = self.dice.between(1, 4);
+        let mut rules = self.rules(number);
+        let at = self.dice.below(number);
+        match self.dice.below(9) {
+            // a byte changed
+            0 | 1 => {
+                let mut front = rules.concat();
+                let at = self.dice.below(front.len());
+                let near = front[at].wrapping_add(self.dice.pick(&[1, 255]));
+                let any = self.dice.byte();
+                front[at] = self.dice.pick(&[near, any, 0]);
+                front
+            }
+            // a record cut off, with or without zeros behind it
+            2 => {
+                let mut front = rules.concat();
+                let last = rules[number - 1].len();
+                front.truncate(front.len() - self.dice.between(1, last - 1));
+                front
+            }
+            // a byte behind the zeros, or zeros before a record
+            3 => {
+                let mut front = rules.concat();
+                front.resize(front.len() + self.dice.between(1, 30), 0);
+                front.push(self.dice.pick(&[1, 82, 255]));
+                front
+            }
+            4 => {
+                rules[at].insert(0, 0);
+                rules.concat()
+            }
+            // 33 records
+            5 => labels(self.dice, MOST_RULES + 1).concat(),
+            // a record with a field above 3
+            6 => {
+                rules[at] = self.with_field_above_3();
+                rules.concat()
+            }
+            7 => {
+                rules[at] = self.damaged_rule();
+                rules.concat()
+            }
+            _ => random_bytes(self.dice),
+        }
+    }
+
+    // ------------------------------------------------------------- rules
+
+    /// What comes to be added.
+    fn any_rule(&mut self) -> Vec<u8> {
+        if self.dice.one_in(3) {
+            return self.soon.pop().unwrap_or_else(|| self.good_rule());
+        }
+        match self.dice.below(18) {
+            0..=3 => self.damaged_rule(),
+            4 => self.with_field_above_3(),
+            5 => {
+                let front = self.dice.pick(&[&b""[..], RULE]).to_vec();
+                [front, random_bytes(self.dice)].concat()
+            }
+            6 => {
+                // A byte changed in a good rule.
+                let mut rule = self.good_rule();
+                let at = self.dice.below(rule.len());
+                rule[at] = rule[at].wrapping_add(self.dice.pick(&[1, 2, 64, 254, 255]));
+                rule
+            }
+            7..=9 => self.like_a_present_one(),
+            _ => self.good_rule(),
+        }
+    }
+
+    /// A rule that stands, or its side alone, all fields open.
+    fn like_a_present_one(&mut self) -> Vec<u8> {
+        let present = self.present();
+        if present.is_empty() {
+            return self.good_rule();
+        }
+        let rule = &present[self.dice.below(present.len())];
+        if self.dice.one_in(2) {
+            return rule.clone();
+        }
+        let mut side = &rule[RULE.len()..];
+        while side.starts_with(PATTERN) {
+            side = &side[4 + usize::from(side[3])..];
+        }
+        [RULE, side].concat()
+    }
+
+    /// A good rule in the catalogue's style.
+    fn good_rule(&mut self) -> Vec<u8> {
+        let records = self.good_records();
+        rule_of(&records)
+    }
+
+    fn good_records(&mut self) -> Vec<Record> {
+        match &self.style {
+            Style::Storeroom(prefixes) => as_in_a_storeroom(self.dice, prefixes),
+            Style::Small(alphabet) => {
+                let [rule, other] = match self.dice.below(8) {
+                    0 | 1 => uneven(self.dice),
+                    _ => two_small(self.dice, alphabet),
+                };
+                self.soon.push(rule_of(&other));
+                rule
+            }
+            Style::Labels => {
+                let first = self.dice.below(CHARACTERS.into());
+                vec![Record::side(LEFT, label(self.dice, first))]
+            }
+        }
+    }
+
+    fn damaged_rule(&mut self) -> Vec<u8> {
+        let mut records = self.good_records();
+        if self.dice.one_in(500) {
+            // Very long.
+            let mut rule = rule_of(&records);
+            rule.resize(self.dice.pick(&[1_024, 8_193, 65_535]), 0);
+            return rule;
+        }
+        if self.dice.one_in(10) {
+            // A pattern of 31 leaves, or of more.
+            let field = records[0].field.unwrap_or(0);
+            records.retain(|record| record.field != Some(field));
+            records.insert(0, Record::pattern(field, big_pattern(self.dice, &[0, 10])));
+            return rule_of(&records);
+        }
+        let mark = match self.dice.below(16) {
+            0 => *self.dice.pick(&[b"UR", b"RI", b"PA", b"LE", b"ru", b"\0\0"]),
+            1 => [RULE[0], self.dice.byte()],
+            _ => *RULE,
+        };
+        damaged(self.dice, &mark, 1, records)
+    }
+
+    /// A good rule but for a field above 3 in a pattern, in the side or in both.
+    fn with_field_above_3(&mut self) -> Vec<u8> {
+        let mut records = self.good_records();
+        let mut side = records.pop().expect("a rule's last record is its side").body;
+        let field = self.dice.between(RULE_FIELDS, FIELDS - 1) as u8;
+        let in_pattern = self.dice.one_in(2);
+        if in_pattern {
+            records.push(Record::pattern(field, vec![68, 65, 0, 9]));
+        }
+        if !in_pattern || self.dice.one_in(2) {
+            let at = self.dice.below(side.len() + 1);
+            side.insert(at, write::field(field));
+            side.truncate(24);
+            side[at.min(23)] = write::field(field);
+        }
+        records.push(Record::side(LEFT, side));
+        rule_of(&records)
+    }
+}
+
+fn rule_of(records: &[Record]) -> Vec<u8> {
+    [RULE, &write_out(records)[..]].concat()
+}
+
+/// Two small rules; often there is a label that both can make.
+fn two_small(dice: &mut Dice, alphabet: &[u8]) -> [Vec<Record>; 2] {
+    let fields = some_fields(dice, RULE_FIELDS as u8);
+    let (left, right, texts) =
+        if dice.one_in(8) { strip(dice, alphabet) } else { sides(dice, alphabet, &fields) };
+    // Most begin with a character, so that they clash with few others.
+    let front = (!dice.one_in(4)).then(|| dice.below(CHARACTERS.into()) as u8);
+    [left, right].map(|mut side| {
+        side.splice(0..0, front);
+        side.truncate(24);
+        let mut records = patterns(dice, alphabet, 0..RULE_FIELDS as u8, &side, &texts);
+        records.push(Record::side(LEFT, side));
+        records
+    })
+}
+
+/// Two rules with a label in common; the search counts otherwise where the two
+/// sides are exchanged.
+fn uneven(dice: &mut Dice) -> [Vec<Record>; 2] {
+    let c = dice.below(usize::from(CHARACTERS) - 1) as u8;
+    let d = c + 1;
+    let (x, y) = (write::field(0), write::field(1));
+    let twice_c = row(vec![vec![c]; 2]);
+    let c_and_d = row(vec![vec![c], vec![d]]);
+    let maybe = |part: Vec<u8>| choice(vec![vec![64], part]);
+    let mut two = match dice.below(3) {
+        0 => [records(&[(0, many(twice_c))], &[x, d]), records(&[(1, many(vec![c]))], &[x, y])],
+        1 => [
+            records(&[(0, many(c_and_d.clone()))], &[x, c]),
+            records(&[(0, maybe(vec![c])), (1, many(c_and_d))], &[x, y]),
+        ],
+        _ => [records(&[(1, maybe(twice_c))], &[x, y]), records(&[], &[x, d])],
+    };
+    dice.shuffle(&mut two);
+    two
+}
+
+fn records(patterns: &[(u8, Vec<u8>)], side: &[u8]) -> Vec<Record> {
+    let patterns = patterns.iter().map(|(field, body)| Record::pattern(*field, body.clone()));
+    patterns.chain([Record::side(LEFT, side.to_vec())]).collect()
+}
+
+/// A field standing many times, and one that ends otherwise than it can.
+fn strip(dice: &mut Dice, alphabet: &[u8]) -> Sides {
+    let times = dice.between(8, 24);
+    let mut other = vec![write::field(0)];
+    other.extend((0..dice.between(1, 2)).map(|_| dice.pick(alphabet)));
+    other.push(dice.below(CHARACTERS.into()) as u8);
+    (vec![write::field(0); times], other, Vec::new())
+}
+
+/// A prefix, then digits, sizes, finishes or hands, now and then one of them
+/// twice or any text.
+fn as_in_a_storeroom(dice: &mut Dice, prefixes: &[&str]) -> Vec<Record> {
+    let mut fields: Vec<u8> = (0..RULE_FIELDS as u8).collect();
+    if dice.one_in(3) {
+        dice.shuffle(&mut fields);
+    }
+    fields.truncate(dice.pick(&[0, 1, 1, 1, 2, 2, 2, 3, 4]));
+    let mut side = tokens(dice.pick(prefixes));
+    let mut patterns = Vec::new();
+    for field in fields {
+        let times = if dice.one_in(8) { 2 } else { 1 };
+        for _ in 0..times {
+            if dice.one_in(4) {
+                side.extend(tokens(dice.pick(&["-", "/", ".", " "])));
+            }
+            side.push(write::field(field));
+        }
+        patterns.extend(storeroom_pattern(dice).map(|pattern| Record::pattern(field, pattern)));
+    }
+    if dice.one_in(5) {
+        side.extend(tokens(dice.pick(&["L", "R", "BR", "SS", "0", "-1"])));
+    }
+    patterns.sort_by_key(|record| record.field);
+    patterns.push(Record::side(LEFT, side));
+    patterns
+}
+
+/// None for an open field.
+fn storeroom_pattern(dice: &mut Dice) -> Option<Vec<u8>> {
+    let digit = || vec![65, 0, 9];
+    let mut some = |texts: &[&str], most: usize| {
+        let mut texts: Vec<Vec<u8>> = texts.iter().map(|text| write::text(text)).collect();
+        dice.shuffle(&mut texts);
+        texts.truncate(dice.between(1, most));
+        choice(texts)
+    };
+    let sizes = some(&["40", "45", "57", "60"], 3);
+    let finishes = some(&["BR", "CH", "SS", "PB", "SC", "BK", "WH", "AB"], 5);
+    let hands = some(&["L", "R"], 2);
+    match dice.below(16) {
+        0..=3 => Some(row(vec![digit(); dice.between(1, 3)])),
+        4 => Some(many(digit())),
+        5 | 6 => Some(row(vec![digit(), many(digit())])),
+        7 | 8 => Some(sizes),
+        9..=12 => Some(finishes),
+        13 => Some(hands),
+        14 => Some(many(vec![65, 10, 35])),
+        _ => None,
+    }
+}
+
+/// So many rules of one label each, no two of which begin with the same
+/// character.
+fn labels(dice: &mut Dice, number: usize) -> Vec<Vec<u8>> {
+    let first = dice.below(CHARACTERS.into());
+    (first..first + number).map(|first| write::rule(&[], &label(dice, first))).collect()
+}
+
+/// A label of one or two characters.
+fn label(dice: &mut Dice, first: usize) -> Vec<u8> {
+    let mut label = vec![(first % usize::from(CHARACTERS)) as u8];
+    if dice.one_in(2) {
+        label.push(dice.pick(&[0, 10]));
+    }
+    label
+}

@@ -1,0 +1,285 @@
+//! A storeroom's catalogue of latches and keypads: the stored operations of
+//! the crate `catalogue`, each with what it is and the line that it prints.
+//!
+//! Fields are small letters, `a` for field 0. The labels of the rules:
+//!
+//! | Rule | Made as | For example |
+//! |---|---|---|
+//! | mortice latch | `LT`, two digits, a finish of `BR`, `CH` or `SS` | `LT42BR` |
+//! | rim latch | `RL`, two digits, a hand `L` or `R` | `RL07L` |
+//! | night latch | `NL`, 40 or 60 | `NL60` |
+//! | keypad | `KP`, three digits | `KP100` |
+//! | keypad with a finish | a keypad, `-`, a finish of `BK`, `WH` or `SS` | `KP100-BK` |
+//! | keypad with a cable | a keypad, `/`, any digits | `KP100/25` |
+//! | key safe | `KS`, any digits, `-`, the same digits again | `KS12-12` |
+//! | strike plate | `SP`, any digits | `SP3` |
+//! | battery | `BT 9V` | `BT 9V` |
+//! | box of a pair | `BX`, any text twice, a hand | `BXABABL` |
+//! | strip of tags | `TG`, any digits 22 times | `TG7777777777777777777777` |
+//! | lever | `LV`, any letters and digits | `LV42BR` |
+//!
+//! And a full catalogue of 32 rules, to measure what a pair costs.
+
+use crate::calls::{Operation, WORK};
+use crate::cases::Case;
+use crate::write::{choice, many, row, rule, sheet, text, tokens};
+use crate::SITUATION_BYTES;
+
+/// An operation, what it is, and the line that it prints, if any.
+pub struct Row {
+    pub what: &'static str,
+    pub operation: Operation,
+    pub line: Option<&'static str>,
+}
+
+pub fn rows() -> Vec<Row> {
+    [entered(), refused(), withdrawn(), other_buffers()].into_iter().flatten().collect()
+}
+
+/// The operations one behind the other.
+pub fn stream() -> Vec<u8> {
+    written(rows().into_iter().map(|row| row.operation))
+}
+
+fn written(operations: impl Iterator<Item = Operation>) -> Vec<u8> {
+    let mut stream = Vec::new();
+    for operation in operations {
+        operation.write(&mut stream);
+    }
+    stream
+}
+
+// -------------------------------------------------------------- the rules
+
+const A: u8 = 0;
+const B: u8 = 1;
+
+fn mortice_latch() -> Vec<u8> {
+    rule(&[(A, digits(2)), (B, one_of(&["BR", "CH", "SS"]))], &tokens("LTab"))
+}
+
+fn rim_latch() -> Vec<u8> {
+    rule(&[(A, digits(2)), (B, one_of(&["L", "R"]))], &tokens("RLab"))
+}
+
+fn night_latch() -> Vec<u8> {
+    rule(&[(A, one_of(&["40", "60"]))], &tokens("NLa"))
+}
+
+fn keypad() -> Vec<u8> {
+    rule(&[(A, digits(3))], &tokens("KPa"))
+}
+
+fn keypad_with_finish() -> Vec<u8> {
+    rule(&[(A, digits(3)), (B, one_of(&["BK", "WH", "SS"]))], &tokens("KPa-b"))
+}
+
+fn keypad_with_cable() -> Vec<u8> {
+    rule(&[(A, digits(3)), (B, many(digit()))], &tokens("KPa/b"))
+}
+
+fn key_safe() -> Vec<u8> {
+    rule(&[(A, many(digit()))], &tokens("KSa-a"))
+}
+
+fn strike_plate() -> Vec<u8> {
+    rule(&[(A, many(digit()))], &tokens("SPa"))
+}
+
+fn battery() -> Vec<u8> {
+    rule(&[], &tokens("BT 9V"))
+}
+
+/// The text is open.
+fn box_of_a_pair(made: &str) -> Vec<u8> {
+    rule(&[], &tokens(made))
+}
+
+fn strip_of_tags() -> Vec<u8> {
+    rule(&[(A, many(digit()))], &tokens(&format!("TG{}", "a".repeat(22))))
+}
+
+fn lever(made: &str) -> Vec<u8> {
+    rule(&[(A, many(letter_or_digit()))], &tokens(made))
+}
+
+// --------------------------------------------------------- the operations
+
+/// Eleven rules of which no two can make the same label.
+fn entered() -> Vec<Row> {
+    const ENTERED: &str = "add 0 0 0 0 0";
+    vec![
+        add("the mortice latch is rule 0", mortice_latch(), ENTERED),
+        add("the rim latch is rule 1", rim_latch(), ENTERED),
+        add("the night latch is rule 2", night_latch(), ENTERED),
+        add("the keypad is rule 3", keypad(), ENTERED),
+        add("the keypad with a finish is rule 4", keypad_with_finish(), ENTERED),
+        add("the key safe is rule 5", key_safe(), ENTERED),
+        add("the strike plate is rule 6", strike_plate(), ENTERED),
+        add("the battery is rule 7", battery(), ENTERED),
+        add("the box of a left-hand pair is rule 8", box_of_a_pair("BXaaL"), ENTERED),
+        add("the strip of tags is rule 9", strip_of_tags(), ENTERED),
+        // The clash that cost a latch: `LT42BR` on two shelves.
+        add("a lever can be marked as mortice latches are", lever("LTa"), "add 30 22 0 0 0"),
+        add("the lever with a mark of its own is rule 10", lever("LVa"), ENTERED),
+    ]
+}
+
+/// Rules that are not entered, for each cause.
+fn refused() -> Vec<Row> {
+    let any_keypad = rule(&[(A, row(vec![digit(), many(digit())]))], &tokens("KPa"));
+    let tag_and_letter = rule(&[(A, row(vec![many(digit()), text("X")]))], &tokens("TGa"));
+    let mut sheets_side = battery();
+    sheets_side[2..4].copy_from_slice(b"RI");
+    let falling = rule(&[(B, digit()), (A, digit())], &tokens("LTab"));
+    let too_long = rule(&[], &tokens(&"A".repeat(25)));
+    // An operator is missing, so the last finish is left over.
+    let left_over = [&one_of(&["BR", "CH"])[..], &text("SS")].concat();
+    let sixteen = one_of(&[
+        "BK", "BN", "BR", "CH", "CP", "GD", "IV", "NK", "PB", "PC", "PN", "SB", "SC", "SN", "SS",
+        "WH",
+    ]);
+    vec![
+        add("`KP100` is a keypad already", any_keypad, "add 30 9 0 3 0"),
+        add("18: the search runs on", box_of_a_pair("BXaaR"), "add 30 455 0 8 18"),
+        add("19: a side above 48 tokens", tag_and_letter, "add 30 13 0 9 19"),
+        add("11: cut short", battery()[..9].to_vec(), "add 11 0 2 0 0"),
+        add("12: a sheet's right side", sheets_side, "add 12 0 2 0 0"),
+        add("12: a byte behind `LE`", [battery(), vec![0]].concat(), "add 12 0 10 0 0"),
+        add("13: the second field first", falling, "add 13 0 9 0 0"),
+        add("14: 25 tokens", too_long, "add 14 0 2 0 0"),
+        add("15: not one pattern", rule(&[(A, left_over)], &tokens("LTa")), "add 15 0 2 0 0"),
+        add("16: 16 finishes, 32 leaves", rule(&[(A, sixteen)], &tokens("KPa")), "add 16 0 2 0 0"),
+        add("17: the stop sign is no character", rule(&[], &[43]), "add 17 0 2 0 0"),
+        add("31: a side with field 4", rule(&[], &tokens("LTe")), "add 31 0 0 0 0"),
+        add("31: a pattern of field 4", rule(&[(4, digit())], &tokens("LT")), "add 31 0 0 0 0"),
+    ]
+}
+
+/// A rule withdrawn and entered again; a small room.
+fn withdrawn() -> Vec<Row> {
+    let left_hand = rule(&[(A, digits(2))], &tokens("RLaL"));
+    vec![
+        withdraw("33: there is no rule 11", 11, "withdraw 33"),
+        withdraw("the rim latch goes, and the others move up", 1, "withdraw 0"),
+        add("it comes back as rule 10", rim_latch(), "add 0 0 0 0 0"),
+        add("`RL07L` is a rim latch already, of rule 10", left_hand, "add 30 8 0 10 0"),
+        work("room for one situation", SITUATION_BYTES),
+        add("18: not enough for the pair with rule 2", keypad_with_cable(), "add 30 1 0 2 18"),
+        work("no room", 0),
+        add("18: for the pair with rule 0", keypad_with_cable(), "add 30 0 0 0 18"),
+        work("455 situations again", WORK),
+        add("the keypad with a cable is rule 11", keypad_with_cable(), "add 0 0 0 0 0"),
+    ]
+}
+
+/// Catalogues that are full, of another form, or of no bytes.
+fn other_buffers() -> Vec<Row> {
+    let used = mortice_latch().len();
+    let needed = used + night_latch().len();
+    let shelves = "ABCDEFGHIJKLMNOPQRSTUVWXYZ012345";
+    let full: Vec<u8> = shelves.chars().flat_map(|shelf| shelf_mark(&shelf.to_string())).collect();
+    let mut damaged = mortice_latch();
+    damaged[used - 1] = 43;
+    vec![
+        catalogue("one rule and a byte too few for the next", needed - 1, mortice_latch()),
+        add("32: it doesn't fit", night_latch(), "add 32 0 0 0 0"),
+        catalogue("one byte more", needed, mortice_latch()),
+        add("it fits", night_latch(), "add 0 0 0 0 0"),
+        catalogue("32 shelf marks", full.len() + 8, full),
+        add("32: no 33rd, though its bytes would fit", shelf_mark("6"), "add 32 0 0 0 0"),
+        withdraw("the last one goes", 31, "withdraw 0"),
+        add("another is the 32nd", shelf_mark("6"), "add 0 0 0 0 0"),
+        catalogue("a rule whose last token is none", 64, damaged),
+        add("34: no catalogue to add to", night_latch(), "add 34 0 0 0 0"),
+        withdraw("34: nor to withdraw from", 0, "withdraw 34"),
+        catalogue("no bytes", 0, Vec::new()),
+        add("32: nothing fits", rule(&[], &[]), "add 32 0 0 0 0"),
+        withdraw("33: no rule", 0, "withdraw 33"),
+    ]
+}
+
+// ------------------------------------------------------- a full catalogue
+
+/// A rule's patterns by field, and its side.
+type Made = (Vec<(u8, Vec<u8>)>, String);
+
+/// 32 rules of which no two can make the same label: eight articles, each
+/// marked in four ways.
+fn full() -> Vec<Made> {
+    let four = |article: &str| {
+        let side = |rest: &str| format!("{article}{rest}");
+        [
+            (vec![(A, digits(2)), (B, one_of(&["BR", "CH", "SS"]))], side("ab")),
+            (vec![(A, digits(2)), (B, one_of(&["L", "R"]))], side("a-b")),
+            (vec![(A, digits(2)), (B, many(digit()))], side("a/b")),
+            (vec![(A, many(digit()))], side("a.a")),
+        ]
+    };
+    ["LT", "RL", "NL", "KP", "KS", "SP", "BX", "LV"].into_iter().flat_map(four).collect()
+}
+
+/// Each of the 32 rules added.
+pub fn full_stream() -> Vec<u8> {
+    let add = |(patterns, side): Made| Operation::Add(rule(&patterns, &tokens(&side)));
+    written(full().into_iter().map(add))
+}
+
+/// Each pair of them as a sheet of its own, in the order of the searches.
+pub fn full_pairs() -> Vec<Case> {
+    let full = full();
+    let mut cases = Vec::new();
+    for (number, new) in full.iter().enumerate() {
+        for present in &full[..number] {
+            let sheet = pair_sheet(present, new);
+            cases.push(Case { work: WORK as u32, answer: 0, sheet });
+        }
+    }
+    cases
+}
+
+/// The new rule has its fields as 4 to 7.
+fn pair_sheet((patterns, left): &Made, (new_patterns, right): &Made) -> Vec<u8> {
+    let mut patterns = patterns.clone();
+    patterns.extend(new_patterns.iter().map(|(field, of)| (4 + field, of.clone())));
+    sheet(&patterns, &tokens(left), &tokens(&right.replace('a', "e").replace('b', "f")))
+}
+
+// ---------------------------------------------------------------- writing
+
+fn add(what: &'static str, rule: Vec<u8>, line: &'static str) -> Row {
+    Row { what, operation: Operation::Add(rule), line: Some(line) }
+}
+
+fn withdraw(what: &'static str, number: u8, line: &'static str) -> Row {
+    Row { what, operation: Operation::Withdraw(number), line: Some(line) }
+}
+
+fn catalogue(what: &'static str, length: usize, front: Vec<u8>) -> Row {
+    Row { what, operation: Operation::Catalogue { length, front }, line: None }
+}
+
+fn work(what: &'static str, length: usize) -> Row {
+    Row { what, operation: Operation::Work(length), line: None }
+}
+
+/// A rule of this label alone.
+fn shelf_mark(label: &str) -> Vec<u8> {
+    rule(&[], &tokens(label))
+}
+
+fn digit() -> Vec<u8> {
+    vec![65, 0, 9]
+}
+
+fn letter_or_digit() -> Vec<u8> {
+    vec![65, 0, 35]
+}
+
+fn digits(number: usize) -> Vec<u8> {
+    row(vec![digit(); number])
+}
+
+fn one_of(texts: &[&str]) -> Vec<u8> {
+    choice(texts.iter().map(|one| text(one)).collect())
+}

@@ -1,0 +1,202 @@
+//! Many generated operations: the two modules agree, all answers come up, and
+//! each pair is answered as a sheet of its own.
+
+use std::collections::BTreeMap;
+
+use second::calls::{After, Call, Calls, Operation};
+use second::catalogue::{Added, Searcher, HASHING, SCANNING};
+use second::make::calls::{operations, stream};
+use second::make::Dice;
+use second::{storeroom, SITUATION_BYTES};
+
+fn run(operations: &[Operation], search: Searcher) -> Vec<After> {
+    let mut calls = Calls::new(search);
+    operations.iter().filter_map(|operation| calls.run(operation)).collect()
+}
+
+#[test]
+fn the_two_modules_agree() {
+    let operations = operations(&mut Dice::new(1), 6000);
+    let hashed = run(&operations, HASHING);
+    assert_eq!(hashed.len(), 6000);
+    for (hashed, scanned) in hashed.iter().zip(run(&operations, SCANNING)) {
+        assert_eq!(*hashed, scanned);
+    }
+}
+
+#[test]
+fn all_answers_come_up() {
+    let mut seen = BTreeMap::new();
+    for After { call, .. } in run(&operations(&mut Dice::new(2), 6000), HASHING) {
+        let answer = match call {
+            Call::Add { told: Added { number, pair, .. }, .. } => ("add", number, pair),
+            Call::Withdraw { number } => ("withdraw", number, 0),
+        };
+        *seen.entry(answer).or_insert(0) += 1;
+    }
+    let adds = [0, 11, 12, 13, 14, 15, 16, 17, 31, 32, 34].map(|number| ("add", number, 0));
+    let pairs = [0, 18, 19].map(|answer| ("add", 30, answer));
+    let withdrawals = [0, 33, 34].map(|number| ("withdraw", number, 0));
+    for answer in adds.into_iter().chain(pairs).chain(withdrawals) {
+        let times = seen.remove(&answer).unwrap_or(0);
+        assert!(times >= 20, "{answer:?}: {times}");
+    }
+    assert!(seen.is_empty(), "{seen:?}");
+}
+
+#[test]
+fn operations_are_read_as_written() {
+    for seed in 0..40 {
+        let operations = operations(&mut Dice::new(seed), 50);
+        let stream = stream(&mut Dice::new(seed), 50);
+        let mut rest = &stream[..];
+        for operation in &operations {
+            let (read, behind) = Operation::read(rest).unwrap();
+            assert_eq!(read, *operation);
+            rest = behind;
+        }
+        assert_eq!(Operation::read(rest), None);
+    }
+}
+
+#[test]
+fn the_storeroom_prints_what_its_table_says() {
+    let mut calls = Calls::new(HASHING);
+    for storeroom::Row { what, operation, line } in storeroom::rows() {
+        let after = calls.run(&operation);
+        assert_eq!(after.map(|after| after.numbers()).as_deref(), line, "{what}");
+    }
+}
+
+#[test]
+fn a_full_catalogue_has_no_two_rules_that_clash() {
+    let mut calls = Calls::new(HASHING);
+    let stream = storeroom::full_stream();
+    let mut rest = &stream[..];
+    let mut added = 0;
+    while let Some((operation, behind)) = Operation::read(rest) {
+        assert_eq!(calls.run(&operation).unwrap().numbers(), "add 0 0 0 0 0");
+        added += 1;
+        rest = behind;
+    }
+    assert_eq!(added, 32);
+    let records = records(&calls.catalogue);
+    let mut pairs = Vec::new();
+    for (number, new) in records.iter().enumerate() {
+        pairs.extend(records[..number].iter().map(|present| sheet(present, new)));
+    }
+    let sheets: Vec<Vec<u8>> = storeroom::full_pairs().into_iter().map(|case| case.sheet).collect();
+    assert_eq!(sheets, pairs);
+}
+
+// ------------------------------------------------- a pair as a sheet of its own
+
+/// The records of a catalogue that is of the form.
+fn records(catalogue: &[u8]) -> Vec<Vec<u8>> {
+    let mut records = Vec::new();
+    let mut rest = catalogue;
+    while rest.starts_with(b"RU") {
+        let mut end = 2;
+        while rest[end..].starts_with(b"PA") {
+            end += 4 + usize::from(rest[end + 3]);
+        }
+        end += 3 + usize::from(rest[end + 2]);
+        records.push(rest[..end].to_vec());
+        rest = &rest[end..];
+    }
+    records
+}
+
+/// The sheet of two rules: `PA` of the one, `PA` of the other with its fields
+/// as 4 to 7, then the sides.
+fn sheet(present: &[u8], new: &[u8]) -> Vec<u8> {
+    let side = |rule: &[u8]| {
+        let mut at = 2;
+        while rule[at..].starts_with(b"PA") {
+            at += 4 + usize::from(rule[at + 3]);
+        }
+        at
+    };
+    let (left, right) = (side(present), side(new));
+    let mut patterns = new[2..right].to_vec();
+    let mut at = 0;
+    while at < patterns.len() {
+        patterns[at + 2] += 4;
+        at += 4 + usize::from(patterns[at + 3]);
+    }
+    let mut last = new[right..].to_vec();
+    last[..2].copy_from_slice(b"RI");
+    for token in &mut last[3..] {
+        *token += if *token >= 64 { 4 } else { 0 };
+    }
+    [&present[2..left], &patterns, &present[left..], &last].concat()
+}
+
+#[test]
+fn each_pair_is_answered_as_a_sheet_of_its_own() {
+    let mut calls = Calls::new(HASHING);
+    let mut work = 65_520;
+    let (mut entered, mut refused) = (0, 0);
+    for operation in operations(&mut Dice::new(3), 6000) {
+        if let Operation::Work(length) = operation {
+            work = length;
+        }
+        let before = calls.catalogue.clone();
+        let after = calls.run(&operation);
+        let (Operation::Add(rule), Some(After { call: Call::Add { told, .. }, .. })) =
+            (operation, after)
+        else {
+            continue;
+        };
+        let expected = match told.number {
+            0 => None,
+            30 => Some(told.rule),
+            _ => continue,
+        };
+        // Rules before the one told, or all of them, give 1.
+        for (number, present) in records(&before).iter().enumerate() {
+            let outcome =
+                second::answer(&sheet(present, &rule), &mut vec![9; work], &mut [9; 4096]);
+            if Some(number) == expected {
+                assert_eq!((outcome.number, outcome.count), (told.pair, told.count));
+                refused += 1;
+                break;
+            }
+            assert_eq!(outcome.number, 1);
+            entered += 1;
+        }
+    }
+    assert!(entered > 1000 && refused > 300);
+}
+
+#[test]
+fn no_label_is_made_by_two_rules_of_a_catalogue_that_began_empty() {
+    let mut calls = Calls::new(HASHING);
+    let mut began_empty = true;
+    let mut pairs = 0;
+    for operation in operations(&mut Dice::new(4), 6000) {
+        if let Operation::Catalogue { front, .. } = &operation {
+            // The same rules may come in another buffer.
+            began_empty = front.is_empty() || began_empty && calls.catalogue.starts_with(front);
+        }
+        let entered = match calls.run(&operation) {
+            Some(After { call: Call::Add { told, .. }, .. }) => told.number == 0,
+            _ => false,
+        };
+        if !(entered && began_empty) {
+            continue;
+        }
+        // In a larger room the answer is the same.
+        let records = records(&calls.catalogue);
+        let (new, others) = records.split_last().unwrap();
+        for present in others {
+            let mut work = vec![0; 455 * SITUATION_BYTES];
+            assert_eq!(second::answer(&sheet(present, new), &mut work, &mut []).number, 1);
+            // Nor the other way round, where the search ends.
+            let number = second::answer(&sheet(new, present), &mut work, &mut []).number;
+            assert!([1, 18, 19].contains(&number));
+            pairs += 1;
+        }
+    }
+    assert!(pairs > 1000);
+}

@@ -1,0 +1,518 @@
+//! The catalogue: each answer and what it leaves in the lent buffers, worked
+//! out by hand from the bytes.
+
+use second::calls::{Calls, Operation};
+use second::catalogue::{add, withdraw, Added, HASHING, SCANNING};
+use second::SITUATION_BYTES;
+
+const A: u8 = 10;
+const B: u8 = 11;
+const X: u8 = 64;
+const FILL: u8 = 90;
+
+/// A rule without patterns.
+fn rule(side: &[u8]) -> Vec<u8> {
+    [b"RULE", &[side.len() as u8][..], side].concat()
+}
+
+/// A rule whose `PA` records are these bytes.
+fn with(patterns: &[u8], side: &[u8]) -> Vec<u8> {
+    [b"RU", patterns, b"LE", &[side.len() as u8], side].concat()
+}
+
+/// These rules in a buffer of this length.
+fn catalogue(rules: &[Vec<u8>], length: usize) -> Vec<u8> {
+    let mut catalogue = rules.concat();
+    assert!(catalogue.len() <= length);
+    catalogue.resize(length, 0);
+    catalogue
+}
+
+const DONE: Added = Added { number: 0, count: 0, place: 0, rule: 0, pair: 0 };
+
+fn refused(number: u8) -> Added {
+    Added { number, ..DONE }
+}
+
+fn pair(rule: usize, answer: u8, count: usize) -> Added {
+    Added { number: 30, count, place: 0, rule, pair: answer }
+}
+
+/// Adds with room for so many situations, by both modules: what is told, the
+/// catalogue and the working buffer afterwards.
+fn added(before: &[u8], rule: &[u8], room: usize) -> (Added, Vec<u8>, Vec<u8>) {
+    let [hashed, scanned] = [HASHING, SCANNING].map(|search| {
+        let mut catalogue = before.to_vec();
+        let mut work = vec![FILL; room * SITUATION_BYTES + 5];
+        let told = add(&mut catalogue, rule, &mut work, search);
+        (told, catalogue, work)
+    });
+    assert_eq!(hashed, scanned);
+    hashed
+}
+
+/// A rule is entered, after pairs or without one; the bytes stand behind the
+/// last record and the others are as before.
+fn enters(before: &[Vec<u8>], new: &[u8], room: usize) {
+    let used = before.concat().len();
+    for length in [used + new.len(), used + new.len() + 1, 8192] {
+        let (told, after, work) = added(&catalogue(before, length), new, room);
+        assert_eq!(told, DONE);
+        assert_eq!(after, catalogue(&[before, &[new.to_vec()]].concat(), length));
+        let left = if before.is_empty() { FILL } else { 0 };
+        assert!(work.iter().all(|&byte| byte == left));
+    }
+}
+
+/// Refused by a pair: the catalogue is as before, the working buffer all zero.
+fn refused_by_pair(before: &[Vec<u8>], new: &[u8], room: usize, expected: Added) {
+    let before = catalogue(before, 500);
+    let (told, after, work) = added(&before, new, room);
+    assert_eq!(told, expected);
+    assert_eq!(after, before);
+    assert!(work.iter().all(|&byte| byte == 0));
+}
+
+/// Refused before any pair: both buffers are as before.
+fn refused_at_once(before: &[u8], new: &[u8], expected: Added) {
+    for room in [0, 9] {
+        let (told, after, work) = added(before, new, room);
+        assert_eq!(told, expected, "{new:?}");
+        assert_eq!(after, before);
+        assert!(work.iter().all(|&byte| byte == FILL));
+    }
+}
+
+// ----------------------------------------------------------------- 0 and 30
+
+#[test]
+fn the_first_rule_is_entered_without_a_search() {
+    enters(&[], &rule(&[A]), 0);
+    enters(&[], &rule(&[]), 0);
+    enters(&[], &rule(&[X; 24]), 0);
+    // With a pattern for each own field, one of which stands nowhere.
+    let patterns = b"PA\x00\x01\x04PA\x01\x01\x04PA\x02\x01\x04PA\x03\x01\x04";
+    enters(&[], &with(patterns, &[X, X + 1, X + 3]), 0);
+}
+
+#[test]
+fn no_clash_is_entered() {
+    // `A` and `B`, count 1
+    enters(&[rule(&[A])], &rule(&[B]), 1);
+    // xx and `A`, count 2
+    enters(&[rule(&[X, X])], &rule(&[A]), 2);
+    // behind three others
+    enters(&[rule(&[A]), rule(&[B]), rule(&[])], &rule(&[A, A]), 1);
+}
+
+#[test]
+fn a_clash_is_refused() {
+    // both sides empty, count 1; the rule `B` before it gives 1
+    refused_by_pair(&[rule(&[]), rule(&[B])], &rule(&[]), 1, pair(0, 0, 1));
+    refused_by_pair(&[rule(&[B]), rule(&[])], &rule(&[]), 1, pair(1, 0, 1));
+    // x and `A`, count 3
+    refused_by_pair(&[rule(&[X])], &rule(&[A]), 3, pair(0, 0, 3));
+    // x and 24 times `A`: one more for each `A`, and the finish
+    refused_by_pair(&[rule(&[X])], &rule(&[A; 24]), 26, pair(0, 0, 26));
+}
+
+#[test]
+fn the_first_pair_that_is_not_1_is_told() {
+    // Rules 1 and 2 both make `A`; so does rule 3.
+    let rules = [rule(&[B]), rule(&[A]), rule(&[X]), rule(&[X, X])];
+    refused_by_pair(&rules, &rule(&[A]), 455, pair(1, 0, 1));
+    refused_by_pair(&rules, &rule(&[A, A]), 455, pair(2, 0, 4));
+    refused_by_pair(&rules[..2], &rule(&[X]), 455, pair(0, 0, 3));
+    // A pair given up ends it too, though a later one has a clash.
+    refused_by_pair(&[rule(&[X, X]), rule(&[A])], &rule(&[A]), 1, pair(0, 18, 1));
+}
+
+#[test]
+fn the_new_rules_fields_are_others() {
+    // As one sheet xA and Bx have no clash; as rules they have: BA. Entered:
+    // xA|By, xA|y, A|y, xA|, |y, |.
+    refused_by_pair(&[rule(&[X, A])], &rule(&[B, X]), 455, pair(0, 0, 6));
+    refused_by_pair(&[rule(&[X, A])], &rule(&[B, X]), 6, pair(0, 0, 6));
+    refused_by_pair(&[rule(&[X, A])], &rule(&[B, X]), 5, pair(0, 18, 5));
+    // Field 3 becomes 7.
+    refused_by_pair(&[rule(&[X + 3, A])], &rule(&[B, X + 3]), 6, pair(0, 0, 6));
+}
+
+#[test]
+fn each_rule_keeps_its_own_patterns() {
+    let digit = with(b"PA\x00\x03\x41\x00\x09", &[X]);
+    let four = with(b"PA\x00\x01\x04", &[X]);
+    let letter = with(b"PA\x00\x01\x0a", &[X]);
+    // x|y; no character is taken by both.
+    enters(std::slice::from_ref(&digit), &letter, 1);
+    // x|y, x'|y', |y', x'|, |
+    refused_by_pair(std::slice::from_ref(&digit), &four, 5, pair(0, 0, 5));
+    refused_by_pair(&[four], &digit, 5, pair(0, 0, 5));
+    // An open field is not held to the other's pattern: x|y, x|, x'|y, |y,
+    // x'|, |.
+    refused_by_pair(&[digit], &rule(&[X]), 6, pair(0, 0, 6));
+    // A pattern of a field that stands nowhere is ignored.
+    let ignored = with(b"PA\x01\x01\x04", &[X]);
+    refused_by_pair(&[letter], &ignored, 6, pair(0, 0, 6));
+}
+
+#[test]
+fn no_room() {
+    refused_by_pair(&[rule(&[A])], &rule(&[B]), 0, pair(0, 18, 0));
+    refused_by_pair(&[rule(&[X])], &rule(&[A]), 2, pair(0, 18, 2));
+    // xxA and yyB: no label, but the search runs on.
+    let (left, right) = (rule(&[X, X, A]), rule(&[X, X, B]));
+    refused_by_pair(&[left], &right, 455, pair(0, 18, 455));
+}
+
+#[test]
+fn a_working_buffer_of_no_bytes() {
+    for search in [HASHING, SCANNING] {
+        let mut before = catalogue(&[rule(&[A])], 20);
+        assert_eq!(add(&mut before, &rule(&[B]), &mut [], search), pair(0, 18, 0));
+        assert_eq!(before, catalogue(&[rule(&[A])], 20));
+        assert_eq!(add(&mut [0; 6], &rule(&[B]), &mut [], search), DONE);
+    }
+}
+
+#[test]
+fn a_side_above_48_tokens() {
+    refused_by_pair(&[rule(&[X; 24])], &rule(&[A, A]), 2, pair(0, 19, 2));
+    refused_by_pair(&[rule(&[B]), rule(&[A, A])], &rule(&[X; 24]), 2, pair(1, 19, 2));
+}
+
+// ------------------------------------------------------- 11 to 17, then 31
+
+/// The fault of a rule and its place, whether or not it would fit.
+fn fault(new: &[u8], number: u8, place: usize) {
+    let full: Vec<Vec<u8>> = (0..32).map(|label| rule(&[label])).collect();
+    for before in [vec![], vec![0; 9], catalogue(&[rule(&[A])], 99), catalogue(&full, 300)] {
+        refused_at_once(&before, new, Added { place, ..refused(number) });
+    }
+}
+
+#[test]
+fn cut_short() {
+    fault(b"", 11, 0);
+    fault(b"R", 11, 0);
+    fault(b"X", 11, 0);
+    // Every cut of a good rule with two patterns gives 11 at the record cut;
+    // the mark `RU` is all of its own.
+    let whole = with(b"PA\x00\x04\x44\x41\x00\x09PA\x03\x01\x04", &[A, X]);
+    let marks = [0, 2, 10, 15];
+    for cut in 0..whole.len() {
+        let place = if cut < 2 { 0 } else { *marks.iter().rev().find(|&&at| at <= cut).unwrap() };
+        fault(&whole[..cut], 11, place);
+    }
+}
+
+#[test]
+fn wrong_mark() {
+    fault(b"LE\x00", 12, 0);
+    fault(b"PA\x00\x01\x04LE\x00", 12, 0);
+    fault(b"UR", 12, 0);
+    fault(b"\x00\x00", 12, 0);
+    fault(b"RURI\x00", 12, 2);
+    fault(b"RURULE\x00", 12, 2);
+    fault(b"RUPA\x00\x01\x04RI\x00", 12, 7);
+    // `LE` is the end, also for a right side and for zeros.
+    fault(b"RULE\x00RI\x00", 12, 5);
+    fault(b"RULE\x00LE\x00", 12, 5);
+    fault(b"RULE\x00\x00", 12, 5);
+    fault(b"RULE\x01\x0aX", 12, 6);
+    fault(b"RULE\x00RULE\x00", 12, 5);
+}
+
+#[test]
+fn wrong_field() {
+    fault(b"RUPA\x08\x01\x04LE\x00", 13, 2);
+    fault(b"RUPA\xff\x00", 13, 2);
+    fault(b"RUPA\x01\x01\x04PA\x01\x01\x04LE\x00", 13, 7);
+    fault(b"RUPA\x02\x01\x04PA\x01\x01\x04LE\x00", 13, 7);
+    // Above 3 and falling.
+    fault(b"RUPA\x05\x01\x04PA\x04\x01\x04LE\x00", 13, 7);
+}
+
+#[test]
+fn wrong_length() {
+    fault(b"RUPA\x00\x00", 14, 2);
+    fault(b"RUPA\x00\x61", 14, 2);
+    fault(b"RULE\x19", 14, 2);
+    fault(b"RUPA\x00\x01\x04LE\xff", 14, 7);
+}
+
+#[test]
+fn not_one_pattern() {
+    fault(b"RUPA\x00\x01\x2bLE\x00", 15, 2);
+    fault(b"RUPA\x00\x02\x04\x04LE\x00", 15, 2);
+    fault(b"RUPA\x00\x01\x04PA\x03\x02\x44\x44LE\x00", 15, 7);
+}
+
+#[test]
+fn more_than_31_leaves() {
+    let leaves = |number: usize| [vec![66; number - 1], vec![7; number]].concat();
+    let pattern = |field: u8, body: &[u8]| [b"PA", &[field, body.len() as u8][..], body].concat();
+    fault(&with(&pattern(0, &leaves(32)), &[X]), 16, 2);
+    fault(&with(&[pattern(0, &[4]), pattern(3, &leaves(48))].concat(), &[X]), 16, 7);
+    enters(&[], &with(&pattern(0, &leaves(31)), &[X]), 0);
+}
+
+#[test]
+fn wrong_token() {
+    for token in (43..64).chain(72..=255) {
+        fault(&rule(&[A, token]), 17, 2);
+    }
+    fault(&with(b"PA\x00\x01\x04", &[43]), 17, 7);
+    // Before the bytes behind it, and before 31.
+    fault(b"RULE\x01\x2bX", 17, 2);
+    fault(&rule(&[68, 43]), 17, 2);
+    fault(&with(b"PA\x04\x01\x04", &[43]), 17, 7);
+    fault(b"RUPA\x04\x01\x04LE\x00X", 12, 10);
+}
+
+#[test]
+fn a_field_above_3() {
+    for field in 4..8 {
+        fault(&rule(&[A, X + field]), 31, 0);
+        fault(&with(&[b'P', b'A', field, 1, 4], &[A]), 31, 0);
+        fault(&with(&[b'P', b'A', field, 1, 4], &[X + field]), 31, 0);
+    }
+    for field in 0..4 {
+        enters(&[], &rule(&[A, X + field]), 0);
+        enters(&[], &with(&[b'P', b'A', field, 1, 4], &[A]), 0);
+    }
+    // Behind a good one.
+    fault(&with(b"PA\x00\x01\x04PA\x04\x01\x04", &[X]), 31, 0);
+}
+
+// ------------------------------------------------------------------- 32
+
+#[test]
+fn bytes_that_do_not_fit() {
+    refused_at_once(&[], &rule(&[]), refused(32));
+    refused_at_once(&[0; 4], &rule(&[]), refused(32));
+    refused_at_once(&catalogue(&[rule(&[A])], 11), &rule(&[B]), refused(32));
+    // Before 30: the same rule again.
+    refused_at_once(&catalogue(&[rule(&[A])], 6), &rule(&[A]), refused(32));
+    enters(&[rule(&[A])], &rule(&[B]), 1);
+}
+
+#[test]
+fn a_33rd_rule() {
+    let rules: Vec<Vec<u8>> = (0..33).map(|label| rule(&[label])).collect();
+    enters(&rules[..31], &rules[31], 1);
+    let full = catalogue(&rules[..32], 8192);
+    refused_at_once(&full, &rules[32], refused(32));
+    refused_at_once(&full, &rules[0], refused(32));
+    // The room of a withdrawn one is used again.
+    let mut one_less = full;
+    assert_eq!(withdraw(&mut one_less, 5), 0);
+    let (told, after, _) = added(&one_less, &rules[32], 1);
+    assert_eq!(told, DONE);
+    assert_eq!(after, catalogue(&[&rules[..5], &rules[6..]].concat(), 8192));
+}
+
+// ------------------------------------------------------------- withdrawing
+
+#[test]
+fn withdrawing_closes_the_gap() {
+    let rules = [rule(&[A]), with(b"PA\x00\x01\x04", &[X]), rule(&[]), rule(&[B, B])];
+    for length in [rules.concat().len(), rules.concat().len() + 1, 200] {
+        for number in 0..4 {
+            let mut after = catalogue(&rules, length);
+            assert_eq!(withdraw(&mut after, number), 0);
+            let mut kept = rules.to_vec();
+            kept.remove(number);
+            assert_eq!(after, catalogue(&kept, length));
+        }
+    }
+    let mut only = rule(&[A]);
+    assert_eq!(withdraw(&mut only, 0), 0);
+    assert_eq!(only, [0; 6]);
+}
+
+#[test]
+fn no_rule_has_that_number() {
+    let rules = [rule(&[A]), rule(&[B])];
+    for (before, number) in [
+        (vec![], 0),
+        (vec![0; 50], 0),
+        (catalogue(&rules, 12), 2),
+        (catalogue(&rules, 60), 2),
+        (catalogue(&rules, 60), 255),
+    ] {
+        let mut after = before.clone();
+        assert_eq!(withdraw(&mut after, number), 33);
+        assert_eq!(after, before);
+    }
+}
+
+#[test]
+fn a_rule_entered_again_is_the_last() {
+    let rules = [rule(&[A]), rule(&[B]), rule(&[A, B])];
+    let mut after = catalogue(&rules, 40);
+    assert_eq!(withdraw(&mut after, 0), 0);
+    let (told, again, _) = added(&after, &rules[0], 455);
+    assert_eq!(told, DONE);
+    assert_eq!(again, catalogue(&[&rules[1..], &rules[..1]].concat(), 40));
+    refused_by_pair(&[&rules[1..], &rules[..1]].concat(), &rules[0], 455, pair(2, 0, 1));
+}
+
+// ------------------------------------------------------------------- 34
+
+#[test]
+fn not_of_this_form() {
+    let full: Vec<Vec<u8>> = (0..33).map(|label| rule(&[label])).collect();
+    let good = rule(&[A]);
+    // A zero more makes no rule of these.
+    let wrong: [Vec<u8>; 13] = [
+        // a byte behind the zeros, and zeros between the records or before
+        [&good[..], &[0, 0, 1]].concat(),
+        [&good[..], &[0], &rule(&[B])].concat(),
+        [&[0][..], &good].concat(),
+        vec![0, 0, 255],
+        // a record cut off
+        b"R".to_vec(),
+        b"RU".to_vec(),
+        [&good[..], b"RUPA\x00\x03\x41"].concat(),
+        // no rule
+        [&good[..], b"LE\x00"].concat(),
+        [&good[..], b"RUPA\x00\x00LE\x00"].concat(),
+        [&good[..], &rule(&[43])].concat(),
+        // a field above 3
+        [&good[..], &rule(&[X + 4])].concat(),
+        with(b"PA\x07\x01\x04", &[]),
+        // 33 records
+        full.concat(),
+    ];
+    for bytes in wrong {
+        not_a_catalogue(&bytes);
+        not_a_catalogue(&[&bytes[..], &[0]].concat());
+    }
+    // A zero more is the length of a side, or its last character.
+    for bytes in [&b"RULE"[..], b"RULE\x01", b"RULE\x01\x0aRULE\x02\x0a"] {
+        not_a_catalogue(bytes);
+        let mut whole = [bytes, &[0]].concat();
+        assert_eq!(withdraw(&mut whole, 0), 0);
+    }
+}
+
+fn not_a_catalogue(before: &[u8]) {
+    // Before all else: a good rule, none, one with a field above 3.
+    for new in [&rule(&[B])[..], b"", b"XX", &rule(&[X + 4])] {
+        refused_at_once(before, new, refused(34));
+    }
+    for number in [0, 1, 40] {
+        let mut after = before.to_vec();
+        assert_eq!(withdraw(&mut after, number), 34, "{before:?}");
+        assert_eq!(after, before);
+    }
+}
+
+#[test]
+fn zeros_that_are_part_of_a_record() {
+    // A side of no token ends in a zero byte, and so does one that ends in the
+    // character 0; a range may begin with it.
+    let rules = [rule(&[]), rule(&[A, 0]), with(b"PA\x00\x03\x41\x00\x09", &[X, 0, 0])];
+    enters(&rules, &rule(&[B]), 455);
+    let used = rules.concat().len();
+    let mut after = catalogue(&rules, used);
+    assert_eq!(withdraw(&mut after, 1), 0);
+    assert_eq!(after, catalogue(&[rules[0].clone(), rules[2].clone()], used));
+}
+
+#[test]
+fn pairs_of_a_kept_catalogue_are_not_searched_again() {
+    // Two rules that make the same label; a third that clashes with neither.
+    let kept = [rule(&[X, A]), rule(&[X, A])];
+    enters(&kept, &rule(&[X, B]), 455);
+    let mut after = catalogue(&kept, 30);
+    assert_eq!(withdraw(&mut after, 1), 0);
+    assert_eq!(after, catalogue(&kept[..1], 30));
+}
+
+// ---------------------------------------------------------------- operations
+
+/// The lines of a stream, by both modules.
+fn lines(stream: &[u8]) -> Vec<String> {
+    let [hashed, scanned] = [HASHING, SCANNING].map(|search| {
+        let mut calls = Calls::new(search);
+        let mut lines = Vec::new();
+        let mut rest = stream;
+        while let Some((operation, behind)) = Operation::read(rest) {
+            lines.extend(calls.run(&operation).map(|after| after.line()));
+            rest = behind;
+        }
+        lines
+    });
+    assert_eq!(hashed, scanned);
+    hashed
+}
+
+#[test]
+fn lines_have_every_byte() {
+    let stream = b"AD\x06\x00RULE\x01\x0a\
+        AD\x06\x00RULE\x01\x0a\
+        WI\x01\
+        AD\x02\x00RU\
+        WI\x00\
+        CA\x07\x00\x06\x00RULE\x01\x0a\
+        AD\x05\x00RULE\x00\
+        WO\x90\x00\x00\x00\
+        CA\x0b\x00\x06\x00RULE\x01\x0a\
+        AD\x05\x00RULE\x00\
+        WO\x00\x00\x00\x00\
+        AD\x00\x00\
+        CA\x00\x00\x00\x00\
+        WI\xff\
+        CA\x03\x00\x02\x00\x00X\
+        WI\x00";
+    assert_eq!(
+        lines(stream),
+        [
+            "add 0 0 0 0 0, catalogue 52 55 4c 45 01 0a, zeros 8186, work unchanged",
+            "add 30 1 0 0 0, catalogue 52 55 4c 45 01 0a, zeros 8186, work all zero",
+            "withdraw 33, catalogue 52 55 4c 45 01 0a, zeros 8186",
+            "add 11 0 2 0 0, catalogue 52 55 4c 45 01 0a, zeros 8186, work unchanged",
+            "withdraw 0, catalogue, zeros 8192",
+            "add 32 0 0 0 0, catalogue 52 55 4c 45 01 0a, zeros 1, work unchanged",
+            "add 0 0 0 0 0, catalogue 52 55 4c 45 01 0a 52 55 4c 45, zeros 1, work all zero",
+            "add 11 0 0 0 0, catalogue 52 55 4c 45 01 0a 52 55 4c 45, zeros 1, work all zero",
+            "withdraw 33, catalogue, zeros 0",
+            "withdraw 34, catalogue 00 58, zeros 1",
+        ]
+    );
+}
+
+#[test]
+fn a_stream_ends_where_an_operation_is_none() {
+    let ends: [&[u8]; 16] = [
+        b"",
+        b"W",
+        b"WI",
+        b"AD",
+        b"AD\x01",
+        b"AD\x01\x00",
+        b"CA\x01\x00\x01\x00",
+        b"CA\x01\x00\x00",
+        b"WO\x00\x00\x00",
+        // other marks
+        b"XX\x00WI\x00",
+        b"ad\x00\x00WI\x00",
+        // more than is allowed: 8,193 bytes, a front longer than the buffer,
+        // 65,664 bytes of work
+        b"CA\x01\x20\x00\x00WI\x00",
+        b"CA\x01\x00\x02\x00\x00\x00WI\x00",
+        b"WO\x80\x00\x01\x00WI\x00",
+        b"WO\x00\x00\x00\x01WI\x00",
+        b"WO\xff\xff\xff\xffWI\x00",
+    ];
+    for end in ends {
+        assert_eq!(lines(&[b"WI\x00", end].concat()).len(), 1, "{end:?}");
+    }
+    // The most that is allowed.
+    let most = [b"CA\x00\x20\x00\x00", &b"WO\x7f\x00\x01\x00"[..], b"WI\x00"].concat();
+    assert_eq!(lines(&most), ["withdraw 33, catalogue, zeros 8192"]);
+    let full = [&b"CA\x02\x00\x02\x00RU"[..], b"WI\x00"].concat();
+    assert_eq!(lines(&full), ["withdraw 34, catalogue 52 55, zeros 0"]);
+}
