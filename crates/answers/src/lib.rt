@@ -32,7 +32,7 @@ pub fn number(x: Fault) -> u8
 
 // What the checks on a record find.
 pub enum Found {
-    Good,
+    NoFault,
     Refused(Fault),
 }
 

@@ -14,7 +14,7 @@ use Rattle.paper.proofs.demands.Demand3.{sheet-demand-3}
 use Rattle.answers.specs.Faults.{fault-of, as-fault}
 use Rattle.sheets.specs.Read.{sheet-of}
 use Rattle.answers.specs.declared.Fault as Code
-use Rattle.answers.specs.declared.Found.the-variants.{Good, Refused}
+use Rattle.answers.specs.declared.Found.the-variants.{NoFault, Refused}
 use Rattle.sheets.specs.declared.Sheet.{Sheet}
 use Rattle.answers.specs.Told.{told}
 use Rattle.bradovusc.specs.Entry.{Asks}
@@ -32,12 +32,12 @@ fault-as wrong-token = refl
 
 module _ (sheet : List ℕ) (s : Sheet) (e : s ≡ sheet-of (read-sheet sheet)) where
   -- a sheet that is found good asks a question
-  pub good-asks : s .found ≡ Good → Asks sheet s
+  pub good-asks : s .found ≡ NoFault → Asks sheet s
   good-asks h = by-reading (read-sheet sheet) refl
     where
       by-reading : (r : Reading) → read-sheet sheet ≡ r → Asks sheet s
       by-reading (refused x at) k =
-          let f : Refused (as-fault x) ≡ Good = sym (ap (λ (z : Sheet). z .found) (e ∙ ap sheet-of k)) ∙ h in
+          let f : Refused (as-fault x) ≡ NoFault = sym (ap (λ (z : Sheet). z .found) (e ∙ ap sheet-of k)) ∙ h in
           absurd (let z : _≡_ {A = ℕ} 0 1 = cc in omega arith)
       by-reading (asked q) k = record { question = q; good = k; is = e ∙ ap sheet-of k }
 
@@ -53,7 +53,7 @@ module _ (sheet : List ℕ) (s : Sheet) (e : s ≡ sheet-of (read-sheet sheet)) 
           let same : x ≡ as-fault y = cc in
           rw (k, z, same, fault-as y)
       by-reading (asked q) k =
-          let f : Good ≡ Refused x = sym (ap (λ (t : Sheet). t .found) (e ∙ ap sheet-of k)) ∙ h in
+          let f : NoFault ≡ Refused x = sym (ap (λ (t : Sheet). t .found) (e ∙ ap sheet-of k)) ∙ h in
           absurd (let z : _≡_ {A = ℕ} 0 1 = cc in omega arith)
 
 -- The entry's four promises, from the first.

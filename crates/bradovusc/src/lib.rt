@@ -24,7 +24,7 @@ pub fn clash(sheet: &[u8], work: &mut [u8], answer: &mut [u8]) -> Answer
             fault,
             place: question.place,
         },
-        Found::Good => searched(sheet, question, work, answer),
+        Found::NoFault => searched(sheet, question, work, answer),
     }
 }
 

@@ -14,7 +14,7 @@ use Rattle.paper.specs.Sheet.{Fault, fault, bytes-left, Mark, PA, next-is, patt
 use Rattle.paper.proofs.base.Tests.{by-bool, true-false, ltb-false}
 use Rattle.places.specs.WorkedOut.{worked-out}
 use Rattle.places.specs.declared.PlaceTables.{PlaceTables}
-use Rattle.answers.specs.declared.Found.the-variants.{Good}
+use Rattle.answers.specs.declared.Found.the-variants.{NoFault}
 use Rattle.fields.specs.declared.Fields as Code
 use Rattle.fields.specs.declared.PatternRecord.{PatternRecord}
 use Rattle.fields.specs.Walk.{fields-of, Pattern-stands}
@@ -70,7 +70,7 @@ module _ {s : List ℕ} {from at above : ℕ} {works : List PlaceTables} (r : Re
           }
 
   pub reached-end : next-is PA s at ≡ false →
-      _≡_ {A = Code.Fields} (record { found = Good; next = record { at = at }; above = above; tables = works }) (fields-of (all-read s from))
+      _≡_ {A = Code.Fields} (record { found = NoFault; next = record { at = at }; above = above; tables = works }) (fields-of (all-read s from))
   reached-end p = rw (r .reads, p, r .worked)
 
 -- two bytes are left where a mark stands

@@ -8,7 +8,7 @@ use Rattle.paper.specs.Sheet as Sheet
 use Rattle.places.specs.WorkedOut.{worked-out}
 use Rattle.answers.specs.Faults.{fault-of, as-fault}
 use Rattle.answers.specs.declared.Fault as Code
-use Rattle.answers.specs.declared.Found.the-variants.{Good, Refused}
+use Rattle.answers.specs.declared.Found.the-variants.{NoFault, Refused}
 use Rattle.answers.proofs.Same.{same-paper}
 use Rattle.fields.specs.Walk.{fields-of}
 use Rattle.fields.specs.declared.Fields.{Fields}
@@ -25,7 +25,7 @@ module _ (p : Fields) where
   fields-fault (faulty x at) f e h = let z : as-fault x ≡ f = cc in rw (← z, same-paper x, e)
   fields-fault (records fs at) f e h = let z : _≡_ {A = ℕ} 0 1 = cc in absurd (omega arith)
 
-  pub fields-stand : (x : Records Sheet.Fields) → p ≡ fields-of x → p .found ≡ Good → Stand x p
+  pub fields-stand : (x : Records Sheet.Fields) → p ≡ fields-of x → p .found ≡ NoFault → Stand x p
   fields-stand (faulty x at) e h = let z : _≡_ {A = ℕ} 0 1 = cc in absurd (omega arith)
   fields-stand (records fs at) e h =
       record {

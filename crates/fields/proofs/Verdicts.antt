@@ -6,7 +6,7 @@ use Rattle.paper.specs.Pattern.{Pattern, pattern}
 use Rattle.paper.specs.Written.{Judged, not-one-pattern, too-many-leaves, judged}
 use Rattle.places.specs.WorkedOut.{worked-out}
 use Rattle.patterns.specs.Worked.{worked-of}
-use Rattle.patterns.specs.declared.Verdict.the-variants.{NotOnePattern, TooManyLeaves, Good}
+use Rattle.patterns.specs.declared.Verdict.the-variants.{NotOnePattern, TooManyLeaves, OnePattern}
 use Rattle.patterns.specs.declared.Worked.{Worked}
 
 module _ (w : Worked) where
@@ -20,7 +20,7 @@ module _ (w : Worked) where
   told-too-many too-many-leaves e v = refl
   told-too-many (judged p) e v = let z : _≡_ {A = ℕ} 0 1 = cc in absurd (omega arith)
 
-  pub told-good : (j : Judged) → w ≡ worked-of j → w .verdict ≡ Good → (p : Pattern) × ((j ≡ judged p) × (w .tables ≡ worked-out (pattern p)))
+  pub told-good : (j : Judged) → w ≡ worked-of j → w .verdict ≡ OnePattern → (p : Pattern) × ((j ≡ judged p) × (w .tables ≡ worked-out (pattern p)))
   told-good not-one-pattern e v = let z : _≡_ {A = ℕ} 0 1 = cc in absurd (omega arith)
   told-good too-many-leaves e v = let z : _≡_ {A = ℕ} 0 1 = cc in absurd (omega arith)
   told-good (judged p) e v = (p, (refl, ap (λ (x : Worked). x .tables) e))

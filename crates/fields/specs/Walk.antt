@@ -10,14 +10,14 @@ use Rattle.paper.specs.Sheet as Sheet
 use Rattle.places.specs.WorkedOut.{worked-out}
 use Rattle.answers.specs.Faults.{fault-of, as-fault}
 use Rattle.answers.specs.declared.Found.{Found}
-use Rattle.answers.specs.declared.Found.the-variants.{Good, Refused}
+use Rattle.answers.specs.declared.Found.the-variants.{NoFault, Refused}
 use Rattle.fields.specs.declared.Fields.{Fields}
 use Rattle.fields.specs.declared.PatternRecord.{PatternRecord}
 
 -- "A field without `PA` is open": all fields are where a record is at fault.
 abbrev pub fields-of : Records Sheet.Fields → Fields
 fields-of (faulty x at) = record { found = Refused (as-fault x); next = record { at = at }; above = 0; tables = replicate fields (worked-out any-text) }
-fields-of (records fs at) = record { found = Good; next = record { at = at }; above = fs .above; tables = map worked-out (fs .held) }
+fields-of (records fs at) = record { found = NoFault; next = record { at = at }; above = fs .above; tables = map worked-out (fs .held) }
 
 -- a pattern's record is read, and reading goes on behind it
 pub record Pattern-stands (s : List ℕ) (at least : ℕ) (r : PatternRecord) : Type 0 where
@@ -31,5 +31,5 @@ pub record Pattern-stands (s : List ℕ) (at least : ℕ) (r : PatternRecord) : 
 
 -- what the checks on a pattern's record find
 abbrev pub Pattern-read : List ℕ → ℕ → ℕ → Found → PatternRecord → Type 0
-Pattern-read s at least Good r = Pattern-stands s at least r
+Pattern-read s at least NoFault r = Pattern-stands s at least r
 Pattern-read s at least (Refused x) r = pattern-record s at least ≡ fault (fault-of x)

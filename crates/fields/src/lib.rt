@@ -62,7 +62,7 @@ pub fn read(s: &[u8], start: Cursor) -> Fields
         c = r.next;
     }
     Fields {
-        found: Found::Good,
+        found: Found::NoFault,
         next: Cursor { at: c.at },
         above: c.above,
         tables,
@@ -133,10 +133,10 @@ impl PatternCursor {
         match verdict {
             Verdict::NotOnePattern => self.refuse(Fault::NotOnePattern),
             Verdict::TooManyLeaves => self.refuse(Fault::TooManyLeaves),
-            Verdict::Good => {
+            Verdict::OnePattern => {
                 let tables = worked.tables;
                 PatternRecord {
-                    found: Found::Good,
+                    found: Found::NoFault,
                     field,
                     tables,
                     next: PatternCursor {

@@ -1,3 +1,3 @@
 pub mod Tokens
-pub mod Held
+pub mod Denoted
 pub mod InFront

@@ -30,8 +30,8 @@ same-coded s t =
     same-by eqb (s .left) (t .left) && (same-by eqb (s .right) (t .right) && same-by eqb (s .sets) (t .sets))
 
 -- the situation that a struct holds
-abbrev pub held : Situation → Coded
-held s = record { left = tokens (s .left); right = tokens (s .right); sets = s .sets }
+abbrev pub denoted : Situation → Coded
+denoted s = record { left = tokens (s .left); right = tokens (s .right); sets = s .sets }
 
 -- the struct that the code makes for a situation
 abbrev pub as-struct : Coded → Situation

@@ -5,7 +5,7 @@ ghost use Prim.Native.Nat.{_≤_};
 ghost use lib.ListN.{length, take};
 ghost use Rattle.paper.specs.Numbers.{longest-side};
 ghost use Rattle.inner.specs.Inner.{field-of, tokens};
-ghost use Rattle.inner.specs.Coded.{finished-coded, held};
+ghost use Rattle.inner.specs.Coded.{finished-coded, denoted};
 
 // the token of field 0
 pub const FIELD_CODE: u8 = 192;
@@ -61,7 +61,7 @@ pub struct Situation {
 
 // "finished (both sides empty)"
 pub fn is_finished(s: Situation) -> bool
-    ensures { λ r. ⌜ r ≡ finished-coded (held s) ⌝ }
+    ensures { λ r. ⌜ r ≡ finished-coded (denoted s) ⌝ }
 {
     s.left[0] == NO_TOKEN && s.right[0] == NO_TOKEN
 }

@@ -14,7 +14,7 @@ use Rattle.paper.specs.Catalogue.{no-catalogue, all-zero, form-within}
 use Rattle.paper.proofs.base.Tests.{by-bool, le-leb, lt-leb, leb-false}
 use Rattle.paper.proofs.catalogue.Local.{rule-bounds}
 use Rattle.answers.specs.declared.Fault.{Fault}
-use Rattle.answers.specs.declared.Found.the-variants.{Good, Refused}
+use Rattle.answers.specs.declared.Found.the-variants.{NoFault, Refused}
 use Rattle.rules.specs.Read.{rule-of}
 use Rattle.rules.specs.declared.Rule as Code
 use Rattle.rules.proofs.Told.{rule-fault, rule-stands}
@@ -29,13 +29,13 @@ module _ (n : ℕ) (s : List ℕ) where
     pub front-fault : (f : Fault) → r .found ≡ Refused f → front-bytes n s ≡ 0
     front-fault f h = let k = rule-fault r (rule-front s) f e h in rw (lt-leb catalogue-rules n few, k)
 
-    pub front-foreign : r .found ≡ Good → r .foreign ≡ true → front-bytes n s ≡ 0
+    pub front-foreign : r .found ≡ NoFault → r .foreign ≡ true → front-bytes n s ≡ 0
     front-foreign h k =
         let t = rule-stands r (rule-front s) e h in
         let own : foreign-field (t .rule) ≡ true = sym (t .foreign) ∙ k in
         rw (lt-leb catalogue-rules n few, t .reads, own)
 
-    pub front-own : r .found ≡ Good → r .foreign ≡ false → front-bytes n s ≡ r .bytes
+    pub front-own : r .found ≡ NoFault → r .foreign ≡ false → front-bytes n s ≡ r .bytes
     front-own h k =
         let t = rule-stands r (rule-front s) e h in
         let own : foreign-field (t .rule) ≡ false = sym (t .foreign) ∙ k in

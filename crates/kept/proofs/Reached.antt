@@ -9,7 +9,7 @@ use mathlib.Core.List.{List, []}
 use lib.ListN.{length, drop, length-drop}
 use lib.Seq.{drop-drop}
 use Rattle.paper.specs.Numbers.{catalogue-rules}
-use Rattle.paper.specs.Catalogue.{Standing, no-catalogue, rules, rule-behind, all-zero, form-within, form}
+use Rattle.paper.specs.Catalogue.{Present, no-catalogue, rules, rule-behind, all-zero, form-within, form}
 use Rattle.paper.specs.Catalogue as Catalogue
 use Rattle.paper.proofs.base.Tests.{le-ltb}
 use Rattle.paper.proofs.catalogue.Local.{rule-bounds}
@@ -21,7 +21,7 @@ use Rattle.kept.proofs.OneMore.{behind-all, behind-last, behind-none, b
 
 -- so many rules are read, whose records have so many bytes; so many more may stand
 pub record Reached (catalogue : List ℕ) (number rules used at bytes : ℕ) : Type 0 where
-  pub done : List Standing
+  pub done : List Present
   pub left : ℕ
   pub most : left + rules ≡ catalogue-rules
   pub forms : form catalogue ≡ behind-all done (form-within left (drop used catalogue))
@@ -72,7 +72,7 @@ module _ {catalogue : List ℕ} {number rules used at bytes : ℕ} (r : Reached 
 
     -- a rule stands there, one more
     module _ {next : ℕ} (n : Next rules (drop used catalogue) next) where
-      abbrev this : Standing
+      abbrev this : Present
       this = record { rule = n .rule; bytes = next }
 
       behind-this : (left : ℕ) → form-within (suc left) (drop used catalogue) ≡ rule-behind this (form-within left (drop (used + next) catalogue))

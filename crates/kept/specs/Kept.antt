@@ -8,17 +8,17 @@ use lib.ListN.{length, getD, take}
 use Rattle.paper.specs.Numbers.{catalogue-rules}
 use Rattle.paper.specs.Sheet.{Records, faulty, records}
 use Rattle.paper.specs.Rule.{Rule, rule-front, foreign-field}
-use Rattle.paper.specs.Catalogue.{Standing, Form, no-catalogue, rules, used}
+use Rattle.paper.specs.Catalogue.{Present, Form, no-catalogue, rules, used}
 use Rattle.kept.specs.declared.Kept.{Kept}
 
 -- where the record of the rule with the number i stands, and how many bytes it has; 0 where there is none
-unfoldable pub record-at : List Standing → ℕ → ℕ
+unfoldable pub record-at : List Present → ℕ → ℕ
 record-at l i = cond (ltb i (length l)) (used (take i l)) 0
 
-abbrev pub bytes-each : List Standing → List ℕ
-bytes-each l = map (λ (r : Standing). r .bytes) l
+abbrev pub bytes-each : List Present → List ℕ
+bytes-each l = map (λ (r : Present). r .bytes) l
 
-unfoldable pub record-bytes : List Standing → ℕ → ℕ
+unfoldable pub record-bytes : List Present → ℕ → ℕ
 record-bytes l i = getD (bytes-each l) i 0
 
 abbrev pub kept-of : ℕ → Form → Kept

@@ -9,7 +9,7 @@ use Rattle.paper.specs.Sheet.{open-fields, asked, read-sheet}
 use Rattle.paper.specs.Outcome.{room-of, outcome}
 use Rattle.paper.specs.Rule.{Rule, Makes, pair}
 use Rattle.paper.specs.Saying.{sheet-saying}
-use Rattle.paper.specs.Catalogue.{Standing, rules, form, pair-answer, pair-count, adding, withdrawing}
+use Rattle.paper.specs.Catalogue.{Present, rules, form, pair-answer, pair-count, adding, withdrawing}
 
 -- a call: a rule's bytes to add, with a working buffer, or a number to withdraw; any bytes, any numbers
 pub data Call : Type 0 where
@@ -30,22 +30,22 @@ abbrev pub empty-catalogue : ℕ → List ℕ
 empty-catalogue n = replicate n 0
 
 -- what stands with the number i; behind the last a rule without tokens and without bytes
-abbrev pub behind-last : Standing
+abbrev pub behind-last : Present
 behind-last = record { rule = record { side = []; fields = open-fields }; bytes = 0 }
 
-abbrev pub standing-at : List Standing → ℕ → Standing
-standing-at l i = getD l i behind-last
+abbrev pub present-at : List Present → ℕ → Present
+present-at l i = getD l i behind-last
 
-abbrev pub rule-at : List Standing → ℕ → Rule
-rule-at l i = standing-at l i .rule
+abbrev pub rule-at : List Present → ℕ → Rule
+rule-at l i = present-at l i .rule
 
 -- "no label can be made by two of its rules"
 pub record Apart (catalogue : List ℕ) : Type 0 where
-  pub standing : List Standing
+  pub rules-present : List Present
   -- "The catalogue stays of its form after every call."
-  pub of-form : form catalogue ≡ rules standing
-  pub apart : (i j : ℕ) → i < length standing → j < length standing → (i ≡ j → ⊥)
-      → (l : List ℕ) → Makes (rule-at standing i) l → Makes (rule-at standing j) l → ⊥
+  pub of-form : form catalogue ≡ rules rules-present
+  pub apart : (i j : ℕ) → i < length rules-present → j < length rules-present → (i ≡ j → ⊥)
+      → (l : List ℕ) → Makes (rule-at rules-present i) l → Makes (rule-at rules-present j) l → ⊥
 
 -- a clash is 0: "a pair's texts are not written, so it can't give 20"
 abbrev pub without-20 : ℕ → ℕ

@@ -14,16 +14,16 @@ use Rattle.paper.specs.Rule.{Rule, rule-front, read-rule, foreign-field,
 use Rattle.paper.specs.Outcome.{room-of, searched, cleared, count-of, how-of}
 
 -- a rule that stands in the catalogue, and how many bytes its record has
-pub record Standing : Type 0 where
+pub record Present : Type 0 where
   pub rule : Rule
   pub bytes : ℕ
 
 -- "a buffer not of this form", or the rules that stand in it
 pub data Form : Type 0 where
   no-catalogue : Form
-  rules : List Standing → Form
+  rules : List Present → Form
 
-abbrev pub rule-behind : Standing → Form → Form
+abbrev pub rule-behind : Present → Form → Form
 rule-behind r no-catalogue = no-catalogue
 rule-behind r (rules l) = rules (r ∷ l)
 
@@ -48,7 +48,7 @@ unfoldable pub form : List ℕ → Form
 form catalogue = form-within catalogue-rules catalogue
 
 -- the bytes that the records of the rules have
-abbrev pub used : List Standing → ℕ
+abbrev pub used : List Present → ℕ
 used [] = 0
 used (r ∷ l) = r .bytes + used l
 
@@ -73,7 +73,7 @@ unfoldable pub pair-count : Rule → Rule → ℕ → ℕ
 pair-count present new room = count-of (searched (pair present new) room)
 
 -- the rules from number i on
-abbrev pub pairs-from : ℕ → List Standing → Rule → ℕ → Pairs
+abbrev pub pairs-from : ℕ → List Present → Rule → ℕ → Pairs
 pairs-from i [] new room = all-answered-1
 pairs-from i (r ∷ l) new room =
     cond (eqb (pair-answer (r .rule) new room) 1) (pairs-from (suc i) l new room)
@@ -95,7 +95,7 @@ not-entered number place catalogue work =
     record { number = number; count = 0; place = place; rule = 0; answer = 0; catalogue = catalogue; work = work }
 
 -- the working buffer behind the pairs: all zero once one was searched
-abbrev pub work-behind : List Standing → List ℕ → List ℕ
+abbrev pub work-behind : List Present → List ℕ → List ℕ
 work-behind [] work = work
 work-behind (r ∷ l) work = cleared work
 
@@ -104,7 +104,7 @@ abbrev pub with-record : ℕ → List ℕ → List ℕ → List ℕ
 with-record at bytes catalogue = take at catalogue ++ bytes ++ drop (at + length bytes) catalogue
 
 -- "A new rule is entered exactly if its pair with every rule present gives answer 1"; "30 for a pair not answered 1"
-abbrev pub entered-if : Pairs → List Standing → List ℕ → List ℕ → List ℕ → Added
+abbrev pub entered-if : Pairs → List Present → List ℕ → List ℕ → List ℕ → Added
 entered-if all-answered-1 l bytes catalogue work =
     record {
       number = 0;
@@ -127,11 +127,11 @@ entered-if (not-answered-1 i answer count) l bytes catalogue work =
     }
 
 -- "32 if 32 rules stand or the record's bytes don't fit"
-abbrev pub is-full : List Standing → List ℕ → List ℕ → Bool
+abbrev pub is-full : List Present → List ℕ → List ℕ → Bool
 is-full l bytes catalogue = leb catalogue-rules (length l) || ltb (length catalogue) (used l + length bytes)
 
 -- "then the rule's own 11 to 17, then 31 for a field above 3, then 32 .., then 30"
-abbrev pub added-rule : Records Rule → List Standing → List ℕ → List ℕ → List ℕ → Added
+abbrev pub added-rule : Records Rule → List Present → List ℕ → List ℕ → List ℕ → Added
 added-rule (faulty x at) l bytes catalogue work = not-entered (fault-number x) at catalogue work
 added-rule (records r next) l bytes catalogue work =
     cond (foreign-field r) (not-entered 31 0 catalogue work)
@@ -156,7 +156,7 @@ abbrev pub without-record : ℕ → ℕ → List ℕ → List ℕ
 without-record at n catalogue = take at catalogue ++ drop (at + n) catalogue ++ replicate n 0
 
 -- the rules from the offset `at` on: "33 if no rule has that number"
-abbrev pub withdrawn-from : ℕ → List Standing → ℕ → List ℕ → Withdrawn
+abbrev pub withdrawn-from : ℕ → List Present → ℕ → List ℕ → Withdrawn
 withdrawn-from at [] i catalogue = record { number = 33; catalogue = catalogue }
 withdrawn-from at (r ∷ l) zero catalogue = record { number = 0; catalogue = without-record at (r .bytes) catalogue }
 withdrawn-from at (r ∷ l) (suc i) catalogue = withdrawn-from (at + r .bytes) l i catalogue

@@ -17,7 +17,7 @@ use Rattle.places.specs.Masks.{places, mask-of, table, follow-masks, taking-mas
 use Rattle.patterns.specs.Worked.{worked-of}
 use Rattle.patterns.specs.ReadPart.{Reads, Working, working, Works, Read-as}
 use Rattle.patterns.specs.declared.Worked.{Worked}
-use Rattle.patterns.specs.declared.Verdict.the-variants.{Good}
+use Rattle.patterns.specs.declared.Verdict.the-variants.{OnePattern}
 use Rattle.patterns.specs.declared.reader.ReadPart.{ReadPart}
 use Rattle.places.proofs.MaskOf.{mask-of-same, mask-of-or, mask-of-cond}
 use Rattle.patterns.proofs.Joining.{joins-all}
@@ -59,7 +59,7 @@ module _ (r : ReadPart) (v : Working) where
     abbrev pub whole-worked : Worked
     whole-worked =
         record {
-          verdict = Good;
+          verdict = OnePattern;
           tables = record { follow = set (v .follow) 0 (r .first); taking = v .taking; last = bitOr (r .last) w };
         }
 

@@ -66,7 +66,7 @@ pub to-end : (k : ℕ) (s : List ℕ) → take (length s - k) (drop k s) ≡ dro
 to-end k s = take-all (length s - k) (drop k s) (rw (length-drop k s) (omega arith))
 
 -- What a good reading tells: the pattern, where the bytes behind it stand, and what is joined to the tables.
-record Good (n : ℕ) (s : List ℕ) (o : ℕ) (w v : Working) (a : ReadPart) : Type 0 where
+record There (n : ℕ) (s : List ℕ) (o : ℕ) (w v : Working) (a : ReadPart) : Type 0 where
   read : Pattern
   rest : List ℕ
   is : read-part n s ≡ part read rest
@@ -77,7 +77,7 @@ record Good (n : ℕ) (s : List ℕ) (o : ℕ) (w v : Working) (a : ReadPart) : 
   room : a .next + a .left ≤ o + length s
 
 module _ (n : ℕ) (s : List ℕ) (o : ℕ) (w v : Working) (a : ReadPart) where
-  good-part : (x : Part) → read-part n s ≡ x → Leaves-behind s x → Read-as x o w v a → a .ok ≡ true → Good n s o w v a
+  good-part : (x : Part) → read-part n s ≡ x → Leaves-behind s x → Read-as x o w v a → a .ok ≡ true → There n s o w v a
   good-part no-pattern e l h ok = absurd (true-false ok h)
   good-part (part p rest) e l h ok =
       let whole : length s ≡ length (l .used) + length rest = ap length (l .whole) ∙ length-append (l .used) rest in
@@ -95,7 +95,7 @@ module _ (n : ℕ) (s : List ℕ) (o : ℕ) (w v : Working) (a : ReadPart) where
         room = omega arith;
       }
 
-  good : Read-as (read-part n s) o w v a → a .ok ≡ true → Good n s o w v a
+  good : Read-as (read-part n s) o w v a → a .ok ≡ true → There n s o w v a
   good h ok = good-part (read-part n s) refl (behind n s) h ok
 
 bad : (x : Part) (o : ℕ) (w v : Working) (a : ReadPart) → Read-as x o w v a → a .ok ≡ false → x ≡ no-pattern
@@ -212,7 +212,7 @@ module _ {s : List ℕ} {o : ℕ} {w v : Working} {a : ReadPart} (f : First s o 
       (λ n k. rw (no-first n (drop 1 s) (first-byte s) l m (bad (read-part n (drop 1 s)) o w v a (f .reads n k) e)) e)
 
   module _ (ok : a .ok ≡ true) where
-    good-first : (n : ℕ) → length (drop 1 s) ≤ n → Good n (drop 1 s) o w v a
+    good-first : (n : ℕ) → length (drop 1 s) ≤ n → There n (drop 1 s) o w v a
     good-first n k = good n (drop 1 s) o w v a (f .reads n k) ok
 
     -- where the second part begins, and that its places fit
@@ -237,14 +237,14 @@ module _ {s : List ℕ} {o : ℕ} {w v : Working} {a : ReadPart} (f : First s o 
 
     -- c is the reading of the second part, which stands behind the first
     module _ {z : Working} {c : ReadPart} (d : Reading-of (drop (length s - a .left) s) (a .next) v z c) where
-      second-is : (n : ℕ) (g : Good n (drop 1 s) o w v a) → drop (length s - a .left) s ≡ g .rest
+      second-is : (n : ℕ) (g : There n (drop 1 s) o w v a) → drop (length s - a .left) s ≡ g .rest
       second-is n g =
           let w = g .within in
           let h = f .some in
           let e : length s - a .left ≡ 1 + (length (drop 1 s) - a .left) = omega (arith, length-drop 1 s) in
           ap (λ (k : ℕ). drop k s) e ∙ sym (drop-drop (length (drop 1 s) - a .left) 1 s) ∙ g .behind
 
-      at-second : (n : ℕ) → length (drop 1 s) ≤ n → (g : Good n (drop 1 s) o w v a)
+      at-second : (n : ℕ) → length (drop 1 s) ≤ n → (g : There n (drop 1 s) o w v a)
           → Read-as (read-part n (g .rest)) (o + leaves (g .read)) v z c
       at-second n k g =
           let e = second-is n g in

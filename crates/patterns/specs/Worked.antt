@@ -6,7 +6,7 @@ use Rattle.paper.specs.Written.{Judged, not-one-pattern, too-many-leaves, judge
 use Rattle.places.specs.Masks.{places}
 use Rattle.places.specs.WorkedOut.{worked-out}
 use Rattle.patterns.specs.declared.Verdict.{Verdict}
-use Rattle.patterns.specs.declared.Verdict.the-variants.{NotOnePattern, TooManyLeaves, Good}
+use Rattle.patterns.specs.declared.Verdict.the-variants.{NotOnePattern, TooManyLeaves, OnePattern}
 use Rattle.patterns.specs.declared.Worked.{Worked}
 
 -- no pattern, no place
@@ -17,4 +17,4 @@ refused-as v = record { verdict = v; tables = record { follow = replicate places
 abbrev pub worked-of : Judged → Worked
 worked-of not-one-pattern = refused-as NotOnePattern
 worked-of too-many-leaves = refused-as TooManyLeaves
-worked-of (judged p) = record { verdict = Good; tables = worked-out (pattern p) }
+worked-of (judged p) = record { verdict = OnePattern; tables = worked-out (pattern p) }

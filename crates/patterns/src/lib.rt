@@ -16,7 +16,7 @@ ghost use Rattle.patterns.specs.Worked.{worked-of, refused-as};
 pub enum Verdict {
     NotOnePattern,
     TooManyLeaves,
-    Good,
+    OnePattern,
 }
 
 // How the bytes of a pattern are judged, and the tables of a good pattern, else zeros.
@@ -49,7 +49,7 @@ pub fn tables(s: &[u8]) -> Worked
         last,
     };
     Worked {
-        verdict: Verdict::Good,
+        verdict: Verdict::OnePattern,
         tables,
     }
 }

@@ -18,7 +18,7 @@ use Rattle.paper.proofs.sheets.Asked.{InRange, GoodSide, marked-good}
 use Rattle.inner.specs.Inner.{field-code, no-token, token-code, side-code, padded}
 use Rattle.places.specs.WorkedOut.{worked-out}
 use Rattle.places.specs.declared.PlaceTables.{PlaceTables}
-use Rattle.answers.specs.declared.Found.the-variants.{Good}
+use Rattle.answers.specs.declared.Found.the-variants.{NoFault}
 use Rattle.rules.specs.Read.{foreign-code, rule-of}
 use Rattle.rules.specs.declared.Rule.{Rule}
 
@@ -82,6 +82,6 @@ module _ (s : List ℕ) where
 
         pub whole : (codes : List ℕ) (tables : List PlaceTables) (foreign : Bool)
             → codes ≡ padded (side-code l) → tables ≡ map worked-out (fs .held) → foreign ≡ (ltb rule-fields (fs .above) || any foreign-code codes)
-            → _≡_ {A = Rule} (record { found = Good; place = 0; bytes = next; foreign = foreign; side = codes; fields = tables }) (rule-of (rule-front s))
+            → _≡_ {A = Rule} (record { found = NoFault; place = 0; bytes = next; foreign = foreign; side = codes; fields = tables }) (rule-of (rule-front s))
         unfolding foreign-field
         whole codes tables foreign a b c = rw (stands, c, a, b, side-foreign l good-side)

@@ -12,13 +12,13 @@ use Rattle.inner.specs.Inner.{side-code, padded}
 use Rattle.places.specs.WorkedOut.{worked-out}
 use Rattle.answers.specs.Faults.{fault-of, as-fault}
 use Rattle.answers.specs.declared.Fault as Code
-use Rattle.answers.specs.declared.Found.the-variants.{Good, Refused}
+use Rattle.answers.specs.declared.Found.the-variants.{NoFault, Refused}
 use Rattle.answers.proofs.Same.{same-paper}
 use Rattle.rules.specs.Read.{rule-of}
 use Rattle.rules.specs.declared.Rule.{Rule}
 
 -- the rule that stands there
-pub record Stands (x : Records Paper.Rule) (r : Rule) : Type 0 where
+pub record RuleTold (x : Records Paper.Rule) (r : Rule) : Type 0 where
   pub rule : Paper.Rule
   pub reads : x ≡ records rule (r .bytes)
   pub foreign : r .foreign ≡ foreign-field rule
@@ -30,7 +30,7 @@ module _ (r : Rule) where
   rule-fault (faulty x at) f e h = let z : as-fault x ≡ f = cc in rw (← z, same-paper x, e)
   rule-fault (records p next) f e h = let z : _≡_ {A = ℕ} 0 1 = cc in absurd (omega arith)
 
-  pub rule-stands : (x : Records Paper.Rule) → r ≡ rule-of x → r .found ≡ Good → Stands x r
+  pub rule-stands : (x : Records Paper.Rule) → r ≡ rule-of x → r .found ≡ NoFault → RuleTold x r
   rule-stands (faulty x at) e h = let z : _≡_ {A = ℕ} 0 1 = cc in absurd (omega arith)
   rule-stands (records p next) e h =
       record {
@@ -47,10 +47,10 @@ module _ (r : Rule) where
     unfolding read-rule
     fault-alone f h = let k = rule-fault (rule-front s) f e h in e ∙ rw k
 
-    pub byte-left : r .found ≡ Good → r .bytes < length s → read-rule s ≡ faulty wrong-mark (r .bytes)
+    pub byte-left : r .found ≡ NoFault → r .bytes < length s → read-rule s ≡ faulty wrong-mark (r .bytes)
     unfolding read-rule
     byte-left h k = let t = rule-stands (rule-front s) e h in rw (t .reads, lt-ltb (r .bytes) (length s) k)
 
-    pub rule-alone : r .found ≡ Good → length s ≤ r .bytes → r ≡ rule-of (read-rule s)
+    pub rule-alone : r .found ≡ NoFault → length s ≤ r .bytes → r ≡ rule-of (read-rule s)
     unfolding read-rule
     rule-alone h k = let t = rule-stands (rule-front s) e h in e ∙ rw (t .reads, le-ltb (r .bytes) (length s) k)

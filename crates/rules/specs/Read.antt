@@ -13,7 +13,7 @@ use Rattle.paper.specs.Sheet.{Records, faulty, records}
 use Rattle.inner.specs.Inner.{field-code, no-token, side-code, padded}
 use Rattle.places.specs.WorkedOut.{worked-out}
 use Rattle.answers.specs.Faults.{as-fault}
-use Rattle.answers.specs.declared.Found.the-variants.{Good, Refused}
+use Rattle.answers.specs.declared.Found.the-variants.{NoFault, Refused}
 use Rattle.rules.specs.declared.Rule.{Rule}
 
 -- the inner code of a field above 3
@@ -32,7 +32,7 @@ rule-of (faulty x at) =
     }
 rule-of (records r next) =
     record {
-      found = Good;
+      found = NoFault;
       place = 0;
       bytes = next;
       foreign = foreign-field r;

@@ -63,7 +63,7 @@ pub fn front(s: &[u8]) -> Rule
     let foreign = foreign(p.above, side);
     let fields = p.tables;
     Rule {
-        found: Found::Good,
+        found: Found::NoFault,
         place: 0,
         bytes: end.at,
         foreign,

@@ -32,7 +32,7 @@ use Rattle.search.specs.Ended.{told-end, clash-end, end-by, buffer-by, c
 use Rattle.search.specs.Records.{text-at, standing-fields, value-records, text-above, in-front, answer-given, buffer-after}
 use Rattle.search.specs.Run.{status-of}
 use Rattle.search.specs.Slots.{Slot}
-use Rattle.search.specs.declared.records.Given.the-variants.{TextTooLong, TooShort, Written}
+use Rattle.search.specs.declared.records.Given.the-variants.{TextTooLong, TooShort, Bytes}
 use Rattle.search.proofs.Simulated.{start, run, status-agrees, count-agrees, text-agrees}
 
 -- a first place set is not 0 exactly if its field stands
@@ -46,7 +46,7 @@ set-field f d = omega (arith, mem-upto fields d)
 
 -- 21 before 20 before 0, in both
 clash-cases : (above short : Bool) (n : ℕ) (rs work buffer : List ℕ)
-    → told-end (clash-end n (cond above TextTooLong (cond short TooShort (Written (length rs))))) (cond above buffer (cond short buffer (in-front rs buffer))) (cleared work)
+    → told-end (clash-end n (cond above TextTooLong (cond short TooShort (Bytes (length rs))))) (cond above buffer (cond short buffer (in-front rs buffer))) (cleared work)
     ≡ cond above (without-bytes 21 n work buffer)
     (cond short (without-bytes 20 n work buffer)
     (record

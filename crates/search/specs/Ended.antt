@@ -67,7 +67,7 @@ told-end r answer work =
 abbrev pub clash-end : ℕ → Given → Ended
 clash-end n Given-as.TextTooLong = Ended-as.TextTooLong n
 clash-end n Given-as.TooShort = Ended-as.AnswerTooShort n
-clash-end n (Given-as.Written bytes) = Ended-as.Clash n bytes
+clash-end n (Given-as.Bytes bytes) = Ended-as.Clash n bytes
 
 -- the end by how the search over slots stands; where it found a finished situation, that is in the last slot. `sets` are the first
 -- situation's: they say which fields stand.

@@ -13,7 +13,7 @@ use Rattle.search.specs.Slots.{Slot, slot-at, number-width, number-bytes
 use Rattle.search.specs.Run.{text-back}
 use Rattle.search.specs.declared.records.Back.{Back}
 use Rattle.search.specs.declared.records.Given.{Given}
-use Rattle.search.specs.declared.records.Given.the-variants.{TextTooLong, TooShort, Written}
+use Rattle.search.specs.declared.records.Given.the-variants.{TextTooLong, TooShort, Bytes}
 
 -- every slot but the first has its parent before it
 abbrev pub Earlier : List Slot → Type 0
@@ -86,7 +86,7 @@ module _ (sets : List ℕ) (text : ℕ → List ℕ) where
   answer-given buffer =
       cond text-above TextTooLong
       (cond (not (leb (length value-records) (length buffer))) TooShort
-      (Written (length value-records)))
+      (Bytes (length value-records)))
 
   -- "records, the rest unchanged", or "unchanged"
   unfoldable pub buffer-after : List ℕ → List ℕ

@@ -82,6 +82,6 @@ fn found(answer: &mut [u8], work: &[u8], count: usize, sets: [u32; FIELDS]) -> E
     match given {
         Given::TextTooLong => Ended::TextTooLong { count },
         Given::TooShort => Ended::AnswerTooShort { count },
-        Given::Written(written) => Ended::Clash { count, written },
+        Given::Bytes(written) => Ended::Clash { count, written },
     }
 }

@@ -32,7 +32,7 @@ const LONGEST_TEXT: usize = 65535;
 pub enum Given {
     TextTooLong,
     TooShort,
-    Written(usize),
+    Bytes(usize),
 }
 
 // One step back along the way: the parent's number, the step from there, and whether it put its character before the field.
@@ -201,5 +201,5 @@ pub fn answer_clash(answer: &mut [u8], work: &[u8], last: usize, sets: [u32; FIE
         return Given::TooShort;
     }
     write_records(answer, work, last, sets);
-    Given::Written(total)
+    Given::Bytes(total)
 }

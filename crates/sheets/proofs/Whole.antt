@@ -19,7 +19,7 @@ use Rattle.inner.specs.Inner.{side-code, padded}
 use Rattle.places.specs.WorkedOut.{worked-out}
 use Rattle.places.proofs.ByNumber.{by-number}
 use Rattle.places.specs.declared.PlaceTables.{PlaceTables}
-use Rattle.answers.specs.declared.Found.the-variants.{Good}
+use Rattle.answers.specs.declared.Found.the-variants.{NoFault}
 use Rattle.sheets.specs.declared.Sheet.{Sheet}
 use Rattle.sheets.specs.Read.{sheet-of}
 
@@ -56,7 +56,7 @@ module _ (s : List ℕ) where
 
         pub whole : length s ≤ end → (left right : List ℕ) (tables : List PlaceTables)
             → left ≡ padded (side-code l) → right ≡ padded (side-code r) → tables ≡ map worked-out (fs .held)
-            → _≡_ {A = Sheet} (record { found = Good; place = 0; left = left; right = right; fields = tables }) (sheet-of (read-sheet s))
+            → _≡_ {A = Sheet} (record { found = NoFault; place = 0; left = left; right = right; fields = tables }) (sheet-of (read-sheet s))
         whole h left right tables a b t =
             let asks = sheet-ends h in
             rw (asks, a, b, t, by-number (fs .held) (sheet-good s question-read asks .held .each-field))

@@ -12,7 +12,7 @@ use Rattle.places.specs.WorkedOut.{worked-out}
 use Rattle.places.specs.declared.PlaceTables.{PlaceTables}
 use Rattle.inner.specs.Inner.{side-code, padded}
 use Rattle.answers.specs.Faults.{as-fault}
-use Rattle.answers.specs.declared.Found.the-variants.{Good, Refused}
+use Rattle.answers.specs.declared.Found.the-variants.{NoFault, Refused}
 use Rattle.sheets.specs.declared.Sheet.{Sheet}
 
 -- what is worked out of each field's pattern; "A field without `PA` is open": those of a refused sheet are
@@ -32,7 +32,7 @@ sheet-of (refused x at) =
     }
 sheet-of (asked q) =
     record {
-      found = Good;
+      found = NoFault;
       place = 0;
       left = padded (side-code (q .left));
       right = padded (side-code (q .right));

@@ -53,7 +53,7 @@ pub fn read(s: &[u8]) -> Sheet
     let right = r.codes;
     let fields = p.tables;
     Sheet {
-        found: Found::Good,
+        found: Found::NoFault,
         place: 0,
         left,
         right,

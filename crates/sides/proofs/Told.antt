@@ -8,12 +8,12 @@ use Rattle.inner.specs.Inner.{side-code, padded}
 use Rattle.answers.specs.Faults.{fault-of, as-fault}
 use Rattle.sides.specs.Read.{side-of}
 use Rattle.answers.specs.declared.Fault as Code
-use Rattle.answers.specs.declared.Found.the-variants.{Good, Refused}
+use Rattle.answers.specs.declared.Found.the-variants.{NoFault, Refused}
 use Rattle.sides.specs.declared.SideRecord.{SideRecord}
 use Rattle.answers.proofs.Same.{same-paper}
 
 -- the side that stands there
-pub record Stands (x : Checked Side) (r : SideRecord) : Type 0 where
+pub record SideTold (x : Checked Side) (r : SideRecord) : Type 0 where
   pub side : Side
   pub reads : x ≡ read side (r .next .at)
   pub codes : r .codes ≡ padded (side-code side)
@@ -23,7 +23,7 @@ module _ (r : SideRecord) where
   side-fault (fault x) f e h = let z : as-fault x ≡ f = cc in rw (← z, same-paper x)
   side-fault (read side next) f e h = let z : _≡_ {A = ℕ} 0 1 = cc in absurd (omega arith)
 
-  pub side-stands : (x : Checked Side) → r ≡ side-of x → r .found ≡ Good → Stands x r
+  pub side-stands : (x : Checked Side) → r ≡ side-of x → r .found ≡ NoFault → SideTold x r
   side-stands (fault x) e h = let z : _≡_ {A = ℕ} 0 1 = cc in absurd (omega arith)
   side-stands (read side next) e h =
       record { side = side; reads = rw e; codes = ap (λ (y : SideRecord). y .codes) e }

@@ -5,7 +5,7 @@ use Rattle.paper.specs.Equation.{Side}
 use Rattle.paper.specs.Sheet.{Mark, PA, LE, RI, RU, Checked, fault, read, token}
 use Rattle.inner.specs.Inner.{token-code, side-code, padded}
 use Rattle.answers.specs.Faults.{as-fault}
-use Rattle.answers.specs.declared.Found.the-variants.{Good, Refused}
+use Rattle.answers.specs.declared.Found.the-variants.{NoFault, Refused}
 use Rattle.sides.specs.declared.Mark as Code
 use Rattle.sides.specs.declared.Mark.the-variants as Code-mark
 use Rattle.sides.specs.declared.SideRecord.{SideRecord}
@@ -23,4 +23,4 @@ code-of b = token-code (token b)
 -- a fault hands on no token
 abbrev pub side-of : Checked Side → SideRecord
 side-of (fault x) = record { found = Refused (as-fault x); codes = padded []; next = record { at = 0 } }
-side-of (read side next) = record { found = Good; codes = padded (side-code side); next = record { at = next } }
+side-of (read side next) = record { found = NoFault; codes = padded (side-code side); next = record { at = next } }

@@ -148,7 +148,7 @@ fn body(s: &[u8], at: usize) -> SideRecord
     }
     let codes = inner_side(&s[start..end]);
     SideRecord {
-        found: Found::Good,
+        found: Found::NoFault,
         codes,
         next: Cursor { at: end },
     }

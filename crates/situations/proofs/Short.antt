@@ -14,7 +14,7 @@ use Rattle.paper.proofs.base.Lists.{all-true, every-all, all-append, mem-keep}
 use Rattle.paper.proofs.base.Tests.{cond-by, both-true, and-left, and-right, or-left-false, or-right-false, not-is-false, false-not, leb-true, ltb-true, neq-eqb}
 use Rattle.inner.specs.Inner.{field-code, no-token, is-token, is-field, field-of, front}
 use Rattle.inner.proofs.Tokens.{all-drop}
-use Rattle.inner.specs.Coded.{Coded, held, as-struct, Short}
+use Rattle.inner.specs.Coded.{Coded, denoted, as-struct, Short}
 use Rattle.situations.specs.Children.{Settled, dropped, above, made, strike-codes, put-codes, dead-sides, left-strike, right-strike, put-of}
 use Rattle.trimming.specs.Trimming.{alike-in-front, first-masks, question-coded}
 use Rattle.situations.specs.Children.{judged-sides, settle, with-set, struck, put-child, may-end-at}

@@ -7,7 +7,7 @@ use inner::FIELDS;
 use inner::Situation;
 use inner::field_of;
 ghost use mathlib.Core.Path.{_≡_};
-ghost use Rattle.inner.specs.Coded.{held};
+ghost use Rattle.inner.specs.Coded.{denoted};
 ghost use Rattle.situations.specs.Children.{with-set, struck, put-child, may-end-at, left-strike, right-strike};
 ghost use Rattle.situations.specs.Laid.{child-of};
 
@@ -42,7 +42,7 @@ fn may_end(sets: [u32; FIELDS], b: u8, last: [u32; FIELDS]) -> bool
 
 // The child by striking the field with the token b everywhere.
 fn strike(s: Situation, b: u8) -> Child
-    ensures { λ r. ⌜ r ≡ child-of (struck (held s) b) ⌝ }
+    ensures { λ r. ⌜ r ≡ child-of (struck (denoted s) b) ⌝ }
 {
     let left = s.left;
     let right = s.right;
@@ -55,7 +55,7 @@ fn strike(s: Situation, b: u8) -> Child
 
 // "1. the left front is a field whose set may end: strike it everywhere"
 pub fn strike_left(s: Situation, last: [u32; FIELDS]) -> Child
-    ensures { λ r. ⌜ r ≡ child-of (left-strike last (held s)) ⌝ }
+    ensures { λ r. ⌜ r ≡ child-of (left-strike last (denoted s)) ⌝ }
 {
     let left = s.left;
     let sets = s.sets;
@@ -68,7 +68,7 @@ pub fn strike_left(s: Situation, last: [u32; FIELDS]) -> Child
 
 // "2. the right front is a field, not the same as the left front, whose set may end: strike it everywhere"
 pub fn strike_right(s: Situation, last: [u32; FIELDS]) -> Child
-    ensures { λ r. ⌜ r ≡ child-of (right-strike last (held s)) ⌝ }
+    ensures { λ r. ⌜ r ≡ child-of (right-strike last (denoted s)) ⌝ }
 {
     let left = s.left;
     let right = s.right;
@@ -87,7 +87,7 @@ pub fn strike_right(s: Situation, last: [u32; FIELDS]) -> Child
 // "3. .. put c before each front field wherever that field stands, and give the field its new set": m on the left, n on the right. Whether
 // both fronts take c is asked before.
 pub fn put(s: Situation, c: u8, m: u32, n: u32) -> Child
-    ensures { λ r. ⌜ r ≡ child-of (put-child (held s) c m n) ⌝ }
+    ensures { λ r. ⌜ r ≡ child-of (put-child (denoted s) c m n) ⌝ }
 {
     let left = s.left;
     let right = s.right;

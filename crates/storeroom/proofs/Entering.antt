@@ -8,9 +8,9 @@ use mathlib.Core.List.{List, [], _∷_, map}
 use lib.ListN.{length, getD}
 use Rattle.paper.specs.Sheet.{Fault, fault-number, faulty, records}
 use Rattle.paper.specs.Rule.{Rule, read-rule, foreign-field}
-use Rattle.paper.specs.Catalogue.{Standing, Form, no-catalogue, rules, form, used, is-full, not-entered, adding, withdrawing, withdrawn-from}
+use Rattle.paper.specs.Catalogue.{Present, Form, no-catalogue, rules, form, used, is-full, not-entered, adding, withdrawing, withdrawn-from}
 use Rattle.paper.specs.Catalogue as Catalogue
-use Rattle.paper.specs.Calls.{standing-at}
+use Rattle.paper.specs.Calls.{present-at}
 use Rattle.paper.proofs.base.Tests.{lt-ltb}
 use Rattle.paper.proofs.catalogue.Form.{offset-of, rule-fits, record-inside}
 use Rattle.paper.proofs.catalogue.Withdrawing.{leaves}
@@ -27,12 +27,12 @@ use Rattle.storeroom.specs.declared.Added.the-variants as Added
 
 -- What the struct of a catalogue says of its form.
 pub record Rules (i : ℕ) (f : Form) (k : Kept) : Type 0 where
-  pub standing : List Standing
-  pub is : f ≡ rules standing
-  pub counted : k .rules ≡ length standing
-  pub its-used : k .used ≡ used standing
-  pub its-at : k .at ≡ record-at standing i
-  pub its-bytes : k .bytes ≡ record-bytes standing i
+  pub rules-present : List Present
+  pub is : f ≡ rules rules-present
+  pub counted : k .rules ≡ length rules-present
+  pub its-used : k .used ≡ used rules-present
+  pub its-at : k .at ≡ record-at rules-present i
+  pub its-bytes : k .bytes ≡ record-bytes rules-present i
 
 module _ (k : Kept) (i : ℕ) where
   pub no-rules : (f : Form) → k ≡ kept-of i f → k .good ≡ false → f ≡ no-catalogue
@@ -43,7 +43,7 @@ module _ (k : Kept) (i : ℕ) where
   some-rules no-catalogue e h = let z : _≡_ {A = ℕ} 0 1 = cc in absurd (omega arith)
   some-rules (rules l) e h =
       record {
-        standing = l;
+        rules-present = l;
         is = refl;
         counted = ap (λ (x : Kept). x .rules) e;
         its-used = ap (λ (x : Kept). x .used) e;
@@ -52,7 +52,7 @@ module _ (k : Kept) (i : ℕ) where
       }
 
 -- 32, by what was read
-pub full-is : (k : Kept) (l : List Standing) (c bytes : List ℕ) (b : Bool) → k .rules ≡ length l → k .used ≡ used l
+pub full-is : (k : Kept) (l : List Present) (c bytes : List ℕ) (b : Bool) → k .rules ≡ length l → k .used ≡ used l
     → b ≡ full-of k (length bytes) (length c) → is-full l bytes c ≡ b
 full-is k l c bytes b e f h = sym (h ∙ rw (e, f))
 
@@ -61,7 +61,7 @@ module _ (c bytes work : List ℕ) where
   unfolding adding
   adds-to-none e = rw e
 
-  module _ (l : List Standing) (e : form c ≡ rules l) where
+  module _ (l : List Present) (e : form c ≡ rules l) where
     pub adds-fault : (x : Fault) (at : ℕ) → read-rule bytes ≡ faulty x at → not-entered (fault-number x) at c work ≡ adding c bytes work
     unfolding adding
     adds-fault x at f = rw (e, f)
@@ -79,14 +79,14 @@ module _ {c bytes : List ℕ} {kept : Kept} {new : Code.Rule} (x : Ready c bytes
   is-read : read-rule bytes ≡ records (x .asks .rule) (x .asks .its-bytes)
   is-read = rw (← x .same-bytes) (x .asks .is-read)
 
-  pub adds-rule : Pairs-asked (x .asks .standing) (x .asks .rule) work after Apart → (catalogue : List ℕ) → catalogue ≡ put-at (kept .used) bytes c
+  pub adds-rule : Pairs-asked (x .asks .rules-present) (x .asks .rule) work after Apart → (catalogue : List ℕ) → catalogue ≡ put-at (kept .used) bytes c
       → Told.told-added Added.Entered catalogue after ≡ adding c bytes work
   unfolding adding
   adds-rule a catalogue e =
-      let put = is-put (used (x .asks .standing)) bytes c (rule-fits c (x .asks .of-form) bytes (x .room)) in
+      let put = is-put (used (x .asks .rules-present)) bytes c (rule-fits c (x .asks .of-form) bytes (x .room)) in
       rw (e, x .used, put, x .asks .of-form, is-read, x .asks .own, x .room, ← a .pairs, a .after-work)
 
-  pub adds-not : (i : ℕ) (p : Pair) → Pairs-asked (x .asks .standing) (x .asks .rule) work after (NotApart i p)
+  pub adds-not : (i : ℕ) (p : Pair) → Pairs-asked (x .asks .rules-present) (x .asks .rule) work after (NotApart i p)
       → Told.told-added (Added.NotApart i p) c after ≡ adding c bytes work
   unfolding adding
   adds-not i p a = rw (x .asks .of-form, is-read, x .asks .own, x .room, ← a .pairs, a .after-work)
@@ -98,34 +98,34 @@ module _ (c : List ℕ) (i : ℕ) where
   takes-from-none e = rw e
 
   -- no rule has the number
-  none-there : (at : ℕ) (l : List Standing) (n : ℕ) → length l ≤ n → _≡_ {A = Catalogue.Withdrawn} (record { number = 33; catalogue = c }) (withdrawn-from at l n c)
+  none-there : (at : ℕ) (l : List Present) (n : ℕ) → length l ≤ n → _≡_ {A = Catalogue.Withdrawn} (record { number = 33; catalogue = c }) (withdrawn-from at l n c)
   none-there at [] n h = refl
   none-there at (r ∷ l) zero h = absurd (omega arith)
   none-there at (r ∷ l) (suc n) h = none-there (at + r .bytes) l n (omega arith)
 
-  pub takes-none : (l : List Standing) → form c ≡ rules l → length l ≤ i
+  pub takes-none : (l : List Present) → form c ≡ rules l → length l ≤ i
       → _≡_ {A = Catalogue.Withdrawn} (record { number = 33; catalogue = c }) (withdrawing c i)
   unfolding withdrawing
   takes-none l e h = rw e (none-there 0 l i h)
 
-  at-is : (l : List Standing) → i < length l → record-at l i ≡ offset-of l i
+  at-is : (l : List Present) → i < length l → record-at l i ≡ offset-of l i
   unfolding record-at
   at-is l h = rw (lt-ltb i (length l) h)
 
-  bytes-at : (l : List Standing) (n : ℕ) → n < length l → getD (map (λ (r : Standing). r .bytes) l) n 0 ≡ standing-at l n .bytes
+  bytes-at : (l : List Present) (n : ℕ) → n < length l → getD (map (λ (r : Present). r .bytes) l) n 0 ≡ present-at l n .bytes
   bytes-at [] n h = absurd (omega arith)
   bytes-at (r ∷ l) zero h = refl
   bytes-at (r ∷ l) (suc n) h = bytes-at l n (omega arith)
 
-  bytes-are : (l : List Standing) → i < length l → record-bytes l i ≡ standing-at l i .bytes
+  bytes-are : (l : List Present) → i < length l → record-bytes l i ≡ present-at l i .bytes
   unfolding record-bytes
   bytes-are l h = bytes-at l i h
 
   pub takes-one : (k : Kept) (x : Rules i (form c) k) → i < k .rules → (catalogue : List ℕ) → catalogue ≡ closed-at (k .at) (k .bytes) c
       → _≡_ {A = Catalogue.Withdrawn} (record { number = 0; catalogue = catalogue }) (withdrawing c i)
   takes-one k x h catalogue e =
-      let l = x .standing in
+      let l = x .rules-present in
       let there : i < length l = omega (arith, x .counted) in
-      let closed = is-closed (offset-of l i) (standing-at l i .bytes) c (record-inside c (x .is) i there) in
+      let closed = is-closed (offset-of l i) (present-at l i .bytes) c (record-inside c (x .is) i there) in
       rw (e, x .its-at, x .its-bytes, at-is l there, bytes-are l there, closed)
-      (sym (leaves c i (record { standing = l; of-form = x .is; there = there })))
+      (sym (leaves c i (record { rules-present = l; of-form = x .is; there = there })))

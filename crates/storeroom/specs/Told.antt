@@ -9,7 +9,7 @@ use Rattle.paper.specs.Numbers.{catalogue-rules}
 use Rattle.paper.specs.Sheet.{fault-number, records}
 use Rattle.paper.specs.Rule.{Rule, read-rule, foreign-field}
 use Rattle.paper.specs.Outcome.{room-of}
-use Rattle.paper.specs.Catalogue.{Standing, rules, form, Pairs, all-answered-1, not-answered-1, pairs-from, work-behind, is-full}
+use Rattle.paper.specs.Catalogue.{Present, rules, form, Pairs, all-answered-1, not-answered-1, pairs-from, work-behind, is-full}
 use Rattle.paper.specs.Catalogue as Catalogue
 use Rattle.inner.specs.Inner.{side-code, padded}
 use Rattle.places.specs.WorkedOut.{worked-out}
@@ -52,9 +52,9 @@ full-of k bytes room = leb catalogue-rules (k .rules) || ltb room (k .used + byt
 
 -- what is known where the pairs are asked: the catalogue is of its form, and the side and the fields are those of a rule by itself
 pub record Ready-to-ask (catalogue : List ℕ) (count : ℕ) (side : List ℕ) (fields : List PlaceTables) : Type 0 where
-  pub standing : List Standing
-  pub of-form : form catalogue ≡ rules standing
-  pub counted : count ≡ length standing
+  pub rules-present : List Present
+  pub of-form : form catalogue ≡ rules rules-present
+  pub counted : count ≡ length rules-present
   pub bytes : List ℕ
   pub rule : Rule
   pub its-bytes : ℕ
@@ -68,13 +68,13 @@ abbrev pub pairs-of : Asked → Pairs
 pairs-of Asked-as.Apart = all-answered-1
 pairs-of (Asked-as.NotApart i p) = not-answered-1 i (number-of p) (count-of p)
 
-pub record Pairs-asked (standing : List Standing) (rule : Rule) (work after : List ℕ) (r : Asked) : Type 0 where
-  pub pairs : pairs-of r ≡ pairs-from 0 standing rule (room-of work)
-  pub after-work : after ≡ work-behind standing work
+pub record Pairs-asked (rules-present : List Present) (rule : Rule) (work after : List ℕ) (r : Asked) : Type 0 where
+  pub pairs : pairs-of r ≡ pairs-from 0 rules-present rule (room-of work)
+  pub after-work : after ≡ work-behind rules-present work
 
 -- what is known where a rule is entered or not
 pub record Ready (catalogue bytes : List ℕ) (kept : Kept) (new : Code.Rule) : Type 0 where
   pub asks : Ready-to-ask catalogue (kept .rules) (new .side) (new .fields)
   pub same-bytes : asks .bytes ≡ bytes
-  pub used : kept .used ≡ Catalogue.used (asks .standing)
-  pub room : is-full (asks .standing) bytes catalogue ≡ false
+  pub used : kept .used ≡ Catalogue.used (asks .rules-present)
+  pub room : is-full (asks .rules-present) bytes catalogue ≡ false

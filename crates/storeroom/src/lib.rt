@@ -99,7 +99,7 @@ pub enum Asked {
 // Asks the pairs of the rules present with a new one, by rising number, up to the first that is not answered 1.
 fn ask_all(catalogue: &[u8], count: usize, new: Rule, work: &mut [u8]) -> Asked
     requires { ⌜ Ready-to-ask (now catalogue) count (new .side) (new .fields) ⌝ }
-    ensures { λ r. ⌜ ((x : Ready-to-ask (now (catalogue .entry)) count (new .side) (new .fields)) → Pairs-asked (x .standing) (x .rule) (now (work .entry)) (now (work .exit)) r) ⌝ }
+    ensures { λ r. ⌜ ((x : Ready-to-ask (now (catalogue .entry)) count (new .side) (new .fields)) → Pairs-asked (x .rules-present) (x .rule) (now (work .entry)) (now (work .exit)) r) ⌝ }
 {
     let right = new.side;
     let second = new.fields;

@@ -21,7 +21,7 @@ use Rattle.paper.specs.Situation.{Situation, Move}
 use Rattle.paper.specs.Sheet.{Fault, fault-number, Records, faulty, records}
 use Rattle.paper.specs.Rule.{Rule, read-rule, foreign-field, pair}
 use Rattle.paper.specs.Outcome.{room-of, searched, how-of}
-use Rattle.paper.specs.Catalogue.{Standing, Form, no-catalogue, rules, form, used, pair-number, Pairs, all-answered-1, not-answered-1}
+use Rattle.paper.specs.Catalogue.{Present, Form, no-catalogue, rules, form, used, pair-number, Pairs, all-answered-1, not-answered-1}
 use Rattle.paper.specs.Catalogue.{pair-answer, pair-count, pairs-from, Added, not-entered, work-behind, entered-if, is-full}
 use Rattle.paper.specs.Catalogue.{added-rule, added-to, adding}
 use Rattle.paper.specs.Calls.{rule-at}
@@ -41,11 +41,11 @@ unfolding pair-answer
 answer-not-1 r s room = number-not-1 (how-of (searched (pair r s) room))
 
 -- every pair of the rules present with the new one is answered 1
-abbrev pub AllAnswered : List Standing → Rule → ℕ → Type 0
+abbrev pub AllAnswered : List Present → Rule → ℕ → Type 0
 AllAnswered l new room = (i : ℕ) → i < length l → pair-answer (rule-at l i) new room ≡ 1
 
 -- "the number of the first rule that gave something else is reported with that answer", and its pair's count
-pub record FirstNot (l : List Standing) (new : Rule) (room i answer count : ℕ) : Type 0 where
+pub record FirstNot (l : List Present) (new : Rule) (room i answer count : ℕ) : Type 0 where
   pub there : i < length l
   pub before : (k : ℕ) → k < i → pair-answer (rule-at l k) new room ≡ 1
   pub its-answer : answer ≡ pair-answer (rule-at l i) new room
@@ -54,11 +54,11 @@ pub record FirstNot (l : List Standing) (new : Rule) (room i answer count : ℕ)
 
 module _ (new : Rule) (room : ℕ) where
   -- what the pairs from number `from` on give
-  abbrev Gives : ℕ → List Standing → Pairs → Type 0
+  abbrev Gives : ℕ → List Present → Pairs → Type 0
   Gives from l all-answered-1 = AllAnswered l new room
   Gives from l (not-answered-1 n answer count) = (i : ℕ) × (n ≡ from + i) × FirstNot l new room i answer count
 
-  first-answered : (from : ℕ) (x : Standing) (l : List Standing) (p : Pairs) → pair-answer (x .rule) new room ≡ 1
+  first-answered : (from : ℕ) (x : Present) (l : List Present) (p : Pairs) → pair-answer (x .rule) new room ≡ 1
       → Gives (suc from) l p → Gives from (x ∷ l) p
   first-answered from x l all-answered-1 e h = each
     where
@@ -81,7 +81,7 @@ module _ (new : Rule) (room : ℕ) where
       each zero j = e
       each (suc k) j = f .before k (omega arith)
 
-  pairs-give : (from : ℕ) (l : List Standing) → Gives from l (pairs-from from l new room)
+  pairs-give : (from : ℕ) (l : List Present) → Gives from l (pairs-from from l new room)
   pairs-give from [] = λ i h. absurd (omega arith)
   pairs-give from (x ∷ l) =
       cond-by (Gives from (x ∷ l)) (eqb (pair-answer (x .rule) new room) 1)
@@ -98,45 +98,45 @@ module _ (new : Rule) (room : ℕ) where
         },
       ))
 
-  answered-pairs : (from : ℕ) (l : List Standing) → AllAnswered l new room → pairs-from from l new room ≡ all-answered-1
+  answered-pairs : (from : ℕ) (l : List Present) → AllAnswered l new room → pairs-from from l new room ≡ all-answered-1
   answered-pairs from [] h = refl
   answered-pairs from (x ∷ l) h =
       rw (h 0 (omega arith)) (answered-pairs (suc from) l (λ i k. h (suc i) (omega arith)))
 
 -- A rule is entered.
 pub record Enters (c bytes work : List ℕ) : Type 0 where
-  pub standing : List Standing
-  pub of-form : form c ≡ rules standing
+  pub rules-present : List Present
+  pub of-form : form c ≡ rules rules-present
   pub rule : Rule
   pub own-bytes : ℕ
   pub is-read : read-rule bytes ≡ records rule own-bytes
   pub own-fields : foreign-field rule ≡ false
-  pub room : is-full standing bytes c ≡ false
-  pub answered : AllAnswered standing rule (room-of work)
+  pub room : is-full rules-present bytes c ≡ false
+  pub answered : AllAnswered rules-present rule (room-of work)
 
 abbrev pub added : {c bytes work : List ℕ} → Enters c bytes work → Added
-added {c} {bytes} {work} x = entered-if all-answered-1 (x .standing) bytes c work
+added {c} {bytes} {work} x = entered-if all-answered-1 (x .rules-present) bytes c work
 
 -- The ways that adding goes, by what it tells and leaves.
 module _ (c bytes work : List ℕ) where
   pub data Adds : Added → Type 0 where
     no-form : form c ≡ no-catalogue → Adds (not-entered 34 0 c work)
-    not-read : (l : List Standing) → form c ≡ rules l → (x : Fault) (at : ℕ) → read-rule bytes ≡ faulty x at
+    not-read : (l : List Present) → form c ≡ rules l → (x : Fault) (at : ℕ) → read-rule bytes ≡ faulty x at
         → Adds (not-entered (fault-number x) at c work)
-    foreign : (l : List Standing) → form c ≡ rules l → (r : Rule) (n : ℕ) → read-rule bytes ≡ records r n → foreign-field r ≡ true
+    foreign : (l : List Present) → form c ≡ rules l → (r : Rule) (n : ℕ) → read-rule bytes ≡ records r n → foreign-field r ≡ true
         → Adds (not-entered 31 0 c work)
-    full : (l : List Standing) → form c ≡ rules l → (r : Rule) (n : ℕ) → read-rule bytes ≡ records r n → foreign-field r ≡ false
+    full : (l : List Present) → form c ≡ rules l → (r : Rule) (n : ℕ) → read-rule bytes ≡ records r n → foreign-field r ≡ false
         → is-full l bytes c ≡ true → Adds (not-entered 32 0 c work)
-    not-apart : (l : List Standing) → form c ≡ rules l → (r : Rule) (n : ℕ) → read-rule bytes ≡ records r n → foreign-field r ≡ false
+    not-apart : (l : List Present) → form c ≡ rules l → (r : Rule) (n : ℕ) → read-rule bytes ≡ records r n → foreign-field r ≡ false
         → is-full l bytes c ≡ false → (i answer count : ℕ) → FirstNot l r (room-of work) i answer count
         → Adds (record { number = 30; count = count; place = 0; rule = i; answer = answer; catalogue = c; work = work-behind l work })
     enter : (x : Enters c bytes work) → Adds (added x)
 
-  module _ (l : List Standing) (e : form c ≡ rules l) where
+  module _ (l : List Present) (e : form c ≡ rules l) where
     paired : (r : Rule) (n : ℕ) → read-rule bytes ≡ records r n → foreign-field r ≡ false → is-full l bytes c ≡ false
         → (p : Pairs) → Gives r (room-of work) 0 l p → Adds (entered-if p l bytes c work)
     paired r n f own room all-answered-1 g =
-        enter (record { standing = l; of-form = e; rule = r; own-bytes = n; is-read = f; own-fields = own; room = room; answered = g })
+        enter (record { rules-present = l; of-form = e; rule = r; own-bytes = n; is-read = f; own-fields = own; room = room; answered = g })
     paired r n f own room (not-answered-1 k answer count) (i, p, first) =
         not-apart l e r n f own room k answer count
         (subst (λ (j : ℕ). FirstNot l r (room-of work) j answer count) (sym (p ∙ zero-add i)) first)
@@ -171,21 +171,21 @@ module _ (c bytes work : List ℕ) where
   pub enters : (x : Enters c bytes work) → adding c bytes work ≡ added x
   unfolding adding
   enters x =
-      rw (x .of-form, x .is-read, x .own-fields, x .room, answered-pairs (x .rule) (room-of work) 0 (x .standing) (x .answered))
+      rw (x .of-form, x .is-read, x .own-fields, x .room, answered-pairs (x .rule) (room-of work) 0 (x .rules-present) (x .answered))
 
   pub entered-exactly : (adding c bytes work .number ≡ 0 → Enters c bytes work) × (Enters c bytes work → adding c bytes work .number ≡ 0)
   entered-exactly = (entered, λ x. ap (λ (o : Added). o .number) (enters x))
 
   -- The first rule that gave something else.
   pub record Reports (o : Added) : Type 0 where
-    pub standing : List Standing
-    pub of-form : form c ≡ rules standing
+    pub rules-present : List Present
+    pub of-form : form c ≡ rules rules-present
     pub new : Rule
     pub own-bytes : ℕ
     pub is-read : read-rule bytes ≡ records new own-bytes
     pub own-fields : foreign-field new ≡ false
-    pub room : is-full standing bytes c ≡ false
-    pub first : FirstNot standing new (room-of work) (o .rule) (o .answer) (o .count)
+    pub room : is-full rules-present bytes c ≡ false
+    pub first : FirstNot rules-present new (room-of work) (o .rule) (o .answer) (o .count)
     pub number : member (o .answer) (0 ∷ 18 ∷ 19 ∷ []) ≡ true
 
   reported-by : (o : Added) → Adds o → o .number ≡ 30 → Reports o
@@ -195,7 +195,7 @@ module _ (c bytes work : List ℕ) where
   reported-by o (full l e r k f own room) z = absurd (omega (arith, z))
   reported-by o (not-apart l e r k f own room i answer count first) z =
       record {
-        standing = l;
+        rules-present = l;
         of-form = e;
         new = r;
         own-bytes = k;
@@ -224,7 +224,7 @@ module _ (c bytes work : List ℕ) where
 
   -- Entered, the new rule is the last.
   pub added-form : (x : Enters c bytes work)
-      → form (adding c bytes work .catalogue) ≡ rules (x .standing ++ (record { rule = x .rule; bytes = x .own-bytes } ∷ []))
+      → form (adding c bytes work .catalogue) ≡ rules (x .rules-present ++ (record { rule = x .rule; bytes = x .own-bytes } ∷ []))
   added-form x = rw (enters x) (form-with c (x .of-form) bytes (x .room) (x .is-read) (x .own-fields))
 
   length-by : (o : Added) → Adds o → length (o .catalogue) ≡ length c
@@ -233,7 +233,7 @@ module _ (c bytes work : List ℕ) where
   length-by o (foreign l e r k f own) = refl
   length-by o (full l e r k f own room) = refl
   length-by o (not-apart l e r k f own room i answer count first) = refl
-  length-by o (enter x) = length-with (used (x .standing)) bytes c (rule-fits c (x .of-form) bytes (x .room))
+  length-by o (enter x) = length-with (used (x .rules-present)) bytes c (rule-fits c (x .of-form) bytes (x .room))
 
   pub added-length : length (adding c bytes work .catalogue) ≡ length c
   added-length = length-by (adding c bytes work) adds

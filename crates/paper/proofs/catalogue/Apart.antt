@@ -11,8 +11,8 @@ use lib.Dec.{ltb, eqb}
 use lib.ListN.{length, take, drop}
 use Rattle.paper.specs.Rule.{Makes}
 use Rattle.paper.specs.Outcome.{room-of}
-use Rattle.paper.specs.Catalogue.{Standing, rules, form, adding, withdrawing}
-use Rattle.paper.specs.Calls.{Call, add, withdraw, after-call, after-calls, empty-catalogue, standing-at, rule-at, Apart}
+use Rattle.paper.specs.Catalogue.{Present, rules, form, adding, withdrawing}
+use Rattle.paper.specs.Calls.{Call, add, withdraw, after-call, after-calls, empty-catalogue, present-at, rule-at, Apart}
 use Rattle.paper.proofs.base.Tests.{by-bool, ltb-true, ltb-false, eqb-true, eqb-false}
 use Rattle.paper.proofs.catalogue.Form.{offset-of, form-empty, read-at, own-fields}
 use Rattle.paper.proofs.catalogue.GoodRule.{rule-good, new-good}
@@ -21,57 +21,57 @@ use Rattle.paper.proofs.catalogue.Adding.{Enters, entered, refused-same
 use Rattle.paper.proofs.catalogue.Withdrawing.{Leaves, withdrawn-exactly, unchanged, withdrawn-form}
 
 -- no label is made by both
-abbrev pub TwoApart : Standing → Standing → Type 0
+abbrev pub TwoApart : Present → Present → Type 0
 TwoApart x y = (l : List ℕ) → Makes (x .rule) l → Makes (y .rule) l → ⊥
 
 -- of every rule
-abbrev Every : (Standing → Type 0) → List Standing → Type 0
+abbrev Every : (Present → Type 0) → List Present → Type 0
 Every P [] = Unit {0}
 Every P (x ∷ l) = P x × Every P l
 
 -- each rule is apart from every rule behind it
-abbrev pub EachApart : List Standing → Type 0
+abbrev pub EachApart : List Present → Type 0
 EachApart [] = Unit {0}
 EachApart (x ∷ l) = Every (TwoApart x) l × EachApart l
 
-module _ (P : Standing → Type 0) where
-  every-at : (l : List Standing) → Every P l → (i : ℕ) → i < length l → P (standing-at l i)
+module _ (P : Present → Type 0) where
+  every-at : (l : List Present) → Every P l → (i : ℕ) → i < length l → P (present-at l i)
   every-at [] h i k = absurd (omega arith)
   every-at (x ∷ l) (p, h) zero k = p
   every-at (x ∷ l) (p, h) (suc i) k = every-at l h i (omega arith)
 
-  at-every : (l : List Standing) → ((i : ℕ) → i < length l → P (standing-at l i)) → Every P l
+  at-every : (l : List Present) → ((i : ℕ) → i < length l → P (present-at l i)) → Every P l
   at-every [] h = tt
   at-every (x ∷ l) h = (h 0 (omega arith), at-every l (λ i k. h (suc i) (omega arith)))
 
-  every-with : (l : List Standing) (x : Standing) → Every P l → P x → Every P (l ++ (x ∷ []))
+  every-with : (l : List Present) (x : Present) → Every P l → P x → Every P (l ++ (x ∷ []))
   every-with [] x h p = (p, tt)
   every-with (y ∷ l) x (q, h) p = (q, every-with l x h p)
 
-  every-without : (l : List Standing) (i : ℕ) → Every P l → Every P (take i l ++ drop (suc i) l)
+  every-without : (l : List Present) (i : ℕ) → Every P l → Every P (take i l ++ drop (suc i) l)
   every-without [] zero h = tt
   every-without [] (suc i) h = tt
   every-without (x ∷ l) zero (p, h) = h
   every-without (x ∷ l) (suc i) (p, h) = (p, every-without l i h)
 
 -- one rule more, apart from those before it; one rule less
-apart-with : (l : List Standing) (x : Standing) → EachApart l → Every (λ (y : Standing). TwoApart y x) l → EachApart (l ++ (x ∷ []))
+apart-with : (l : List Present) (x : Present) → EachApart l → Every (λ (y : Present). TwoApart y x) l → EachApart (l ++ (x ∷ []))
 apart-with [] x h e = (tt, tt)
 apart-with (y ∷ l) x (p, h) (q, e) = (every-with (TwoApart y) l x p q, apart-with l x h e)
 
-apart-without : (l : List Standing) (i : ℕ) → EachApart l → EachApart (take i l ++ drop (suc i) l)
+apart-without : (l : List Present) (i : ℕ) → EachApart l → EachApart (take i l ++ drop (suc i) l)
 apart-without [] zero h = tt
 apart-without [] (suc i) h = tt
 apart-without (x ∷ l) zero (p, h) = h
 apart-without (x ∷ l) (suc i) (p, h) = (every-without (TwoApart x) l i p, apart-without l i h)
 
-apart-at : (l : List Standing) → EachApart l → (i j : ℕ) → i < j → j < length l → TwoApart (standing-at l i) (standing-at l j)
+apart-at : (l : List Present) → EachApart l → (i j : ℕ) → i < j → j < length l → TwoApart (present-at l i) (present-at l j)
 apart-at [] h i j less k = absurd (omega arith)
 apart-at (x ∷ l) (p, h) i zero less k = absurd (omega arith)
 apart-at (x ∷ l) (p, h) zero (suc j) less k = every-at (TwoApart x) l p j (omega arith)
 apart-at (x ∷ l) (p, h) (suc i) (suc j) less k = apart-at l h i j (omega arith) (omega arith)
 
-at-apart : (l : List Standing) → ((i j : ℕ) → i < j → j < length l → TwoApart (standing-at l i) (standing-at l j)) → EachApart l
+at-apart : (l : List Present) → ((i j : ℕ) → i < j → j < length l → TwoApart (present-at l i) (present-at l j)) → EachApart l
 at-apart [] h = tt
 at-apart (x ∷ l) h = (
   at-every (TwoApart x) l (λ j k. h 0 (suc j) (omega arith) (omega arith)),
@@ -79,10 +79,10 @@ at-apart (x ∷ l) h = (
 )
 
 -- "no label can be made by two of its rules", from each rule being apart from those behind it, and back
-each-apart : (c : List ℕ) (l : List Standing) → form c ≡ rules l → EachApart l → Apart c
+each-apart : (c : List ℕ) (l : List Present) → form c ≡ rules l → EachApart l → Apart c
 each-apart c l e h =
     record {
-      standing = l;
+      rules-present = l;
       of-form = e;
       apart = λ i j in-i in-j other w m k.
           by-bool (ltb i j)
@@ -90,35 +90,35 @@ each-apart c l e h =
           (λ more. apart-at l h j i (omega (arith, ltb-false i j more, other)) in-i w k m);
     }
 
-apart-each : (c : List ℕ) (a : Apart c) → EachApart (a .standing)
-apart-each c a = at-apart (a .standing) (λ i j less k. a .apart i j (omega arith) k (omega arith))
+apart-each : (c : List ℕ) (a : Apart c) → EachApart (a .rules-present)
+apart-each c a = at-apart (a .rules-present) (λ i j less k. a .apart i j (omega arith) k (omega arith))
 
 -- A rule that is entered is apart from each rule that stands.
-pub new-apart : (c bytes work : List ℕ) (x : Enters c bytes work) (i : ℕ) → i < length (x .standing)
-    → (l : List ℕ) → Makes (rule-at (x .standing) i) l → Makes (x .rule) l → ⊥
+pub new-apart : (c bytes work : List ℕ) (x : Enters c bytes work) (i : ℕ) → i < length (x .rules-present)
+    → (l : List ℕ) → Makes (rule-at (x .rules-present) i) l → Makes (x .rule) l → ⊥
 new-apart c bytes work x i h =
-    let l = x .standing in
+    let l = x .rules-present in
     pair-apart (rule-at l i) (x .rule)
     (rule-good (drop (offset-of l i) c) (read-at c (x .of-form) i h) (own-fields c (x .of-form) i h))
     (new-good bytes (x .is-read) (x .own-fields)) (room-of work) (x .answered i h)
 
 -- What a refusal leaves is as it was.
 unchanged-apart : (c d : List ℕ) → d ≡ c → Apart c → Apart d
-unchanged-apart c d e a = record { standing = a .standing; of-form = rw e (a .of-form); apart = a .apart }
+unchanged-apart c d e a = record { rules-present = a .rules-present; of-form = rw e (a .of-form); apart = a .apart }
 
 entered-apart : (c bytes work : List ℕ) → Apart c → Enters c bytes work → Apart (adding c bytes work .catalogue)
 entered-apart c bytes work a x =
-    let new : Standing = record { rule = x .rule; bytes = x .own-bytes } in
-    let same : a .standing ≡ x .standing = cc (a .of-form, x .of-form) in
-    each-apart (adding c bytes work .catalogue) (x .standing ++ (new ∷ [])) (added-form c bytes work x)
-    (apart-with (x .standing) new (subst EachApart same (apart-each c a))
-    (at-every (λ (y : Standing). TwoApart y new) (x .standing) (new-apart c bytes work x)))
+    let new : Present = record { rule = x .rule; bytes = x .own-bytes } in
+    let same : a .rules-present ≡ x .rules-present = cc (a .of-form, x .of-form) in
+    each-apart (adding c bytes work .catalogue) (x .rules-present ++ (new ∷ [])) (added-form c bytes work x)
+    (apart-with (x .rules-present) new (subst EachApart same (apart-each c a))
+    (at-every (λ (y : Present). TwoApart y new) (x .rules-present) (new-apart c bytes work x)))
 
 withdrawn-apart : (c : List ℕ) (i : ℕ) → Apart c → Leaves c i → Apart (withdrawing c i .catalogue)
 withdrawn-apart c i a x =
-    let same : a .standing ≡ x .standing = cc (a .of-form, x .of-form) in
-    each-apart (withdrawing c i .catalogue) (take i (x .standing) ++ drop (suc i) (x .standing)) (withdrawn-form c i x)
-    (apart-without (x .standing) i (subst EachApart same (apart-each c a)))
+    let same : a .rules-present ≡ x .rules-present = cc (a .of-form, x .of-form) in
+    each-apart (withdrawing c i .catalogue) (take i (x .rules-present) ++ drop (suc i) (x .rules-present)) (withdrawn-form c i x)
+    (apart-without (x .rules-present) i (subst EachApart same (apart-each c a)))
 
 -- Every call keeps it.
 pub apart-call : (c : List ℕ) (call : Call) → Apart c → Apart (after-call c call)

@@ -1,13 +1,13 @@
 -- Good rules: what every rule has that was read and names no foreign field.
 --   rule-good     : rule-front s ≡ records r n → foreign-field r ≡ false → GoodRule r
 --   new-good      : read-rule s ≡ records r n → foreign-field r ≡ false → GoodRule r
---   standing-good : form catalogue ≡ rules l → each rule of l is good
+--   present-good : form catalogue ≡ rules l → each rule of l is good
 --   own-field     : a field that stands in a good rule's side is one of its own
 --   pair-sayable  : GoodRule r → GoodRule s → Sayable (pair r s)
 --   pair-asks     : GoodRule r → GoodRule s → AsksGood (asked (pair r s))
 -- Its tokens are 01's characters and its own fields, its side has at most 24 of them, a pattern has at most 31 leaves and 96 bytes of code, and
 -- the fields that are not its own are open.
--- Follows from the checks on the records, as for a good question (`Asked`), from the test for 31, and from the form as a relation (`Stands`).
+-- Follows from the checks on the records, as for a good question (`Asked`), from the test for 31, and from the form as a relation (`LaidOut`).
 use Prim.Native.Nat.{ℕ, zero, suc, _+_, _≤_, _<_}
 use native.Mathlib.Omega.{arith}
 use mathlib.Core.Path.{_≡_, refl, sym, _∙_, subst}
@@ -25,13 +25,13 @@ use Rattle.paper.specs.Equation.{Token, chr, fld, Side, is-field, stands
 use Rattle.paper.specs.Sheet.{Checked, fault, read, FieldPattern, byte-at, body, LE, RU, marked, marked-side}
 use Rattle.paper.specs.Sheet.{Records, faulty, records, Fields, open-fields, with-pattern, read-patterns, asked}
 use Rattle.paper.specs.Rule.{Rule, rule-holds, with-side, side-read, rule-front, read-rule, foreign-token, foreign-field, moved-up, pair}
-use Rattle.paper.specs.Catalogue.{Standing, rules, form}
+use Rattle.paper.specs.Catalogue.{Present, rules, form}
 use Rattle.paper.proofs.sheets.Asked.{InRange, GoodSide, GoodHeld, GoodFields, GoodQuestion, AsksGood, Found, PatternRead, set-by, open-by}
 use Rattle.paper.proofs.sheets.Asked.{fields-with, opens-good, Listed, patterns-by, marked-good}
 use Rattle.paper.proofs.catalogue.Code.{judged-code}
 use Rattle.paper.proofs.catalogue.Saying.{ShortCode, Sayable}
 use Rattle.paper.proofs.catalogue.Local.{rule-whole}
-use Rattle.paper.proofs.catalogue.Form.{Stands, zeros, rule, form-stands}
+use Rattle.paper.proofs.catalogue.Form.{LaidOut, zeros, rule, form-stands}
 
 -- "its own fields, numbered 0 to 3"
 abbrev pub OwnToken : Token → Type 0
@@ -119,12 +119,12 @@ pub new-good : (s : List ℕ) {r : Rule} {n : ℕ} → read-rule s ≡ records r
 new-good s e own = rule-good s (rule-whole s e .0) own
 
 -- Each rule that stands in a catalogue is good.
-stands-good : {s : List ℕ} {l : List Standing} → Stands s l → (t : Standing) → List·Memᴰ t l → GoodRule (t .rule)
+stands-good : {s : List ℕ} {l : List Present} → LaidOut s l → (t : Present) → List·Memᴰ t l → GoodRule (t .rule)
 stands-good (zeros z) t d = absurd (List·Memᴰ·not-nil d)
-stands-good (rule {s = s} e own h) t d = mem-cons-by (λ (u : Standing). GoodRule (u .rule)) (rule-good s e own) (λ u i. stands-good h u i) t d
+stands-good (rule {s = s} e own h) t d = mem-cons-by (λ (u : Present). GoodRule (u .rule)) (rule-good s e own) (λ u i. stands-good h u i) t d
 
-pub standing-good : (catalogue : List ℕ) {l : List Standing} → form catalogue ≡ rules l → (t : Standing) → List·Memᴰ t l → GoodRule (t .rule)
-standing-good catalogue e = stands-good (form-stands catalogue e)
+pub present-good : (catalogue : List ℕ) {l : List Present} → form catalogue ≡ rules l → (t : Present) → List·Memᴰ t l → GoodRule (t .rule)
+present-good catalogue e = stands-good (form-stands catalogue e)
 
 -- A field that stands in its side is its own.
 pub own-field : (r : Rule) → GoodRule r → (f : ℕ) → stands-in f (r .side) ≡ true → f < rule-fields

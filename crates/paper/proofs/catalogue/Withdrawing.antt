@@ -18,9 +18,9 @@ use lib.ListN.{length, take, drop, replicate, length-append, length-take, length
 use lib.Seq.{take-all, take-at, drop-at, drop-drop, take-add, take-append-seam, getD-append-seam, getD-take, drop-append-add, length-take-le}
 use Rattle.paper.specs.Numbers.{catalogue-rules}
 use Rattle.paper.specs.Outcome.{room-of}
-use Rattle.paper.specs.Catalogue.{Standing, Form, no-catalogue, rules, all-zero, form, used, pair-answer, with-record, is-full, adding}
+use Rattle.paper.specs.Catalogue.{Present, Form, no-catalogue, rules, all-zero, form, used, pair-answer, with-record, is-full, adding}
 use Rattle.paper.specs.Catalogue.{Withdrawn, without-record, withdrawn-from, withdrawn-of, withdrawing}
-use Rattle.paper.specs.Calls.{behind-last, standing-at, rule-at}
+use Rattle.paper.specs.Calls.{behind-last, present-at, rule-at}
 use Rattle.paper.proofs.base.Tests.{by-bool, both-true, both-false, ltb-true, ltb-false, le-ltb, lt-leb}
 use Rattle.paper.proofs.base.Lists.{all-append}
 use Rattle.paper.proofs.catalogue.Local.{rule-bounds, rule-whole, rule-cut}
@@ -33,17 +33,17 @@ use Rattle.paper.proofs.catalogue.Adding.{Enters, enters, added-form}
 module _ (c : List ℕ) (i : ℕ) where
   pub data Withdraws : Withdrawn → Type 0 where
     no-form : form c ≡ no-catalogue → Withdraws (record { number = 34; catalogue = c })
-    no-rule : (l : List Standing) → form c ≡ rules l → length l ≤ i → Withdraws (record { number = 33; catalogue = c })
-    one-less : (l : List Standing) → form c ≡ rules l → i < length l
-        → Withdraws (record { number = 0; catalogue = without-record (offset-of l i) (standing-at l i .bytes) c })
+    no-rule : (l : List Present) → form c ≡ rules l → length l ≤ i → Withdraws (record { number = 33; catalogue = c })
+    one-less : (l : List Present) → form c ≡ rules l → i < length l
+        → Withdraws (record { number = 0; catalogue = without-record (offset-of l i) (present-at l i .bytes) c })
 
-withdraws-none : (at : ℕ) (l : List Standing) (i : ℕ) (c : List ℕ) → length l ≤ i → withdrawn-from at l i c ≡ record { number = 33; catalogue = c }
+withdraws-none : (at : ℕ) (l : List Present) (i : ℕ) (c : List ℕ) → length l ≤ i → withdrawn-from at l i c ≡ record { number = 33; catalogue = c }
 withdraws-none at [] i c h = refl
 withdraws-none at (x ∷ l) zero c h = absurd (omega arith)
 withdraws-none at (x ∷ l) (suc i) c h = withdraws-none (at + x .bytes) l i c (omega arith)
 
-withdraws-one : (at : ℕ) (l : List Standing) (i : ℕ) (c : List ℕ) → i < length l
-    → withdrawn-from at l i c ≡ record { number = 0; catalogue = without-record (at + offset-of l i) (standing-at l i .bytes) c }
+withdraws-one : (at : ℕ) (l : List Present) (i : ℕ) (c : List ℕ) → i < length l
+    → withdrawn-from at l i c ≡ record { number = 0; catalogue = without-record (at + offset-of l i) (present-at l i .bytes) c }
 withdraws-one at [] i c h = absurd (omega arith)
 withdraws-one at (x ∷ l) zero c h = rw (add-zero at)
 withdraws-one at (x ∷ l) (suc i) c h = withdraws-one (at + x .bytes) l i c (omega arith) ∙ rw (add-assoc at (x .bytes) (offset-of l i))
@@ -62,21 +62,21 @@ module _ (c : List ℕ) (i : ℕ) where
 
   -- There is a rule to withdraw.
   pub record Leaves : Type 0 where
-    pub standing : List Standing
-    pub of-form : form c ≡ rules standing
-    pub there : i < length standing
+    pub rules-present : List Present
+    pub of-form : form c ≡ rules rules-present
+    pub there : i < length rules-present
 
   -- "33 if no rule has that number"
   withdrawn-by : (o : Withdrawn) → Withdraws c i o → o .number ≡ 0 → Leaves
   withdrawn-by o (no-form e) z = absurd (omega (arith, z))
   withdrawn-by o (no-rule l e far) z = absurd (omega (arith, z))
-  withdrawn-by o (one-less l e there) z = record { standing = l; of-form = e; there = there }
+  withdrawn-by o (one-less l e there) z = record { rules-present = l; of-form = e; there = there }
 
   pub leaves : (x : Leaves)
       → withdrawing c i
-      ≡ record { number = 0; catalogue = without-record (offset-of (x .standing) i) (standing-at (x .standing) i .bytes) c }
+      ≡ record { number = 0; catalogue = without-record (offset-of (x .rules-present) i) (present-at (x .rules-present) i .bytes) c }
   unfolding withdrawing
-  leaves x = rw (x .of-form) (withdraws-one 0 (x .standing) i c (x .there) ∙ rw (zero-add (offset-of (x .standing) i)))
+  leaves x = rw (x .of-form) (withdraws-one 0 (x .rules-present) i c (x .there) ∙ rw (zero-add (offset-of (x .rules-present) i)))
 
   pub withdrawn-exactly : (withdrawing c i .number ≡ 0 → Leaves) × (Leaves → withdrawing c i .number ≡ 0)
   withdrawn-exactly = (withdrawn-by (withdrawing c i) withdraws, λ x. ap (λ (o : Withdrawn). o .number) (leaves x))
@@ -91,22 +91,22 @@ module _ (c : List ℕ) (i : ℕ) where
   unchanged = unchanged-by (withdrawing c i) withdraws
 
   -- "withdrawing closes the gap"
-  pub withdrawn-form : (x : Leaves) → form (withdrawing c i .catalogue) ≡ rules (take i (x .standing) ++ drop (suc i) (x .standing))
+  pub withdrawn-form : (x : Leaves) → form (withdrawing c i .catalogue) ≡ rules (take i (x .rules-present) ++ drop (suc i) (x .rules-present))
   withdrawn-form x = rw (leaves x) (form-without c (x .of-form) i (x .there))
 
   length-by : (o : Withdrawn) → Withdraws c i o → length (o .catalogue) ≡ length c
   length-by o (no-form e) = refl
   length-by o (no-rule l e far) = refl
-  length-by o (one-less l e there) = length-without (offset-of l i) (standing-at l i .bytes) c (record-inside c e i there)
+  length-by o (one-less l e there) = length-without (offset-of l i) (present-at l i .bytes) c (record-inside c e i there)
 
   pub withdrawn-length : length (withdrawing c i .catalogue) ≡ length c
   withdrawn-length = length-by (withdrawing c i) withdraws
 
   -- "A withdrawn rule's room is used again."
-  pub room-again : (x : Leaves) (bytes : List ℕ) → length bytes ≤ standing-at (x .standing) i .bytes
-      → is-full (take i (x .standing) ++ drop (suc i) (x .standing)) bytes (withdrawing c i .catalogue) ≡ false
+  pub room-again : (x : Leaves) (bytes : List ℕ) → length bytes ≤ present-at (x .rules-present) i .bytes
+      → is-full (take i (x .rules-present) ++ drop (suc i) (x .rules-present)) bytes (withdrawing c i .catalogue) ≡ false
   room-again x bytes h =
-      let l = x .standing in
+      let l = x .rules-present in
       let others = take i l ++ drop (suc i) l in
       both-false
       (lt-leb catalogue-rules (length others) (omega (arith, one-rule-less c (x .of-form) i (x .there), rules-at-most c (x .of-form))))
@@ -162,14 +162,14 @@ taken-put at n c z h =
 
 -- Entered and withdrawn again: the catalogue is as it was, byte for byte. The number of the new rule is that of the rules before it.
 pub added-withdrawn : (c bytes work : List ℕ) (x : Enters c bytes work)
-    → withdrawing (adding c bytes work .catalogue) (length (x .standing)) ≡ record { number = 0; catalogue = c }
+    → withdrawing (adding c bytes work .catalogue) (length (x .rules-present)) ≡ record { number = 0; catalogue = c }
 added-withdrawn c bytes work x =
-    let l = x .standing in
-    let new : Standing = record { rule = x .rule; bytes = x .own-bytes } in
+    let l = x .rules-present in
+    let new : Present = record { rule = x .rule; bytes = x .own-bytes } in
     let d = adding c bytes work .catalogue in
     let all : x .own-bytes ≡ length bytes = rule-whole bytes (x .is-read) .1 in
     let last : Leaves d (length l) =
-    record { standing = l ++ (new ∷ []); of-form = added-form c bytes work x; there = rw (length-append l (new ∷ [])) (omega arith) } in
+    record { rules-present = l ++ (new ∷ []); of-form = added-form c bytes work x; there = rw (length-append l (new ∷ [])) (omega arith) } in
     leaves d (length l) last
     ∙ rw (
       take-append-seam l (new ∷ []),
@@ -180,33 +180,33 @@ added-withdrawn c bytes work x =
     )
 
 -- The last rule withdrawn and its bytes entered again, in a room in which each pair is answered 1: the catalogue is as it was.
-module _ (c work : List ℕ) {l : List Standing} (e : form c ≡ rules l) (i : ℕ) (last : suc i ≡ length l)
+module _ (c work : List ℕ) {l : List Present} (e : form c ≡ rules l) (i : ℕ) (last : suc i ≡ length l)
     (answered : (k : ℕ) → k < i → pair-answer (rule-at l k) (rule-at l i) (room-of work) ≡ 1) where
   abbrev its-bytes : List ℕ
-  its-bytes = take (standing-at l i .bytes) (drop (offset-of l i) c)
+  its-bytes = take (present-at l i .bytes) (drop (offset-of l i) c)
 
   there : i < length l
   there = omega arith
 
   abbrev one-left : Leaves c i
-  one-left = record { standing = l; of-form = e; there = there }
+  one-left = record { rules-present = l; of-form = e; there = there }
 
   others : take i l ++ drop (suc i) l ≡ take i l
   others = rw (drop-of-length-le l {i = suc i} (omega arith), append-nil (take i l))
 
-  its-size : length its-bytes ≡ standing-at l i .bytes
-  its-size = length-take-le (standing-at l i .bytes) (drop (offset-of l i) c) (rule-bounds (drop (offset-of l i) c) (read-at c e i there) .1)
+  its-size : length its-bytes ≡ present-at l i .bytes
+  its-size = length-take-le (present-at l i .bytes) (drop (offset-of l i) c) (rule-bounds (drop (offset-of l i) c) (read-at c e i there) .1)
 
   abbrev enters-again : Enters (withdrawing c i .catalogue) its-bytes work
   enters-again =
       record {
-        standing = take i l;
+        rules-present = take i l;
         of-form = withdrawn-form c i one-left ∙ ap rules others;
         rule = rule-at l i;
-        own-bytes = standing-at l i .bytes;
+        own-bytes = present-at l i .bytes;
         is-read = rule-cut (drop (offset-of l i) c) (read-at c e i there);
         own-fields = own-fields c e i there;
-        room = subst (λ (m : List Standing). is-full m its-bytes (withdrawing c i .catalogue) ≡ false) others
+        room = subst (λ (m : List Present). is-full m its-bytes (withdrawing c i .catalogue) ≡ false) others
             (room-again c i one-left its-bytes (omega (arith, its-size)));
         answered = λ k h.
             let before : k < i = omega (arith, length-take i l, h) in
@@ -217,10 +217,10 @@ module _ (c work : List ℕ) {l : List Standing} (e : form c ≡ rules l) (i : �
       (adding (withdrawing c i .catalogue) its-bytes work .number ≡ 0)
       × (adding (withdrawing c i .catalogue) its-bytes work .catalogue ≡ c)
   withdrawn-added =
-      let all : offset-of l i + standing-at l i .bytes ≡ used l =
+      let all : offset-of l i + present-at l i .bytes ≡ used l =
       sym (offset-next l i there) ∙ ap used (take-all (suc i) l (omega arith)) in
       rw (enters (withdrawing c i .catalogue) its-bytes work enters-again, leaves c i one-left) (
         refl,
-        taken-put (offset-of l i) (standing-at l i .bytes) c
+        taken-put (offset-of l i) (present-at l i .bytes) c
             (rw (all, rest-zero c e) (zero-bytes (length c - used l))) (record-inside c e i there),
       )

@@ -5,7 +5,7 @@ use denote.Ref.{now}
 use borrow.Author.Needs.{needs}
 use borrow.Author.Tests.{not-true, not-false}
 use Rattle.paper.specs.Sheet.{LE, RU, next-is, marked-side}
-use Rattle.sides.proofs.Told.{Stands, side-stands}
+use Rattle.sides.proofs.Told.{SideTold, side-stands}
 use Rattle.sides.proofs.Told as Told
 use Rattle.fields.proofs.Told.{Stand, fields-fault, fields-stand}
 use Rattle.rules.specs.Read.{rule-of}
@@ -28,7 +28,7 @@ patterns c = let a = c .before .before .before in fields-stand (a .read .result)
 its-side : (c : tie.After-enum-told2) →
     let a = c .before .before .before in
     let p = a .before .before .before .before in
-    Stands (marked-side LE (now (p .before .before .before .before .before .args .s)) (p .read .result .next .at)) (a .side .result)
+    SideTold (marked-side LE (now (p .before .before .before .before .before .args .s)) (p .read .result .next .at)) (a .side .result)
 its-side c = let a = c .before .before .before in side-stands (a .side .result) _ (a .side .ensures) (c .enum-told2 .given .1)
 
 returns : tie.Need-returns

@@ -7,7 +7,7 @@ use mathlib.Core.List.{List}
 use lib.ListN.{length}
 use Rattle.paper.proofs.base.Tests.{le-leb, lt-leb}
 use Rattle.search.specs.Records.{text-above, value-records, in-front, answer-given, buffer-after, Answered}
-use Rattle.search.specs.declared.records.Given.the-variants.{TextTooLong, TooShort, Written}
+use Rattle.search.specs.declared.records.Given.the-variants.{TextTooLong, TooShort, Bytes}
 
 module _ (sets : List ℕ) (text : ℕ → List ℕ) (buffer : List ℕ) where
   pub text-too-long : text-above sets text ≡ true → Answered sets text buffer buffer TextTooLong
@@ -22,7 +22,7 @@ module _ (sets : List ℕ) (text : ℕ → List ℕ) (buffer : List ℕ) where
         record { given = rw (e, t); buffer = rw (e, t) }
 
     pub written : (after : List ℕ) (n : ℕ) → length (value-records sets text) ≤ length buffer → n ≡ length (value-records sets text)
-        → after ≡ in-front (value-records sets text) buffer → Answered sets text buffer after (Written n)
+        → after ≡ in-front (value-records sets text) buffer → Answered sets text buffer after (Bytes n)
     unfolding answer-given buffer-after
     written after n h m p =
         let t = le-leb (length (value-records sets text)) (length buffer) h in

@@ -7,11 +7,11 @@ use lib.ListN.{getD}
 use Rattle.inner.specs.Inner.{left-struck, right-struck, front, padded}
 use Rattle.fronts.specs.Fronts.{front-from}
 use Rattle.fronts.specs.declared.Front.{Front}
-use Rattle.inner.specs.Coded.{Coded, held, as-struct, Short}
+use Rattle.inner.specs.Coded.{Coded, denoted, as-struct, Short}
 use Rattle.situations.specs.Children.{Tables, left-strike, right-strike, as-child, puts-of, children-coded}
 use Rattle.inner.specs.declared.Situation.{Situation}
 use Rattle.search.specs.Run.{Running, offer-slots}
-use Rattle.inner.proofs.Held.{held-laid}
+use Rattle.inner.proofs.Denoted.{denoted-laid}
 use Rattle.search.proofs.search.Offers.{offers-append}
 
 -- the first byte of a side is the token in front
@@ -21,8 +21,8 @@ front-padded (b ∷ side) = refl
 
 module _ {k : Coded} (h : Short k) {s : Situation} (e : s ≡ as-struct k) where
   -- what the struct holds
-  pub held-is : held s ≡ k
-  held-is = ap held e ∙ held-laid k h
+  pub denoted-is : denoted s ≡ k
+  denoted-is = ap denoted e ∙ denoted-laid k h
 
   pub children-offered : (T : Tables) (room p : ℕ) (R : Running) (l r : Front)
       → l ≡ front-from (T .follow) (T .taking) (s .sets) (getD (s .left) 0 0)

@@ -12,9 +12,9 @@ use Rattle.paper.specs.Lists.{each, same-by}
 use Rattle.paper.specs.Numbers.{longest-side}
 use Rattle.paper.proofs.base.Tests.{and-left, and-right, both-true, same-tests}
 use Rattle.inner.specs.Inner.{padded}
-use Rattle.inner.specs.Coded.{Coded, same-coded, held, as-struct, Short}
+use Rattle.inner.specs.Coded.{Coded, same-coded, denoted, as-struct, Short}
 use Rattle.search.specs.Slots.{mask-bytes, origin-width, origin-bytes, held-bytes, Slot, slot-bytes, part, key, key-bytes, right-at, sets-at, sets-bytes}
-use Rattle.inner.proofs.Held.{held-laid}
+use Rattle.inner.proofs.Denoted.{denoted-laid}
 use Rattle.search.proofs.slots.Sets.{same-masks}
 use Rattle.search.proofs.slots.Compared.{bytes-equal, equal-bytes}
 use Rattle.search.proofs.slots.Keys.{Sized, length-key, left-part, right-part, sets-part}
@@ -75,7 +75,7 @@ key-tells a b e h k =
     same-masks (a .sets) (b .sets)
     (sym (sets-part (as-struct a) (short-sized h) []) ∙ ap (part sets-at sets-bytes) f ∙ sets-part (as-struct b) (short-sized k) []) in
     let laid : as-struct a ≡ as-struct b = λ i. record { left = l i; right = r i; sets = s i } in
-    sym (held-laid a h) ∙ ap held laid ∙ held-laid b k
+    sym (denoted-laid a h) ∙ ap denoted laid ∙ denoted-laid b k
 
 -- Comparing the keys of two situations is comparing the situations.
 pub keys-compared : (a b : Coded) → Short a → Short b → same-by eqb (key a) (key b) ≡ same-coded a b

@@ -3,7 +3,7 @@ use mathlib.Core.Path.{_≡_, sym, ap, _∙_}
 use denote.Ref.{now}
 use borrow.Author.Needs.{needs}
 use Rattle.paper.specs.Sheet.{LE, RI, marked-side}
-use Rattle.sides.proofs.Told.{Stands, side-fault, side-stands}
+use Rattle.sides.proofs.Told.{SideTold, side-fault, side-stands}
 use Rattle.fields.proofs.Told.{Stand, fields-fault, fields-stand}
 use Rattle.sheets.specs.Read.{sheet-of}
 use Rattle.sheets.proofs.Whole.{patterns-of, patterns-fault, left-fault, right-fault, byte-left, whole}
@@ -27,14 +27,14 @@ patterns c = let a = c .before .before .before in fields-stand (a .read .result)
 left-side : (c : tie.After-enum-told2) →
     let a = c .before .before .before in
     let p = a .before .before .before .before in
-    Stands (marked-side LE (now (p .before .before .args .s)) (p .read .result .next .at)) (a .side .result)
+    SideTold (marked-side LE (now (p .before .before .args .s)) (p .read .result .next .at)) (a .side .result)
 left-side c = let a = c .before .before .before in side-stands (a .side .result) _ (a .side .ensures) (c .enum-told2 .given .1)
 
 right-side : (c : tie.After-enum-told3) →
     let a = c .before .before .before in
     let l = a .before .before .before .before in
     let p = l .before .before .before .before in
-    Stands (marked-side RI (now (p .before .before .args .s)) (l .side .result .next .at)) (a .side2 .result)
+    SideTold (marked-side RI (now (p .before .before .args .s)) (l .side .result .next .at)) (a .side2 .result)
 right-side c = let a = c .before .before .before in side-stands (a .side2 .result) _ (a .side2 .ensures) (c .enum-told3 .given .1)
 
 returns : tie.Need-returns

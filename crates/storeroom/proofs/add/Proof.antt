@@ -5,7 +5,7 @@ use borrow.Author.Needs.{needs}
 use borrow.Author.Tests.{not-true, not-false}
 use Rattle.paper.specs.Rule.{read-rule}
 use Rattle.paper.specs.Catalogue.{form, is-full}
-use Rattle.rules.proofs.Told.{Stands, rule-fault, rule-stands}
+use Rattle.rules.proofs.Told.{RuleTold, rule-fault, rule-stands}
 use Rattle.storeroom.proofs.Entering.{Rules, no-rules, some-rules, full-is, adds-to-none, adds-fault, adds-foreign, adds-full}
 use Rattle.storeroom.proofs.add.Statement.{statement}
 use Rattle.storeroom.proofs.add.Tie as tie
@@ -31,36 +31,36 @@ same-length-2 : tie.Need-same-length-2
 same-length-2 c = search needs
 
 -- the rules that stand
-standing : (c : tie.Else1) →
+rules-present : (c : tie.Else1) →
     let f = c .before .before in
     Rules 0 (form (now (f .before .before .before .before .before .args .catalogue))) (f .find .result)
-standing c =
+rules-present c =
     let f = c .before .before in
     some-rules (f .find .result) _ _ (f .find .ensures) (not-false (f .find .result .good) (c .if1 .left))
 
 -- the rule that was read
 its-rule : (c : tie.After-enum-told) →
     let r = c .before .before in
-    Stands (read-rule (now (r .before .before .before .before .before .before .before .before .args .bytes))) (r .read .result)
+    RuleTold (read-rule (now (r .before .before .before .before .before .before .before .before .args .bytes))) (r .read .result)
 its-rule c = let r = c .before .before in rule-stands (r .read .result) _ (r .read .ensures) (c .enum-told .given .1)
 
 -- whether it fits
 full-here : (c : tie.After-is-full) →
     let g = c .before .before .before .before .before in
     let a = g .before .before .before .before .before .before .before .args in
-    is-full (standing g .standing) (now (a .bytes)) (now (a .catalogue)) ≡ c .is-full .result
+    is-full (rules-present g .rules-present) (now (a .bytes)) (now (a .catalogue)) ≡ c .is-full .result
 full-here c =
     let g = c .before .before .before .before .before in
     let f = g .before .before in
     let a = f .before .before .before .before .before .args in
-    let x = standing g in
-    full-is (f .find .result) (x .standing) (now (a .catalogue)) (now (a .bytes)) _ (x .counted) (x .its-used) (c .is-full .ensures)
+    let x = rules-present g in
+    full-is (f .find .result) (x .rules-present) (now (a .catalogue)) (now (a .bytes)) _ (x .counted) (x .its-used) (c .is-full .ensures)
 
 returns-2 : tie.Need-returns-2
 returns-2 c =
     let r = c .before .before .before in
-    let x = standing (r .before) in
-    adds-fault _ _ _ (x .standing) (x .is) _ _ (rule-fault (r .read .result) _ _ (r .read .ensures) (c .before .found .given .1))
+    let x = rules-present (r .before) in
+    adds-fault _ _ _ (x .rules-present) (x .is) _ _ (rule-fault (r .read .result) _ _ (r .read .ensures) (c .before .found .given .1))
 
 enum-told : tie.Need-enum-told
 enum-told c = search needs
@@ -71,9 +71,9 @@ same-length-3 c = search needs
 returns-3 : tie.Need-returns-3
 returns-3 c =
     let e = c .before in
-    let x = standing (e .before .before .before) in
+    let x = rules-present (e .before .before .before) in
     let r = its-rule e in
-    adds-foreign _ _ _ (x .standing) (x .is) (r .rule) _ (r .reads) (sym (r .foreign) ∙ c .if2 .taken)
+    adds-foreign _ _ _ (x .rules-present) (x .is) (r .rule) _ (r .reads) (sym (r .foreign) ∙ c .if2 .taken)
 
 is-full-requires : tie.Need-is-full-requires
 is-full-requires c κs = search needs
@@ -85,20 +85,20 @@ returns-4 : tie.Need-returns-4
 returns-4 c =
     let f = c .before in
     let e = f .before .before in
-    let x = standing (e .before .before .before) in
+    let x = rules-present (e .before .before .before) in
     let r = its-rule e in
-    adds-full _ _ _ (x .standing) (x .is) (r .rule) _ (r .reads) (sym (r .foreign) ∙ f .before .if2 .left) (full-here f ∙ c .if3 .taken)
+    adds-full _ _ _ (x .rules-present) (x .is) (r .rule) _ (r .reads) (sym (r .foreign) ∙ f .before .if2 .left) (full-here f ∙ c .if3 .taken)
 
 enter-requires : tie.Need-enter-requires
 enter-requires c κs =
     let d = c .before .before in
     let f = d .before in
     let e = f .before .before in
-    let x = standing (e .before .before .before) in
+    let x = rules-present (e .before .before .before) in
     let r = its-rule e in
     record {
       asks = record {
-        standing = x .standing;
+        rules-present = x .rules-present;
         of-form = x .is;
         counted = x .counted;
         bytes = _;

@@ -17,7 +17,7 @@ use Rattle.storeroom.proofs.ask_all.Tie as tie
 
 abbrev Inv-loop : tie.InvT-loop
 Inv-loop catalogue count work₀ right second at₀ i₀ work at i =
-    (length work ≡ length work₀) × ((x : Ready-to-ask catalogue count right second) → Going (x .standing) (x .rule) work₀ work at i)
+    (length work ≡ length work₀) × ((x : Ready-to-ask catalogue count right second) → Going (x .rules-present) (x .rule) work₀ work at i)
 
 abbrev μ-loop : tie.MeasureT-loop
 μ-loop catalogue count work₀ right second at₀ i₀ work at i = count - i

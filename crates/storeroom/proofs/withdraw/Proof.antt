@@ -23,19 +23,19 @@ same-length-2 : tie.Need-same-length-2
 same-length-2 c = search needs
 
 -- the rules that stand
-standing : (c : tie.Else1) →
+rules-present : (c : tie.Else1) →
     let f = c .before .before in
     let a = f .before .before .before .args in
     Rules (a .number) (form (now (a .catalogue))) (f .find .result)
-standing c =
+rules-present c =
     let f = c .before .before in
     some-rules (f .find .result) _ _ (f .find .ensures) (not-false (f .find .result .good) (c .if1 .left))
 
 returns-2 : tie.Need-returns-2
 returns-2 c =
     let g = c .before .before in
-    let x = standing g in
-    takes-none _ _ (x .standing) (x .is) (omega (arith, x .counted, c .if2 .taken))
+    let x = rules-present g in
+    takes-none _ _ (x .rules-present) (x .is) (omega (arith, x .counted, c .if2 .taken))
 
 close-requires : tie.Need-close-requires
 close-requires c κs = search needs
@@ -46,7 +46,7 @@ same-length-3 c = search needs
 returns-3 : tie.Need-returns-3
 returns-3 c =
     let e = c .before .before .before .before in
-    let x = standing (e .before .before) in
+    let x = rules-present (e .before .before) in
     takes-one _ _ _ x (e .if2 .left) _ (c .before .before .close .ensures)
 
 pub withdraw-spec : {M : Type 1} → statement M

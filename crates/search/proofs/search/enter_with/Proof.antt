@@ -7,7 +7,7 @@ use borrow.Author.Needs.{needs}
 use Rattle.paper.proofs.base.Tests.{lt-leb}
 use Rattle.inner.specs.Coded.{finished-coded}
 use Rattle.search.specs.Run.{enter-slot}
-use Rattle.search.proofs.search.Children.{held-is}
+use Rattle.search.proofs.search.Children.{denoted-is}
 use Rattle.search.proofs.search.enter_with.Statement.{statement}
 use Rattle.search.proofs.search.enter_with.Tie as tie
 
@@ -32,7 +32,7 @@ returns c =
       within = search needs;
       more = search needs;
       lent = λ k ss e bytes b s h l.
-          let f : finished-coded k ≡ true = ap finished-coded (sym (held-is s e)) ∙ sym (c .before .is-finished .ensures) ∙ c .if1 .taken in
+          let f : finished-coded k ≡ true = ap finished-coded (sym (denoted-is s e)) ∙ sym (c .before .is-finished .ensures) ∙ c .if1 .taken in
           rw (lt-leb room (length ss) (omega arith), f)
           (record { kept = w .write-slot .ensures k ss bytes b s h l; entered = rw length-append (omega arith); status = refl });
     }
@@ -52,7 +52,7 @@ returns-2 c =
       within = search needs;
       more = search needs;
       lent = λ k ss e bytes b s h l.
-          let f : finished-coded k ≡ false = ap finished-coded (sym (held-is s e)) ∙ sym (c .before .is-finished .ensures) ∙ c .if1 .left in
+          let f : finished-coded k ≡ false = ap finished-coded (sym (denoted-is s e)) ∙ sym (c .before .is-finished .ensures) ∙ c .if1 .left in
           rw (lt-leb room (length ss) (omega arith), f)
           (record { kept = w .write-slot .ensures k ss bytes b s h l; entered = rw length-append (omega arith); status = refl });
     }

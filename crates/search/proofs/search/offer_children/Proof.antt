@@ -10,7 +10,7 @@ use Rattle.situations.specs.Laid.{child-of}
 use Rattle.search.specs.Lent.{Lent, tables}
 use Rattle.search.specs.Run.{offer-slots}
 use Rattle.situations.proofs.Short.{left-strike-short, right-strike-short}
-use Rattle.search.proofs.search.Children.{held-is, children-offered}
+use Rattle.search.proofs.search.Children.{denoted-is, children-offered}
 use Rattle.search.proofs.search.offer_children.Statement.{statement}
 use Rattle.search.proofs.search.offer_children.Tie as tie
 
@@ -66,8 +66,8 @@ returns c =
           let y = right-strike (a .last) k in
           let one = offer-slots (a .room) (a .parent) R (as-child left-struck x) in
           let two = offer-slots (a .room) (a .parent) one (as-child right-struck y) in
-          let left-child = n .before .strike-left .ensures ∙ ap (λ (u : Coded). child-of (left-strike (a .last) u)) (held-is h e) in
-          let right-child = o .before .strike-right .ensures ∙ ap (λ (u : Coded). child-of (right-strike (a .last) u)) (held-is h e) in
+          let left-child = n .before .strike-left .ensures ∙ ap (λ (u : Coded). child-of (left-strike (a .last) u)) (denoted-is h e) in
+          let right-child = o .before .strike-right .ensures ∙ ap (λ (u : Coded). child-of (right-strike (a .last) u)) (denoted-is h e) in
           let lent-one = n .offer .ensures .lent R x t left-child (λ u f. left-strike-short (a .last) h f) in
           let lent-two = o .offer2 .ensures .lent one y lent-one right-child (λ u f. right-strike-short (a .last) h f) in
           subst (Lent (q .offer-puts .last .0) (q .offer-puts .result))

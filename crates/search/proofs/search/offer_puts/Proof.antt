@@ -18,7 +18,7 @@ use Rattle.situations.specs.Laid.{child-of}
 use Rattle.search.specs.Lent.{Offers}
 use Rattle.search.specs.Run.{Running, offer-slots}
 use Rattle.situations.proofs.Short.{put-short, put-taken, put-not-taken}
-use Rattle.search.proofs.search.Children.{held-is}
+use Rattle.search.proofs.search.Children.{denoted-is}
 use Rattle.search.proofs.search.Offers.{lent-more}
 use Rattle.search.proofs.search.offer_puts.Statement.{statement}
 use Rattle.search.proofs.search.offer_puts.Tie as tie
@@ -103,7 +103,7 @@ loop-again c =
             more R (by-character k (a .t6) (a .t7)) i
             (rw (w .6, w .7)
             (w .3 .ensures .lent (done R k) (put-of k (a .t6) (a .t7) i) (v .lent R k l e h)
-            (w .1 .ensures ∙ ap (λ (x : Coded). child-of (put-child x i (set-by (a .t6) i) (set-by (a .t7) i))) (held-is h e)
+            (w .1 .ensures ∙ ap (λ (x : Coded). child-of (put-child x i (set-by (a .t6) i) (set-by (a .t7) i))) (denoted-is h e)
             ∙ sym (ap child-of (put-taken k (a .t6) (a .t7) i (b .result) (b .ensures) (w .0 .taken))))
             (λ u f. put-short (a .t6) (a .t7) i (c .before .before .before .before .loop-test .taken) h f)));
       },

@@ -3,13 +3,13 @@ use native.Mathlib.Omega.{arith}
 use mathlib.Core.Path.{_≡_}
 use lib.ListN.{length}
 use Rattle.paper.specs.Numbers.{set-fields, longest-side}
-use Rattle.inner.specs.Coded.{Coded, held, as-struct, Short}
+use Rattle.inner.specs.Coded.{Coded, denoted, as-struct, Short}
 use Rattle.inner.specs.declared.Situation.{Situation}
 use Rattle.inner.proofs.Tokens.{tokens-length, all-tokens, tokens-padded}
 
 -- what a struct holds is short; and its arrays have these lengths
-pub short-held : (s : Situation) → length (s .left) ≡ longest-side → length (s .right) ≡ longest-side → length (s .sets) ≡ set-fields → Short (held s)
-short-held s l r n =
+pub short-denoted : (s : Situation) → length (s .left) ≡ longest-side → length (s .right) ≡ longest-side → length (s .sets) ≡ set-fields → Short (denoted s)
+short-denoted s l r n =
     record {
       left = omega (arith, tokens-length (s .left));
       right = omega (arith, tokens-length (s .right));
@@ -19,8 +19,8 @@ short-held s l r n =
     }
 
 -- what the struct made for a short situation holds
-pub held-laid : (k : Coded) → Short k → held (as-struct k) ≡ k
-held-laid k h =
+pub denoted-laid : (k : Coded) → Short k → denoted (as-struct k) ≡ k
+denoted-laid k h =
     let l = tokens-padded (k .left) (h .left-tokens) in
     let r = tokens-padded (k .right) (h .right-tokens) in
     λ i. record { left = l i; right = r i; sets = k .sets }
