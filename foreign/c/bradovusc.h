@@ -21,9 +21,9 @@
 
 /* The version of this header, of the library and of the Rust package. It rises where one of them, or a rule, changes for callers. */
 #define BRADOVUSC_VERSION_MAJOR 0
-#define BRADOVUSC_VERSION_MINOR 2
+#define BRADOVUSC_VERSION_MINOR 3
 #define BRADOVUSC_VERSION_PATCH 0
-#define BRADOVUSC_VERSION "0.2.0"
+#define BRADOVUSC_VERSION "0.3.0"
 
 #ifdef __cplusplus
 extern "C" {
@@ -33,7 +33,7 @@ extern "C" {
  * The number of an answer.
  *
  * Of a sheet, 0 and 1 settle the question. So do 20 and 21: the rules clash, but the texts couldn't be written. 18 and 19 are
- * neither yes nor no. 11 to 17 say what is wrong with the sheet: the first fault met.
+ * neither yes nor no. 11 to 17 say what is wrong with the sheet: the first fault met, whose byte is told as its place.
  *
  * Of a catalogue's call, 0 is success. 11 to 17 say what is wrong with the rule that was to be added, 30 to 34 why it can't be done.
  */
@@ -233,13 +233,29 @@ static inline int bradovusc_next(struct bradovusc_records *records) {
 }
 
 /*
+ * The place of a fault, 11 to 17: an offset in the sheet, or in the rule from its RU. It shows the byte itself.
+ *
+ *   11   the length of the sheet, or of the rule's bytes
+ *   12   the first byte of the mark, or the first byte behind the last side
+ *   13   the field byte
+ *   14   the length byte
+ *   15   read from left to right: the first byte that is no code; the lo byte if lo is above 42, else the hi byte if that is above
+ *        42 or below lo; the first byte left over; where the code runs out, the offset behind the pattern's last byte
+ *   16   the first byte of the 32nd leaf
+ *   17   the first byte that is no token
+ *
+ * It is never above the length. With 11 it is the length, and with 15 it can be, if the code runs out where the bytes end: no byte
+ * stands there then, so look at the length before taking the byte.
+ */
+
+/*
  * What is told beside the number, by its index in `told`. Fewer elements than these are filled as far as there are any; elements
  * behind them are left as they are.
  */
 enum bradovusc_told {
     /* situations entered; 0 after 11 to 17 */
     BRADOVUSC_COUNT = 0,
-    /* after 11 to 17 the offset in the sheet at which the record at fault has, or should have, its mark; otherwise 0 */
+    /* after 11 to 17 the offset of the byte at fault in the sheet, as above; otherwise 0 */
     BRADOVUSC_PLACE = 1,
     /* bytes written to the answer buffer; 0 for all but BRADOVUSC_CLASH */
     BRADOVUSC_WRITTEN = 2,
@@ -316,7 +332,7 @@ static inline struct bradovusc_answer bradovusc_ask(const uint8_t *sheet, size_t
 enum bradovusc_told_added {
     /* after 30 the situations entered for the pair that was not apart */
     BRADOVUSC_ADDED_COUNT = 0,
-    /* after 11 to 17 the offset, from RU, at which the record at fault has, or should have, its mark */
+    /* after 11 to 17 the offset of the byte at fault, from RU, as above; 31 has none */
     BRADOVUSC_ADDED_PLACE = 1,
     /* after 30 the number of the first rule that the new one is not apart from .. */
     BRADOVUSC_ADDED_RULE = 2,

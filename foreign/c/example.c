@@ -1,8 +1,9 @@
 /*
- * Two rules: one makes labels of any digits, the other the label 4. Do they clash? Then a catalogue of rules is kept.
+ * Two rules: one makes labels of any digits, the other the label 4. Do they clash? Then the same sheet with a wrong byte. Then a
+ * catalogue of rules is kept.
  *
- * The first line printed is number, count and place, and the number in words; after a clash follows a line for each field: its number
- * and its text. Then comes a line for each call of the catalogue.
+ * The first line of a sheet is number, count and place, and the number in words. After a clash follows a line for each field, its
+ * number and its text, and after a fault a line with the byte at its place. Then comes a line for each call of the catalogue.
  */
 #include <inttypes.h>
 #include <stdio.h>
@@ -19,7 +20,7 @@ static uint8_t sheet[] = {
     'L', 'E', 1, 64,              /* left side: field 0 */
     'R', 'I', 1, 65               /* right side: field 1 */
 };
-enum { CHARACTER_OF_FIELD_1 = 12 };
+enum { HI_OF_FIELD_0 = 7, CHARACTER_OF_FIELD_1 = 12 };
 
 /* Latches are marked LT and two digits. */
 static const uint8_t latch[] = {
@@ -49,6 +50,24 @@ static void print_texts(uint64_t written) {
     }
 }
 
+/* No byte stands at the place where the sheet is cut short, or where a pattern's code runs out at the sheet's end. */
+static void print_fault(uint64_t place) {
+    if (place < sizeof sheet) {
+        printf("byte %" PRIu64 " is %u\n", place, (unsigned)sheet[place]);
+    } else {
+        puts("the sheet should go on");
+    }
+}
+
+static void ask(void) {
+    struct bradovusc_answer given = bradovusc_ask(sheet, sizeof sheet, work, sizeof work, answer, sizeof answer);
+    printf("%" PRIu32 " %" PRIu64 " %" PRIu64 ": %s\n", given.number, given.count, given.place, bradovusc_text(given.number));
+    print_texts(given.written);
+    if (given.number >= BRADOVUSC_CUT_SHORT && given.number <= BRADOVUSC_WRONG_TOKEN) {
+        print_fault(given.place);
+    }
+}
+
 static void add(const char *name, const uint8_t *rule, size_t rule_length) {
     struct bradovusc_added added = bradovusc_enter(catalogue, sizeof catalogue, rule, rule_length, work, sizeof work);
     printf("add the %s: %" PRIu32 ", %s", name, added.number, bradovusc_catalogue_text(added.number));
@@ -65,9 +84,9 @@ static void withdraw(size_t number) {
 
 int main(void) {
     sheet[CHARACTER_OF_FIELD_1] = (uint8_t)bradovusc_value('4');
-    struct bradovusc_answer given = bradovusc_ask(sheet, sizeof sheet, work, sizeof work, answer, sizeof answer);
-    printf("%" PRIu32 " %" PRIu64 " %" PRIu64 ": %s\n", given.number, given.count, given.place, bradovusc_text(given.number));
-    print_texts(given.written);
+    ask();
+    sheet[HI_OF_FIELD_0] = 43; /* above the last character */
+    ask();
 
     add("latch", latch, sizeof latch);
     add("lever", lever, sizeof lever); /* LT42 would be on two shelves */

@@ -1,7 +1,7 @@
 /*
  * Tries what bradovusc.h itself defines: the texts of the numbers, the signs, the walk over records, null pointers of length 0, the
- * calls of a catalogue, the version, the lengths of buffers. C99, and C++11 too. Prints what does not hold, and how many checks there
- * were; the exit status is 0 if all hold.
+ * calls of a catalogue, the version, the lengths of buffers; and the places of faults, as it lists them. C99, and C++11 too. Prints
+ * what does not hold, and how many checks there were; the exit status is 0 if all hold.
  */
 #include <stdio.h>
 #include <stdlib.h>
@@ -214,6 +214,43 @@ static void try_null(void) {
     check(told[0] == 6 && told[1] == 0 && told[2] == 0 && told[3] == 7, "three numbers told, no more", 0);
 }
 
+/* ---- the places of faults */
+
+static const struct {
+    uint8_t bytes[8];
+    size_t length;
+    uint32_t number;
+    uint64_t place;
+} faults[] = {
+    {{'X'}, 1, 11, 1},
+    {{'L', 'E', 0, 'R'}, 4, 11, 4},
+    {{'P', 'A', 0, 2, 43}, 5, 11, 5},
+    {{'L', 'E', 0, 'R', 'X', 0}, 6, 12, 3},
+    {{'L', 'E', 0, 'R', 'I', 0, 0}, 7, 12, 6},
+    {{'P', 'A', 8, 1, 4}, 5, 13, 2},
+    {{'P', 'A', 0, 97}, 4, 14, 3},
+    {{'L', 'E', 25}, 3, 14, 2},
+    {{'P', 'A', 0, 3, 66, 4, 43}, 7, 15, 6}, /* no code */
+    {{'P', 'A', 0, 2, 65, 43}, 6, 15, 5},    /* lo above 42, and no hi */
+    {{'P', 'A', 0, 3, 65, 0, 43}, 7, 15, 6}, /* hi above 42 */
+    {{'P', 'A', 0, 3, 65, 2, 1}, 7, 15, 6},  /* hi below lo */
+    {{'P', 'A', 0, 3, 4, 43, 4}, 7, 15, 5},  /* bytes left over */
+    {{'P', 'A', 0, 2, 65, 42}, 6, 15, 6},    /* the code runs out, and the sheet ends */
+    {{'P', 'A', 0, 1, 68, 'L'}, 6, 15, 5},   /* the code runs out, and the sheet goes on */
+    {{'L', 'E', 3, 10, 72, 43}, 6, 17, 4},
+};
+
+static void try_places(void) {
+    uint8_t leaves[4 + 63] = {'P', 'A', 0, 63};
+    size_t i;
+    for (i = 0; i < sizeof faults / sizeof *faults; i++) {
+        struct bradovusc_answer given = bradovusc_ask(faults[i].bytes, faults[i].length, work, sizeof work, answer, sizeof answer);
+        check(is(given, faults[i].number, 0, faults[i].place, 0), "the place of a fault", (long)i);
+    }
+    memset(leaves + 4, 66, 31); /* and then 32 times the character 0 */
+    check(is(bradovusc_ask(leaves, sizeof leaves, work, sizeof work, answer, sizeof answer), 16, 0, 66, 0), "the 32nd leaf", 16);
+}
+
 /* ---- the catalogue */
 
 static int is_added(struct bradovusc_added added, uint32_t number, uint64_t count, uint64_t place, uint64_t rule, uint32_t pair) {
@@ -233,6 +270,7 @@ static const uint8_t rule_x[] = {'R', 'U', 'L', 'E', 1, 64};
 
 static void try_catalogue(void) {
     static const uint8_t one_more[] = {'R', 'U', 'L', 'E', 1, 10, 0}, field_4[] = {'R', 'U', 'L', 'E', 1, 68};
+    static const uint8_t no_token[] = {'R', 'U', 'L', 'E', 2, 68, 72};
     uint8_t catalogue[] = {0, 0, 0, 0, 0, 0, 0, 0, 0, 0, 0, 0, 0};
     size_t length = sizeof catalogue;
     memset(work, 7, sizeof work);
@@ -245,6 +283,8 @@ static void try_catalogue(void) {
     check(all_zero(work, sizeof work), "the working buffer is all zero", 1);
     check(is_added(bradovusc_enter(catalogue, length, rule_a, 6, work, sizeof work), 32, 0, 0, 0, 0), "a byte is left", 32);
     check(is_added(bradovusc_enter(catalogue, length, one_more, 7, work, sizeof work), 12, 0, 6, 0, 0), "a byte too many", 12);
+    check(is_added(bradovusc_enter(catalogue, length, no_token, 6, work, sizeof work), 11, 0, 6, 0, 0), "a token missing", 11);
+    check(is_added(bradovusc_enter(catalogue, length, no_token, 7, work, sizeof work), 17, 0, 6, 0, 0), "no token", 17);
     check(is_added(bradovusc_enter(catalogue, length, field_4, 6, work, sizeof work), 31, 0, 0, 0, 0), "field 4", 31);
     check(bradovusc_remove(catalogue, length, 2) == 33, "there is no rule 2", 33);
     check(bradovusc_remove(catalogue, length, (size_t)-1) == 33, "nor one with the greatest number", 33);
@@ -331,6 +371,7 @@ int main(void) {
     try_signs();
     try_records();
     try_null();
+    try_places();
     try_catalogue();
     try_catalogue_of_nothing();
     try_told();

@@ -3,8 +3,9 @@
 
 use std::ops::Range;
 
+use crate::fault::Fault;
 use crate::pattern::Allowed;
-use crate::sheet::{Cursor, Fault, Question, Token, FIELDS, LEFT};
+use crate::sheet::{Cursor, Question, Token, FIELDS, LEFT};
 use crate::{scan, NO_CLASH};
 
 /// A rule is entered, or withdrawn.
@@ -32,7 +33,7 @@ pub struct Rule {
 }
 
 impl Rule {
-    /// Reads and judges a whole rule.
+    /// Reads and judges a whole rule, "offsets from `RU`".
     pub fn read(bytes: &[u8]) -> Result<Rule, Fault> {
         let mut cursor = Cursor::new(bytes);
         let rule = Rule::record(&mut cursor)?;
@@ -109,7 +110,7 @@ pub struct Added {
     pub number: u8,
     /// With 30, the situations entered for the pair.
     pub count: usize,
-    /// With 11 to 17, the offset from `RU` of the record with the fault.
+    /// With 11 to 17, the fault's place, counted from `RU`.
     pub place: usize,
     /// With 30, "the number of the first rule that gave something else ..."
     pub rule: usize,

@@ -11,11 +11,13 @@
 //! `scan::searched`.
 //!
 //! Sentences in quotation marks in the comments are those of the text in which
-//! the rules were first given; docs/RULES.md says the same in other words.
+//! the rules were first given, or of the requests that changed them;
+//! docs/RULES.md says the same in other words.
 
 pub mod calls;
 pub mod cases;
 pub mod catalogue;
+pub mod fault;
 pub mod make;
 pub mod pattern;
 pub mod printed;
@@ -26,8 +28,9 @@ pub mod situation;
 pub mod storeroom;
 pub mod write;
 
+use fault::Fault;
 use search::{Ending, Texts};
-use sheet::{Fault, Question};
+use sheet::Question;
 
 /// The answers of the search, by the table's "No.".
 pub const CLASH: u8 = 0;
@@ -59,7 +62,7 @@ pub struct Outcome {
     pub number: u8,
     /// "The count equals the number of situations entered."
     pub count: usize,
-    /// The offset of the record with the fault, 0 for the search's answers.
+    /// The fault's place, "the byte itself"; 0 for the search's answers.
     pub place: usize,
     /// "The number of bytes written is also returned; it is 0 for all but
     /// answer 0."

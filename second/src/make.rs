@@ -1,11 +1,13 @@
 //! Makes cases from a seed: good sheets of all kinds, damaged sheets, rooms
 //! and answer buffers near their bounds. `calls` makes operations on a
-//! catalogue with the same parts.
+//! catalogue with the same parts, `damages` the faults of both.
 
 pub mod calls;
+mod damages;
 
 use std::ops::Range;
 
+use self::damages::{damaged, random_bytes};
 use crate::cases::Case;
 use crate::pattern::CHARACTERS;
 use crate::sheet::{FIELDS, LEFT, PATTERN, RIGHT};
@@ -62,6 +64,11 @@ impl Dice {
     }
 }
 
+/// "length byte n 1 to 96"
+const MOST_PATTERN: usize = 96;
+/// "length byte 0 to 24, tokens"
+const MOST_SIDE: usize = 24;
+
 /// A record before it is written out. The length byte is kept apart from the
 /// body, so that it can be damaged.
 #[derive(Clone)]
@@ -79,6 +86,12 @@ impl Record {
 
     fn side(mark: &[u8; 2], body: Vec<u8>) -> Record {
         Record { mark: *mark, field: None, length: body.len() as u8, body }
+    }
+
+    /// Another body, and the length byte that is right for it.
+    fn set(&mut self, body: Vec<u8>) {
+        self.length = body.len() as u8;
+        self.body = body;
     }
 }
 
@@ -100,7 +113,7 @@ pub fn case(dice: &mut Dice) -> Case {
         return with_any_buffers(dice, sheet);
     }
     let records = good(dice);
-    if dice.below(10) < 3 {
+    if dice.below(20) < 7 {
         let sheet = damaged(dice, &[], 2, records);
         return with_any_buffers(dice, sheet);
     }
@@ -430,21 +443,39 @@ fn big_pattern(dice: &mut Dice, alphabet: &[u8]) -> Vec<u8> {
         4 => 33,
         _ => dice.between(32, 48),
     };
-    let mut parts: Vec<Vec<u8>> = (0..leaves).map(|_| vec![dice.pick(alphabet)]).collect();
-    let mut length = 2 * leaves - 1;
-    if leaves < 40 && dice.one_in(3) {
-        let part = dice.below(leaves);
-        parts[part] = range(dice, alphabet);
-        length += 2;
+    let parts = parts(dice, alphabet, leaves, MOST_PATTERN);
+    joined(dice, parts)
+}
+
+/// Parts with so many leaves in all, characters and ranges mixed; joined they
+/// have at most this many bytes.
+fn parts(dice: &mut Dice, alphabet: &[u8], leaves: usize, most: usize) -> Vec<Vec<u8>> {
+    let mut spare = most - (2 * leaves - 1);
+    // A range has two bytes more than a character.
+    let most_ranges = leaves.min(spare / 2);
+    let some_ranges = dice.below(most_ranges + 1);
+    let ranges = dice.pick(&[0, some_ranges, most_ranges]);
+    spare -= 2 * ranges;
+    let mut parts: Vec<Vec<u8>> = (0..ranges).map(|_| range(dice, alphabet)).collect();
+    parts.resize_with(leaves, || vec![dice.pick(alphabet)]);
+    dice.shuffle(&mut parts);
+    // The empty text adds two bytes, its operator's and its own, and no leaf.
+    while spare >= 2 && dice.one_in(4) {
+        parts.insert(dice.below(parts.len() + 1), vec![64]);
+        spare -= 2;
     }
     // "68 A" adds one byte and no leaf.
     let full = dice.one_in(2);
-    while length < 96 && (full || dice.one_in(6)) {
-        let part = dice.below(leaves);
+    while spare > 0 && (full || dice.one_in(6)) {
+        let part = dice.below(parts.len());
         parts[part].insert(0, 68);
-        length += 1;
+        spare -= 1;
     }
-    // Join neighbours until one pattern is left.
+    parts
+}
+
+/// Joins neighbours until one pattern is left.
+fn joined(dice: &mut Dice, mut parts: Vec<Vec<u8>>) -> Vec<u8> {
     while parts.len() > 1 {
         let at = if dice.one_in(2) { parts.len() - 2 } else { dice.below(parts.len() - 1) };
         let b = parts.remove(at + 1);
@@ -452,147 +483,6 @@ fn big_pattern(dice: &mut Dice, alphabet: &[u8]) -> Vec<u8> {
         parts[at] = [&[operator], &parts[at][..], &b].concat();
     }
     parts.remove(0)
-}
-
-// ---------------------------------------------------------------- damages
-
-/// Bytes that are no sheet, some of them beginning like one.
-fn random_bytes(dice: &mut Dice) -> Vec<u8> {
-    match dice.below(4) {
-        0 => (0..dice.below(4)).map(|_| dice.byte()).collect(),
-        1 => (0..dice.below(30)).map(|_| dice.byte()).collect(),
-        2 => (0..dice.below(12)).map(|_| dice.pick(b"PALERI\0\x01")).collect(),
-        _ => {
-            let mut sheet = dice.pick(&[b"PA", b"LE", b"RI"]).to_vec();
-            sheet.extend((0..dice.below(12)).map(|_| dice.pick(&[0, 1, 2, 3, 64, 65, 66, 68])));
-            sheet
-        }
-    }
-}
-
-/// Records behind a front, the last of them sides, with one damage at some
-/// record, now and then with two.
-fn damaged(dice: &mut Dice, front: &[u8], sides: usize, mut records: Vec<Record>) -> Vec<u8> {
-    // A damage to a pattern needs a pattern.
-    if records.len() == sides && dice.one_in(2) {
-        for _ in 0..dice.between(1, 2) {
-            let field = dice.below(8) as u8;
-            let body = pattern(dice, &[10, 11], 2);
-            records.insert(0, Record::pattern(field, body));
-        }
-        let patterns = records.len() - sides;
-        records[..patterns].sort_by_key(|record| record.field);
-        if patterns == 2 && records[0].field == records[1].field {
-            return [front, &write_out(&records)].concat();
-        }
-    }
-    if dice.one_in(8) {
-        damage(dice, &mut records);
-    }
-    damage(dice, &mut records);
-    let mut bytes = [front, &write_out(&records)].concat();
-    match dice.below(6) {
-        // "sheet cut short", at every place
-        0 | 1 => bytes.truncate(dice.below(bytes.len() + 1)),
-        // bytes left over after the last side
-        2 if dice.one_in(2) => {
-            bytes.extend((0..dice.between(1, 3)).map(|_| dice.pick(b"PALERI\0")))
-        }
-        _ => {}
-    }
-    bytes
-}
-
-fn damage(dice: &mut Dice, records: &mut Vec<Record>) {
-    // The damage before this one may have taken the only record.
-    if records.is_empty() {
-        return;
-    }
-    let at = dice.below(records.len());
-    let is_pattern = records[at].field.is_some();
-    match dice.below(14) {
-        // One byte of a mark, or the whole mark.
-        0 => records[at].mark[dice.below(2)] = dice.byte(),
-        1 => records[at].mark = *dice.pick(&[b"PA", b"LE", b"RI", b"VA", b"AP", b"pa"]),
-        // Records in another order, twice, or not at all.
-        2 => {
-            let other = dice.below(records.len());
-            records.swap(at, other);
-        }
-        3 => records.insert(at, records[at].clone()),
-        4 => {
-            records.remove(at);
-        }
-        // Fields above 7 or not rising.
-        5 if is_pattern => records[at].field = Some(dice.pick(&[8, 9, 64, 255, 7, 0])),
-        6 if is_pattern => {
-            let again = Record::pattern(dice.below(8) as u8, vec![64]);
-            records.insert(at + 1, again);
-        }
-        // Lengths at and over their bounds, and next to the right one.
-        5..=7 => records[at].length = dice.pick(&[0, 24, 25, 26, 96, 97, 255]),
-        8 => {
-            let by = dice.pick(&[1, 255]);
-            records[at].length = records[at].length.wrapping_add(by);
-        }
-        // A side or a pattern of a length at or over its bound.
-        9 => {
-            let length = if is_pattern { dice.pick(&[96, 97]) } else { dice.pick(&[24, 25]) };
-            records[at].length = length;
-            records[at].body = if is_pattern {
-                let mut body = vec![68; usize::from(length) - 1];
-                body.push(0);
-                body
-            } else {
-                (0..length).map(|_| dice.pick(&[64, 65, 5])).collect()
-            };
-        }
-        10.. if is_pattern => damage_pattern(dice, &mut records[at]),
-        // A wrong token.
-        _ => {
-            let wrong = dice.pick(&[43, 44, 50, 63, 72, 73, 100, 254, 255]);
-            let record = &mut records[at];
-            match record.body.len() {
-                0 => record.body.push(wrong),
-                n => record.body[dice.below(n)] = wrong,
-            }
-            record.length = record.body.len() as u8;
-        }
-    }
-}
-
-/// Bytes that are not one pattern, or one with too many leaves; the length
-/// byte stays right.
-fn damage_pattern(dice: &mut Dice, record: &mut Record) {
-    let body = &mut record.body;
-    match dice.below(7) {
-        // lo above hi, hi above 42, or a range cut off
-        0 => *body = dice.pick(&[&[65, 5, 4], &[65, 42, 41], &[65, 0, 43], &[65, 43, 43]]).to_vec(),
-        1 => *body = dice.pick(&[&[65][..], &[65, 3], &[68, 65, 3], &[66, 1, 65]]).to_vec(),
-        // left over
-        2 => body.push(dice.pick(&[0, 1, 64, 68])),
-        // running out
-        3 => body.insert(0, dice.pick(&[66, 67])),
-        4 if body.len() > 1 => {
-            body.pop();
-        }
-        // a byte that is no operator
-        4 | 5 => {
-            let at = dice.below(body.len());
-            body[at] = dice.pick(&[43, 63, 69, 70, 255]);
-        }
-        // too many leaves, and sometimes a byte left over as well
-        _ => {
-            let leaves = dice.between(32, 40);
-            *body = vec![66; leaves - 1];
-            body.extend(vec![7; leaves]);
-            if dice.one_in(3) {
-                body.push(7);
-            }
-        }
-    }
-    body.truncate(96);
-    record.length = body.len() as u8;
 }
 
 // ------------------------------------------------------------- long ones

@@ -1,5 +1,7 @@
 //! Patterns and their places.
 
+use crate::fault::{Fault, NOT_ONE_PATTERN, TOO_MANY_LEAVES};
+
 /// "31 leaves and the start make 32 places."
 pub const MOST_LEAVES: usize = 31;
 /// Characters are the values 0 to 42.
@@ -29,48 +31,77 @@ pub enum Pattern {
 
 impl Pattern {
     /// "The n bytes after the length byte are judged by themselves, as exactly
-    /// one pattern that uses them all."
-    pub fn read(bytes: &[u8]) -> Option<Pattern> {
-        let (pattern, rest) = Pattern::read_front(bytes)?;
-        rest.is_empty().then_some(pattern)
+    /// one pattern that uses them all." A fault's place is counted from the
+    /// first of them.
+    pub fn read(bytes: &[u8]) -> Result<Pattern, Fault> {
+        let mut reader = Reader { bytes, offset: 0, leaves: Vec::new() };
+        let pattern = reader.pattern()?;
+        // "where bytes are left over, the first of them"
+        if reader.offset < bytes.len() {
+            return Err(reader.not_one_pattern());
+        }
+        // "then for a pattern 15, then 16": "the 32nd leaf's first byte"
+        match reader.leaves.get(MOST_LEAVES) {
+            Some(&place) => Err(Fault { number: TOO_MANY_LEAVES, place }),
+            None => Ok(pattern),
+        }
     }
+}
 
-    /// Reads one pattern from the front, "written operator first", and hands
-    /// back the bytes behind it.
-    fn read_front(bytes: &[u8]) -> Option<(Pattern, &[u8])> {
-        let (&operator, rest) = bytes.split_first()?;
-        match operator {
-            0..=42 => Some((Pattern::Leaf { lo: operator, hi: operator }, rest)),
-            64 => Some((Pattern::Empty, rest)),
-            65 => match *rest {
-                [lo, hi, ref rest @ ..] if lo <= hi && hi < CHARACTERS => {
-                    Some((Pattern::Leaf { lo, hi }, rest))
-                }
-                _ => None,
-            },
-            66 | 67 => {
-                let (a, rest) = Pattern::read_front(rest)?;
-                let (b, rest) = Pattern::read_front(rest)?;
-                let (a, b) = (Box::new(a), Box::new(b));
-                let pattern = if operator == 66 { Pattern::Then(a, b) } else { Pattern::Or(a, b) };
-                Some((pattern, rest))
+/// The bytes of a pattern and how far they are read. Where they turn out not to
+/// be one pattern, the offset is the fault's place.
+struct Reader<'a> {
+    bytes: &'a [u8],
+    offset: usize,
+    /// The first byte of each leaf read so far.
+    leaves: Vec<usize>,
+}
+
+impl Reader<'_> {
+    /// One pattern, "written operator first".
+    fn pattern(&mut self) -> Result<Pattern, Fault> {
+        let first = self.offset;
+        // "the first byte that is no code"
+        match self.byte(|code| matches!(code, 0..=42 | 64..=68))? {
+            64 => Ok(Pattern::Empty),
+            65 => {
+                // "the lo byte if lo is above 42, else the hi byte if that is
+                // above 42 or below lo"
+                let lo = self.byte(|lo| lo < CHARACTERS)?;
+                let hi = self.byte(|hi| lo <= hi && hi < CHARACTERS)?;
+                Ok(self.leaf(first, lo, hi))
             }
-            68 => {
-                let (a, rest) = Pattern::read_front(rest)?;
-                Some((Pattern::AnyTimes(Box::new(a)), rest))
-            }
-            _ => None,
+            66 => Ok(Pattern::Then(self.part()?, self.part()?)),
+            67 => Ok(Pattern::Or(self.part()?, self.part()?)),
+            68 => Ok(Pattern::AnyTimes(self.part()?)),
+            character => Ok(self.leaf(first, character, character)),
         }
     }
 
-    /// The number of leaves.
-    pub fn leaves(&self) -> usize {
-        match self {
-            Pattern::Empty => 0,
-            Pattern::Leaf { .. } => 1,
-            Pattern::Then(a, b) | Pattern::Or(a, b) => a.leaves() + b.leaves(),
-            Pattern::AnyTimes(a) => a.leaves(),
+    /// "each again a pattern"
+    fn part(&mut self) -> Result<Box<Pattern>, Fault> {
+        self.pattern().map(Box::new)
+    }
+
+    /// The next byte, if it is allowed here; "where the code runs out, the
+    /// offset after the pattern's last byte".
+    fn byte(&mut self, allowed: impl Fn(u8) -> bool) -> Result<u8, Fault> {
+        match self.bytes.get(self.offset) {
+            Some(&byte) if allowed(byte) => {
+                self.offset += 1;
+                Ok(byte)
+            }
+            _ => Err(self.not_one_pattern()),
         }
+    }
+
+    fn leaf(&mut self, first: usize, lo: u8, hi: u8) -> Pattern {
+        self.leaves.push(first);
+        Pattern::Leaf { lo, hi }
+    }
+
+    fn not_one_pattern(&self) -> Fault {
+        Fault { number: NOT_ONE_PATTERN, place: self.offset }
     }
 }
 

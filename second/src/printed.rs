@@ -47,7 +47,7 @@ pub fn cases() -> Vec<Case> {
         // 12 behind `RI`, and at 700
         plain([sheet(&[], &[], &[]), vec![0]].concat()),
         plain([patterns(&seven), b"PE".to_vec()].concat()),
-        // 13, 14, 15, 16, 17
+        // 13 at 802, 14 at 302, 15 at 11, 16 at 166, 17 at 106
         plain([patterns(&eight), b"PA\x03".to_vec(), vec![1, 0]].concat()),
         plain([patterns(&seven[..3]), b"LE".to_vec(), vec![25]].concat()),
         plain(sheet(&[(0, vec![64]), (1, vec![66, 1])], &[], &[])),

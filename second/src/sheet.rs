@@ -2,18 +2,11 @@
 
 use std::ops::RangeInclusive;
 
-use crate::pattern::{Allowed, Pattern, Places, MOST_LEAVES};
+use crate::fault::{Fault, CUT_SHORT, WRONG_FIELD, WRONG_LENGTH, WRONG_MARK, WRONG_TOKEN};
+use crate::pattern::{Allowed, Pattern, Places};
 
 /// Fields 0 to 7.
 pub const FIELDS: usize = 8;
-
-pub const CUT_SHORT: u8 = 11;
-pub const WRONG_MARK: u8 = 12;
-pub const WRONG_FIELD: u8 = 13;
-pub const WRONG_LENGTH: u8 = 14;
-pub const NOT_ONE_PATTERN: u8 = 15;
-pub const TOO_MANY_LEAVES: u8 = 16;
-pub const WRONG_TOKEN: u8 = 17;
 
 pub const PATTERN: &[u8; 2] = b"PA";
 pub const LEFT: &[u8; 2] = b"LE";
@@ -21,6 +14,8 @@ pub const RIGHT: &[u8; 2] = b"RI";
 
 /// Mark, field byte and length byte.
 const PATTERN_HEAD: usize = 4;
+/// The field byte's offset from the mark.
+const FIELD_BYTE: usize = 2;
 const PATTERN_LENGTHS: RangeInclusive<u8> = 1..=96;
 /// Mark and length byte.
 const SIDE_HEAD: usize = 3;
@@ -59,14 +54,6 @@ pub struct Question {
     pub allowed: [Allowed; FIELDS],
 }
 
-/// "The first fault met decides. Its place is the offset at which that
-/// record's mark stands or should stand."
-#[derive(Clone, Copy, Debug, PartialEq, Eq)]
-pub struct Fault {
-    pub number: u8,
-    pub place: usize,
-}
-
 /// Reads and judges a whole sheet: "no, one or several `PA`, field numbers
 /// rising; one `LE`; one `RI`; the end".
 pub fn read(sheet: &[u8]) -> Result<Question, Fault> {
@@ -95,32 +82,36 @@ impl<'a> Cursor<'a> {
         self.place
     }
 
-    fn fault(&self, number: u8) -> Fault {
-        Fault { number, place: self.place }
+    /// A fault so many bytes behind the mark's first.
+    fn fault(&self, number: u8, behind: usize) -> Fault {
+        Fault { number, place: self.place + behind }
     }
 
     /// The bytes of the next record up to this length of its head. "fewer than
-    /// two bytes left give 11"; "missing field or length byte 11".
+    /// two bytes left give 11"; "missing field or length byte 11". "for 11 the
+    /// sheet's length"
     fn head(&self, length: usize) -> Result<&'a [u8], Fault> {
-        self.bytes[self.place..].get(..length).ok_or(self.fault(CUT_SHORT))
+        let cut_short = Fault { number: CUT_SHORT, place: self.bytes.len() };
+        self.bytes[self.place..].get(..length).ok_or(cut_short)
     }
 
     /// "an unknown mark or one not allowed here gives 12", where just this one
-    /// is allowed.
+    /// is allowed. "for 12 the first byte of the mark"
     fn only(&self, mark: &[u8; 2]) -> Result<(), Fault> {
         if self.head(2)? == mark {
             Ok(())
         } else {
-            Err(self.fault(WRONG_MARK))
+            Err(self.fault(WRONG_MARK, 0))
         }
     }
 
-    /// "length out of its range 14; missing body 11". The length byte is the
-    /// head's last.
+    /// "length out of its range 14; missing body 11". "for 14 the length byte",
+    /// which is the head's last.
     fn body(&self, head: usize, lengths: RangeInclusive<u8>) -> Result<&'a [u8], Fault> {
-        let length = self.head(head)?[head - 1];
+        let length_byte = head - 1;
+        let length = self.head(head)?[length_byte];
         if !lengths.contains(&length) {
-            return Err(self.fault(WRONG_LENGTH));
+            return Err(self.fault(WRONG_LENGTH, length_byte));
         }
         Ok(&self.head(head + usize::from(length))?[head..])
     }
@@ -148,17 +139,16 @@ impl<'a> Cursor<'a> {
 
     /// A `PA` record behind that of the field before it.
     fn pattern(&mut self, before: Option<u8>) -> Result<(u8, Pattern), Fault> {
-        let field = self.head(PATTERN_HEAD)?[2];
-        // "field above 7 or not above the field before it 13"
+        let field = self.head(PATTERN_HEAD)?[FIELD_BYTE];
+        // "field above 7 or not above the field before it 13"; "for 13 the field
+        // byte"
         if usize::from(field) >= FIELDS || before.is_some_and(|before| field <= before) {
-            return Err(self.fault(WRONG_FIELD));
+            return Err(self.fault(WRONG_FIELD, FIELD_BYTE));
         }
         let body = self.body(PATTERN_HEAD, PATTERN_LENGTHS)?;
         // "then for a pattern 15, then 16"
-        let pattern = Pattern::read(body).ok_or(self.fault(NOT_ONE_PATTERN))?;
-        if pattern.leaves() > MOST_LEAVES {
-            return Err(self.fault(TOO_MANY_LEAVES));
-        }
+        let pass_on = |fault: Fault| fault.passed_on(self.place + PATTERN_HEAD);
+        let pattern = Pattern::read(body).map_err(pass_on)?;
         self.place += PATTERN_HEAD + body.len();
         Ok((field, pattern))
     }
@@ -167,19 +157,22 @@ impl<'a> Cursor<'a> {
     pub fn side(&mut self, mark: &[u8; 2]) -> Result<Vec<Token>, Fault> {
         self.only(mark)?;
         let body = self.body(SIDE_HEAD, SIDE_LENGTHS)?;
-        // "for a side 17"
-        let tokens: Option<Vec<Token>> = body.iter().map(|&byte| Token::of_byte(byte)).collect();
-        let tokens = tokens.ok_or(self.fault(WRONG_TOKEN))?;
+        // "for a side 17"; "for 17 the token", the first that is none
+        let token = |(number, &byte)| {
+            Token::of_byte(byte).ok_or(self.fault(WRONG_TOKEN, SIDE_HEAD + number))
+        };
+        let tokens = body.iter().enumerate().map(token).collect::<Result<Vec<Token>, Fault>>()?;
         self.place += SIDE_HEAD + body.len();
         Ok(tokens)
     }
 
-    /// "after `RI`, any byte left gives 12"
+    /// "after `RI`, any byte left gives 12"; its place is "the first byte after
+    /// `RI`".
     pub fn end(&self) -> Result<(), Fault> {
         if self.place == self.bytes.len() {
             Ok(())
         } else {
-            Err(self.fault(WRONG_MARK))
+            Err(self.fault(WRONG_MARK, 0))
         }
     }
 }

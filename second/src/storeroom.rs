@@ -133,8 +133,13 @@ fn refused() -> Vec<Row> {
     sheets_side[2..4].copy_from_slice(b"RI");
     let falling = rule(&[(B, digit()), (A, digit())], &tokens("LTab"));
     let too_long = rule(&[], &tokens(&"A".repeat(25)));
+    let battery_and_battery = sheet(&[], &tokens("BT 9V"), &tokens("BT 9V"));
+    let latch = |finish| rule(&[(A, finish)], &tokens("LTa"));
     // An operator is missing, so the last finish is left over.
     let left_over = [&one_of(&["BR", "CH"])[..], &text("SS")].concat();
+    // 67 stands before one finish alone.
+    let missing = [&[67], &text("BR")[..]].concat();
+    let long = row(vec![text(&"A".repeat(31)), many(digit())]);
     let sixteen = one_of(&[
         "BK", "BN", "BR", "CH", "CP", "GD", "IV", "NK", "PB", "PC", "PN", "SB", "SC", "SN", "SS",
         "WH",
@@ -143,14 +148,20 @@ fn refused() -> Vec<Row> {
         add("`KP100` is a keypad already", any_keypad, "add 30 9 0 3 0"),
         add("18: the search runs on", box_of_a_pair("BXaaR"), "add 30 455 0 8 18"),
         add("19: a side above 48 tokens", tag_and_letter, "add 30 13 0 9 19"),
-        add("11: cut short", battery()[..9].to_vec(), "add 11 0 2 0 0"),
+        add("11: cut short", battery()[..9].to_vec(), "add 11 0 9 0 0"),
         add("12: a sheet's right side", sheets_side, "add 12 0 2 0 0"),
+        add("12: a sheet, and not a rule", battery_and_battery, "add 12 0 0 0 0"),
         add("12: a byte behind `LE`", [battery(), vec![0]].concat(), "add 12 0 10 0 0"),
-        add("13: the second field first", falling, "add 13 0 9 0 0"),
-        add("14: 25 tokens", too_long, "add 14 0 2 0 0"),
-        add("15: not one pattern", rule(&[(A, left_over)], &tokens("LTa")), "add 15 0 2 0 0"),
-        add("16: 16 finishes, 32 leaves", rule(&[(A, sixteen)], &tokens("KPa")), "add 16 0 2 0 0"),
-        add("17: the stop sign is no character", rule(&[], &[43]), "add 17 0 2 0 0"),
+        add("13: the second field first", falling, "add 13 0 11 0 0"),
+        add("14: 25 tokens", too_long, "add 14 0 4 0 0"),
+        add("15: the last finish is left over", latch(left_over), "add 15 0 13 0 0"),
+        add("15: the last finish is missing", latch(missing), "add 15 0 10 0 0"),
+        add("15: digits from 9 to 0, hi below lo", latch(vec![65, 9, 0]), "add 15 0 8 0 0"),
+        add("15: lo is the stop sign, and no hi", latch(vec![65, 43]), "add 15 0 7 0 0"),
+        add("16: 16 finishes, 32 leaves", rule(&[(A, sixteen)], &tokens("KPa")), "add 16 0 68 0 0"),
+        add("16: 31 letters and any digits", rule(&[(A, long)], &tokens("KPa")), "add 16 0 69 0 0"),
+        add("17: the stop sign is no character", rule(&[], &[43]), "add 17 0 5 0 0"),
+        add("17: field 8, behind `LT`", rule(&[], &[21, 29, 72]), "add 17 0 7 0 0"),
         add("31: a side with field 4", rule(&[], &tokens("LTe")), "add 31 0 0 0 0"),
         add("31: a pattern of field 4", rule(&[(4, digit())], &tokens("LT")), "add 31 0 0 0 0"),
     ]

@@ -1,6 +1,8 @@
 //! Many generated operations: the two modules agree, all answers come up, and
 //! each pair is answered as a sheet of its own.
 
+mod table;
+
 use std::collections::BTreeMap;
 
 use second::calls::{After, Call, Calls, Operation};
@@ -42,6 +44,33 @@ fn all_answers_come_up() {
         assert!(times >= 20, "{answer:?}: {times}");
     }
     assert!(seen.is_empty(), "{seen:?}");
+}
+
+#[test]
+fn each_byte_that_shows_a_fault_comes_up() {
+    let mut calls = Calls::new(HASHING);
+    let mut seen = BTreeMap::new();
+    for operation in operations(&mut Dice::new(5), 20_000) {
+        let after = calls.run(&operation);
+        let (Operation::Add(rule), Some(After { call: Call::Add { told, .. }, .. })) =
+            (operation, after)
+        else {
+            continue;
+        };
+        match table::met(&rule, b"RU", &[b"LE"]) {
+            // 34 comes before the rule's own faults.
+            _ if told.number == 34 => {}
+            Some(met) => {
+                assert_eq!((told.number, told.place), (met.number, met.place), "{rule:?}");
+                *seen.entry((met.shown, met.later)).or_insert(0) += 1;
+            }
+            None => {
+                assert!(!(11..=17).contains(&told.number), "{rule:?}");
+                assert_eq!(told.place, 0);
+            }
+        }
+    }
+    table::all_come_up(&seen, 10);
 }
 
 #[test]

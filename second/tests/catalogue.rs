@@ -194,15 +194,12 @@ fn fault(new: &[u8], number: u8, place: usize) {
 #[test]
 fn cut_short() {
     fault(b"", 11, 0);
-    fault(b"R", 11, 0);
-    fault(b"X", 11, 0);
-    // Every cut of a good rule with two patterns gives 11 at the record cut;
-    // the mark `RU` is all of its own.
+    fault(b"R", 11, 1);
+    fault(b"X", 11, 1);
+    // Every cut of a good rule with two patterns gives 11 at its length.
     let whole = with(b"PA\x00\x04\x44\x41\x00\x09PA\x03\x01\x04", &[A, X]);
-    let marks = [0, 2, 10, 15];
     for cut in 0..whole.len() {
-        let place = if cut < 2 { 0 } else { *marks.iter().rev().find(|&&at| at <= cut).unwrap() };
-        fault(&whole[..cut], 11, place);
+        fault(&whole[..cut], 11, cut);
     }
 }
 
@@ -225,48 +222,77 @@ fn wrong_mark() {
 
 #[test]
 fn wrong_field() {
-    fault(b"RUPA\x08\x01\x04LE\x00", 13, 2);
-    fault(b"RUPA\xff\x00", 13, 2);
-    fault(b"RUPA\x01\x01\x04PA\x01\x01\x04LE\x00", 13, 7);
-    fault(b"RUPA\x02\x01\x04PA\x01\x01\x04LE\x00", 13, 7);
+    fault(b"RUPA\x08\x01\x04LE\x00", 13, 4);
+    fault(b"RUPA\xff\x00", 13, 4);
+    fault(b"RUPA\x01\x01\x04PA\x01\x01\x04LE\x00", 13, 9);
+    fault(b"RUPA\x02\x01\x04PA\x01\x01\x04LE\x00", 13, 9);
     // Above 3 and falling.
-    fault(b"RUPA\x05\x01\x04PA\x04\x01\x04LE\x00", 13, 7);
+    fault(b"RUPA\x05\x01\x04PA\x04\x01\x04LE\x00", 13, 9);
 }
 
 #[test]
 fn wrong_length() {
-    fault(b"RUPA\x00\x00", 14, 2);
-    fault(b"RUPA\x00\x61", 14, 2);
-    fault(b"RULE\x19", 14, 2);
-    fault(b"RUPA\x00\x01\x04LE\xff", 14, 7);
+    fault(b"RUPA\x00\x00", 14, 5);
+    fault(b"RUPA\x00\x61", 14, 5);
+    fault(b"RULE\x19", 14, 4);
+    fault(b"RUPA\x00\x01\x04PA\x01\x61", 14, 10);
+    fault(b"RUPA\x00\x01\x04LE\xff", 14, 9);
+}
+
+/// The fault of a pattern with these bytes, its place counted from the first of
+/// them: as the first of a rule's patterns, and as its second.
+fn fault_of_body(body: &[u8], number: u8, place: usize) {
+    let pattern = |field: u8, body: &[u8]| [b"PA", &[field, body.len() as u8][..], body].concat();
+    fault(&with(&pattern(0, body), &[X]), number, 6 + place);
+    fault(&with(&[pattern(0, &[4]), pattern(3, body)].concat(), &[X]), number, 11 + place);
 }
 
 #[test]
 fn not_one_pattern() {
-    fault(b"RUPA\x00\x01\x2bLE\x00", 15, 2);
-    fault(b"RUPA\x00\x02\x04\x04LE\x00", 15, 2);
-    fault(b"RUPA\x00\x01\x04PA\x03\x02\x44\x44LE\x00", 15, 7);
+    // no code
+    fault_of_body(&[43], 15, 0);
+    fault_of_body(&[66, 1, 69, 255], 15, 2);
+    // lo above 42, hi missing or not
+    fault_of_body(&[65, 43], 15, 1);
+    fault_of_body(&[66, 1, 65, 64, 42], 15, 3);
+    // hi above 42, or below lo
+    fault_of_body(&[65, 0, 43], 15, 2);
+    fault_of_body(&[68, 65, 2, 1], 15, 3);
+    // left over, be it a code or none
+    fault_of_body(&[4, 4], 15, 1);
+    fault_of_body(&[66, 1, 2, 63], 15, 3);
+    // running out
+    fault_of_body(&[68, 68], 15, 2);
+    fault_of_body(&[66, 1, 65, 3], 15, 4);
+    // The next record's bytes are not used.
+    fault(b"RUPA\x00\x01\x44LE\x00", 15, 7);
 }
 
 #[test]
 fn more_than_31_leaves() {
     let leaves = |number: usize| [vec![66; number - 1], vec![7; number]].concat();
-    let pattern = |field: u8, body: &[u8]| [b"PA", &[field, body.len() as u8][..], body].concat();
-    fault(&with(&pattern(0, &leaves(32)), &[X]), 16, 2);
-    fault(&with(&[pattern(0, &[4]), pattern(3, &leaves(48))].concat(), &[X]), 16, 7);
-    enters(&[], &with(&pattern(0, &leaves(31)), &[X]), 0);
+    fault_of_body(&leaves(32), 16, 62);
+    fault_of_body(&leaves(48), 16, 78);
+    fault_of_body(&[vec![66; 31], [7, 65, 0, 9].repeat(16)].concat(), 16, 92);
+    // 15 comes before 16.
+    fault_of_body(&[leaves(32), vec![7]].concat(), 15, 63);
+    fault_of_body(&[vec![66], leaves(32), vec![65, 2, 1]].concat(), 15, 66);
+    let body = [b"PA\x00\x3d", &leaves(31)[..]].concat();
+    enters(&[], &with(&body, &[X]), 0);
 }
 
 #[test]
 fn wrong_token() {
     for token in (43..64).chain(72..=255) {
-        fault(&rule(&[A, token]), 17, 2);
+        fault(&rule(&[A, token]), 17, 6);
     }
-    fault(&with(b"PA\x00\x01\x04", &[43]), 17, 7);
+    fault(&with(b"PA\x00\x01\x04", &[43]), 17, 10);
+    // The first that is none, of several.
+    fault(&rule(&[A, X, 72, B, 255]), 17, 7);
     // Before the bytes behind it, and before 31.
-    fault(b"RULE\x01\x2bX", 17, 2);
-    fault(&rule(&[68, 43]), 17, 2);
-    fault(&with(b"PA\x04\x01\x04", &[43]), 17, 7);
+    fault(b"RULE\x01\x2bX", 17, 5);
+    fault(&rule(&[68, 43]), 17, 6);
+    fault(&with(b"PA\x04\x01\x04", &[43]), 17, 10);
     fault(b"RUPA\x04\x01\x04LE\x00X", 12, 10);
 }
 

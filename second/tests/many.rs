@@ -1,6 +1,8 @@
 //! Many generated cases: the two modules agree, all kinds come up, and the
 //! answers are right by the definitions.
 
+mod table;
+
 use std::collections::{BTreeMap, BTreeSet};
 
 use second::cases::{After, Case};
@@ -33,6 +35,22 @@ fn all_answers_come_up() {
 }
 
 #[test]
+fn each_byte_that_shows_a_fault_comes_up() {
+    let mut seen = BTreeMap::new();
+    for case in cases(7, 20_000) {
+        let outcome = case.run(second::answer).outcome;
+        match table::met(&case.sheet, b"", &[b"LE", b"RI"]) {
+            Some(met) => {
+                assert_eq!((outcome.number, outcome.place), (met.number, met.place), "{case:?}");
+                *seen.entry((met.shown, met.later)).or_insert(0) += 1;
+            }
+            None => assert!(!(11..=17).contains(&outcome.number), "{case:?}"),
+        }
+    }
+    table::all_come_up(&seen, 10);
+}
+
+#[test]
 fn the_long_ones_fill_the_room() {
     for case in long(455) {
         let after = case.run(second::answer);
@@ -62,7 +80,12 @@ fn the_printed_cases_tell_printers_apart() {
     };
     assert_eq!(other(work - 144, answer, &sheet), "18 454 0\n");
     assert_eq!(other(work, 64, &sheet), "20 455 0\n");
-    assert_eq!(other(work, answer, &sheet[..512]), "11 0 473\n");
+    assert_eq!(other(work, answer, &sheet[..512]), "11 0 512\n");
+    // The last ones have a fault, some places above 255.
+    let faults: Vec<String> = outcomes[13..].iter().map(After::lines).collect();
+    let (cut_short, marks) = (["11 0 0\n", "11 0 800\n"], ["12 0 6\n", "12 0 700\n"]);
+    let others = ["13 0 802\n", "14 0 302\n", "15 0 11\n", "16 0 166\n", "17 0 106\n"];
+    assert_eq!(faults, [&cut_short[..], &marks, &others].concat());
 }
 
 #[test]

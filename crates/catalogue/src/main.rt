@@ -21,38 +21,44 @@
 // 15  AD  30, 19: a strip of any digits and `X`; a side above 48 tokens
 // 16  AD  11: the battery cut short
 // 17  AD  12: `RI` for its `LE`
-// 18  AD  12: a byte behind its `LE`
-// 19  AD  13: the second field first
-// 20  AD  14: 25 tokens
-// 21  AD  15: not one pattern
-// 22  AD  16: 16 finishes, 32 leaves
-// 23  AD  17: 43 is no character
-// 24  AD  31: a side with field 4
-// 25  AD  31: a pattern of field 4
-// 26  WI  33: there is no rule 11
-// 27  WI  the rim latch goes, and the others move up
-// 28  AD  it comes back as rule 10
-// 29  AD  30: a left-hand rim latch, and `RL07L` is a rim latch already, of rule 10
+// 18  AD  12: a sheet, and not a rule
+// 19  AD  12: a byte behind its `LE`
+// 20  AD  13: the second field first
+// 21  AD  14: 25 tokens
+// 22  AD  15: a finish left over
+// 23  AD  15: a finish missing
+// 24  AD  15: digits from 9 to 0, hi below lo
+// 25  AD  15: lo is 43, and hi is missing
+// 26  AD  16: 16 finishes, 32 leaves
+// 27  AD  16: 31 letters and any digits, the 32nd leaf a range
+// 28  AD  17: 43 is no character
+// 29  AD  17: field 8, behind `LT`
+// 30  AD  31: a side with field 4
+// 31  AD  31: a pattern of field 4
+// 32  WI  33: there is no rule 11
+// 33  WI  the rim latch goes, and the others move up
+// 34  AD  it comes back as rule 10
+// 35  AD  30: a left-hand rim latch, and `RL07L` is a rim latch already, of rule 10
 //     WO  room for one situation
-// 30  AD  30, 18: the keypad with a cable, a keypad, `/` and any digits; not enough for its pair with rule 2
+// 36  AD  30, 18: the keypad with a cable, a keypad, `/` and any digits; not enough for its pair with rule 2
 //     WO  no room
-// 31  AD  30, 18: the same, not enough for the pair with rule 0
+// 37  AD  30, 18: the same, not enough for the pair with rule 0
 //     WO  455 situations again
-// 32  AD  the keypad with a cable is rule 11
+// 38  AD  the keypad with a cable is rule 11
 //     CA  the mortice latch and a byte too few for the night latch
-// 33  AD  32: it doesn't fit
+// 39  AD  32: it doesn't fit
 //     CA  one byte more
-// 34  AD  it fits
+// 40  AD  it fits
 //     CA  32 shelf marks, rules of one character each
-// 35  AD  32: no 33rd, though its bytes would fit
-// 36  WI  the last one goes
-// 37  AD  another is the 32nd
+// 41  AD  32: no 33rd, though its bytes would fit
+// 42  WI  the last one goes
+// 43  AD  another is the 32nd
 //     CA  a rule whose last token is none
-// 38  AD  34: no catalogue to add to
-// 39  WI  34: nor to withdraw from
+// 44  AD  34: no catalogue to add to
+// 45  WI  34: nor to withdraw from
 //     CA  no bytes
-// 40  AD  32: nothing fits
-// 41  WI  33: no rule
+// 46  AD  32: nothing fits
+// 47  WI  33: no rule
 use lines::tell;
 use operations::How;
 use operations::Shown;

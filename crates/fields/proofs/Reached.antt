@@ -10,7 +10,7 @@ use lib.Dec.{ltb}
 use lib.ListN.{length, set, replicate, length-set}
 use Rattle.paper.specs.Numbers.{fields}
 use Rattle.paper.specs.Pattern.{Held, any-text, pattern}
-use Rattle.paper.specs.Sheet.{Fault, fault, bytes-left, Mark, PA, next-is, pattern-record, Records, faulty, records, Fields, open-fields, read-patterns}
+use Rattle.paper.specs.Sheet.{Fault, fault, bytes-left, Mark, PA, next-is, pattern-record, Records, faulty, Fields, open-fields, read-patterns}
 use Rattle.paper.proofs.base.Tests.{by-bool, true-false, ltb-false}
 use Rattle.places.specs.WorkedOut.{worked-out}
 use Rattle.places.specs.declared.PlaceTables.{PlaceTables}
@@ -49,8 +49,8 @@ reached-start s from works e =
     }
 
 module _ {s : List ℕ} {from at above : ℕ} {works : List PlaceTables} (r : Reached s from at above works) where
-  pub reached-fault : (x : Fault) → next-is PA s at ≡ true → pattern-record s at above ≡ fault x → all-read s from ≡ faulty x at
-  reached-fault x p e = r .reads ∙ rw (p, e)
+  pub reached-fault : (x : Fault) (place : ℕ) → next-is PA s at ≡ true → pattern-record s at above ≡ fault x place → all-read s from ≡ faulty x place
+  reached-fault x place p e = r .reads ∙ rw (p, e)
 
   pub reached-next : (f : PatternRecord) → next-is PA s at ≡ true → Pattern-stands s at above f
       → Reached s from (f .next .at) (f .next .above) (set works (f .field) (f .tables))

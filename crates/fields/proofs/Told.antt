@@ -1,7 +1,7 @@
 -- What the struct of the patterns says of reading their records. Follows from the cases of `fields-of`.
 use Prim.Native.Nat.{ℕ}
 use native.Mathlib.Omega.{arith}
-use mathlib.Core.Path.{_≡_, refl, ap}
+use mathlib.Core.Path.{_≡_, ap}
 use mathlib.Core.List.{map}
 use Rattle.paper.specs.Sheet.{Records, faulty, records}
 use Rattle.paper.specs.Sheet as Sheet

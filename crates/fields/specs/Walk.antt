@@ -32,4 +32,4 @@ pub record Pattern-stands (s : List ℕ) (at least : ℕ) (r : PatternRecord) : 
 -- what the checks on a pattern's record find
 abbrev pub Pattern-read : List ℕ → ℕ → ℕ → Found → PatternRecord → Type 0
 Pattern-read s at least NoFault r = Pattern-stands s at least r
-Pattern-read s at least (Refused x) r = pattern-record s at least ≡ fault (fault-of x)
+Pattern-read s at least (Refused x) r = pattern-record s at least ≡ fault (fault-of x) (r .next .at)

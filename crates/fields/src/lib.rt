@@ -25,7 +25,7 @@ const PATTERN_BYTES: usize = 96;
 // What the patterns' records say.
 pub struct Fields {
     pub found: Found,
-    // behind the last pattern's record, or where the record with the fault stands
+    // behind the last pattern's record, or at the byte at fault
     pub next: Cursor,
     // one above the last pattern's field; 0 where there is none, or a fault
     pub above: usize,
@@ -53,13 +53,14 @@ pub fn read(s: &[u8], start: Cursor) -> Fields
     while c.next_is_pattern(s) {
         let r = c.pattern(s);
         let found = r.found;
+        let next = r.next;
         if let Found::Refused(x) = found {
-            return refuse(x, c.at);
+            return refuse(x, next.at);
         }
         let field = r.field;
         let its = r.tables;
         tables[field] = its;
-        c = r.next;
+        c = next;
     }
     Fields {
         found: Found::NoFault,
@@ -87,11 +88,12 @@ struct PatternCursor {
     above: usize,
 }
 
-// What the checks on a pattern's record find: the first fault, or the field, what is worked out of its pattern and the next cursor.
+// What the checks on a pattern's record find: the first fault, or the field and what is worked out of its pattern.
 struct PatternRecord {
     found: Found,
     field: usize,
     tables: PlaceTables,
+    // behind the record, or at the byte at fault
     next: PatternCursor,
 }
 
@@ -113,26 +115,26 @@ impl PatternCursor {
         let at = self.at;
         let left = s.len() - at;
         if left < 4 {
-            return self.refuse(Fault::CutShort);
+            return refuse_at(Fault::CutShort, s.len());
         }
         let field = s[at + 2] as usize;
         if wrong_field(field, self.above) {
-            return self.refuse(Fault::WrongField);
+            return refuse_at(Fault::WrongField, at + 2);
         }
         let len = s[at + 3] as usize;
         if wrong_length(len) {
-            return self.refuse(Fault::WrongLength);
+            return refuse_at(Fault::WrongLength, at + 3);
         }
         if left < 4 + len {
-            return self.refuse(Fault::CutShort);
+            return refuse_at(Fault::CutShort, s.len());
         }
         let start = at + 4;
         let end = start + len;
         let worked = patterns::tables(&s[start..end]);
         let verdict = worked.verdict;
         match verdict {
-            Verdict::NotOnePattern => self.refuse(Fault::NotOnePattern),
-            Verdict::TooManyLeaves => self.refuse(Fault::TooManyLeaves),
+            Verdict::NotOnePattern => refuse_at(Fault::NotOnePattern, start + worked.at),
+            Verdict::TooManyLeaves => refuse_at(Fault::TooManyLeaves, start + worked.at),
             Verdict::OnePattern => {
                 let tables = worked.tables;
                 PatternRecord {
@@ -147,17 +149,18 @@ impl PatternCursor {
             }
         }
     }
+}
 
-    fn refuse(self, x: Fault) -> PatternRecord
-        ensures { λ r. ⌜ r .found ≡ Found.Refused x ⌝ }
-    {
-        let tables = places::open_tables();
-        PatternRecord {
-            found: Found::Refused(x),
-            field: 0,
-            tables,
-            next: self,
-        }
+// A pattern's record with a fault.
+fn refuse_at(x: Fault, at: usize) -> PatternRecord
+    ensures { λ r. ⌜ (r .found ≡ Found.Refused x) × (r .next .at ≡ at) ⌝ }
+{
+    let tables = places::open_tables();
+    PatternRecord {
+        found: Found::Refused(x),
+        field: 0,
+        tables,
+        next: PatternCursor { at, above: 0 },
     }
 }
 

@@ -1,4 +1,6 @@
 pub mod Code
+pub mod Continued
+pub mod LeafPlace
 pub mod Saying
 pub mod Local
 pub mod Form

@@ -5,5 +5,6 @@ pub mod PlaceSets
 pub mod Rising
 pub mod Reachable
 pub mod NotStuck
+pub mod Reader
 pub mod Judged
 pub mod Accepts

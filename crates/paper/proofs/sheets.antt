@@ -1,4 +1,5 @@
 pub mod Asked
+pub mod FaultPlaces
 pub mod QuestionSearched
 pub mod TextLength
 pub mod Rows

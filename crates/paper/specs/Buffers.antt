@@ -42,5 +42,5 @@ pub record Demand1 (r : Reading) (work answer : List ℕ) (o : Outcome) : Type 0
   -- "What the working buffer holds afterwards is fixed for each answer."
   pub after-search : member (o .number) search-numbers ≡ true → AfterSearch work o
   pub after-fault : member (o .number) sheet-numbers ≡ true → AfterFault work o
-  -- "The first fault met decides. Its place is the offset at which that record's mark stands or should stand."
+  -- "The first fault met decides." "The place should be the byte itself."
   pub first-fault : (x : Fault) (at : ℕ) → r ≡ refused x at → (o .number ≡ fault-number x) × (o .place ≡ at)

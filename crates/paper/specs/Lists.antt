@@ -1,8 +1,8 @@
 -- Lists by tests: what the definitions of every layer are made of.
--- `from a n` and `upto n` count; `any`, `all`, `keep` go by a test; `each` joins what every element gives;
+-- `from a n` and `upto n` count; `any`, `all`, `leading`, `keep` go by a test; `each` joins what every element gives;
 -- `only b x` is x alone or nothing; `same-by` is equality of lists by a test of their elements.
 use Prim.Native.Nat.{ℕ, zero, suc}
-use mathlib.Core.Bool.{Bool, true, false, _&&_, _||_}
+use mathlib.Core.Bool.{Bool, true, false, cond, _&&_, _||_}
 use mathlib.Core.List.{List, [], _∷_, _++_}
 use lib.Dec.{eqb}
 
@@ -23,6 +23,11 @@ module _ {ℓ} {A : Type ℓ} where
   abbrev pub all : (A → Bool) → List A → Bool
   all p [] = true
   all p (x ∷ l) = p x && all p l
+
+  -- how many stand before the first that fails the test
+  abbrev pub leading : (A → Bool) → List A → ℕ
+  leading p [] = 0
+  leading p (x ∷ l) = cond (p x) (suc (leading p l)) 0
 
   -- x alone, or nothing
   abbrev pub only : Bool → A → List A

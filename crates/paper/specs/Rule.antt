@@ -30,17 +30,17 @@ pub record Makes (r : Rule) (l : List ℕ) : Type 0 where
 
 -- "the mark `RU`, the `PA` records of its own fields .. and one `LE`, its end as `RI` is a sheet's; 01's checks read it, offsets from `RU`":
 -- the rule at the front of the bytes
-abbrev pub with-side : Fields → ℕ → Checked Side → Records Rule
-with-side fs at (fault x) = faulty x at
-with-side fs at (read side next) = records (record { side = side; fields = fs }) next
+abbrev pub with-side : Fields → Checked Side → Records Rule
+with-side fs (fault x at) = faulty x at
+with-side fs (read side next) = records (record { side = side; fields = fs }) next
 
 abbrev pub side-read : List ℕ → Records Fields → Records Rule
 side-read s (faulty x at) = faulty x at
-side-read s (records fs at) = with-side fs at (marked-side LE s at)
+side-read s (records fs at) = with-side fs (marked-side LE s at)
 
 unfoldable pub rule-front : List ℕ → Records Rule
 rule-front s =
-    cond (ltb (length s) 2) (faulty cut-short 0)
+    cond (ltb (length s) 2) (faulty cut-short (length s))
     (cond (marked RU s 0) (side-read s (read-patterns (suc (length s)) s 2 open-fields)) (faulty wrong-mark 0))
 
 -- a rule by itself: behind it any byte left gives 12, as behind `RI`

@@ -1,11 +1,11 @@
--- The question sheet (document 01, "The question sheet" and "Checks on the sheet"): every fault in 01's order with its place,
--- and the question of a good sheet. A sheet is any list of bytes.
+-- The question sheet (document 01, "The question sheet" and "Checks on the sheet"): every fault in 01's order with its place, the byte itself
+-- (request K2), and the question of a good sheet. A sheet is any list of bytes.
 use Prim.Native.Nat.{ℕ, zero, suc, _+_, _-_}
 use mathlib.Core.Bool.{Bool, false, cond, _&&_, _||_}
 use mathlib.Core.List.{List, map}
 use lib.Dec.{leb, ltb, eqb}
 use lib.ListN.{length, getD, take, drop, set, replicate}
-use Rattle.paper.specs.Lists.{all}
+use Rattle.paper.specs.Lists.{all, leading}
 use Rattle.paper.specs.Numbers.{characters, fields, field-token, pattern-bytes, sheet-side}
 use Rattle.paper.specs.Pattern.{Pattern, Held, any-text, pattern}
 use Rattle.paper.specs.Written.{Judged, judged, judge}
@@ -33,9 +33,9 @@ fault-number not-one-pattern = 15
 fault-number too-many-leaves = 16
 fault-number wrong-token = 17
 
--- what a check on a record finds: the fault, or what the record says and the offset at which it ends
+-- what a check on a record finds: the fault and its place, or what the record says and the offset at which it ends
 pub data Checked (A : Type 0) : Type 0 where
-  fault : Fault → Checked A
+  fault : Fault → ℕ → Checked A
   read : A → ℕ → Checked A
 
 -- a field and its pattern
@@ -75,21 +75,22 @@ second-letter RU = 85
 unfoldable pub marked : Mark → List ℕ → ℕ → Bool
 marked m s at = eqb (byte-at s at) (first-letter m) && eqb (byte-at s (at + 1)) (second-letter m)
 
--- "then for a pattern 15, then 16"
-abbrev pub pattern-judged : Judged → ℕ → ℕ → Checked FieldPattern
-pattern-judged Written.not-one-pattern f next = fault not-one-pattern
-pattern-judged Written.too-many-leaves f next = fault too-many-leaves
-pattern-judged (judged p) f next = read (record { field = f; its = p }) next
+-- "then for a pattern 15, then 16": the pattern's bytes start at the offset
+abbrev pub pattern-judged : Judged → ℕ → ℕ → ℕ → Checked FieldPattern
+pattern-judged (Written.not-one-pattern i) start f next = fault not-one-pattern (start + i)
+pattern-judged (Written.too-many-leaves i) start f next = fault too-many-leaves (start + i)
+pattern-judged (judged p) start f next = read (record { field = f; its = p }) next
 
 -- A record `PA` at the offset, field numbers allowed from `least` on: "missing field or length byte 11; field above 7 or not above the
--- field before it 13; length out of its range 14; missing body 11; then for a pattern 15, then 16".
+-- field before it 13; length out of its range 14; missing body 11; then for a pattern 15, then 16". "The place should be the byte itself: for 11
+-- the sheet's length; .. for 13 the field byte; for 14 the length byte".
 unfoldable pub pattern-record : List ℕ → ℕ → ℕ → Checked FieldPattern
 pattern-record s at least =
-    cond (ltb (bytes-left s at) 4) (fault cut-short)
-    (cond (leb fields (byte-at s (at + 2)) || ltb (byte-at s (at + 2)) least) (fault wrong-field)
-    (cond (eqb (byte-at s (at + 3)) 0 || ltb pattern-bytes (byte-at s (at + 3))) (fault wrong-length)
-    (cond (ltb (bytes-left s at) (4 + byte-at s (at + 3))) (fault cut-short)
-    (pattern-judged (judge (body s (at + 4) (byte-at s (at + 3)))) (byte-at s (at + 2)) (at + (4 + byte-at s (at + 3)))))))
+    cond (ltb (bytes-left s at) 4) (fault cut-short (length s))
+    (cond (leb fields (byte-at s (at + 2)) || ltb (byte-at s (at + 2)) least) (fault wrong-field (at + 2))
+    (cond (eqb (byte-at s (at + 3)) 0 || ltb pattern-bytes (byte-at s (at + 3))) (fault wrong-length (at + 3))
+    (cond (ltb (bytes-left s at) (4 + byte-at s (at + 3))) (fault cut-short (length s))
+    (pattern-judged (judge (body s (at + 4) (byte-at s (at + 3)))) (at + 4) (byte-at s (at + 2)) (at + (4 + byte-at s (at + 3)))))))
 
 -- "A token is 0 to 42 (a character) or 64 to 71 (field 0 to 7)."
 abbrev pub is-token : ℕ → Bool
@@ -98,27 +99,27 @@ is-token b = ltb b characters || (leb field-token b && ltb b (field-token + fiel
 abbrev pub token : ℕ → Token
 token b = cond (ltb b characters) (chr b) (fld (b - field-token))
 
--- A side at the offset: "missing .. length byte 11; .. length out of its range 14; missing body 11; .. for a side 17".
+-- A side at the offset: "missing .. length byte 11; .. length out of its range 14; missing body 11; .. for a side 17", whose place is "the token".
 unfoldable pub side-record : List ℕ → ℕ → Checked Side
 side-record s at =
-    cond (ltb (bytes-left s at) 3) (fault cut-short)
-    (cond (ltb sheet-side (byte-at s (at + 2))) (fault wrong-length)
-    (cond (ltb (bytes-left s at) (3 + byte-at s (at + 2))) (fault cut-short)
+    cond (ltb (bytes-left s at) 3) (fault cut-short (length s))
+    (cond (ltb sheet-side (byte-at s (at + 2))) (fault wrong-length (at + 2))
+    (cond (ltb (bytes-left s at) (3 + byte-at s (at + 2))) (fault cut-short (length s))
     (cond (all is-token (body s (at + 3) (byte-at s (at + 2))))
     (read (map token (body s (at + 3) (byte-at s (at + 2)))) (at + (3 + byte-at s (at + 2))))
-    (fault wrong-token))))
+    (fault wrong-token (at + 3 + leading is-token (body s (at + 3) (byte-at s (at + 2))))))))
 
 -- the mark stands at the offset
 unfoldable pub next-is : Mark → List ℕ → ℕ → Bool
 next-is m s at = cond (ltb (bytes-left s at) 2) false (marked m s at)
 
--- A side behind its mark: "fewer than two bytes left give 11; an unknown mark or one not allowed here gives 12".
+-- A side behind its mark: "fewer than two bytes left give 11; an unknown mark or one not allowed here gives 12", "for 12 the first byte of the
+-- mark".
 unfoldable pub marked-side : Mark → List ℕ → ℕ → Checked Side
 marked-side m s at =
-    cond (ltb (bytes-left s at) 2) (fault cut-short) (cond (marked m s at) (side-record s at) (fault wrong-mark))
+    cond (ltb (bytes-left s at) 2) (fault cut-short (length s)) (cond (marked m s at) (side-record s at) (fault wrong-mark at))
 
--- What reading records one behind the other gives: the first fault met with its place, "the offset at which that record's mark stands or
--- should stand", or what they say and the offset at which they end.
+-- What reading records one behind the other gives: the first fault met with its place, or what they say and the offset at which they end.
 pub data Records (A : Type 0) : Type 0 where
   faulty : Fault → ℕ → Records A
   records : A → ℕ → Records A
@@ -136,16 +137,16 @@ abbrev pub with-pattern : Fields → FieldPattern → Fields
 with-pattern fs fp = record { held = set (fs .held) (fp .field) (pattern (fp .its)); above = suc (fp .field) }
 
 -- A pattern's record, then what comes behind it: "Reading goes on from where the last record ended."
-abbrev pub pattern-read : ℕ → Fields → (ℕ → Fields → Records Fields) → Checked FieldPattern → Records Fields
-pattern-read at fs go-on (fault x) = faulty x at
-pattern-read at fs go-on (read fp next) = go-on next (with-pattern fs fp)
+abbrev pub pattern-read : Fields → (ℕ → Fields → Records Fields) → Checked FieldPattern → Records Fields
+pattern-read fs go-on (fault x at) = faulty x at
+pattern-read fs go-on (read fp next) = go-on next (with-pattern fs fp)
 
 -- "no, one or several `PA`, field numbers rising", up to the first record that is none. Every record has bytes, so as many turns as there
 -- are bytes, and one, are enough.
 abbrev pub read-patterns : ℕ → List ℕ → ℕ → Fields → Records Fields
-read-patterns zero s at fs = faulty cut-short at
+read-patterns zero s at fs = faulty cut-short (length s)
 read-patterns (suc n) s at fs =
-    let behind = pattern-read at fs (λ (next : ℕ) (more : Fields). read-patterns n s next more) (pattern-record s at (fs .above)) in
+    let behind = pattern-read fs (λ (next : ℕ) (more : Fields). read-patterns n s next more) (pattern-record s at (fs .above)) in
     cond (next-is PA s at) behind (records fs at)
 
 -- what reading a sheet gives: the first fault met with its place, or the question
@@ -153,22 +154,22 @@ pub data Reading : Type 0 where
   refused : Fault → ℕ → Reading
   asked : Question → Reading
 
--- "after `RI`, any byte left gives 12"
+-- "after `RI`, any byte left gives 12", "the first byte after `RI`"
 unfoldable pub read-end : List ℕ → ℕ → Question → Reading
 read-end s at q = cond (ltb at (length s)) (refused wrong-mark at) (asked q)
 
 -- "one `LE`; one `RI`; the end"
-abbrev pub right-read : List ℕ → ℕ → List Held → Side → Checked Side → Reading
-right-read s at held l (fault x) = refused x at
-right-read s at held l (read r next) = read-end s next (record { left = l; right = r; held = held })
+abbrev pub right-read : List ℕ → List Held → Side → Checked Side → Reading
+right-read s held l (fault x at) = refused x at
+right-read s held l (read r next) = read-end s next (record { left = l; right = r; held = held })
 
-abbrev pub left-read : List ℕ → ℕ → List Held → Checked Side → Reading
-left-read s at held (fault x) = refused x at
-left-read s at held (read l next) = right-read s next held l (marked-side RI s next)
+abbrev pub left-read : List ℕ → List Held → Checked Side → Reading
+left-read s held (fault x at) = refused x at
+left-read s held (read l next) = right-read s held l (marked-side RI s next)
 
 abbrev pub sides-read : List ℕ → Records Fields → Reading
 sides-read s (faulty x at) = refused x at
-sides-read s (records fs at) = left-read s at (fs .held) (marked-side LE s at)
+sides-read s (records fs at) = left-read s (fs .held) (marked-side LE s at)
 
 unfoldable pub read-sheet : List ℕ → Reading
 read-sheet s = sides-read s (read-patterns (suc (length s)) s 0 open-fields)

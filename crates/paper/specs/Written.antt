@@ -1,65 +1,73 @@
--- A pattern's bytes (document 01, "A pattern is written operator first"): reading them, 15 and 16.
-use Prim.Native.Nat.{ℕ, zero, suc}
+-- A pattern's bytes (document 01, "A pattern is written operator first"): reading them, 15 and 16, and the byte at fault (request K2).
+use Prim.Native.Nat.{ℕ, zero, suc, _-_}
 use mathlib.Core.Bool.{cond, _&&_}
-use mathlib.Core.List.{List, [], _∷_}
+use mathlib.Core.List.{List, [], _∷_, _++_}
 use lib.Dec.{leb, ltb, eqb}
-use lib.ListN.{length}
+use lib.ListN.{length, getD}
 use Rattle.paper.specs.Numbers.{characters, empty-code, range-code, then-code, or-code, many-code, most-leaves}
 use Rattle.paper.specs.Pattern.{char, range, Pattern, leaf, empty, then, either, many}
 use Rattle.paper.specs.Places.{leaves}
 
--- one pattern and the bytes left behind it, or none
+-- One pattern, how many bytes are left from the first byte of each of its leaves on, and the bytes left behind it; or how many are left from
+-- the byte at fault on, none where the code runs out.
 pub data Part : Type 0 where
-  no-pattern : Part
-  part : Pattern → List ℕ → Part
+  no-pattern : ℕ → Part
+  part : Pattern → List ℕ → List ℕ → Part
 
--- "65 lo hi: one character with lo ≤ value ≤ hi ≤ 42"
+-- "65 lo hi: one character with lo ≤ value ≤ hi ≤ 42": "the lo byte if lo is above 42, else the hi byte if that is above 42 or below lo"
+abbrev pub read-hi : ℕ → List ℕ → Part
+read-hi lo [] = no-pattern 0
+read-hi lo (hi ∷ s) =
+    cond (leb lo hi && ltb hi characters) (part (leaf (range lo hi)) (length (range-code ∷ lo ∷ hi ∷ s) ∷ []) s) (no-pattern (length (hi ∷ s)))
+
 abbrev pub read-range : List ℕ → Part
-read-range [] = no-pattern
-read-range (lo ∷ []) = no-pattern
-read-range (lo ∷ hi ∷ s) = cond (leb lo hi && ltb hi characters) (part (leaf (range lo hi)) s) no-pattern
+read-range [] = no-pattern 0
+read-range (lo ∷ s) = cond (ltb lo characters) (read-hi lo s) (no-pattern (length (lo ∷ s)))
 
 -- "66 A B", "67 A B": the second pattern is read from where the first ended
-abbrev pub second-part : (Pattern → Pattern → Pattern) → Pattern → Part → Part
-second-part op a no-pattern = no-pattern
-second-part op a (part b s) = part (op a b) s
+abbrev pub second-part : (Pattern → Pattern → Pattern) → Pattern → List ℕ → Part → Part
+second-part op a starts (no-pattern left) = no-pattern left
+second-part op a starts (part b more s) = part (op a b) (starts ++ more) s
 
 abbrev pub two-parts : (Pattern → Pattern → Pattern) → Part → (List ℕ → Part) → Part
-two-parts op no-pattern rest = no-pattern
-two-parts op (part a s) rest = second-part op a (rest s)
+two-parts op (no-pattern left) rest = no-pattern left
+two-parts op (part a starts s) rest = second-part op a starts (rest s)
 
 -- "68 A"
 abbrev pub many-part : Part → Part
-many-part no-pattern = no-pattern
-many-part (part a s) = part (many a) s
+many-part (no-pattern left) = no-pattern left
+many-part (part a starts s) = part (many a) starts s
 
--- The pattern at the front of the bytes. Every call reads a byte, so as many turns as there are bytes are enough.
+-- The pattern at the front of the bytes, "read left to right"; else "the first byte that is no code". Every call reads a byte, so as many turns
+-- as there are bytes are enough.
 abbrev pub read-part : ℕ → List ℕ → Part
-read-part zero s = no-pattern
-read-part (suc n) [] = no-pattern
+read-part zero s = no-pattern 0
+read-part (suc n) [] = no-pattern 0
 read-part (suc n) (b ∷ s) =
     let a = read-part n s in
     let a-then-b = two-parts then a (λ (r : List ℕ). read-part n r) in
     let a-or-b = two-parts either a (λ (r : List ℕ). read-part n r) in
-    cond (ltb b characters) (part (leaf (char b)) s)
-    (cond (eqb b empty-code) (part empty s)
+    cond (ltb b characters) (part (leaf (char b)) (length (b ∷ s) ∷ []) s)
+    (cond (eqb b empty-code) (part empty [] s)
     (cond (eqb b range-code) (read-range s)
     (cond (eqb b then-code) a-then-b
     (cond (eqb b or-code) a-or-b
     (cond (eqb b many-code) (many-part a)
-    no-pattern)))))
+    (no-pattern (length (b ∷ s))))))))
 
 -- "The n bytes after the length byte are judged by themselves, as exactly one pattern that uses them all" (else 15).
--- "A pattern has at most 31 leaves" (else 16).
+-- "A pattern has at most 31 leaves" (else 16). With a fault goes the offset of its byte.
 pub data Judged : Type 0 where
-  not-one-pattern : Judged
-  too-many-leaves : Judged
+  not-one-pattern : ℕ → Judged
+  too-many-leaves : ℕ → Judged
   judged : Pattern → Judged
 
-abbrev pub judge-part : Part → Judged
-judge-part no-pattern = not-one-pattern
-judge-part (part p []) = cond (leb (leaves p) most-leaves) (judged p) too-many-leaves
-judge-part (part p (b ∷ s)) = not-one-pattern
+-- n bytes in all: "where bytes are left over, the first of them"; "for 16 it is the 32nd leaf's first byte"
+abbrev pub judge-part : ℕ → Part → Judged
+judge-part n (no-pattern left) = not-one-pattern (n - left)
+judge-part n (part p starts []) =
+    cond (leb (leaves p) most-leaves) (judged p) (too-many-leaves (n - getD starts most-leaves 0))
+judge-part n (part p starts (b ∷ s)) = not-one-pattern (n - length (b ∷ s))
 
 unfoldable pub judge : List ℕ → Judged
-judge s = judge-part (read-part (length s) s)
+judge s = judge-part (length s) (read-part (length s) s)

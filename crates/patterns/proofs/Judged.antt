@@ -1,14 +1,14 @@
 -- From a reading of the bytes, and the tables that it has filled, to what `tables` gives: by cases on how the bytes are judged.
-use Prim.Native.Nat.{ℕ, zero, suc, _≤_, _<_}
+use Prim.Native.Nat.{ℕ, zero, suc, _-_, _≤_, _<_}
 use native.Mathlib.Omega.{arith}
-use mathlib.Core.Path.{_≡_, refl, ap, ap₂, _∙_}
+use mathlib.Core.Path.{_≡_, refl, sym, ap, ap₂, _∙_}
 use mathlib.Core.Bool.{Bool, true, false, cond, _&&_, _||_, or-false, and-true, and-false}
 use mathlib.Core.List.{List, [], _∷_}
-use lib.Dec.{leb, eqb, eqb·zero-suc}
+use lib.Dec.{eqb, eqb·zero-suc}
 use lib.Bits.{bitOr}
 use lib.ListN.{length, set, replicate}
 use Rattle.paper.specs.Numbers.{characters, most-leaves}
-use Rattle.paper.proofs.base.Tests.{true-false, not-true, cond-true, cond-false, le-leb, lt-leb}
+use Rattle.paper.proofs.base.Tests.{true-false, not-true, le-leb, lt-leb}
 use Rattle.paper.proofs.places.Parts.{last-within}
 use Rattle.paper.specs.Pattern.{Pattern, pattern}
 use Rattle.paper.specs.Places.{leaves, takes-empty, may-be-last, ends-at}
@@ -20,6 +20,10 @@ use Rattle.patterns.specs.declared.Worked.{Worked}
 use Rattle.patterns.specs.declared.Verdict.the-variants.{OnePattern}
 use Rattle.patterns.specs.declared.reader.ReadPart.{ReadPart}
 use Rattle.places.proofs.MaskOf.{mask-of-same, mask-of-or, mask-of-cond}
+use Rattle.paper.proofs.places.Reader as Reader
+use Rattle.paper.proofs.places.Judged.{starts-inside}
+use Rattle.patterns.proofs.Behind.{fault-within}
+use Rattle.patterns.proofs.Surplus.{surplus-within}
 use Rattle.patterns.proofs.Joining.{joins-all}
 
 -- the tables before the first leaf
@@ -38,21 +42,28 @@ last-at p (suc i) =
 
 -- What a reading r of all the bytes says, and the tables v that it has filled.
 module _ (r : ReadPart) (v : Working) where
-  part-bad : (x : Part) → Read-as x 1 unworked v r → r .ok ≡ false → judge-part x ≡ not-one-pattern
-  part-bad no-pattern h z = refl
-  part-bad (part p rest) h z = absurd (true-false (h .0 .ok) z)
+  part-bad : (n : ℕ) (x : Part) → Read-as x 1 unworked v r → r .ok ≡ false → judge-part n x ≡ not-one-pattern (n - r .left)
+  part-bad n (no-pattern left) h z = rw (h .left)
+  part-bad n (part p starts rest) h z = absurd (true-false (h .0 .ok) z)
 
-  part-left : (x : Part) → Read-as x 1 unworked v r → 0 < r .left → judge-part x ≡ not-one-pattern
-  part-left no-pattern h l = refl
-  part-left (part p []) h l = let e = h .0 .left in absurd (omega arith)
-  part-left (part p (b ∷ rest)) h l = refl
+  part-left : (n : ℕ) (x : Part) → Read-as x 1 unworked v r → 0 < r .left → judge-part n x ≡ not-one-pattern (n - r .left)
+  part-left n (no-pattern left) h l = rw (h .left)
+  part-left n (part p starts []) h l = let e = h .0 .left in absurd (omega arith)
+  part-left n (part p starts (b ∷ rest)) h l = rw (h .0 .left)
 
   -- a pattern that uses all the bytes
+  record Whole (x : Part) : Type 0 where
+    its : Pattern
+    starts : List ℕ
+    is : x ≡ part its starts []
+    reads : Reads its starts [] 1 r
+    works : Works its 1 unworked v
+
   part-whole : (x : Part) → Read-as x 1 unworked v r → r .ok ≡ true → r .left ≡ 0
-      → (p : Pattern) × ((x ≡ part p []) × (Reads p [] 1 r × Works p 1 unworked v))
-  part-whole no-pattern h ok l = absurd (true-false ok h)
-  part-whole (part p []) h ok l = (p, (refl, h))
-  part-whole (part p (b ∷ rest)) h ok l = let e = h .0 .left in absurd (omega arith)
+      → Whole x
+  part-whole (no-pattern left) h ok l = absurd (true-false ok (h .ok))
+  part-whole (part p starts []) h ok l = record { its = p; starts = starts; is = refl; reads = h .0; works = h .1 }
+  part-whole (part p starts (b ∷ rest)) h ok l = let e = h .0 .left in absurd (omega arith)
 
   -- its masks, once the start has its followers and may be the last one
   module _ (start w : ℕ) (es : start ≡ mask-of (λ (q : ℕ). eqb 0 q)) (ew : w ≡ cond (r .empty) start 0) where
@@ -60,10 +71,11 @@ module _ (r : ReadPart) (v : Working) where
     whole-worked =
         record {
           verdict = OnePattern;
+          at = 0;
           tables = record { follow = set (v .follow) 0 (r .first); taking = v .taking; last = bitOr (r .last) w };
         }
 
-    worked-is : (p : Pattern) → Reads p [] 1 r → Works p 1 unworked v → whole-worked ≡ worked-of (judged p)
+    worked-is : (p : Pattern) {starts : List ℕ} → Reads p starts [] 1 r → Works p 1 unworked v → whole-worked ≡ worked-of (judged p)
     unfolding table follow-masks taking-mask taking-masks last-mask
     worked-is p h k =
         let follow : set (v .follow) 0 (r .first) ≡ follow-masks (pattern p) =
@@ -76,31 +88,44 @@ module _ (r : ReadPart) (v : Working) where
         rw (follow, joins-all characters (k .taking), last)
 
   module _ (s : List ℕ) (h : Read-as (read-part (length s) s) 1 unworked v r) where
-    pub judge-bad : r .ok ≡ false → judge s ≡ not-one-pattern
+    pub judge-bad : r .ok ≡ false → judge s ≡ not-one-pattern (length s - r .left)
     unfolding judge
-    judge-bad = part-bad (read-part (length s) s) h
+    judge-bad = part-bad (length s) (read-part (length s) s) h
 
-    pub judge-left : 0 < r .left → judge s ≡ not-one-pattern
+    pub judge-left : 0 < r .left → judge s ≡ not-one-pattern (length s - r .left)
     unfolding judge
-    judge-left = part-left (read-part (length s) s) h
+    judge-left = part-left (length s) (read-part (length s) s) h
+
+    -- the byte at fault is one of the bytes, or behind the last
+    pub left-within : r .left ≤ length s
+    left-within = part-within (read-part (length s) s) h (Reader.reads (length s) s (omega arith))
+      where
+        part-within : (x : Part) → Read-as x 1 unworked v r → Reader.Reads s x → r .left ≤ length s
+        part-within (no-pattern left) a d = omega (arith, a .left, fault-within d)
+        part-within (part p starts rest) a d = omega (arith, a .0 .left, Reader.shorter d)
 
     module _ (ok : r .ok ≡ true) (l : r .left ≡ 0) where
-      whole : (p : Pattern) × ((read-part (length s) s ≡ part p []) × (Reads p [] 1 r × Works p 1 unworked v))
+      whole : Whole (read-part (length s) s)
       whole = part-whole (read-part (length s) s) h ok l
 
-      pub judge-many : places < r .next → judge s ≡ too-many-leaves
+      -- so is the leaf for which there is no place
+      pub surplus-inside : r .surplus ≤ length s
+      surplus-inside =
+          let d = rw (whole .is) at (Reader.reads (length s) s (omega arith)) in
+          rw (whole .reads .surplus) (surplus-within (whole .starts) (length s) 1 (λ x i. starts-inside d x i .1))
+
+      pub judge-many : places < r .next → judge s ≡ too-many-leaves (length s - r .surplus)
       unfolding judge
       judge-many k =
-          let p = whole .0 in
-          let n = whole .1 .1 .0 .next in
-          rw (whole .1 .0) (cond-false (leb (leaves p) most-leaves) (judged p) too-many-leaves (lt-leb (leaves p) most-leaves (omega arith)))
+          let p = whole .its in
+          let n = whole .reads .next in
+          rw (whole .is, lt-leb (leaves p) most-leaves (omega arith))
+          (ap (λ (m : ℕ). too-many-leaves (length s - m)) (sym (whole .reads .surplus)))
 
       pub judge-good : r .next ≤ places → (start w : ℕ) (es : start ≡ mask-of (λ (q : ℕ). eqb 0 q)) (ew : w ≡ cond (r .empty) start 0)
           → whole-worked start w es ew ≡ worked-of (judge s)
       unfolding judge
       judge-good k start w es ew =
-          let p = whole .0 in
-          let n = whole .1 .1 .0 .next in
-          rw
-          (whole .1 .0, cond-true (leb (leaves p) most-leaves) (judged p) too-many-leaves (le-leb (leaves p) most-leaves (omega arith)))
-          (worked-is start w es ew p (whole .1 .1 .0) (whole .1 .1 .1))
+          let p = whole .its in
+          let n = whole .reads .next in
+          rw (whole .is, le-leb (leaves p) most-leaves (omega arith)) (worked-is start w es ew p (whole .reads) (whole .works))

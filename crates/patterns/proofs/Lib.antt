@@ -3,5 +3,6 @@ pub mod Adding
 pub mod Joining
 -- reading a pattern's bytes
 pub mod Behind
+pub mod Surplus
 pub mod ReadParts
 pub mod Judged

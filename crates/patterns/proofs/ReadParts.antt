@@ -7,48 +7,56 @@ use mathlib.Core.Path.{_≡_, refl, sym, ap, _∙_, subst₂}
 use mathlib.Core.Bool.{Bool, true, false, cond, _&&_}
 use mathlib.Core.List.{List, [], _∷_}
 use lib.Dec.{leb, ltb, eqb}
-use lib.ListN.{length, getD, take, drop, length-append, length-drop}
-use lib.Seq.{drop-at, take-all, drop-drop}
+use lib.ListN.{length, getD, take, drop, length-drop}
+use lib.Seq.{take-all, drop-drop}
 use Rattle.paper.specs.Numbers.{characters, empty-code, range-code, then-code, or-code, many-code}
 use Rattle.paper.specs.Pattern.{takes, char, range, Pattern, leaf, empty, then, either}
 use Rattle.paper.specs.Places.{leaves, may-be-first, may-be-last}
 use Rattle.paper.specs.Written.{Part, no-pattern, part, read-range, two-parts, read-part}
-use Rattle.paper.proofs.base.Tests.{by-bool, cond-true, cond-false, true-false, same-tests}
+use Rattle.paper.proofs.base.Tests.{by-bool, true-false, same-tests}
 use Rattle.paper.proofs.base.Tests.{and-left, and-right, both-true, left-false, right-false}
 use Rattle.paper.proofs.base.Tests.{leb-true, le-leb, lt-leb, lt-ltb, le-ltb, eqb-true, eqb-false, eq-eqb, neq-eqb}
 use Rattle.places.specs.Masks.{places, in-mask}
-use Rattle.patterns.specs.ReadPart.{Adds, Reads, Working, working, Joins, Works, Read-as, Reading-of, Single, Leaf-read, Joined, Repeated}
+use Rattle.patterns.specs.ReadPart.{Adds, Not-read, Reads, Working, working, Joins, Works, Read-as, Reading-of, Single, Leaf-read, Joined, Repeated}
 use Rattle.patterns.specs.declared.reader.ReadPart.{ReadPart}
-use Rattle.patterns.proofs.Behind.{Leaves-behind, behind}
+use Rattle.paper.proofs.places.Reader as Reader
+use Rattle.patterns.proofs.Behind.{rest-behind, leaves-within}
 use Rattle.patterns.proofs.Joining.{joins-none, joins-more, joins-same, joins-linked}
 
 -- A range: the two bytes behind the 65.
-pub range-short : (s : List ℕ) → length s < 2 → read-range s ≡ no-pattern
-range-short [] h = refl
-range-short (lo ∷ []) h = refl
-range-short (lo ∷ hi ∷ s) h = absurd (omega arith)
+pub range-none : (s : List ℕ) → length s < 1 → read-range s ≡ no-pattern 0
+range-none [] h = refl
+range-none (lo ∷ s) h = absurd (omega arith)
 
-pub range-falls : (s : List ℕ) → getD s 1 0 < getD s 0 0 → read-range s ≡ no-pattern
-range-falls [] h = refl
-range-falls (lo ∷ []) h = refl
-range-falls (lo ∷ hi ∷ s) h =
-    cond-false (leb lo hi && ltb hi characters) (part (leaf (range lo hi)) s) no-pattern
-    (left-false (leb lo hi) (ltb hi characters) (lt-leb lo hi h))
+pub range-lo : (s : List ℕ) → 1 ≤ length s → characters ≤ getD s 0 0 → read-range s ≡ no-pattern (length s)
+range-lo [] l h = absurd (omega arith)
+range-lo (lo ∷ s) l h = rw (le-ltb lo characters h)
 
-pub range-above : (s : List ℕ) → characters ≤ getD s 1 0 → read-range s ≡ no-pattern
-range-above [] h = refl
-range-above (lo ∷ []) h = refl
-range-above (lo ∷ hi ∷ s) h =
-    cond-false (leb lo hi && ltb hi characters) (part (leaf (range lo hi)) s) no-pattern
-    (right-false (leb lo hi) (ltb hi characters) (le-ltb hi characters h))
+pub range-short : (s : List ℕ) → 1 ≤ length s → getD s 0 0 < characters → length s < 2 → read-range s ≡ no-pattern 0
+range-short [] l h k = absurd (omega arith)
+range-short (lo ∷ []) l h k = rw (lt-ltb lo characters h)
+range-short (lo ∷ hi ∷ s) l h k = absurd (omega arith)
+
+range-hi : (s : List ℕ) → 2 ≤ length s → getD s 0 0 < characters → leb (getD s 0 0) (getD s 1 0) && ltb (getD s 1 0) characters ≡ false
+    → read-range s ≡ no-pattern (length s - 1)
+range-hi [] l h k = absurd (omega arith)
+range-hi (lo ∷ []) l h k = absurd (omega arith)
+range-hi (lo ∷ hi ∷ s) l h k =
+    let e : length (hi ∷ s) ≡ length (lo ∷ hi ∷ s) - 1 = omega arith in
+    rw (lt-ltb lo characters h, k) (ap no-pattern e)
+
+pub range-falls : (s : List ℕ) → 2 ≤ length s → getD s 0 0 < characters → getD s 1 0 < getD s 0 0 → read-range s ≡ no-pattern (length s - 1)
+range-falls s l h k = range-hi s l h (left-false (leb (getD s 0 0) (getD s 1 0)) (ltb (getD s 1 0) characters) (lt-leb (getD s 0 0) (getD s 1 0) k))
+
+pub range-above : (s : List ℕ) → 2 ≤ length s → getD s 0 0 < characters → characters ≤ getD s 1 0 → read-range s ≡ no-pattern (length s - 1)
+range-above s l h k = range-hi s l h (right-false (leb (getD s 0 0) (getD s 1 0)) (ltb (getD s 1 0) characters) (le-ltb (getD s 1 0) characters k))
 
 pub range-good : (s : List ℕ) → 2 ≤ length s → getD s 0 0 ≤ getD s 1 0 → getD s 1 0 < characters
-    → read-range s ≡ part (leaf (range (getD s 0 0) (getD s 1 0))) (drop 2 s)
+    → read-range s ≡ part (leaf (range (getD s 0 0) (getD s 1 0))) (suc (length s) ∷ []) (drop 2 s)
 range-good [] l h k = absurd (omega arith)
 range-good (lo ∷ []) l h k = absurd (omega arith)
 range-good (lo ∷ hi ∷ s) l h k =
-    cond-true (leb lo hi && ltb hi characters) (part (leaf (range lo hi)) s) no-pattern
-    (both-true (le-leb lo hi h) (lt-ltb hi characters k))
+    rw (lt-ltb lo characters (omega arith), both-true (le-leb lo hi h) (lt-ltb hi characters k))
 
 -- The first byte.
 abbrev first-byte : List ℕ → ℕ
@@ -61,6 +69,10 @@ by-front P [] h f n l = absurd (omega arith)
 by-front P (b ∷ s) h f zero l = absurd (omega arith)
 by-front P (b ∷ s) h f (suc n) l = f n (omega arith)
 
+front-length : (s : List ℕ) → 0 < length s → length (first-byte s ∷ drop 1 s) ≡ length s
+front-length [] h = absurd (omega arith)
+front-length (b ∷ s) h = refl
+
 -- a part to the end
 pub to-end : (k : ℕ) (s : List ℕ) → take (length s - k) (drop k s) ≡ drop k s
 to-end k s = take-all (length s - k) (drop k s) (rw (length-drop k s) (omega arith))
@@ -68,39 +80,40 @@ to-end k s = take-all (length s - k) (drop k s) (rw (length-drop k s) (omega ari
 -- What a good reading tells: the pattern, where the bytes behind it stand, and what is joined to the tables.
 record There (n : ℕ) (s : List ℕ) (o : ℕ) (w v : Working) (a : ReadPart) : Type 0 where
   read : Pattern
+  starts : List ℕ
   rest : List ℕ
-  is : read-part n s ≡ part read rest
-  reads : Reads read rest o a
+  is : read-part n s ≡ part read starts rest
+  reads : Reads read starts rest o a
   works : Works read o w v
   behind : drop (length s - a .left) s ≡ rest
   within : a .left ≤ length s
   room : a .next + a .left ≤ o + length s
 
 module _ (n : ℕ) (s : List ℕ) (o : ℕ) (w v : Working) (a : ReadPart) where
-  good-part : (x : Part) → read-part n s ≡ x → Leaves-behind s x → Read-as x o w v a → a .ok ≡ true → There n s o w v a
-  good-part no-pattern e l h ok = absurd (true-false ok h)
-  good-part (part p rest) e l h ok =
-      let whole : length s ≡ length (l .used) + length rest = ap length (l .whole) ∙ length-append (l .used) rest in
+  good-part : (x : Part) → read-part n s ≡ x → Reader.Reads s x → Read-as x o w v a → a .ok ≡ true → There n s o w v a
+  good-part (no-pattern left) e d h ok = absurd (true-false ok (h .ok))
+  good-part (part p starts rest) e d h ok =
       let left = h .0 .left in
       let next = h .0 .next in
-      let enough = l .enough in
+      let fits = leaves-within d in
       record {
         read = p;
+        starts = starts;
         rest = rest;
         is = e;
         reads = h .0;
         works = h .1;
-        behind = ap (drop (length s - a .left)) (l .whole) ∙ drop-at (l .used) rest (length s - a .left) (omega arith);
+        behind = rw left (rest-behind d);
         within = omega arith;
         room = omega arith;
       }
 
-  good : Read-as (read-part n s) o w v a → a .ok ≡ true → There n s o w v a
-  good h ok = good-part (read-part n s) refl (behind n s) h ok
+  good : length s ≤ n → Read-as (read-part n s) o w v a → a .ok ≡ true → There n s o w v a
+  good k h ok = good-part (read-part n s) refl (Reader.reads n s k) h ok
 
-bad : (x : Part) (o : ℕ) (w v : Working) (a : ReadPart) → Read-as x o w v a → a .ok ≡ false → x ≡ no-pattern
-bad no-pattern o w v a h e = refl
-bad (part p rest) o w v a h e = absurd (true-false (h .0 .ok) e)
+bad : (x : Part) (o : ℕ) (w v : Working) (a : ReadPart) → Read-as x o w v a → a .ok ≡ false → x ≡ no-pattern (a .left)
+bad (no-pattern left) o w v a h e = ap no-pattern (sym (h .left))
+bad (part p starts rest) o w v a h e = absurd (true-false (h .0 .ok) e)
 
 -- a character is the range from itself to itself
 char-range : (b c : ℕ) → takes (range b b) c ≡ takes (char b) c
@@ -113,19 +126,20 @@ char-range b c =
     (λ e. let l = eqb-true b c e in both-true (le-leb b c (omega arith)) (le-leb c b (omega arith)))
 
 -- The two patterns that have no part. No place follows their leaves, so what follows is left as it is.
-pub leaf-as : (lo hi left o : ℕ) (follow taking after : List ℕ) (r : ReadPart) → Leaf-read lo hi left o taking after r
-    → (rest : List ℕ) → length rest ≡ left → Read-as (part (leaf (range lo hi)) rest) o (working follow taking) (working follow after) r
-leaf-as lo hi left o follow taking after r h rest e = (h .reads rest e, record { follow = joins-none places follow; taking = h .takes })
+pub leaf-as : (lo hi first left o : ℕ) (follow taking after : List ℕ) (r : ReadPart) → Leaf-read lo hi first left o taking after r
+    → (rest : List ℕ) → length rest ≡ left
+    → Read-as (part (leaf (range lo hi)) (first ∷ []) rest) o (working follow taking) (working follow after) r
+leaf-as lo hi first left o follow taking after r h rest e = (h .reads rest e, record { follow = joins-none places follow; taking = h .takes })
 
-pub empty-as : (left o : ℕ) (follow taking : List ℕ) (r : ReadPart) → Single empty left o r
-    → (rest : List ℕ) → length rest ≡ left → Read-as (part empty rest) o (working follow taking) (working follow taking) r
+pub empty-as : (left o : ℕ) (follow taking : List ℕ) (r : ReadPart) → Single empty [] left o r
+    → (rest : List ℕ) → length rest ≡ left → Read-as (part empty [] rest) o (working follow taking) (working follow taking) r
 empty-as left o follow taking r h rest e =
     (h rest e, record { follow = joins-none places follow; taking = joins-none characters taking })
 
-char-as : (b o : ℕ) (rest : List ℕ) (w v : Working) (r : ReadPart)
-    → Read-as (part (leaf (range b b)) rest) o w v r → Read-as (part (leaf (char b)) rest) o w v r
-char-as b o rest w v r h = (
-  record { ok = h .0 .ok; left = h .0 .left; next = h .0 .next; empty = h .0 .empty; first = h .0 .first; last = h .0 .last },
+char-as : (b o : ℕ) (starts rest : List ℕ) (w v : Working) (r : ReadPart)
+    → Read-as (part (leaf (range b b)) starts rest) o w v r → Read-as (part (leaf (char b)) starts rest) o w v r
+char-as b o starts rest w v r h = (
+  record { ok = h .0 .ok; left = h .0 .left; each = h .0 .each; next = h .0 .next; surplus = h .0 .surplus; empty = h .0 .empty; first = h .0 .first; last = h .0 .last },
   record {
     follow = h .1 .follow;
     taking = joins-same characters (λ c q. ap (λ (t : Bool). eqb o q && t) (char-range b c)) (h .1 .taking);
@@ -133,7 +147,7 @@ char-as b o rest w v r h = (
 )
 
 -- no byte, no pattern
-pub as-nothing : (s : List ℕ) (o : ℕ) (w v : Working) (r : ReadPart) → length s ≡ 0 → r .ok ≡ false → Reading-of s o w v r
+pub as-nothing : (s : List ℕ) (o : ℕ) (w v : Working) (r : ReadPart) → length s ≡ 0 → Not-read 0 r → Reading-of s o w v r
 as-nothing [] o w v r h z zero l = z
 as-nothing [] o w v r h z (suc n) l = z
 as-nothing (b ∷ s) o w v r h z zero l = absurd (omega arith)
@@ -145,7 +159,7 @@ module _ (s : List ℕ) (o : ℕ) (w v : Working) (r : ReadPart) (h : 0 < length
   reads-as x = Read-as x o w v r
 
   read-other : (n : ℕ) (rest : List ℕ) (b : ℕ) → characters ≤ b → (b ≡ empty-code → ⊥) → (b ≡ range-code → ⊥)
-      → (b ≡ then-code → ⊥) → (b ≡ or-code → ⊥) → (b ≡ many-code → ⊥) → read-part (suc n) (b ∷ rest) ≡ no-pattern
+      → (b ≡ then-code → ⊥) → (b ≡ or-code → ⊥) → (b ≡ many-code → ⊥) → read-part (suc n) (b ∷ rest) ≡ no-pattern (length (b ∷ rest))
   read-other n rest b l e g t o m =
       simp (
         le-ltb b characters l,
@@ -157,11 +171,12 @@ module _ (s : List ℕ) (o : ℕ) (w v : Working) (r : ReadPart) (h : 0 < length
       )
 
   pub as-char : first-byte s < characters
-      → reads-as (part (leaf (range (first-byte s) (first-byte s))) (drop 1 s)) → Reading-of s o w v r
+      → reads-as (part (leaf (range (first-byte s) (first-byte s))) (length s ∷ []) (drop 1 s)) → Reading-of s o w v r
   as-char l f =
-      by-front reads-as s h (λ m k. rw (lt-ltb (first-byte s) characters l) (char-as (first-byte s) o (drop 1 s) w v r f))
+      by-front reads-as s h
+      (λ m k. rw (lt-ltb (first-byte s) characters l, front-length s h) (char-as (first-byte s) o (length s ∷ []) (drop 1 s) w v r f))
 
-  pub as-empty : first-byte s ≡ empty-code → reads-as (part empty (drop 1 s)) → Reading-of s o w v r
+  pub as-empty : first-byte s ≡ empty-code → reads-as (part empty [] (drop 1 s)) → Reading-of s o w v r
   as-empty e f = by-front reads-as s h (λ m k. rw e f)
 
   pub as-range : first-byte s ≡ range-code → reads-as (read-range (drop 1 s)) → Reading-of s o w v r
@@ -169,14 +184,14 @@ module _ (s : List ℕ) (o : ℕ) (w v : Working) (r : ReadPart) (h : 0 < length
 
   pub as-none : characters ≤ first-byte s → (first-byte s ≡ empty-code → ⊥) → (first-byte s ≡ range-code → ⊥)
       → (first-byte s ≡ then-code → ⊥) → (first-byte s ≡ or-code → ⊥) → (first-byte s ≡ many-code → ⊥)
-      → r .ok ≡ false → Reading-of s o w v r
+      → Not-read (length s) r → Reading-of s o w v r
   as-none l e g t o′ m z =
-      by-front reads-as s h (λ k _. rw (read-other k (drop 1 s) (first-byte s) l e g t o′ m) z)
+      by-front reads-as s h (λ k _. rw (read-other k (drop 1 s) (first-byte s) l e g t o′ m, front-length s h) z)
 
 -- With no first part there is no pattern.
-no-first : (n : ℕ) (s : List ℕ) (b : ℕ) → then-code ≤ b → b ≤ many-code → read-part n s ≡ no-pattern
-    → read-part (suc n) (b ∷ s) ≡ no-pattern
-no-first n s b l m e =
+no-first : (n : ℕ) (s : List ℕ) (b left : ℕ) → then-code ≤ b → b ≤ many-code → read-part n s ≡ no-pattern left
+    → read-part (suc n) (b ∷ s) ≡ no-pattern left
+no-first n s b left l m e =
     by-bool (eqb b then-code)
     (λ (t : eqb b then-code ≡ true). let g : b ≡ then-code = eqb-true b then-code t in rw (g, e))
     (λ (t : eqb b then-code ≡ false).
@@ -199,9 +214,9 @@ pub record Linked (v z : Working) (a c : ReadPart) : Type 0 where
   pub taking : z .taking ≡ v .taking
 
 -- what is first in one part follows what is last in another
-links : {v z : Working} {a c : ReadPart} {p q : Pattern} {s t : List ℕ} {i j : ℕ} → Linked v z a c → Reads p s i a → Reads q t j c
+links : {v z : Working} {a c : ReadPart} {p q : Pattern} {ls s ms t : List ℕ} {i j : ℕ} → Linked v z a c → Reads p ls s i a → Reads q ms t j c
     → Joins (λ (x y : ℕ). may-be-last p i x && may-be-first q j y) places (v .follow) (z .follow)
-links {v} {z} {a} {c} {p} {q} {s} {t} {i} {j} l x y =
+links {v} {z} {a} {c} {p} {q} {ls} {s} {ms} {t} {i} {j} l x y =
     joins-linked (λ (n : ℕ). may-be-last p i n) (λ (n : ℕ). may-be-first q j n) (v .follow) (z .follow) (a .last) (c .first) (x .last) (y .first) (l .follow)
 
 module _ {s : List ℕ} {o : ℕ} {w v : Working} {a : ReadPart} (f : First s o w v a) where
@@ -209,11 +224,13 @@ module _ {s : List ℕ} {o : ℕ} {w v : Working} {a : ReadPart} (f : First s o 
   pub as-no-first : (z : Working) → then-code ≤ first-byte s → first-byte s ≤ many-code → a .ok ≡ false → Reading-of s o w z a
   as-no-first z l m e =
       by-front (λ (x : Part). Read-as x o w z a) s (f .some)
-      (λ n k. rw (no-first n (drop 1 s) (first-byte s) l m (bad (read-part n (drop 1 s)) o w v a (f .reads n k) e)) e)
+      (λ n k.
+      rw (no-first n (drop 1 s) (first-byte s) (a .left) l m (bad (read-part n (drop 1 s)) o w v a (f .reads n k) e))
+      (record { ok = e; left = refl }))
 
   module _ (ok : a .ok ≡ true) where
     good-first : (n : ℕ) → length (drop 1 s) ≤ n → There n (drop 1 s) o w v a
-    good-first n k = good n (drop 1 s) o w v a (f .reads n k) ok
+    good-first n k = good n (drop 1 s) o w v a k (f .reads n k) ok
 
     -- where the second part begins, and that its places fit
     pub second-within : a .left < length s
@@ -231,7 +248,7 @@ module _ {s : List ℕ} {o : ℕ} {w v : Working} {a : ReadPart} (f : First s o 
         (λ n k.
         let g = good-first n k in
         rw (e, g .is) (
-          h (g .read) (g .rest) o (g .reads),
+          h (g .read) (g .starts) (g .rest) o (g .reads),
           record { follow = joins-more places (g .works .follow) (links l (g .reads) (g .reads)); taking = rw (l .taking) (g .works .taking) },
         ))
 
@@ -253,22 +270,24 @@ module _ {s : List ℕ} {o : ℕ} {w v : Working} {a : ReadPart} (f : First s o 
           subst₂ (λ (l : List ℕ) (i : ℕ). Read-as (read-part n l) i v z c) e (g .reads .next) (d n (omega (arith, ap length e)))
 
       as-two : (op : Pattern → Pattern → Pattern) (y : Working) (r : ReadPart) → c .ok ≡ true → Joined op a c r
-          → ((p q : Pattern) (s t : List ℕ) → Reads p s o a → Reads q t (o + leaves p) c → Works p o w v → Works q (o + leaves p) v z → Works (op p q) o w y)
+          → ((p q : Pattern) (ls s ms t : List ℕ) → Reads p ls s o a → Reads q ms t (o + leaves p) c → Works p o w v → Works q (o + leaves p) v z → Works (op p q) o w y)
           → (n : ℕ) → length (drop 1 s) ≤ n
           → Read-as (two-parts op (read-part n (drop 1 s)) (λ (l : List ℕ). read-part n l)) o w y r
       as-two op y r okc h j n k =
           let g = good-first n k in
-          let e = good n (g .rest) (o + leaves (g .read)) v z c (at-second n k g) okc in
+          let l = g .reads .left in
+          let w = g .within in
+          let e = good n (g .rest) (o + leaves (g .read)) v z c (omega arith) (at-second n k g) okc in
           rw (g .is, e .is) (
-            h (g .read) (e .read) (g .rest) (e .rest) o (g .reads) (e .reads),
-            j (g .read) (e .read) (g .rest) (e .rest) (g .reads) (e .reads) (g .works) (e .works),
+            h (g .read) (e .read) (g .starts) (g .rest) (e .starts) (e .rest) o (g .reads) (e .reads),
+            j (g .read) (e .read) (g .starts) (g .rest) (e .starts) (e .rest) (g .reads) (e .reads) (g .works) (e .works),
           )
 
       as-not-two : (op : Pattern → Pattern → Pattern) (y : Working) (n : ℕ) → length (drop 1 s) ≤ n → c .ok ≡ false
           → Read-as (two-parts op (read-part n (drop 1 s)) (λ (l : List ℕ). read-part n l)) o w y c
       as-not-two op y n k b =
           let g = good-first n k in
-          rw (g .is, bad (read-part n (g .rest)) (o + leaves (g .read)) v z c (at-second n k g) b) b
+          rw (g .is, bad (read-part n (g .rest)) (o + leaves (g .read)) v z c (at-second n k g) b) (record { ok = b; left = refl })
 
       pub as-then : (y : Working) (r : ReadPart) → first-byte s ≡ then-code → c .ok ≡ true → Joined then a c r → Linked z y a c → Reading-of s o w y r
       as-then y r e okc h l =
@@ -276,7 +295,7 @@ module _ {s : List ℕ} {o : ℕ} {w v : Working} {a : ReadPart} (f : First s o 
           (λ n k.
           rw e
           (as-two then y r okc h
-          (λ p q s t m i b u.
+          (λ p q ls s ms t m i b u.
           record {
             follow = joins-more places (joins-more places (b .follow) (u .follow)) (links l m i);
             taking = rw (l .taking) (joins-more characters (b .taking) (u .taking));
@@ -289,7 +308,7 @@ module _ {s : List ℕ} {o : ℕ} {w v : Working} {a : ReadPart} (f : First s o 
           (λ n k.
           rw e
           (as-two either z r okc h
-          (λ p q s t m i b u.
+          (λ p q ls s ms t m i b u.
           record { follow = joins-more places (b .follow) (u .follow); taking = joins-more characters (b .taking) (u .taking) })
           n k))
 

@@ -22,6 +22,8 @@ pub enum Verdict {
 // How the bytes of a pattern are judged, and the tables of a good pattern, else zeros.
 pub struct Worked {
     pub verdict: Verdict,
+    // the offset of the byte at fault; 0 for a good pattern
+    pub at: usize,
     pub tables: PlaceTables,
 }
 
@@ -33,13 +35,13 @@ pub fn tables(s: &[u8]) -> Worked
     let mut taking = [0; CHARACTERS];
     let r = read(s, 1, &mut follow, &mut taking);
     if !r.ok {
-        return refused(Verdict::NotOnePattern);
+        return refused(Verdict::NotOnePattern, s.len() - r.left);
     }
     if 0 < r.left {
-        return refused(Verdict::NotOnePattern);
+        return refused(Verdict::NotOnePattern, s.len() - r.left);
     }
     if PLACES < r.next {
-        return refused(Verdict::TooManyLeaves);
+        return refused(Verdict::TooManyLeaves, s.len() - r.surplus);
     }
     follow[0] = r.first;
     let last = r.last | when(r.empty, place(0));
@@ -50,17 +52,22 @@ pub fn tables(s: &[u8]) -> Worked
     };
     Worked {
         verdict: Verdict::OnePattern,
+        at: 0,
         tables,
     }
 }
 
-fn refused(verdict: Verdict) -> Worked
-    ensures { λ r. ⌜ r ≡ refused-as verdict ⌝ }
+fn refused(verdict: Verdict, at: usize) -> Worked
+    ensures { λ r. ⌜ r ≡ refused-as verdict at ⌝ }
 {
     let tables = PlaceTables {
         follow: [0; PLACES],
         taking: [0; CHARACTERS],
         last: 0,
     };
-    Worked { verdict, tables }
+    Worked {
+        verdict,
+        at,
+        tables,
+    }
 }

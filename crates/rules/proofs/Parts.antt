@@ -50,7 +50,7 @@ abbrev pub patterns-of : List ℕ → Records Fields
 patterns-of s = read-patterns (suc (length s)) s 2 open-fields
 
 module _ (s : List ℕ) where
-  pub short : length s < 2 → rule-front s ≡ faulty cut-short 0
+  pub short : length s < 2 → rule-front s ≡ faulty cut-short (length s)
   unfolding rule-front
   short h = rw (lt-ltb (length s) 2 h)
 
@@ -68,9 +68,9 @@ module _ (s : List ℕ) where
     patterns-fault x at p = rw (le-ltb (length s) 2 h, mark, p)
 
     module _ (fs : Fields) (at : ℕ) (p : patterns-of s ≡ records fs at) where
-      pub side-fault : (x : Fault) → marked-side LE s at ≡ fault x → rule-front s ≡ faulty x at
+      pub side-fault : (x : Fault) (place : ℕ) → marked-side LE s at ≡ fault x place → rule-front s ≡ faulty x place
       unfolding rule-front
-      side-fault x f = rw (le-ltb (length s) 2 h, mark, p, f)
+      side-fault x place f = rw (le-ltb (length s) 2 h, mark, p, f)
 
       module _ (l : Side) (next : ℕ) (f : marked-side LE s at ≡ read l next) where
         stands : rule-front s ≡ records (record { side = l; fields = fs }) next

@@ -24,7 +24,7 @@ pub const RULE_FIELDS: usize = 4;
 // What a rule says.
 pub struct Rule {
     pub found: Found,
-    // where the record with the fault has its mark or should have it; 0 for a good rule
+    // the offset of the byte at fault; 0 for a good rule
     pub place: usize,
     // how many bytes its record has; 0 with a fault
     pub bytes: usize,
@@ -41,7 +41,7 @@ pub fn front(s: &[u8]) -> Rule
     ensures { λ r. ⌜ r ≡ rule-of (rule-front (now (s .entry))) ⌝ }
 {
     if s.len() < 2 {
-        return refuse(Fault::CutShort, 0);
+        return refuse(Fault::CutShort, s.len());
     }
     let start = Cursor { at: 0 };
     if !start.next_is(s, Mark::RU) {
@@ -57,7 +57,7 @@ pub fn front(s: &[u8]) -> Rule
     let end = l.next;
     let side_found = l.found;
     if let Found::Refused(x) = side_found {
-        return refuse(x, c.at);
+        return refuse(x, end.at);
     }
     let side = l.codes;
     let foreign = foreign(p.above, side);

@@ -1,18 +1,11 @@
 -- A sheet by what its parts are: the patterns' records, the sides, the end. Follows from the definition of `read-sheet` by its cases.
 use Prim.Native.Nat.{ℕ, suc, _≤_, _<_}
-use native.Mathlib.Omega.{arith}
-use mathlib.Core.Path.{_≡_, sym, _∙_}
+use mathlib.Core.Path.{_≡_}
 use mathlib.Core.List.{List, map}
-use lib.ListN.{length, getD, length-map, List·getD-map}
-use lib.Seq.{ext-getD}
-use Rattle.paper.specs.Lists.{upto}
-use Rattle.paper.specs.Numbers.{fields}
-use Rattle.paper.specs.Pattern.{Held, any-text}
+use lib.ListN.{length}
 use Rattle.paper.specs.Equation.{Side}
 use Rattle.paper.specs.Question.{Question}
-use Rattle.paper.specs.Sheet.{Fault, fault, read, wrong-mark, LE, RI, marked-side, Records, faulty, records, Fields, open-fields, read-patterns, refused, asked, read-end, sides-read, read-sheet}
-use Rattle.paper.proofs.base.Lists.{length-from}
-use Rattle.paper.proofs.base.Listed.{getD-map-upto}
+use Rattle.paper.specs.Sheet.{Fault, fault, read, wrong-mark, LE, RI, marked-side, Records, faulty, records, Fields, open-fields, read-patterns, refused, asked, read-end, read-sheet}
 use Rattle.paper.proofs.base.Tests.{lt-ltb, le-ltb}
 use Rattle.paper.proofs.sheets.Asked.{sheet-good}
 use Rattle.inner.specs.Inner.{side-code, padded}
@@ -33,14 +26,14 @@ module _ (s : List ℕ) where
   patterns-fault x at e = rw e
 
   module _ (fs : Fields) (at : ℕ) (e : patterns-of s ≡ records fs at) where
-    pub left-fault : (x : Fault) → marked-side LE s at ≡ fault x → read-sheet s ≡ refused x at
+    pub left-fault : (x : Fault) (place : ℕ) → marked-side LE s at ≡ fault x place → read-sheet s ≡ refused x place
     unfolding read-sheet
-    left-fault x f = rw (e, f)
+    left-fault x place f = rw (e, f)
 
     module _ (l : Side) (behind : ℕ) (f : marked-side LE s at ≡ read l behind) where
-      pub right-fault : (x : Fault) → marked-side RI s behind ≡ fault x → read-sheet s ≡ refused x behind
+      pub right-fault : (x : Fault) (place : ℕ) → marked-side RI s behind ≡ fault x place → read-sheet s ≡ refused x place
       unfolding read-sheet
-      right-fault x g = rw (e, f, g)
+      right-fault x place g = rw (e, f, g)
 
       module _ (r : Side) (end : ℕ) (g : marked-side RI s behind ≡ read r end) where
         pub byte-left : end < length s → read-sheet s ≡ refused wrong-mark end

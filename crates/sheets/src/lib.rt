@@ -15,7 +15,7 @@ ghost use Rattle.sheets.specs.Read.{sheet-of};
 // What a sheet says.
 pub struct Sheet {
     pub found: Found,
-    // where the record with the fault has its mark or should have it; 0 for a good sheet
+    // the offset of the byte at fault; 0 for a good sheet
     pub place: usize,
     // the sides of a good sheet, by inner codes; a side ends at its first 255
     pub left: [u8; LONGEST_SIDE],
@@ -38,13 +38,13 @@ pub fn read(s: &[u8]) -> Sheet
     let behind = l.next;
     let left_found = l.found;
     if let Found::Refused(x) = left_found {
-        return refuse(x, c.at);
+        return refuse(x, behind.at);
     }
     let r = behind.side(s, Mark::RI);
     let end = r.next;
     let right_found = r.found;
     if let Found::Refused(x) = right_found {
-        return refuse(x, behind.at);
+        return refuse(x, end.at);
     }
     if end.at < s.len() {
         return refuse(Fault::WrongMark, end.at);

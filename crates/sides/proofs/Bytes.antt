@@ -1,17 +1,17 @@
--- The sides of a sheet by inner codes: filling a side's room from the front, and what a token's byte is below.
--- Follows from the laws of `set`, `take` and `++`, and from what a token is.
+-- The sides of a sheet by inner codes: filling a side's room from the front, and what a token's byte is below; how many tokens lead a side.
+-- Follows from the laws of `set`, `take` and `++`, from what a token is, and by induction on the side.
 use Prim.Native.Nat.{ℕ, suc, _+_, _-_, _≤_, _<_}
 use native.Mathlib.Omega.{arith}
-use mathlib.Core.Path.{_≡_, sym, ap, _∙_}
-use mathlib.Core.Bool.{true, false, _&&_}
-use mathlib.Core.List.{List, _++_, map, map-map, append-assoc}
+use mathlib.Core.Path.{_≡_, refl, sym, ap, _∙_}
+use mathlib.Core.Bool.{Bool, true, false, _&&_}
+use mathlib.Core.List.{List, [], _∷_, _++_, map, map-map, append-assoc}
 use lib.Dec.{leb, ltb}
 use lib.ListN.{length, getD, take, set, replicate, length-map, List·getD-map}
 use lib.Seq.{take-suc, take-length, length-take-le, set-at}
-use Rattle.paper.specs.Lists.{all}
+use Rattle.paper.specs.Lists.{all, leading}
 use Rattle.paper.specs.Numbers.{characters, fields, field-token, longest-side}
 use Rattle.paper.specs.Sheet.{bytes-left, is-token, token}
-use Rattle.paper.proofs.base.Tests.{and-left, and-right, leb-true, ltb-true, ltb-false, lt-ltb, le-ltb}
+use Rattle.paper.proofs.base.Tests.{by-bool, and-left, and-right, leb-true, ltb-true, ltb-false, lt-ltb, le-ltb}
 use Rattle.paper.proofs.base.Lists.{all-true}
 use Rattle.paper.proofs.base.Listed.{getD-mem}
 use Rattle.inner.specs.Inner.{no-token, token-code, side-code, padded}
@@ -52,6 +52,18 @@ field-range b e h =
 -- each byte of a side is a token
 pub token-at : (side : List ℕ) (i : ℕ) → all is-token side ≡ true → i < length side → is-token (getD side i 0) ≡ true
 token-at side i e h = all-true is-token side e (getD-mem side 0 i h)
+
+-- fewer lead than there are: not all pass the test
+pub fewer-lead : (p : ℕ → Bool) (l : List ℕ) → leading p l < length l → all p l ≡ false
+fewer-lead p [] h = absurd (omega arith)
+fewer-lead p (x ∷ l) h =
+    by-bool (p x) (λ e. let k = rw e at h in rw e (fewer-lead p l (omega (arith, k)))) (λ e. rw e)
+
+-- as many lead as there are: all do
+pub all-lead : (p : ℕ → Bool) (l : List ℕ) → length l ≤ leading p l → all p l ≡ true
+all-lead p [] h = refl
+all-lead p (x ∷ l) h =
+    by-bool (p x) (λ e. let k = rw e at h in rw e (all-lead p l (omega (arith, k)))) (λ e. let k = rw e at h in absurd (omega (arith, k)))
 
 -- two bytes are left
 pub two-left : (s : List ℕ) (at : ℕ) → ltb (bytes-left s at) 2 ≡ false → at + 2 ≤ length s

@@ -1,7 +1,7 @@
 -- What the struct of a side says of the checks on it. Follows from the cases of `side-of`.
 use Prim.Native.Nat.{ℕ}
 use native.Mathlib.Omega.{arith}
-use mathlib.Core.Path.{_≡_, refl, ap}
+use mathlib.Core.Path.{_≡_, ap}
 use Rattle.paper.specs.Equation.{Side}
 use Rattle.paper.specs.Sheet.{Checked, fault, read}
 use Rattle.inner.specs.Inner.{side-code, padded}
@@ -19,11 +19,11 @@ pub record SideTold (x : Checked Side) (r : SideRecord) : Type 0 where
   pub codes : r .codes ≡ padded (side-code side)
 
 module _ (r : SideRecord) where
-  pub side-fault : (x : Checked Side) (f : Code.Fault) → r ≡ side-of x → r .found ≡ Refused f → x ≡ fault (fault-of f)
-  side-fault (fault x) f e h = let z : as-fault x ≡ f = cc in rw (← z, same-paper x)
+  pub side-fault : (x : Checked Side) (f : Code.Fault) → r ≡ side-of x → r .found ≡ Refused f → x ≡ fault (fault-of f) (r .next .at)
+  side-fault (fault x at) f e h = let z : as-fault x ≡ f = cc in rw (← z, same-paper x, e)
   side-fault (read side next) f e h = let z : _≡_ {A = ℕ} 0 1 = cc in absurd (omega arith)
 
   pub side-stands : (x : Checked Side) → r ≡ side-of x → r .found ≡ NoFault → SideTold x r
-  side-stands (fault x) e h = let z : _≡_ {A = ℕ} 0 1 = cc in absurd (omega arith)
+  side-stands (fault x at) e h = let z : _≡_ {A = ℕ} 0 1 = cc in absurd (omega arith)
   side-stands (read side next) e h =
       record { side = side; reads = rw e; codes = ap (λ (y : SideRecord). y .codes) e }

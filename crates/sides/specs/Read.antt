@@ -20,7 +20,7 @@ mark-of Code-mark.RU = RU
 abbrev pub code-of : ℕ → ℕ
 code-of b = token-code (token b)
 
--- a fault hands on no token
+-- a fault hands on no token, and its place
 abbrev pub side-of : Checked Side → SideRecord
-side-of (fault x) = record { found = Refused (as-fault x); codes = padded []; next = record { at = 0 } }
+side-of (fault x at) = record { found = Refused (as-fault x); codes = padded []; next = record { at = at } }
 side-of (read side next) = record { found = NoFault; codes = padded (side-code side); next = record { at = next } }

@@ -11,7 +11,7 @@ ghost use mathlib.Core.List.{map};
 ghost use Prim.Native.Nat.{_+_, _≤_};
 ghost use lib.Dec.{ltb};
 ghost use lib.ListN.{length};
-ghost use Rattle.paper.specs.Lists.{all};
+ghost use Rattle.paper.specs.Lists.{all, leading};
 ghost use Rattle.paper.specs.Numbers.{sheet-side};
 ghost use Rattle.paper.specs.Sheet.{first-letter, second-letter, bytes-left, marked, next-is, is-token, fault, side-record, marked-side};
 ghost use Rattle.inner.specs.Inner.{padded};
@@ -99,29 +99,30 @@ impl Cursor {
     {
         let at = self.at;
         if ends_at(s, at) {
-            return refuse(Fault::CutShort);
+            return refuse(Fault::CutShort, s.len());
         }
         if !marked(s, at, m) {
-            return refuse(Fault::WrongMark);
+            return refuse(Fault::WrongMark, at);
         }
         body(s, at)
     }
 }
 
-// What the checks on a side find: the first fault, or its tokens by inner codes and the next cursor.
+// What the checks on a side find: the first fault, or its tokens by inner codes.
 pub struct SideRecord {
     pub found: Found,
     pub codes: [u8; LONGEST_SIDE],
+    // behind the side, or at the byte at fault
     pub next: Cursor,
 }
 
-fn refuse(x: Fault) -> SideRecord
-    ensures { λ r. ⌜ r ≡ side-of (fault (fault-of x)) ⌝ }
+fn refuse(x: Fault, at: usize) -> SideRecord
+    ensures { λ r. ⌜ r ≡ side-of (fault (fault-of x) at) ⌝ }
 {
     SideRecord {
         found: Found::Refused(x),
         codes: [NO_TOKEN; LONGEST_SIDE],
-        next: Cursor { at: 0 },
+        next: Cursor { at },
     }
 }
 
@@ -132,19 +133,20 @@ fn body(s: &[u8], at: usize) -> SideRecord
 {
     let left = s.len() - at;
     if left < 3 {
-        return refuse(Fault::CutShort);
+        return refuse(Fault::CutShort, s.len());
     }
     let len = s[at + 2] as usize;
     if SHEET_SIDE < len {
-        return refuse(Fault::WrongLength);
+        return refuse(Fault::WrongLength, at + 2);
     }
     if left < 3 + len {
-        return refuse(Fault::CutShort);
+        return refuse(Fault::CutShort, s.len());
     }
     let start = at + 3;
     let end = start + len;
-    if !all_tokens(&s[start..end]) {
-        return refuse(Fault::WrongToken);
+    let tokens = leading_tokens(&s[start..end]);
+    if tokens < len {
+        return refuse(Fault::WrongToken, start + tokens);
     }
     let codes = inner_side(&s[start..end]);
     SideRecord {
@@ -168,18 +170,18 @@ fn is_token(b: u8) -> bool
     value < FIELD_TOKEN + inner::SHEET_FIELDS
 }
 
-// Are all of these tokens?
-fn all_tokens(side: &[u8]) -> bool
-    ensures { λ r. ⌜ r ≡ all is-token (now (side .entry)) ⌝ }
+// How many stand before the first that is no token.
+fn leading_tokens(side: &[u8]) -> usize
+    ensures { λ r. ⌜ r ≡ leading is-token (now (side .entry)) ⌝ }
 {
     let mut i = 0;
     while i < side.len() {
         if !is_token(side[i]) {
-            return false;
+            return i;
         }
         i += 1;
     }
-    true
+    i
 }
 
 // The side of these tokens.

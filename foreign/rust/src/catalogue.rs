@@ -23,14 +23,14 @@ pub const fn catalogue_bytes(rules: usize) -> usize {
 pub enum Added {
     /// 0: its bytes stand behind the last rule.
     Entered,
-    /// 11 to 17: the rule is at fault. `place` is the offset, from its `RU`, at which that record's
-    /// mark stands or should stand.
+    /// 11 to 17: the rule is at fault. `place` is the offset of the byte at fault, from its `RU`,
+    /// as [`Fault`] says.
     Refused { fault: Fault, place: usize },
     /// 30: it clashes with a rule that is there, or that is not decided. `rule` is the number of
     /// the first such rule. `pair` is the answer of the two: [`Answer::Clash`], of which no texts
     /// are written, [`Answer::NoRoom`] or [`Answer::SideTooLong`].
     NotApart { rule: usize, pair: Answer },
-    /// 31: it names a field above 3.
+    /// 31: it names a field above 3. No place is told.
     ForeignField,
     /// 32: [`MOST_RULES`] are there, or its bytes don't fit behind them.
     Full,
@@ -58,7 +58,7 @@ impl fmt::Display for Added {
         match self {
             Added::Entered => to.write_str("done"),
             Added::Refused { fault, place } => {
-                write!(to, "{fault}, in the record at offset {place}")
+                write!(to, "{fault}, at offset {place}")
             }
             Added::NotApart { rule, pair } => {
                 write!(to, "not apart from a rule of the catalogue: rule {rule}, {pair}")

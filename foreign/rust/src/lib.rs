@@ -20,6 +20,19 @@
 //! assert_eq!(texts, ["4", "4"]);
 //! ```
 //!
+//! Of a sheet at fault the place is told, the byte itself.
+//!
+//! ```
+//! use bradovusc::{clash, Answer, Fault};
+//!
+//! // The pattern of field 0 has a range from 2 to 1.
+//! let sheet = b"PA\x00\x03\x41\x02\x01LE\x00RI\x00";
+//! let given = clash(sheet, &mut [], &mut []);
+//! assert_eq!(given, Answer::Refused { fault: Fault::NotOnePattern, place: 6 });
+//! assert_eq!(given.to_string(), "not one pattern, at offset 6");
+//! assert_eq!(sheet.get(6), Some(&1));
+//! ```
+//!
 //! A catalogue has up to 32 rules in a lent buffer. [`add`] enters a rule only if it clashes with
 //! none that is there; [`withdraw`] takes one out.
 //!
@@ -86,21 +99,34 @@ pub const fn answer_bytes(situations: usize) -> usize {
 }
 
 /// What is wrong with a sheet, or with a rule by itself.
+///
+/// The place that is told with a fault is an offset in the sheet, or in the rule from its `RU`. It
+/// shows the byte itself, as each fault says. It is never above the length, but it can be the
+/// length, where no byte stands: with [`Fault::CutShort`] always, and with
+/// [`Fault::NotOnePattern`] if the code runs out where the bytes end. So take the byte by `get`.
 #[derive(Clone, Copy, Debug, PartialEq, Eq)]
 pub enum Fault {
-    /// 11: the sheet or the rule ends too early.
+    /// 11: the sheet or the rule ends too early. Its place is the length of the sheet, or of the
+    /// rule.
     CutShort,
-    /// 12: a mark that is unknown or not allowed here, or bytes behind the last side.
+    /// 12: a mark that is unknown or not allowed here, or bytes behind the last side. Its place is
+    /// the first byte of the mark, or the first byte behind the side.
     WrongMark,
-    /// 13: a pattern's field is above 7, or not above the field of the pattern before it.
+    /// 13: a pattern's field is above 7, or not above the field of the pattern before it. Its place
+    /// is the field byte.
     WrongField,
-    /// 14: a pattern's length is not 1 to 96, or a side's is above 24.
+    /// 14: a pattern's length is not 1 to 96, or a side's is above 24. Its place is the length
+    /// byte.
     WrongLength,
-    /// 15: the bytes of a pattern are not exactly one pattern.
+    /// 15: the bytes of a pattern are not exactly one pattern. Its place is, read from left to
+    /// right, the first byte that is no code; the lo byte of a range if lo is above 42, else the hi
+    /// byte if that is above 42 or below lo; the first byte left over; where the code runs out, the
+    /// offset behind the pattern's last byte.
     NotOnePattern,
-    /// 16: a pattern has more than 31 leaves.
+    /// 16: a pattern has more than 31 leaves. Its place is the first byte of the 32nd.
     TooManyLeaves,
-    /// 17: a side holds a byte that is neither a character nor a field.
+    /// 17: a side holds a byte that is neither a character nor a field. Its place is the first such
+    /// byte.
     WrongToken,
 }
 
@@ -158,8 +184,8 @@ pub enum Answer {
     Clash { count: usize, written: usize },
     /// 1: no label, however long, can be made by both rules.
     NoClash { count: usize },
-    /// 11 to 17: the sheet is at fault. `place` is the offset at which that record's mark stands or
-    /// should stand.
+    /// 11 to 17: the sheet is at fault. `place` is the offset of the byte at fault, as [`Fault`]
+    /// says.
     Refused { fault: Fault, place: usize },
     /// 18: neither yes nor no; the working buffer is full.
     NoRoom { count: usize },
@@ -239,7 +265,7 @@ impl fmt::Display for Answer {
             Answer::Clash { .. } => "clash",
             Answer::NoClash { .. } => "no clash",
             Answer::Refused { fault, place } => {
-                return write!(to, "{fault}, in the record at offset {place}");
+                return write!(to, "{fault}, at offset {place}");
             }
             Answer::NoRoom { .. } => "not decided: no room for a situation",
             Answer::SideTooLong { .. } => "not decided: a side grew too long",

@@ -131,19 +131,23 @@ fn faults_of_the_rule() {
         }
     };
     fault(b"", Fault::CutShort, 0);
-    fault(b"R", Fault::CutShort, 0);
+    fault(b"R", Fault::CutShort, 1);
     fault(b"RU", Fault::CutShort, 2);
+    fault(b"RULE\x01", Fault::CutShort, 5);
     fault(b"LE\x00", Fault::WrongMark, 0);
     fault(b"RURI\x01\x0a", Fault::WrongMark, 2);
     fault(b"RULE\x01\x0a\x00", Fault::WrongMark, 6);
-    fault(b"RUPA\x08\x01\x04LE\x00", Fault::WrongField, 2);
+    fault(b"RUPA\x08\x01\x04LE\x00", Fault::WrongField, 4);
     // Field 4 twice: before 31.
-    fault(b"RUPA\x04\x01\x00PA\x04\x01\x00LE\x00", Fault::WrongField, 7);
-    fault(b"RULE\x19", Fault::WrongLength, 2);
-    fault(b"RUPA\x00\x02\x04\x04LE\x00", Fault::NotOnePattern, 2);
+    fault(b"RUPA\x04\x01\x00PA\x04\x01\x00LE\x00", Fault::WrongField, 9);
+    fault(b"RULE\x19", Fault::WrongLength, 4);
+    fault(b"RUPA\x04\x00LE\x00", Fault::WrongLength, 5);
+    fault(b"RUPA\x00\x02\x04\x04LE\x00", Fault::NotOnePattern, 7);
+    fault(b"RUPA\x00\x02\x41\x2bLE\x00", Fault::NotOnePattern, 7);
+    fault(b"RUPA\x00\x01\x44", Fault::NotOnePattern, 7);
     let leaves = [&b"PA\x00\x3f"[..], &[66; 31], &[0; 32]].concat();
-    fault(&with(&leaves, &[X]), Fault::TooManyLeaves, 2);
-    fault(&rule(&[X + 4, 43]), Fault::WrongToken, 2);
+    fault(&with(&leaves, &[X]), Fault::TooManyLeaves, 68);
+    fault(&rule(&[X + 4, 43]), Fault::WrongToken, 6);
 }
 
 #[test]

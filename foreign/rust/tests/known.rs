@@ -85,17 +85,73 @@ fn giving_up() {
 
 #[test]
 fn faults() {
-    let refused = |fault, place| plain(Answer::Refused { fault, place });
-    assert_eq!(as_usual(&[]), refused(Fault::CutShort, 0));
-    let one_more = [&sheet(&[], &[])[..], &[0]].concat();
-    assert_eq!(as_usual(&one_more), refused(Fault::WrongMark, 6));
-    let behind = |pattern: &[u8]| [pattern, &sheet(&[], &[])].concat();
-    assert_eq!(as_usual(&behind(b"PA\x08\x01\x00")), refused(Fault::WrongField, 0));
-    assert_eq!(as_usual(&behind(b"PA\x00\x00")), refused(Fault::WrongLength, 0));
-    assert_eq!(as_usual(&behind(b"PA\x00\x02\x00\x00")), refused(Fault::NotOnePattern, 0));
-    let leaves = [&b"PA\x00\x3F"[..], &[66; 31], &[0; 32]].concat();
-    assert_eq!(as_usual(&behind(&leaves)), refused(Fault::TooManyLeaves, 0));
-    assert_eq!(as_usual(&sheet(&[X], &[43])), refused(Fault::WrongToken, 4));
+    let refused = |sheet: &[u8], fault, place| {
+        assert_eq!(as_usual(sheet), plain(Answer::Refused { fault, place }), "{sheet:?}");
+    };
+    refused(b"", Fault::CutShort, 0);
+    refused(b"P", Fault::CutShort, 1);
+    refused(b"PA\x00\x02\x2B", Fault::CutShort, 5);
+    refused(b"LE\x00RI", Fault::CutShort, 5);
+    refused(b"LE\x00RX\x00", Fault::WrongMark, 3);
+    refused(&[&sheet(&[], &[])[..], &[0]].concat(), Fault::WrongMark, 6);
+    refused(b"PA\x08\x01\x00", Fault::WrongField, 2);
+    refused(b"PA\x02\x01\x00PA\x02\x01\x00", Fault::WrongField, 7);
+    refused(b"PA\x00\x00", Fault::WrongLength, 3);
+    refused(b"LE\x19", Fault::WrongLength, 2);
+    refused(&sheet(&[X], &[43]), Fault::WrongToken, 7);
+    refused(&sheet(&[A, B, 72, 43], &[]), Fault::WrongToken, 5);
+}
+
+/// A sheet with this pattern is refused; `at` counts from the pattern's first byte. More may stand
+/// behind the pattern, or nothing.
+fn refused_pattern(pattern: &[u8], fault: Fault, at: usize) {
+    let record = [&b"PA\x00"[..], &[pattern.len() as u8], pattern].concat();
+    for behind in [vec![], vec![0], sheet(&[X], &[])] {
+        let refused = plain(Answer::Refused { fault, place: 4 + at });
+        assert_eq!(as_usual(&[&record[..], &behind].concat()), refused, "{pattern:?}");
+    }
+}
+
+#[test]
+fn not_one_pattern() {
+    let refused = |pattern: &[u8], at| refused_pattern(pattern, Fault::NotOnePattern, at);
+    // A byte that is no code: alone, in a first part, in a second, under a star.
+    refused(&[43], 0);
+    refused(&[66, 43, 69], 1);
+    refused(&[67, A, 69], 2);
+    refused(&[66, 65, 0, 9, 68, 63], 5);
+    // lo above 42, with a hi at fault, with a good one, with none.
+    refused(&[65, 43, 43], 1);
+    refused(&[65, 43, 42], 1);
+    refused(&[65, 43], 1);
+    // hi above 42, and below lo.
+    refused(&[65, 0, 43], 2);
+    refused(&[65, 2, 1], 2);
+    // The code runs out.
+    refused(&[65], 1);
+    refused(&[65, 42], 2);
+    refused(&[68], 1);
+    refused(&[66, A], 2);
+    // Bytes left over, a code and none.
+    refused(&[A, A], 1);
+    refused(&[A, 43, A], 1);
+    refused(&[66, 64, 65, 0, 9, 68, A], 5);
+}
+
+#[test]
+fn too_many_leaves() {
+    let leaves = |operators: usize, behind: &[u8]| [&vec![66; operators][..], behind].concat();
+    let many = Fault::TooManyLeaves;
+    refused_pattern(&leaves(31, &[7; 32]), many, 62);
+    // The 32nd is not the last; it is a range; the empty text before it is no leaf.
+    refused_pattern(&leaves(40, &[7; 41]), many, 71);
+    refused_pattern(&leaves(31, &[&[7; 31][..], &[65, 0, 9]].concat()), many, 62);
+    refused_pattern(&leaves(32, &[&[64][..], &[7; 32]].concat()), many, 64);
+    // 15 is before 16: a byte left over, one that is no code, the code runs out.
+    let not_one = Fault::NotOnePattern;
+    refused_pattern(&leaves(31, &[7; 33]), not_one, 63);
+    refused_pattern(&leaves(32, &[&[7; 32][..], &[43]].concat()), not_one, 64);
+    refused_pattern(&leaves(32, &[7; 32]), not_one, 64);
 }
 
 #[test]

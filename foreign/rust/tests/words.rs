@@ -62,7 +62,7 @@ fn answers_in_words() {
 fn a_sheet_at_fault_in_words() {
     for fault in FAULTS {
         let answer = Answer::Refused { fault, place: 13 };
-        assert_eq!(answer.to_string(), format!("{fault}, in the record at offset 13"));
+        assert_eq!(answer.to_string(), format!("{fault}, at offset 13"));
         assert_eq!((answer.number(), answer.count(), answer.written()), (fault.number(), 0, 0));
         assert_eq!(answer.clashes(), None);
     }
@@ -72,7 +72,7 @@ fn a_sheet_at_fault_in_words() {
 fn calls_of_a_catalogue_in_words() {
     for fault in FAULTS {
         let added = Added::Refused { fault, place: 13 };
-        assert_eq!(added.to_string(), format!("{fault}, in the record at offset 13"));
+        assert_eq!(added.to_string(), format!("{fault}, at offset 13"));
         assert_eq!(added.number(), fault.number());
     }
     let pair = "rule 5, not decided: no room for a situation";

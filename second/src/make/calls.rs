@@ -284,21 +284,21 @@ impl Maker<'_> {
         if self.dice.one_in(3) {
             return self.soon.pop().unwrap_or_else(|| self.good_rule());
         }
-        match self.dice.below(18) {
-            0..=3 => self.damaged_rule(),
-            4 => self.with_field_above_3(),
-            5 => {
+        match self.dice.below(22) {
+            0..=7 => self.damaged_rule(),
+            8 => self.with_field_above_3(),
+            9 => {
                 let front = self.dice.pick(&[&b""[..], RULE]).to_vec();
                 [front, random_bytes(self.dice)].concat()
             }
-            6 => {
+            10 => {
                 // A byte changed in a good rule.
                 let mut rule = self.good_rule();
                 let at = self.dice.below(rule.len());
                 rule[at] = rule[at].wrapping_add(self.dice.pick(&[1, 2, 64, 254, 255]));
                 rule
             }
-            7..=9 => self.like_a_present_one(),
+            11..=13 => self.like_a_present_one(),
             _ => self.good_rule(),
         }
     }
@@ -353,13 +353,19 @@ impl Maker<'_> {
             return rule;
         }
         if self.dice.one_in(10) {
-            // A pattern of 31 leaves, or of more.
-            let field = records[0].field.unwrap_or(0);
-            records.retain(|record| record.field != Some(field));
-            records.insert(0, Record::pattern(field, big_pattern(self.dice, &[0, 10])));
+            // A pattern of 31 leaves, or of more, in place of one or before all.
+            let big = big_pattern(self.dice, &[0, 10]);
+            let at = self.dice.below(records.len());
+            match records[at].field {
+                Some(field) => records[at] = Record::pattern(field, big),
+                None => {
+                    records.retain(|record| record.field != Some(0));
+                    records.insert(0, Record::pattern(0, big));
+                }
+            }
             return rule_of(&records);
         }
-        let mark = match self.dice.below(16) {
+        let mark = match self.dice.below(32) {
             0 => *self.dice.pick(&[b"UR", b"RI", b"PA", b"LE", b"ru", b"\0\0"]),
             1 => [RULE[0], self.dice.byte()],
             _ => *RULE,

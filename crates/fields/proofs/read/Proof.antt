@@ -47,10 +47,10 @@ found-so c f e =
 
 -- the record that is kept
 kept : (c : tie.After-enum-told Inv-loop μ-loop) →
-    let p = c .before .before in
+    let p = c .before .before .before in
     let l = p .before .before .before in
     Pattern-stands (now (l .before .before .before .args .s)) (l .loop .c .at) (l .loop .c .above) (p .pattern .result)
-kept c = found-so (c .before .before) _ (c .enum-told .given .1)
+kept c = found-so (c .before .before .before) _ (c .enum-told .given .1)
 
 pattern-requires : tie.Need-pattern-requires Inv-loop μ-loop
 pattern-requires c κs = mark-left PA _ _ (marked-here c)
@@ -63,9 +63,9 @@ refuse-requires c κs = search needs
 
 returns : tie.Need-returns Inv-loop μ-loop
 returns c =
-    let p = c .before .before .before .before in
+    let p = c .before .before .before .before .before in
     c .refuse .ensures
-    ∙ sym (ap fields-of (reached-fault (p .before .before .before .loop .inv) (fault-of (c .before .before .found .given .0 .0)) (marked-here (p .before))
+    ∙ sym (ap fields-of (reached-fault (p .before .before .before .loop .inv) (fault-of (c .before .before .found .given .0 .0)) _ (marked-here (p .before))
     (found-so p _ (c .before .before .found .given .1))))
 
 enum-told : tie.Need-enum-told Inv-loop μ-loop
@@ -78,12 +78,12 @@ array-set-from-tables : tie.Need-array-set-from-tables Inv-loop μ-loop
 array-set-from-tables c = kept (c .before) .known
 
 loop-less : tie.Need-loop-less Inv-loop μ-loop
-loop-less c = omega (arith, kept (c .before .before) .moves, kept (c .before .before) .goes-on)
+loop-less c = omega (arith, kept (c .before) .moves, kept (c .before) .goes-on)
 
 loop-again : tie.Need-loop-again Inv-loop μ-loop
 loop-again c =
     let p = c .before .before .before .before in
-    reached-next (p .before .before .before .loop .inv) (p .pattern .result) (marked-here (p .before)) (kept (c .before .before))
+    reached-next (p .before .before .before .loop .inv) (p .pattern .result) (marked-here (p .before)) (kept (c .before))
 
 returns-2 : tie.Need-returns-2 Inv-loop μ-loop
 returns-2 c = reached-end (c .before .before .loop .inv) (sym (c .before .next-is-pattern .ensures) ∙ c .if1 .left)

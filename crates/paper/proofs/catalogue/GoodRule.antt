@@ -76,13 +76,13 @@ record RuleRead (r : Rule) : Type 0 where
   side : GoodSide (r .side)
   patterns : GoodPatterns (r .fields)
 
-with-side-read : (fs : Fields) (at : ℕ) (x : Checked Side) → GoodPatterns fs → Found GoodSide x → Listed RuleRead (with-side fs at x)
-with-side-read fs at (fault x) h g = tt
-with-side-read fs at (read side next) h g = record { side = g; patterns = h }
+with-side-read : (fs : Fields) (x : Checked Side) → GoodPatterns fs → Found GoodSide x → Listed RuleRead (with-side fs x)
+with-side-read fs (fault x at) h g = tt
+with-side-read fs (read side next) h g = record { side = g; patterns = h }
 
 side-behind : (s : List ℕ) (x : Records Fields) → Listed GoodPatterns x → Listed RuleRead (side-read s x)
 side-behind s (faulty x at) h = tt
-side-behind s (records fs at) h = with-side-read fs at (marked-side LE s at) h (marked-good LE s at)
+side-behind s (records fs at) h = with-side-read fs (marked-side LE s at) h (marked-good LE s at)
 
 rule-read : (s : List ℕ) → Listed RuleRead (rule-front s)
 unfolding rule-front

@@ -55,15 +55,15 @@ module _ (n : ℕ) (s t : List ℕ) (same : take n t ≡ take n s) where
   -- What a check on a record of s finds, if it is no fault: the record has `least` bytes or more, all there, and where it ends within the first n
   -- bytes, the check on t's finds the same.
   abbrev Likewise : {A : Type 0} → ℕ → ℕ → Checked A → Checked A → Type 0
-  Likewise at least of-t (fault x) = Unit {0}
+  Likewise at least of-t (fault x place) = Unit {0}
   Likewise at least of-t (read a next) = (at + least ≤ next) × (next ≤ length s) × (next ≤ n → of-t ≡ read a next)
 
   -- Patterns.
-  judged-likewise : (at : ℕ) (of-t : Checked FieldPattern) (j : Judged) (f next : ℕ) → at + 4 ≤ next → next ≤ length s
-      → (next ≤ n → of-t ≡ pattern-judged j f next) → Likewise at 4 of-t (pattern-judged j f next)
-  judged-likewise at of-t Written.not-one-pattern f next low high e = tt
-  judged-likewise at of-t Written.too-many-leaves f next low high e = tt
-  judged-likewise at of-t (judged p) f next low high e = (low, high, e)
+  judged-likewise : (at : ℕ) (of-t : Checked FieldPattern) (j : Judged) (start f next : ℕ) → at + 4 ≤ next → next ≤ length s
+      → (next ≤ n → of-t ≡ pattern-judged j start f next) → Likewise at 4 of-t (pattern-judged j start f next)
+  judged-likewise at of-t (Written.not-one-pattern i) start f next low high e = tt
+  judged-likewise at of-t (Written.too-many-leaves i) start f next low high e = tt
+  judged-likewise at of-t (judged p) start f next low high e = (low, high, e)
 
   pattern-likewise : (at above : ℕ) → Likewise at 4 (pattern-record t at above) (pattern-record s at above)
   unfolding pattern-record
@@ -79,7 +79,7 @@ module _ (n : ℕ) (s t : List ℕ) (same : take n t ≡ take n s) where
       (λ k. let left = ltb-false (bytes-left s at) 4 h in
       let all-left = ltb-false (bytes-left s at) (4 + m) k in
       let high : next ≤ length s = omega arith in
-      judged-likewise at (pattern-record t at above) (judge (body s (at + 4) m)) f next (omega arith) high
+      judged-likewise at (pattern-record t at above) (judge (body s (at + 4) m)) (at + 4) f next (omega arith) high
       (λ (g : next ≤ n). let in-t : next ≤ length t = inside next g high in
       rw (
         le-ltb (bytes-left t at) 4 (omega arith),
@@ -122,7 +122,7 @@ module _ (n : ℕ) (s t : List ℕ) (same : take n t ≡ take n s) where
   -- a test in front of a check, passed in t too
   behind-test : {A : Type 0} (at least : ℕ) (of-t behind : Checked A) (x : Checked A)
       → (at + least ≤ n → at + least ≤ length t → of-t ≡ behind) → Likewise at least behind x → Likewise at least of-t x
-  behind-test at least of-t behind (fault x) e l = tt
+  behind-test at least of-t behind (fault x place) e l = tt
   behind-test at least of-t behind (read a next) e (low, high, l) =
       (low, high, λ (g : next ≤ n). e (omega arith) (inside (at + least) (omega arith) (omega arith)) ∙ l g)
 
@@ -168,8 +168,8 @@ module _ (n : ℕ) (s t : List ℕ) (same : take n t ≡ take n s) where
 
   behind-likewise : (at : ℕ) (fs : Fields) (go-on : ℕ → Fields → Records Fields) (x : Checked FieldPattern) → next-is PA s at ≡ true
       → ((next : ℕ) (more : Fields) → AllLikewise next more (go-on next more))
-      → Likewise at 4 (pattern-record t at (fs .above)) x → AllLikewise at fs (pattern-read at fs go-on x)
-  behind-likewise at fs go-on (fault x) h i l = tt
+      → Likewise at 4 (pattern-record t at (fs .above)) x → AllLikewise at fs (pattern-read fs go-on x)
+  behind-likewise at fs go-on (fault x place) h i l = tt
   behind-likewise at fs go-on (read fp mid) h i l = one-next at fs fp mid h l (go-on mid (with-pattern fs fp)) (i mid (with-pattern fs fp))
 
   patterns-likewise : (turns : ℕ) (at : ℕ) (fs : Fields) → AllLikewise at fs (read-patterns turns s at fs)
@@ -186,11 +186,11 @@ module _ (n : ℕ) (s t : List ℕ) (same : take n t ≡ take n s) where
   RuleLikewise (records r next) = (2 < next) × (next ≤ length s) × (byte-at s 0 ≡ first-letter RU) × (next ≤ n → rule-front t ≡ records r next)
 
   sided : (fs : Fields) (at : ℕ) (x : Checked Side) → byte-at s 0 ≡ first-letter RU → 2 ≤ at
-      → (at + 3 ≤ n → at + 3 ≤ length s → rule-front t ≡ with-side fs at (marked-side LE t at))
-      → Likewise at 3 (marked-side LE t at) x → RuleLikewise (with-side fs at x)
-  sided fs at (fault x) b h e l = tt
+      → (at + 3 ≤ n → at + 3 ≤ length s → rule-front t ≡ with-side fs (marked-side LE t at))
+      → Likewise at 3 (marked-side LE t at) x → RuleLikewise (with-side fs x)
+  sided fs at (fault x place) b h e l = tt
   sided fs at (read side next) b h e (low, high, l) =
-      (omega arith, high, b, λ (g : next ≤ n). e (omega arith) (omega arith) ∙ ap (with-side fs at) (l g))
+      (omega arith, high, b, λ (g : next ≤ n). e (omega arith) (omega arith) ∙ ap (with-side fs) (l g))
 
   patterned : (x : Records Fields) → byte-at s 0 ≡ first-letter RU → marked RU s 0 ≡ true → AllLikewise 2 open-fields x → RuleLikewise (side-read s x)
   unfolding rule-front

@@ -220,7 +220,7 @@ end-said s at q e = let none = left-there s at [] e in rw (le-ltb at (length s) 
 
 -- Both sides' records, behind the patterns'.
 sides-said : (s : List ℕ) (at : ℕ) (q : Question) → GoodQuestion q → drop at s ≡ side-saying LE (q .left) ++ side-saying RI (q .right)
-    → left-read s at (q .held) (marked-side LE s at) ≡ asked q
+    → left-read s (q .held) (marked-side LE s at) ≡ asked q
 sides-said s at q good e =
     let left = q .left in
     let right = q .right in

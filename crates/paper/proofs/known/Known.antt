@@ -3,7 +3,7 @@
 --
 -- The buffers are lent full of other bytes. Where 01 says nothing else it lends 455 situations; a row here lends a few more than are entered,
 -- since a larger room gives the same (`Searched.larger-room`), and most working buffers have bytes behind the last whole situation.
-use Prim.Native.Nat.{ℕ}
+use Prim.Native.Nat.{ℕ, zero, suc}
 use mathlib.Core.Path.{_≡_, refl}
 use mathlib.Core.Bool.{Bool, true, false, cond}
 use mathlib.Core.List.{List, [], _∷_, _++_, map}
@@ -190,6 +190,11 @@ judged-only p = PA 0 p ++ LE [] ++ RI []
 abbrev leaves-by : ℕ → ℕ → List ℕ
 leaves-by operator n = replicate n operator ++ 0 ∷ replicate n 0
 
+-- n leaves that are ranges
+abbrev ranges : ℕ → List ℕ
+ranges zero = []
+ranges (suc n) = 65 ∷ 0 ∷ 9 ∷ ranges n
+
 -- "A pattern is written operator first"; 15, then 16
 abbrev known-patterns : List Known
 known-patterns =
@@ -224,32 +229,51 @@ known-patterns =
     answer-row (against (66 ∷ A ∷ 68 ∷ B ∷ []) (A ∷ [])) 600 20 0 3 (VA 0 (A ∷ [])) ∷
     answer-row (against (67 ∷ A ∷ 64 ∷ []) []) 600 20 0 2 (VA 0 []) ∷
     -- bytes that are no code
-    fault-row (judged-only (43 ∷ [])) 15 0 ∷
-    fault-row (judged-only (63 ∷ [])) 15 0 ∷
-    fault-row (judged-only (69 ∷ [])) 15 0 ∷
-    fault-row (judged-only (255 ∷ [])) 15 0 ∷
+    fault-row (judged-only (43 ∷ [])) 15 4 ∷
+    fault-row (judged-only (63 ∷ [])) 15 4 ∷
+    fault-row (judged-only (69 ∷ [])) 15 4 ∷
+    fault-row (judged-only (255 ∷ [])) 15 4 ∷
+    -- in the first part, in the second, under a star
+    fault-row (judged-only (66 ∷ 43 ∷ 44 ∷ [])) 15 5 ∷
+    fault-row (judged-only (67 ∷ A ∷ 43 ∷ [])) 15 6 ∷
+    fault-row (judged-only (66 ∷ 65 ∷ 0 ∷ 9 ∷ 68 ∷ 43 ∷ [])) 15 9 ∷
     -- a range without its bytes, with lo above hi, with hi above 42
-    fault-row (judged-only (65 ∷ [])) 15 0 ∷
-    fault-row (judged-only (65 ∷ 1 ∷ [])) 15 0 ∷
-    fault-row (judged-only (65 ∷ 2 ∷ 1 ∷ [])) 15 0 ∷
-    fault-row (judged-only (65 ∷ 0 ∷ 43 ∷ [])) 15 0 ∷
+    fault-row (judged-only (65 ∷ [])) 15 5 ∷
+    fault-row (judged-only (65 ∷ 1 ∷ [])) 15 6 ∷
+    fault-row (judged-only (65 ∷ 2 ∷ 1 ∷ [])) 15 6 ∷
+    fault-row (judged-only (65 ∷ 0 ∷ 43 ∷ [])) 15 6 ∷
+    -- with lo above 42: hi at fault too, hi not at fault, hi missing; lo is 42
+    fault-row (judged-only (65 ∷ 43 ∷ 42 ∷ [])) 15 5 ∷
+    fault-row (judged-only (65 ∷ 43 ∷ 43 ∷ [])) 15 5 ∷
+    fault-row (judged-only (65 ∷ 43 ∷ [])) 15 5 ∷
+    fault-row (judged-only (65 ∷ 42 ∷ [])) 15 6 ∷
+    fault-row (judged-only (65 ∷ 42 ∷ 43 ∷ [])) 15 6 ∷
     -- an operator without its patterns
-    fault-row (judged-only (66 ∷ [])) 15 0 ∷
-    fault-row (judged-only (66 ∷ A ∷ [])) 15 0 ∷
-    fault-row (judged-only (67 ∷ A ∷ [])) 15 0 ∷
-    fault-row (judged-only (68 ∷ [])) 15 0 ∷
-    -- a byte left over
-    fault-row (judged-only (0 ∷ 0 ∷ [])) 15 0 ∷
+    fault-row (judged-only (66 ∷ [])) 15 5 ∷
+    fault-row (judged-only (66 ∷ A ∷ [])) 15 6 ∷
+    fault-row (judged-only (67 ∷ A ∷ [])) 15 6 ∷
+    fault-row (judged-only (68 ∷ [])) 15 5 ∷
+    -- bytes left over: the first of them, a code or none
+    fault-row (judged-only (0 ∷ 0 ∷ [])) 15 5 ∷
+    fault-row (judged-only (0 ∷ 43 ∷ 0 ∷ [])) 15 5 ∷
+    fault-row (judged-only (66 ∷ 64 ∷ 65 ∷ 0 ∷ 9 ∷ 68 ∷ 0 ∷ [])) 15 9 ∷
     -- 31 leaves; neither the empty text nor a star is one
     answer-row (judged-only (leaves-by 66 30)) 150 8 0 1 [] ∷
     answer-row (judged-only (66 ∷ 64 ∷ leaves-by 66 30)) 150 8 0 1 [] ∷
     answer-row (judged-only (68 ∷ leaves-by 67 30)) 150 8 0 1 [] ∷
     -- 32 leaves
-    fault-row (judged-only (leaves-by 66 31)) 16 0 ∷
-    fault-row (judged-only (leaves-by 67 31)) 16 0 ∷
-    fault-row (judged-only (66 ∷ 65 ∷ 0 ∷ 9 ∷ leaves-by 66 30)) 16 0 ∷
-    -- 32 leaves and a byte left over
-    fault-row (judged-only (leaves-by 66 31 ++ 0 ∷ [])) 15 0 ∷
+    fault-row (judged-only (leaves-by 66 31)) 16 66 ∷
+    fault-row (judged-only (leaves-by 67 31)) 16 66 ∷
+    fault-row (judged-only (66 ∷ 65 ∷ 0 ∷ 9 ∷ leaves-by 66 30)) 16 68 ∷
+    -- the 32nd is not the last; it is a range, as many as there is room for; the empty text before it is no leaf
+    fault-row (judged-only (leaves-by 66 40)) 16 75 ∷
+    fault-row (judged-only (replicate 31 66 ++ replicate 16 0 ++ ranges 16)) 16 96 ∷
+    fault-row (judged-only (66 ∷ 64 ∷ leaves-by 66 31)) 16 68 ∷
+    fault-row (judged-only (68 ∷ leaves-by 67 31)) 16 67 ∷
+    -- 32 leaves and a byte left over; 32 and then a byte that is no code; 32 and then no code
+    fault-row (judged-only (leaves-by 66 31 ++ 0 ∷ [])) 15 67 ∷
+    fault-row (judged-only (replicate 32 66 ++ replicate 32 0 ++ 43 ∷ [])) 15 68 ∷
+    fault-row (judged-only (replicate 32 66 ++ replicate 32 0)) 15 68 ∷
     -- 96 bytes
     answer-row (judged-only (replicate 95 68 ++ 0 ∷ [])) 150 8 0 1 [] ∷
     []
@@ -263,9 +287,9 @@ known-records =
     answer-row (LE (42 ∷ []) ++ RI (42 ∷ [])) 600 20 0 1 [] ∷
     answer-row (LE (replicate 24 A) ++ RI (replicate 24 A)) 600 20 0 1 [] ∷
     -- one byte left
-    fault-row (80 ∷ []) 11 0 ∷
-    fault-row (PA 0 (0 ∷ []) ++ 76 ∷ []) 11 5 ∷
-    fault-row (LE [] ++ 82 ∷ []) 11 3 ∷
+    fault-row (80 ∷ []) 11 1 ∷
+    fault-row (PA 0 (0 ∷ []) ++ 76 ∷ []) 11 6 ∷
+    fault-row (LE [] ++ 82 ∷ []) 11 4 ∷
     -- none left
     fault-row (PA 0 (0 ∷ [])) 11 5 ∷
     fault-row (LE []) 11 3 ∷
@@ -285,41 +309,44 @@ known-records =
     fault-row (LE (A ∷ []) ++ RI (B ∷ []) ++ 0 ∷ []) 12 8 ∷
     fault-row (LE [] ++ RI (B ∷ []) ++ PA 0 (0 ∷ [])) 12 7 ∷
     -- no field byte; a field byte above 7, and no length byte
-    fault-row (80 ∷ 65 ∷ []) 11 0 ∷
-    fault-row (80 ∷ 65 ∷ 9 ∷ []) 11 0 ∷
+    fault-row (80 ∷ 65 ∷ []) 11 2 ∷
+    fault-row (80 ∷ 65 ∷ 9 ∷ []) 11 3 ∷
     -- field 8; a field number that stays, that falls
-    fault-row (PA 8 (0 ∷ [])) 13 0 ∷
-    fault-row (PA 1 (0 ∷ []) ++ PA 1 (0 ∷ [])) 13 5 ∷
-    fault-row (PA 1 (0 ∷ []) ++ PA 0 (0 ∷ [])) 13 5 ∷
+    fault-row (PA 8 (0 ∷ [])) 13 2 ∷
+    fault-row (PA 1 (0 ∷ []) ++ PA 1 (0 ∷ [])) 13 7 ∷
+    fault-row (PA 1 (0 ∷ []) ++ PA 0 (0 ∷ [])) 13 7 ∷
     -- a wrong field before a wrong length
-    fault-row (80 ∷ 65 ∷ 8 ∷ 0 ∷ []) 13 0 ∷
+    fault-row (80 ∷ 65 ∷ 8 ∷ 0 ∷ []) 13 2 ∷
     -- a pattern of no byte; of 97 bytes, none of which is there
-    fault-row (PA 0 []) 14 0 ∷
-    fault-row (80 ∷ 65 ∷ 0 ∷ 97 ∷ []) 14 0 ∷
+    fault-row (PA 0 []) 14 3 ∷
+    fault-row (80 ∷ 65 ∷ 0 ∷ 97 ∷ []) 14 3 ∷
     -- a pattern's body cut short, whatever its bytes
-    fault-row (80 ∷ 65 ∷ 0 ∷ 2 ∷ 0 ∷ []) 11 0 ∷
-    fault-row (80 ∷ 65 ∷ 0 ∷ 2 ∷ 43 ∷ []) 11 0 ∷
-    fault-row (80 ∷ 65 ∷ 0 ∷ 64 ∷ leaves-by 66 31) 11 0 ∷
-    -- a fault of a second pattern
-    fault-row (PA 0 (0 ∷ []) ++ PA 1 (0 ∷ 0 ∷ [])) 15 5 ∷
+    fault-row (80 ∷ 65 ∷ 0 ∷ 2 ∷ 0 ∷ []) 11 5 ∷
+    fault-row (80 ∷ 65 ∷ 0 ∷ 2 ∷ 43 ∷ []) 11 5 ∷
+    fault-row (80 ∷ 65 ∷ 0 ∷ 64 ∷ leaves-by 66 31) 11 67 ∷
+    -- a fault of a second pattern; its offset is counted from the sheet's start
+    fault-row (PA 0 (0 ∷ []) ++ PA 1 (0 ∷ 0 ∷ [])) 15 10 ∷
+    fault-row (PA 0 (0 ∷ []) ++ PA 1 (leaves-by 67 31)) 16 71 ∷
+    fault-row (PA 0 (0 ∷ []) ++ 80 ∷ 65 ∷ 1 ∷ 0 ∷ []) 14 8 ∷
     -- a side's length byte missing
-    fault-row (76 ∷ 69 ∷ []) 11 0 ∷
-    fault-row (LE (A ∷ []) ++ 82 ∷ 73 ∷ []) 11 4 ∷
+    fault-row (76 ∷ 69 ∷ []) 11 2 ∷
+    fault-row (LE (A ∷ []) ++ 82 ∷ 73 ∷ []) 11 6 ∷
     -- a side of 25 tokens, none of which is there
-    fault-row (76 ∷ 69 ∷ 25 ∷ []) 14 0 ∷
-    fault-row (LE (A ∷ []) ++ 82 ∷ 73 ∷ 25 ∷ []) 14 4 ∷
+    fault-row (76 ∷ 69 ∷ 25 ∷ []) 14 2 ∷
+    fault-row (LE (A ∷ []) ++ 82 ∷ 73 ∷ 25 ∷ []) 14 6 ∷
     -- a side's body cut short, whatever its tokens
-    fault-row (76 ∷ 69 ∷ 1 ∷ []) 11 0 ∷
-    fault-row (76 ∷ 69 ∷ 2 ∷ 43 ∷ []) 11 0 ∷
-    fault-row (LE (A ∷ []) ++ 82 ∷ 73 ∷ 2 ∷ 43 ∷ []) 11 4 ∷
+    fault-row (76 ∷ 69 ∷ 1 ∷ []) 11 3 ∷
+    fault-row (76 ∷ 69 ∷ 2 ∷ 43 ∷ []) 11 4 ∷
+    fault-row (LE (A ∷ []) ++ 82 ∷ 73 ∷ 2 ∷ 43 ∷ []) 11 8 ∷
     -- bytes that are no token, alone and behind one
-    fault-row (LE (43 ∷ [])) 17 0 ∷
-    fault-row (LE (63 ∷ [])) 17 0 ∷
-    fault-row (LE (72 ∷ [])) 17 0 ∷
-    fault-row (LE (255 ∷ [])) 17 0 ∷
-    fault-row (LE (A ∷ 43 ∷ [])) 17 0 ∷
-    fault-row (PA 0 (0 ∷ []) ++ LE (43 ∷ [])) 17 5 ∷
-    fault-row (LE (A ∷ []) ++ RI (43 ∷ [])) 17 4 ∷
+    fault-row (LE (43 ∷ [])) 17 3 ∷
+    fault-row (LE (63 ∷ [])) 17 3 ∷
+    fault-row (LE (72 ∷ [])) 17 3 ∷
+    fault-row (LE (255 ∷ [])) 17 3 ∷
+    fault-row (LE (A ∷ 43 ∷ [])) 17 4 ∷
+    fault-row (LE (A ∷ B ∷ 43 ∷ 44 ∷ A ∷ [])) 17 5 ∷
+    fault-row (PA 0 (0 ∷ []) ++ LE (43 ∷ [])) 17 8 ∷
+    fault-row (LE (A ∷ []) ++ RI (43 ∷ [])) 17 7 ∷
     []
 
 abbrev known-sheets : List Known

@@ -169,21 +169,21 @@ refused-rules =
     refused-row [] (RU (LE (10 ∷ 71 ∷ []))) 31 0 ∷
     -- no byte, one byte, the mark alone, a side cut short, behind a pattern too
     refused-row (zeros 16) [] 11 0 ∷
-    refused-row (zeros 16) (82 ∷ []) 11 0 ∷
+    refused-row (zeros 16) (82 ∷ []) 11 1 ∷
     refused-row (zeros 16) (RU []) 11 2 ∷
-    refused-row (zeros 16) (RU (76 ∷ 69 ∷ 1 ∷ [])) 11 2 ∷
+    refused-row (zeros 16) (RU (76 ∷ 69 ∷ 1 ∷ [])) 11 5 ∷
     refused-row (zeros 16) (RU (PA 0 (0 ∷ []))) 11 7 ∷
     -- another mark than `RU`; `RI` for `LE`; a byte behind `LE`
     refused-row (zeros 16) (LE (10 ∷ [])) 12 0 ∷
     refused-row (zeros 16) (RU (RI (10 ∷ []))) 12 2 ∷
     refused-row (zeros 16) (rule-A ++ 0 ∷ []) 12 6 ∷
     -- field 8; a field number that stays; lengths; patterns; a token; each before 31
-    refused-row (zeros 16) (RU (PA 8 (0 ∷ []) ++ LE [])) 13 2 ∷
-    refused-row (zeros 16) (RU (PA 4 (0 ∷ []) ++ PA 4 (0 ∷ []) ++ LE [])) 13 7 ∷
-    refused-row (zeros 16) (RU (PA 4 [] ++ LE [])) 14 2 ∷
-    refused-row (zeros 16) (RU (PA 4 (0 ∷ 0 ∷ []) ++ LE [])) 15 2 ∷
-    refused-row (zeros 16) (RU (PA 4 (replicate 31 66 ++ replicate 32 0) ++ LE [])) 16 2 ∷
-    refused-row (zeros 16) (RU (LE (68 ∷ 72 ∷ []))) 17 2 ∷
+    refused-row (zeros 16) (RU (PA 8 (0 ∷ []) ++ LE [])) 13 4 ∷
+    refused-row (zeros 16) (RU (PA 4 (0 ∷ []) ++ PA 4 (0 ∷ []) ++ LE [])) 13 9 ∷
+    refused-row (zeros 16) (RU (PA 4 [] ++ LE [])) 14 5 ∷
+    refused-row (zeros 16) (RU (PA 4 (0 ∷ 0 ∷ []) ++ LE [])) 15 7 ∷
+    refused-row (zeros 16) (RU (PA 4 (replicate 31 66 ++ replicate 32 0) ++ LE [])) 16 68 ∷
+    refused-row (zeros 16) (RU (LE (68 ∷ 72 ∷ []))) 17 6 ∷
     -- a byte that is not zero behind the zeros, and behind the last record; a gap between two records
     refused-row (zeros 16 ++ 1 ∷ []) rule-A 34 0 ∷
     refused-row (rule-A ++ 0 ∷ 82 ∷ []) rule-B 34 0 ∷

@@ -2,30 +2,33 @@
 -- leaves are not too many.
 --   judged-takes  : judge s ≡ judged p → leaves-take characters p
 --   judged-leaves : judge s ≡ judged p → leaves p ≤ most-leaves
--- So what fits it is over the characters (`fits-over` of `NotStuck`). Follows from the reader's tests.
-use Prim.Native.Nat.{ℕ, zero, suc, _≤_, _<_}
+-- So what fits it is over the characters (`fits-over` of `NotStuck`). The offset of a fault is within the bytes, or behind the last where they are
+-- not one pattern; where the leaves are too many, there is a byte at it:
+--   within-not-one  : judge s ≡ not-one-pattern i → i ≤ length s
+--   too-many-inside : judge s ≡ too-many-leaves i → i < length s
+-- The byte itself is told apart in `Continued` and `LeafPlace`. Follows from the ways through the reader (`Reader`).
+use Prim.Native.Nat.{ℕ, suc, _+_, _-_, _≤_, _<_}
 use native.Mathlib.Omega.{arith}
-use mathlib.Core.Path.{_≡_, subst}
-use mathlib.Core.Bool.{_&&_}
-use mathlib.Core.List.{List, [], _∷_}
-use lib.Dec.{leb, ltb, eqb}
-use lib.ListN.{length}
-use Rattle.paper.specs.Numbers.{characters, empty-code, range-code, then-code, or-code, many-code, most-leaves}
-use Rattle.paper.proofs.base.Tests.{cond-by, and-left, and-right, both-true, leb-true, le-leb, ltb-true, eqb-true, eqb-same}
-use Rattle.paper.specs.Pattern.{char, range, Pattern, then, either}
+use mathlib.Core.Path.{_≡_, refl, sym, subst}
+use mathlib.Core.Logic.{⊎-elim}
+use mathlib.Core.List.{List, List·Memᴰ, List·Memᴰ·not-nil, List·Memᴰ·append-cases}
+use lib.Dec.{leb}
+use lib.ListN.{length, getD, length-append}
+use Rattle.paper.specs.Numbers.{characters, most-leaves}
+use Rattle.paper.proofs.base.Tests.{and-right, both-true, leb-true, le-leb, eqb-true, eqb-same}
+use Rattle.paper.proofs.base.Lists.{mem-cons-by}
+use Rattle.paper.proofs.base.Listed.{getD-mem}
+use Rattle.paper.specs.Pattern.{char, range, Pattern}
 use Rattle.paper.specs.Places.{leaves}
 use Rattle.paper.specs.Taken.{LeafTakes, leaves-take}
-use Rattle.paper.specs.Written.{Part, no-pattern, part, read-range, second-part, two-parts, many-part, read-part, Judged, not-one-pattern, too-many-leaves, judged, judge-part, judge}
-
--- what is read, if anything, has leaves that take
-abbrev PartTakes : Part → Type 0
-PartTakes no-pattern = Unit {0}
-PartTakes (part p s) = leaves-take characters p
+use Rattle.paper.specs.Written.{part, not-one-pattern, too-many-leaves, judged, judge}
+use Rattle.paper.proofs.places.Reader.{Operator, is-then, is-or, Reads, a-character, empty-text, a-range, both-parts, starred, shorter}
+use Rattle.paper.proofs.places.Reader.{Judges, at-fault, left-over, above-most, as-pattern, judges}
 
 char-takes : (b : ℕ) → b < characters → LeafTakes characters (char b)
 char-takes b h = record { some = b; taken = eqb-same b; character = λ c t. let e = eqb-true b c t in omega arith }
 
-range-takes : (lo hi : ℕ) → lo ≤ hi → hi < characters → LeafTakes characters (range lo hi)
+pub range-takes : (lo hi : ℕ) → lo ≤ hi → hi < characters → LeafTakes characters (range lo hi)
 range-takes lo hi h k =
     record {
       some = hi;
@@ -33,57 +36,70 @@ range-takes lo hi h k =
       character = λ c t. let e = leb-true c hi (and-right (leb lo c) (leb c hi) t) in omega arith;
     }
 
-range-part : (s : List ℕ) → PartTakes (read-range s)
-range-part [] = tt
-range-part (lo ∷ []) = tt
-range-part (lo ∷ hi ∷ s) =
-    cond-by PartTakes (leb lo hi && ltb hi characters)
-    (λ e. range-takes lo hi (leb-true lo hi (and-left (leb lo hi) (ltb hi characters) e)) (ltb-true hi characters (and-right (leb lo hi) (ltb hi characters) e)))
-    (λ e. tt)
+-- an operator's leaves are those of both patterns
+pub both-take : {code : ℕ} {op : Pattern → Pattern → Pattern} (a b : Pattern) → Operator code op
+    → leaves-take characters a → leaves-take characters b → leaves-take characters (op a b)
+both-take a b is-then h k = (h, k)
+both-take a b is-or h k = (h, k)
 
--- an operator whose leaves are those of both patterns
-module _ (op : Pattern → Pattern → Pattern) (joins : (a b : Pattern) → leaves-take characters a → leaves-take characters b → leaves-take characters (op a b)) where
-  second-takes : (a : Pattern) (r : Part) → leaves-take characters a → PartTakes r → PartTakes (second-part op a r)
-  second-takes a no-pattern h k = tt
-  second-takes a (part b s) h k = joins a b h k
+pub read-takes : {s starts rest : List ℕ} {p : Pattern} → Reads s (part p starts rest) → leaves-take characters p
+read-takes (a-character {b = b} h) = char-takes b h
+read-takes empty-text = tt
+read-takes (a-range {lo = lo} {hi = hi} h k) = range-takes lo hi h k
+read-takes (both-parts {a = a} {b = b} o d e) = both-take a b o (read-takes d) (read-takes e)
+read-takes (starred d) = read-takes d
 
-  two-take : (a : Part) (rest : List ℕ → Part) → PartTakes a → ((r : List ℕ) → PartTakes (rest r)) → PartTakes (two-parts op a rest)
-  two-take no-pattern rest h k = tt
-  two-take (part a s) rest h k = second-takes a (rest s) h (k s)
+both-judged : {s : List ℕ} {p : Pattern} → Judges s (judged p) → leaves-take characters p × (leaves p ≤ most-leaves)
+both-judged (as-pattern d h) = (read-takes d, h)
 
-many-take : (a : Part) → PartTakes a → PartTakes (many-part a)
-many-take no-pattern h = tt
-many-take (part a s) h = h
+module _ (s : List ℕ) {p : Pattern} (e : judge s ≡ judged p) where
+  pub judged-takes : leaves-take characters p
+  judged-takes = both-judged (subst (Judges s) e (judges s)) .0
 
-read-takes : (n : ℕ) (s : List ℕ) → PartTakes (read-part n s)
-read-takes zero s = tt
-read-takes (suc n) [] = tt
-read-takes (suc n) (b ∷ s) =
-    cond-by PartTakes (ltb b characters) (λ e. char-takes b (ltb-true b characters e))
-    (λ _. cond-by PartTakes (eqb b empty-code) (λ _. tt)
-    (λ _. cond-by PartTakes (eqb b range-code) (λ _. range-part s)
-    (λ _. cond-by PartTakes (eqb b then-code) (λ _. two-take then (λ x y h k. (h, k)) (read-part n s) (read-part n) (read-takes n s) (read-takes n))
-    (λ _. cond-by PartTakes (eqb b or-code) (λ _. two-take either (λ x y h k. (h, k)) (read-part n s) (read-part n) (read-takes n s) (read-takes n))
-    (λ _. cond-by PartTakes (eqb b many-code) (λ _. many-take (read-part n s) (read-takes n s))
-    (λ _. tt))))))
+  pub judged-leaves : leaves p ≤ most-leaves
+  judged-leaves = both-judged (subst (Judges s) e (judges s)) .1
 
-abbrev JudgedTakes : Judged → Type 0
-JudgedTakes not-one-pattern = Unit {0}
-JudgedTakes too-many-leaves = Unit {0}
-JudgedTakes (judged p) = leaves-take characters p × (leaves p ≤ most-leaves)
+-- Each leaf has a start (`starts-length`), and there is a byte at it (`starts-inside`).
+pub both-leaves : {code : ℕ} {op : Pattern → Pattern → Pattern} (a b : Pattern) → Operator code op → leaves (op a b) ≡ leaves a + leaves b
+both-leaves a b is-then = refl
+both-leaves a b is-or = refl
 
-judge-takes : (a : Part) → PartTakes a → JudgedTakes (judge-part a)
-judge-takes no-pattern h = tt
-judge-takes (part p []) h =
-    cond-by JudgedTakes (leb (leaves p) most-leaves) (λ e. (h, leb-true (leaves p) most-leaves e)) (λ e. tt)
-judge-takes (part p (b ∷ s)) h = tt
+pub starts-length : {s starts rest : List ℕ} {p : Pattern} → Reads s (part p starts rest) → length starts ≡ leaves p
+starts-length (a-character h) = refl
+starts-length empty-text = refl
+starts-length (a-range h k) = refl
+starts-length (both-parts {starts = starts} {more = more} {a = a} {b = b} o d e) =
+    rw (length-append starts more, starts-length d, starts-length e) (sym (both-leaves a b o))
+starts-length (starred d) = starts-length d
 
-judged-both : (s : List ℕ) {p : Pattern} → judge s ≡ judged p → leaves-take characters p × (leaves p ≤ most-leaves)
-unfolding judge
-judged-both s e = subst JudgedTakes e (judge-takes (read-part (length s) s) (read-takes (length s) s))
+-- from the byte on one byte is left at least, and no more than there are
+abbrev Inside : List ℕ → ℕ → Type 0
+Inside s x = (0 < x) × (x ≤ length s)
 
-pub judged-takes : (s : List ℕ) {p : Pattern} → judge s ≡ judged p → leaves-take characters p
-judged-takes s e = judged-both s e .0
+pub starts-inside : {s starts rest : List ℕ} {p : Pattern} → Reads s (part p starts rest) → (x : ℕ) → List·Memᴰ x starts → Inside s x
+starts-inside {s} (a-character h) = mem-cons-by (Inside s) (omega arith, omega arith) (λ x i. absurd (List·Memᴰ·not-nil i))
+starts-inside {s} empty-text = λ x i. absurd (List·Memᴰ·not-nil i)
+starts-inside {s} (a-range h k) = mem-cons-by (Inside s) (omega arith, omega arith) (λ x i. absurd (List·Memᴰ·not-nil i))
+starts-inside {s} (both-parts {starts = starts} o d e) =
+    λ x i. ⊎-elim (λ j. let (low, high) = starts-inside d x j in (low, omega arith))
+    (λ j. let (low, high) = starts-inside e x j in (low, omega (arith, shorter d)))
+    (List·Memᴰ·append-cases starts i)
+starts-inside {s} (starred d) = λ x i. let (low, high) = starts-inside d x i in (low, omega arith)
 
-pub judged-leaves : (s : List ℕ) {p : Pattern} → judge s ≡ judged p → leaves p ≤ most-leaves
-judged-leaves s e = judged-both s e .1
+-- The offset of a fault.
+not-one-within : {s : List ℕ} {i : ℕ} → Judges s (not-one-pattern i) → i ≤ length s
+not-one-within (at-fault {left = left} d) = omega arith
+not-one-within {s} (left-over {rest = rest} d) = let left = suc (length rest) in let h : length s - left ≤ length s = omega arith in h
+
+pub within-not-one : (s : List ℕ) (i : ℕ) → judge s ≡ not-one-pattern i → i ≤ length s
+within-not-one s i e = not-one-within (subst (Judges s) e (judges s))
+
+inside-too-many : {s : List ℕ} {i : ℕ} → Judges s (too-many-leaves i) → i < length s
+inside-too-many (above-most {starts = starts} d h) =
+    let (low, high) = starts-inside d (getD starts most-leaves 0) (getD-mem starts 0 most-leaves (rw (starts-length d) h)) in omega arith
+
+pub too-many-inside : (s : List ℕ) (i : ℕ) → judge s ≡ too-many-leaves i → i < length s
+too-many-inside s i e = inside-too-many (subst (Judges s) e (judges s))
+
+pub within-too-many : (s : List ℕ) (i : ℕ) → judge s ≡ too-many-leaves i → i ≤ length s
+within-too-many s i e = let h = too-many-inside s i e in omega arith

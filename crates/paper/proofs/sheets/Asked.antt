@@ -68,7 +68,7 @@ token-in-range b e =
 
 -- what a check on a record finds, if it is no fault
 abbrev pub Found : {A : Type 0} → (A → Type 0) → Checked A → Type 0
-Found Good (fault x) = Unit {0}
+Found Good (fault x at) = Unit {0}
 Found Good (read a next) = Good a
 
 side-good : (s : List ℕ) (at : ℕ) → Found GoodSide (side-record s at)
@@ -92,11 +92,11 @@ pub record PatternRead (s : List ℕ) (at least : ℕ) (fp : FieldPattern) : Typ
   pub short : byte-at s (at + 3) ≤ pattern-bytes
   pub its-bytes : judge (body s (at + 4) (byte-at s (at + 3))) ≡ judged (fp .its)
 
-judged-read : (s : List ℕ) (at least f next : ℕ) (j : Judged) → judge (body s (at + 4) (byte-at s (at + 3))) ≡ j
-    → least ≤ f → byte-at s (at + 3) ≤ pattern-bytes → Found (PatternRead s at least) (pattern-judged j f next)
-judged-read s at least f next Written.not-one-pattern e rises short = tt
-judged-read s at least f next Written.too-many-leaves e rises short = tt
-judged-read s at least f next (judged p) e rises short = record { rises = rises; short = short; its-bytes = e }
+judged-read : (s : List ℕ) (at least start f next : ℕ) (j : Judged) → judge (body s (at + 4) (byte-at s (at + 3))) ≡ j
+    → least ≤ f → byte-at s (at + 3) ≤ pattern-bytes → Found (PatternRead s at least) (pattern-judged j start f next)
+judged-read s at least start f next (Written.not-one-pattern i) e rises short = tt
+judged-read s at least start f next (Written.too-many-leaves i) e rises short = tt
+judged-read s at least start f next (judged p) e rises short = record { rises = rises; short = short; its-bytes = e }
 
 record-read : (s : List ℕ) (at least : ℕ) → Found (PatternRead s at least) (pattern-record s at least)
 unfolding pattern-record
@@ -108,7 +108,7 @@ record-read s at least =
     (λ _. cond-by (Found (PatternRead s at least)) (leb fields f || ltb f least) (λ _. tt)
     (λ i. cond-by (Found (PatternRead s at least)) (eqb n 0 || ltb pattern-bytes n) (λ _. tt)
     (λ j. cond-by (Found (PatternRead s at least)) (ltb (bytes-left s at) (4 + n)) (λ _. tt)
-    (λ _. judged-read s at least f (at + (4 + n)) (judge b) refl
+    (λ _. judged-read s at least (at + 4) f (at + (4 + n)) (judge b) refl
     (ltb-false f least (or-right-false (leb fields f) (ltb f least) i))
     (ltb-false pattern-bytes n (or-right-false (eqb n 0) (ltb pattern-bytes n) j))))))
 
@@ -153,8 +153,8 @@ module _
     (kept : (s : List ℕ) (at : ℕ) (fs : Fields) (fp : FieldPattern) → Good fs → PatternRead s at (fs .above) fp → Good (with-pattern fs fp)) where
   behind-by : (s : List ℕ) (at : ℕ) (fs : Fields) (go-on : ℕ → Fields → Records Fields) (x : Checked FieldPattern)
       → ((next : ℕ) (more : Fields) → Good more → Listed Good (go-on next more))
-      → Good fs → Found (PatternRead s at (fs .above)) x → Listed Good (pattern-read at fs go-on x)
-  behind-by s at fs go-on (fault x) i h k = tt
+      → Good fs → Found (PatternRead s at (fs .above)) x → Listed Good (pattern-read fs go-on x)
+  behind-by s at fs go-on (fault x place) i h k = tt
   behind-by s at fs go-on (read fp next) i h k = i next (with-pattern fs fp) (kept s at fs fp h k)
 
   pub patterns-by : (n : ℕ) (s : List ℕ) (at : ℕ) (fs : Fields) → Good fs → Listed Good (read-patterns n s at fs)
@@ -182,19 +182,19 @@ end-asks : (s : List ℕ) (at : ℕ) (q : Question) → GoodQuestion q → Asks 
 unfolding read-end
 end-asks s at q g = cond-by Asks (ltb at (length s)) (λ _. tt) (λ _. g)
 
-right-asks : (s : List ℕ) (at : ℕ) (held : List Held) (l : Side) (x : Checked Side)
-    → GoodFields held → GoodSide l → Found GoodSide x → Asks (right-read s at held l x)
-right-asks s at held l (fault x) h g k = tt
-right-asks s at held l (read r next) h g k =
+right-asks : (s : List ℕ) (held : List Held) (l : Side) (x : Checked Side)
+    → GoodFields held → GoodSide l → Found GoodSide x → Asks (right-read s held l x)
+right-asks s held l (fault x at) h g k = tt
+right-asks s held l (read r next) h g k =
     end-asks s next (record { left = l; right = r; held = held }) (record { left = g; right = k; held = h })
 
-left-asks : (s : List ℕ) (at : ℕ) (held : List Held) (x : Checked Side) → GoodFields held → Found GoodSide x → Asks (left-read s at held x)
-left-asks s at held (fault x) h k = tt
-left-asks s at held (read l next) h k = right-asks s next held l (marked-side RI s next) h k (marked-good RI s next)
+left-asks : (s : List ℕ) (held : List Held) (x : Checked Side) → GoodFields held → Found GoodSide x → Asks (left-read s held x)
+left-asks s held (fault x at) h k = tt
+left-asks s held (read l next) h k = right-asks s held l (marked-side RI s next) h k (marked-good RI s next)
 
 sides-ask : (s : List ℕ) (x : Records Fields) → Listed Goods x → Asks (sides-read s x)
 sides-ask s (faulty x at) h = tt
-sides-ask s (records fs at) h = left-asks s at (fs .held) (marked-side LE s at) h (marked-good LE s at)
+sides-ask s (records fs at) h = left-asks s (fs .held) (marked-side LE s at) h (marked-good LE s at)
 
 pub sheet-good : (sheet : List ℕ) → AsksGood (read-sheet sheet)
 unfolding read-sheet

@@ -81,7 +81,7 @@ returns-4 c =
     let p = patterns (l .before) in
     let m = l .before .before .before .before .before in
     c .refuse4 .ensures
-    ∙ sym (ap rule-of (side-fault _ (m .before .before .if1 .left) (marked-here m) (p .fields) _ (p .reads) _
+    ∙ sym (ap rule-of (side-fault _ (m .before .before .if1 .left) (marked-here m) (p .fields) _ (p .reads) _ _
     (Told.side-fault (l .side .result) _ _ (l .side .ensures) (c .before .before .side-found .given .1))))
 
 enum-told-2 : tie.Need-enum-told-2

@@ -1,5 +1,5 @@
 -- `sheets::read` meets its contract, from what its parts are (`Whole`). Assumes nothing.
-use mathlib.Core.Path.{_≡_, sym, ap, _∙_}
+use mathlib.Core.Path.{sym, ap, _∙_}
 use denote.Ref.{now}
 use borrow.Author.Needs.{needs}
 use Rattle.paper.specs.Sheet.{LE, RI, marked-side}
@@ -60,7 +60,7 @@ returns-2 c =
     let l = c .before .before .before .before .before in
     let p = patterns (l .before) in
     c .refuse2 .ensures
-    ∙ sym (ap sheet-of (left-fault _ (p .fields) _ (p .reads) _ (side-fault (l .side .result) _ _ (l .side .ensures) (c .before .before .left-found .given .1))))
+    ∙ sym (ap sheet-of (left-fault _ (p .fields) _ (p .reads) _ _ (side-fault (l .side .result) _ _ (l .side .ensures) (c .before .before .left-found .given .1))))
 
 enum-told-2 : tie.Need-enum-told-2
 enum-told-2 c = search needs
@@ -80,7 +80,7 @@ returns-3 c =
     let l = left-side (r .before) in
     let p = patterns (r .before .before .before .before .before) in
     c .refuse3 .ensures
-    ∙ sym (ap sheet-of (right-fault _ (p .fields) _ (p .reads) (l .side) _ (l .reads) _ (side-fault (r .side2 .result) _ _ (r .side2 .ensures) (c .before .before .right-found .given .1))))
+    ∙ sym (ap sheet-of (right-fault _ (p .fields) _ (p .reads) (l .side) _ (l .reads) _ _ (side-fault (r .side2 .result) _ _ (r .side2 .ensures) (c .before .before .right-found .given .1))))
 
 enum-told-3 : tie.Need-enum-told-3
 enum-told-3 c = search needs

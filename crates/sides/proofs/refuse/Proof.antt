@@ -1,5 +1,4 @@
 -- `sides::refuse` meets its contract: the code's fault is that of the paper. Assumes nothing.
-use borrow.Author.Needs.{needs}
 use Rattle.answers.proofs.Same.{same-fault}
 use Rattle.sides.proofs.refuse.Statement.{statement}
 use Rattle.sides.proofs.refuse.Tie as tie

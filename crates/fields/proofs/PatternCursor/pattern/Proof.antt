@@ -1,19 +1,23 @@
 -- `fields::PatternCursor::pattern` meets its contract: each way out is the case of the definition that the checks on the way leave.
 -- Assumes nothing.
-use Prim.Native.Nat.{_+_, _-_, _<_}
+use Prim.Native.Nat.{ℕ, _+_, _-_, _<_}
 use native.Mathlib.Nat.{add-assoc}
 use native.Mathlib.Numerals.{add-one}
 use native.Mathlib.Omega.{arith}
 use mathlib.Core.Path.{_≡_, sym, _∙_}
+use mathlib.Core.List.{List}
 use denote.Ref.{now}
 use borrow.Author.Needs.{needs}
 use borrow.Author.Tests.{lt-ltb, le-ltb}
 use lib.Dec.{leb, ltb}
+use lib.ListN.{length, drop, length-drop}
+use lib.Seq.{length-take-le}
 use Rattle.paper.specs.Numbers.{fields}
 use Rattle.paper.specs.Pattern.{Pattern}
-use Rattle.paper.specs.Written.{Judged, judge, judged}
+use Rattle.paper.specs.Written.{Judged, not-one-pattern, too-many-leaves, judge, judged}
 use Rattle.paper.specs.Sheet.{read, body, byte-at, pattern-judged, pattern-record}
 use Rattle.paper.proofs.base.Tests.{or-left-false, leb-false}
+use Rattle.paper.proofs.places.Judged.{within-not-one, within-too-many}
 use Rattle.patterns.specs.Worked.{worked-of}
 use Rattle.fields.proofs.Verdicts.{told-not-one, told-too-many, told-good}
 use Rattle.fields.proofs.PatternCursor.pattern.Statement.{statement}
@@ -22,27 +26,27 @@ use Rattle.fields.proofs.PatternCursor.pattern.Tie as tie
 sub-left : tie.Need-sub-left
 sub-left c = search needs
 
-refuse-requires : tie.Need-refuse-requires
-refuse-requires c κs = search needs
+refuse-at-requires : tie.Need-refuse-at-requires
+refuse-at-requires c κs = search needs
 
-refuse-requires-2 : tie.Need-refuse-requires-2
-refuse-requires-2 c κs = search needs
+refuse-at-requires-2 : tie.Need-refuse-at-requires-2
+refuse-at-requires-2 c κs = search needs
 
-refuse-requires-3 : tie.Need-refuse-requires-3
-refuse-requires-3 c κs = search needs
+refuse-at-requires-3 : tie.Need-refuse-at-requires-3
+refuse-at-requires-3 c κs = search needs
 
-refuse-requires-4 : tie.Need-refuse-requires-4
-refuse-requires-4 c κs = search needs
+refuse-at-requires-4 : tie.Need-refuse-at-requires-4
+refuse-at-requires-4 c κs = search needs
 
-refuse-requires-5 : tie.Need-refuse-requires-5
-refuse-requires-5 c κs = search needs
+refuse-at-requires-5 : tie.Need-refuse-at-requires-5
+refuse-at-requires-5 c κs = search needs
 
-refuse-requires-6 : tie.Need-refuse-requires-6
-refuse-requires-6 c κs = search needs
+refuse-at-requires-6 : tie.Need-refuse-at-requires-6
+refuse-at-requires-6 c κs = search needs
 
 returns : tie.Need-returns
 unfolding pattern-record
-returns c = rw (c .refuse .ensures) (simp (lt-ltb _ _ (c .before .if1 .taken)))
+returns c = rw (c .refuse-at .ensures .0, c .refuse-at .ensures .1) (simp (lt-ltb _ _ (c .before .if1 .taken)))
 
 add-field : tie.Need-add-field
 add-field c = search needs
@@ -56,11 +60,14 @@ cast-field c = omega (arith, c .shared-slice-known2 .given (c .before .before .b
 wrong-field-requires : tie.Need-wrong-field-requires
 wrong-field-requires c κs = search needs
 
+add-refuse-at : tie.Need-add-refuse-at
+add-refuse-at c = search needs
+
 returns-2 : tie.Need-returns-2
 unfolding pattern-record
 returns-2 c =
     let field = c .before in
-    rw (c .refuse2 .ensures)
+    rw (c .refuse-at2 .ensures .0, c .refuse-at2 .ensures .1)
     (simp (le-ltb _ _ (field .before .before .before .if1 .left), ← field .before .wrong-field .ensures, field .if2 .taken))
 
 add-len : tie.Need-add-len
@@ -75,12 +82,15 @@ cast-len c = omega (arith, c .shared-slice-known3 .given (c .before .before .bef
 wrong-length-requires : tie.Need-wrong-length-requires
 wrong-length-requires c κs = search needs
 
+add-refuse-at-2 : tie.Need-add-refuse-at-2
+add-refuse-at-2 c = search needs
+
 returns-3 : tie.Need-returns-3
 unfolding pattern-record
 returns-3 c =
     let length = c .before in
     let field = length .before .before .before in
-    rw (c .refuse3 .ensures)
+    rw (c .refuse-at3 .ensures .0, c .refuse-at3 .ensures .1)
     (simp (
       le-ltb _ _ (field .before .before .before .if1 .left),
       ← field .before .wrong-field .ensures,
@@ -99,7 +109,7 @@ unfolding pattern-record
 returns-4 c =
     let length = c .before .before in
     let field = length .before .before .before in
-    rw (c .refuse4 .ensures)
+    rw (c .refuse-at4 .ensures .0, c .refuse-at4 .ensures .1)
     (simp (
       le-ltb _ _ (field .before .before .before .if1 .left),
       ← field .before .wrong-field .ensures,
@@ -145,20 +155,31 @@ field-known c =
     leb-false fields f
     (or-left-false (leb fields f) (ltb f (a .self .above)) (sym (c .before .wrong-field .ensures) ∙ c .if2 .left))
 
-add-t30 : tie.Need-add-t30
-add-t30 c = omega (arith, field-known (c .before .before .before .before .before .before .before .before .before))
+add-t36 : tie.Need-add-t36
+add-t36 c = omega (arith, field-known (c .before .before .before .before .before .before .before .before .before))
 
--- what the body is judged
-abbrev judgement : tie.Else4 → Judged
-judgement c =
+-- the body, whose bytes are all there, and what it is judged
+abbrev its-body : tie.Else4 → List ℕ
+its-body c =
     let a = c .before .before .before .before .before .before .before .before .before .args in
-    judge (body (now (a .s)) (a .self .at + 4) (byte-at (now (a .s)) (a .self .at + 3)))
+    body (now (a .s)) (a .self .at + 4) (byte-at (now (a .s)) (a .self .at + 3))
+
+there : (c : tie.Else4) →
+    let a = c .before .before .before .before .before .before .before .before .before .args in
+    length (its-body c) ≡ byte-at (now (a .s)) (a .self .at + 3)
+there c =
+    let a = c .before .before .before .before .before .before .before .before .before .args in
+    let n = byte-at (now (a .s)) (a .self .at + 3) in
+    length-take-le n (drop (a .self .at + 4) (now (a .s))) (omega (arith, length-drop (a .self .at + 4) (now (a .s)), c .if4 .left))
+
+abbrev judgement : tie.Else4 → Judged
+judgement c = judge (its-body c)
 
 -- the checks before the pattern are passed
 past-length : (c : tie.Else4) →
     let a = c .before .before .before .before .before .before .before .before .before .args in
     pattern-record (now (a .s)) (a .self .at) (a .self .above)
-    ≡ pattern-judged (judgement c) (byte-at (now (a .s)) (a .self .at + 2)) (a .self .at + (4 + byte-at (now (a .s)) (a .self .at + 3)))
+    ≡ pattern-judged (judgement c) (a .self .at + 4) (byte-at (now (a .s)) (a .self .at + 2)) (a .self .at + (4 + byte-at (now (a .s)) (a .self .at + 3)))
 unfolding pattern-record
 past-length c =
     let length = c .before in
@@ -180,19 +201,34 @@ worked c =
     let e : (a .self .at + 4 + n) - (a .self .at + 4) ≡ n = omega arith in
     rw e at (c .tables .ensures)
 
+-- the bytes at fault
+not-one : (c : tie.After-enum-told) → let w = c .before .before in judgement (w .before .before) ≡ not-one-pattern (w .tables .result .at)
+not-one c = let w = c .before .before in told-not-one (w .tables .result) (judgement (w .before .before)) (worked w) (c .enum-told .given .1)
+
+too-many : (c : tie.After-enum-told2) → let w = c .before .before in judgement (w .before .before) ≡ too-many-leaves (w .tables .result .at)
+too-many c = let w = c .before .before in told-too-many (w .tables .result) (judgement (w .before .before)) (worked w) (c .enum-told2 .given .1)
+
+add-refuse-at-3 : tie.Need-add-refuse-at-3
+add-refuse-at-3 c =
+    let told = c .before in
+    let e = told .before .before .before .before in
+    omega (arith, within-not-one (its-body e) _ (not-one told), there e, e)
+
+add-refuse-at-4 : tie.Need-add-refuse-at-4
+add-refuse-at-4 c =
+    let told = c .before in
+    let e = told .before .before .before .before in
+    omega (arith, within-too-many (its-body e) _ (too-many told), there e, e)
+
 returns-5 : tie.Need-returns-5
 returns-5 c =
-    let told = c .before in
-    let w = told .before .before in
-    rw
-    (c .refuse5 .ensures, past-length (w .before .before), told-not-one (w .tables .result) (judgement (w .before .before)) (worked w) (told .enum-told .given .1))
+    let told = c .before .before in
+    rw (c .refuse-at5 .ensures .0, c .refuse-at5 .ensures .1, past-length (told .before .before .before .before), not-one told)
 
 returns-6 : tie.Need-returns-6
 returns-6 c =
-    let told = c .before in
-    let w = told .before .before in
-    rw
-    (c .refuse6 .ensures, past-length (w .before .before), told-too-many (w .tables .result) (judgement (w .before .before)) (worked w) (told .enum-told2 .given .1))
+    let told = c .before .before in
+    rw (c .refuse-at6 .ensures .0, c .refuse-at6 .ensures .1, past-length (told .before .before .before .before), too-many told)
 
 -- a good pattern is read, and reading goes on behind it
 reads-good : (c : tie.Else4) (p : Pattern) → judgement c ≡ judged p →
@@ -222,22 +258,24 @@ pattern-spec =
     tie.close
     (tie.spec
     sub-left
-    refuse-requires
+    refuse-at-requires
     returns
     add-field
     shared-slice-read-field
     cast-field
     wrong-field-requires
-    refuse-requires-2
+    add-refuse-at
+    refuse-at-requires-2
     returns-2
     add-len
     shared-slice-read-len
     cast-len
     wrong-length-requires
-    refuse-requires-3
+    add-refuse-at-2
+    refuse-at-requires-3
     returns-3
     add-if4
-    refuse-requires-4
+    refuse-at-requires-4
     returns-4
     add-start
     add-end
@@ -246,11 +284,13 @@ pattern-spec =
     part-tables-end
     tables-requires
     enum-told
-    refuse-requires-5
+    add-refuse-at-3
+    refuse-at-requires-5
     enum-told-2
-    refuse-requires-6
+    add-refuse-at-4
+    refuse-at-requires-6
     enum-told-3
-    add-t30
+    add-t36
     returns-5
     returns-6
     returns-7)

@@ -21,7 +21,7 @@ returns c follow =
     let s = c .before .before .before .before .before in
     let a = s .args in
     as-char (a .s .now) (a .o) (working follow (a .taking .now)) (working follow _) (c .leaf .result) (s .pre .1) (c .before .before .if1 .taken)
-    (leaf-as _ _ _ (a .o) follow (a .taking .now) _ (c .leaf .result) (c .leaf .ensures) (drop 1 (a .s .now)) (length-drop 1 (a .s .now)))
+    (leaf-as _ _ _ _ (a .o) follow (a .taking .now) _ (c .leaf .result) (c .leaf .ensures) (drop 1 (a .s .now)) (length-drop 1 (a .s .now)))
 
 sub-empty : tie.Need-sub-empty
 sub-empty c = search needs

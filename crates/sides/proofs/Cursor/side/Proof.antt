@@ -1,5 +1,5 @@
 -- `sides::Cursor::side` meets its contract: each way out is the case of the definition that the tests on the way leave. Assumes nothing.
-use mathlib.Core.Path.{_≡_, sym, _∙_}
+use mathlib.Core.Path.{sym, _∙_}
 use denote.Ref.{now}
 use borrow.Author.Needs.{needs}
 use borrow.Author.Tests.{not-true, not-false}

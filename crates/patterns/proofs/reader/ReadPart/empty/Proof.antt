@@ -2,12 +2,13 @@
 use native.Mathlib.Omega.{arith}
 use mathlib.Core.Path.{refl, sym}
 use Rattle.places.proofs.MaskOf.{mask-of-none}
+use Rattle.patterns.proofs.Surplus.{surplus-none}
 use Rattle.patterns.proofs.reader.ReadPart.empty.Statement.{statement}
 use Rattle.patterns.proofs.reader.ReadPart.empty.Tie as tie
 
 returns : tie.Need-returns
 returns c rest e =
-    record { ok = refl; left = sym e; next = omega arith; empty = refl; first = sym mask-of-none; last = sym mask-of-none }
+    record { ok = refl; left = sym e; each = refl; next = omega arith; surplus = surplus-none (c .args .o); empty = refl; first = sym mask-of-none; last = sym mask-of-none }
 
 pub empty-spec : {M : Type 1} → statement M
 empty-spec = tie.close (tie.spec returns)

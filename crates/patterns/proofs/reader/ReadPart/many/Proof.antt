@@ -4,8 +4,8 @@ use Rattle.patterns.proofs.reader.ReadPart.many.Statement.{statement}
 use Rattle.patterns.proofs.reader.ReadPart.many.Tie as tie
 
 returns : tie.Need-returns
-returns c p rest o x =
-    record { ok = x .ok; left = x .left; next = x .next; empty = refl; first = x .first; last = x .last }
+returns c p starts rest o x =
+    record { ok = x .ok; left = x .left; each = x .each; next = x .next; surplus = x .surplus; empty = refl; first = x .first; last = x .last }
 
 pub many-spec : {M : Type 1} → statement M
 many-spec = tie.close (tie.spec returns)

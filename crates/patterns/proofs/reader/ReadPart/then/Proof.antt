@@ -4,11 +4,17 @@ use Prim.Native.Nat.{ℕ, _+_}
 use native.Mathlib.Omega.{arith}
 use mathlib.Core.Path.{ap₂, _∙_}
 use mathlib.Core.Bool.{Bool, cond, _&&_}
+use lib.Dec.{eqb}
 use lib.Bits.{bitOr}
+use lib.ListN.{length-append}
 use Rattle.paper.specs.Places.{leaves, takes-empty, may-be-first, may-be-last}
+use Rattle.patterns.proofs.Surplus.{surplus-both}
 use Rattle.places.proofs.MaskOf.{mask-of-or, mask-of-cond}
 use Rattle.patterns.proofs.reader.ReadPart.then.Statement.{statement}
 use Rattle.patterns.proofs.reader.ReadPart.then.Tie as tie
+
+earlier-requires : tie.Need-earlier-requires
+earlier-requires c κs = search needs
 
 when-requires : tie.Need-when-requires
 when-requires c κs = search needs
@@ -17,11 +23,14 @@ when-requires-2 : tie.Need-when-requires-2
 when-requires-2 c κs = search needs
 
 returns : tie.Need-returns
-returns c p q s rest o x y =
+returns c p q starts s more rest o x y =
     record {
       ok = y .ok;
       left = y .left;
+      each = length-append starts more ∙ ap₂ _+_ (x .each) (y .each);
       next = y .next ∙ omega arith;
+      surplus = c .before .before .before .before .before .before .earlier .ensures ∙ ap₂ (λ (m n : ℕ). cond (eqb m 0) n m) (x .surplus) (y .surplus)
+          ∙ rw (← x .each) (surplus-both starts more o);
       empty = ap₂ _&&_ (x .empty) (y .empty);
       first =
           ap₂ bitOr (x .first)
@@ -38,4 +47,4 @@ returns c p q s rest o x y =
     }
 
 pub then-spec : {M : Type 1} → statement M
-then-spec = tie.close (tie.spec when-requires when-requires-2 returns)
+then-spec = tie.close (tie.spec earlier-requires when-requires when-requires-2 returns)

@@ -1,0 +1,162 @@
+-- For whoever shows the byte at fault: where a sheet or a rule is refused, the place is one of its bytes; the end, where a sheet is cut short; and
+-- where bytes are not one pattern, one of them or the end.
+--   sheet-shown : read-sheet s ≡ refused x at → Shown s x at
+--   rule-shown  : read-rule s ≡ faulty x at → Shown s x at
+-- Follows from the checks on the records, test by test: a byte that is judged is there. For a pattern's bytes from `within-not-one` and
+-- `too-many-inside` of `Judged`. Which of a pattern's bytes it is stands in `Continued` for 15 and in `LeafPlace` for 16.
+use Prim.Native.Nat.{ℕ, zero, suc, _+_, _-_, _≤_, _<_}
+use native.Mathlib.Omega.{arith}
+use mathlib.Core.Path.{_≡_, refl, subst}
+use mathlib.Core.Bool.{Bool, true, false, _||_}
+use mathlib.Core.List.{List, [], _∷_}
+use lib.Dec.{leb, ltb, eqb}
+use lib.ListN.{length, drop, length-take, length-drop}
+use Rattle.paper.specs.Lists.{all, leading}
+use Rattle.paper.specs.Numbers.{fields, pattern-bytes, sheet-side}
+use Rattle.paper.specs.Pattern.{Held}
+use Rattle.paper.specs.Written.{Judged, judged, judge}
+use Rattle.paper.specs.Written as Written
+use Rattle.paper.specs.Equation.{Side}
+use Rattle.paper.specs.Question.{Question}
+use Rattle.paper.specs.Sheet.{Fault, cut-short, wrong-mark, wrong-field, wrong-length, not-one-pattern, too-many-leaves, wrong-token}
+use Rattle.paper.specs.Sheet.{Checked, fault, read, FieldPattern, byte-at, bytes-left, body, Mark, PA, LE, RI, RU, marked}
+use Rattle.paper.specs.Sheet.{pattern-judged, pattern-record, is-token, side-record, marked-side, Records, faulty, records, Fields}
+use Rattle.paper.specs.Sheet.{open-fields, next-is, with-pattern, pattern-read, read-patterns, Reading, refused, asked, read-end, right-read, left-read, sides-read, read-sheet}
+use Rattle.paper.specs.Rule.{Rule, with-side, side-read, rule-front, rule-end, read-rule}
+use Rattle.paper.proofs.base.Tests.{by-bool, cond-by, true-false, ltb-true, ltb-false}
+use Rattle.paper.proofs.places.Judged.{within-not-one, too-many-inside}
+
+-- "The place should be the byte itself: for 11 the sheet's length". For 15, where the code runs out, it is the byte behind the pattern's, or the
+-- end.
+abbrev pub Shown : List ℕ → Fault → ℕ → Type 0
+Shown s cut-short at = at ≡ length s
+Shown s wrong-mark at = at < length s
+Shown s wrong-field at = at < length s
+Shown s wrong-length at = at < length s
+Shown s not-one-pattern at = at ≤ length s
+Shown s too-many-leaves at = at < length s
+Shown s wrong-token at = at < length s
+
+-- the first that fails the test is one of them
+leading-below : (p : ℕ → Bool) (l : List ℕ) → all p l ≡ false → leading p l < length l
+leading-below p [] h = absurd (true-false refl h)
+leading-below p (x ∷ l) h =
+    by-bool (p x)
+    (λ (t : p x ≡ true). rw t (let k = leading-below p l (rw t at h) in omega arith))
+    (λ (f : p x ≡ false). rw f (omega arith))
+
+module _ (s : List ℕ) where
+  -- what a check on a record finds, what reading records gives and what reading a sheet gives, if it is a fault
+  abbrev CheckShown : {A : Type 0} → Checked A → Type 0
+  CheckShown (fault x at) = Shown s x at
+  CheckShown (read a next) = Unit {0}
+
+  abbrev RecordsShown : {A : Type 0} → Records A → Type 0
+  RecordsShown (faulty x at) = Shown s x at
+  RecordsShown (records a next) = Unit {0}
+
+  abbrev SheetShown : Reading → Type 0
+  SheetShown (refused x at) = Shown s x at
+  SheetShown (asked q) = Unit {0}
+
+  body-length : (at n : ℕ) → length (body s at n) ≤ length s - at
+  body-length at n = rw (length-take n (drop at s), length-drop at s) (omega arith)
+
+  -- Patterns.
+  judged-shown : (start f next : ℕ) (b : List ℕ) → start + length b ≤ length s → (j : Judged) → judge b ≡ j
+      → CheckShown (pattern-judged j start f next)
+  judged-shown start f next b h (Written.not-one-pattern i) e = let k = within-not-one b i e in omega arith
+  judged-shown start f next b h (Written.too-many-leaves i) e = let k = too-many-inside b i e in omega arith
+  judged-shown start f next b h (judged p) e = tt
+
+  pattern-shown : (at least : ℕ) → CheckShown (pattern-record s at least)
+  unfolding pattern-record
+  pattern-shown at least =
+      let f = byte-at s (at + 2) in
+      let n = byte-at s (at + 3) in
+      cond-by CheckShown (ltb (bytes-left s at) 4) (λ _. refl)
+      (λ h. let left = ltb-false (bytes-left s at) 4 h in
+      cond-by CheckShown (leb fields f || ltb f least) (λ _. omega arith)
+      (λ _. cond-by CheckShown (eqb n 0 || ltb pattern-bytes n) (λ _. omega arith)
+      (λ _. cond-by CheckShown (ltb (bytes-left s at) (4 + n)) (λ _. refl)
+      (λ _. judged-shown (at + 4) f (at + (4 + n)) (body s (at + 4) n) (omega (arith, body-length (at + 4) n)) (judge (body s (at + 4) n)) refl))))
+
+  behind-shown : (fs : Fields) (go-on : ℕ → Fields → Records Fields) (x : Checked FieldPattern)
+      → ((next : ℕ) (more : Fields) → RecordsShown (go-on next more))
+      → CheckShown x → RecordsShown (pattern-read fs go-on x)
+  behind-shown fs go-on (fault x at) i h = h
+  behind-shown fs go-on (read fp next) i h = i next (with-pattern fs fp)
+
+  patterns-shown : (n at : ℕ) (fs : Fields) → RecordsShown (read-patterns n s at fs)
+  patterns-shown zero at fs = refl
+  patterns-shown (suc n) at fs =
+      cond-by RecordsShown (next-is PA s at)
+      (λ _. behind-shown fs (read-patterns n s) (pattern-record s at (fs .above)) (patterns-shown n) (pattern-shown at (fs .above)))
+      (λ _. tt)
+
+  -- Sides.
+  side-shown : (at : ℕ) → CheckShown (side-record s at)
+  unfolding side-record
+  side-shown at =
+      let n = byte-at s (at + 2) in
+      let b = body s (at + 3) n in
+      cond-by CheckShown (ltb (bytes-left s at) 3) (λ _. refl)
+      (λ h. let left = ltb-false (bytes-left s at) 3 h in
+      cond-by CheckShown (ltb sheet-side n) (λ _. omega arith)
+      (λ _. cond-by CheckShown (ltb (bytes-left s at) (3 + n)) (λ _. refl)
+      (λ _. cond-by CheckShown (all is-token b) (λ _. tt)
+      (λ t. omega (arith, leading-below is-token b t, body-length (at + 3) n)))))
+
+  marked-shown : (m : Mark) (at : ℕ) → CheckShown (marked-side m s at)
+  unfolding marked-side
+  marked-shown m at =
+      cond-by CheckShown (ltb (bytes-left s at) 2) (λ _. refl)
+      (λ h. cond-by CheckShown (marked m s at) (λ _. side-shown at)
+      (λ _. let left = ltb-false (bytes-left s at) 2 h in omega arith))
+
+  -- The sheet.
+  end-shown : (at : ℕ) (q : Question) → SheetShown (read-end s at q)
+  unfolding read-end
+  end-shown at q = cond-by SheetShown (ltb at (length s)) (λ h. let k = ltb-true at (length s) h in omega arith) (λ _. tt)
+
+  right-shown : (held : List Held) (l : Side) (x : Checked Side) → CheckShown x → SheetShown (right-read s held l x)
+  right-shown held l (fault x at) h = h
+  right-shown held l (read r next) h = end-shown next (record { left = l; right = r; held = held })
+
+  left-shown : (held : List Held) (x : Checked Side) → CheckShown x → SheetShown (left-read s held x)
+  left-shown held (fault x at) h = h
+  left-shown held (read l next) h = right-shown held l (marked-side RI s next) (marked-shown RI next)
+
+  sides-shown : (x : Records Fields) → RecordsShown x → SheetShown (sides-read s x)
+  sides-shown (faulty x at) h = h
+  sides-shown (records fs at) h = left-shown (fs .held) (marked-side LE s at) (marked-shown LE at)
+
+  -- The rule.
+  with-side-shown : (fs : Fields) (x : Checked Side) → CheckShown x → RecordsShown (with-side fs x)
+  with-side-shown fs (fault x at) h = h
+  with-side-shown fs (read side next) h = tt
+
+  side-read-shown : (x : Records Fields) → RecordsShown x → RecordsShown (side-read s x)
+  side-read-shown (faulty x at) h = h
+  side-read-shown (records fs at) h = with-side-shown fs (marked-side LE s at) (marked-shown LE at)
+
+  front-shown : RecordsShown (rule-front s)
+  unfolding rule-front
+  front-shown =
+      cond-by RecordsShown (ltb (length s) 2) (λ _. refl)
+      (λ h. cond-by RecordsShown (marked RU s 0)
+      (λ _. side-read-shown (read-patterns (suc (length s)) s 2 open-fields) (patterns-shown (suc (length s)) 2 open-fields))
+      (λ _. let k = ltb-false (length s) 2 h in omega arith))
+
+  end-of-rule-shown : (x : Records Rule) → RecordsShown x → RecordsShown (rule-end s x)
+  end-of-rule-shown (faulty x at) h = h
+  end-of-rule-shown (records r next) h = cond-by RecordsShown (ltb next (length s)) (λ h. let k = ltb-true next (length s) h in omega arith) (λ _. tt)
+
+pub sheet-shown : (s : List ℕ) (x : Fault) (at : ℕ) → read-sheet s ≡ refused x at → Shown s x at
+unfolding read-sheet
+sheet-shown s x at e =
+    subst (SheetShown s) e (sides-shown s (read-patterns (suc (length s)) s 0 open-fields) (patterns-shown s (suc (length s)) 0 open-fields))
+
+pub rule-shown : (s : List ℕ) (x : Fault) (at : ℕ) → read-rule s ≡ faulty x at → Shown s x at
+unfolding read-rule
+rule-shown s x at e = subst (RecordsShown s) e (end-of-rule-shown s (rule-front s) (front-shown s))

@@ -1,0 +1,199 @@
+//! The faults of a sheet or a rule looked for once more, by counting instead of
+//! going down a pattern: the number, the place, and what shows the fault.
+
+use std::collections::BTreeMap;
+
+/// What shows a fault.
+#[derive(Clone, Copy, Debug, PartialEq, Eq, PartialOrd, Ord)]
+pub enum Shown {
+    CutShort,
+    Mark,
+    BehindTheEnd,
+    Field,
+    PatternLength,
+    SideLength,
+    NoCode,
+    LoAbove42,
+    LoAbove42WithoutHi,
+    HiAbove42,
+    HiBelowLo,
+    LeftOver,
+    LeftOverNoCode,
+    RunsOut,
+    /// A 15 of one of these kinds in a pattern with 32 leaves before it.
+    BehindThe32ndLeaf,
+    Character,
+    Range,
+    FirstToken,
+    LaterToken,
+}
+
+use Shown::*;
+
+/// Number, place, and what shows the fault; of a pattern, the place is counted
+/// from its first byte.
+type Fault = (u8, usize, Shown);
+
+/// A fault and whether it is met in the first record or in a later one; a
+/// rule's `RU` is no record of its own here.
+#[derive(Clone, Copy, Debug, PartialEq, Eq)]
+pub struct Met {
+    pub number: u8,
+    pub place: usize,
+    pub shown: Shown,
+    pub later: bool,
+}
+
+/// The first fault of records that stand behind this front, the last of them
+/// sides with these marks.
+pub fn met(bytes: &[u8], front: &[u8], sides: &[&[u8; 2]]) -> Option<Met> {
+    let mut sides = sides.iter().peekable();
+    let mut field_before = None;
+    let mut at = 0;
+    loop {
+        let next_side = sides.peek().map(|mark| &mark[..]);
+        let read = match (next_side, &bytes[at..]) {
+            (None, []) => return None,
+            (None, _) => Err((12, at, BehindTheEnd)),
+            (Some(_), [] | [_]) => Err((11, bytes.len(), CutShort)),
+            (Some(_), rest) if at < front.len() => {
+                rest.starts_with(front).then_some(front.len()).ok_or((12, at, Mark))
+            }
+            (Some(b"LE"), [b'P', b'A', ..]) => pattern_record(bytes, at, &mut field_before),
+            (Some(side), rest) if rest.starts_with(side) => {
+                sides.next();
+                side_record(bytes, at)
+            }
+            _ => Err((12, at, Mark)),
+        };
+        match read {
+            Ok(end) => at = end,
+            Err((number, place, shown)) => {
+                return Some(Met { number, place, shown, later: at > front.len() });
+            }
+        }
+    }
+}
+
+/// Where the record ends, or its fault.
+fn pattern_record(bytes: &[u8], at: usize, before: &mut Option<u8>) -> Result<usize, Fault> {
+    let body = at + 4;
+    if bytes.len() < body {
+        return Err((11, bytes.len(), CutShort));
+    }
+    let (field, length) = (bytes[at + 2], usize::from(bytes[at + 3]));
+    let end = body + length;
+    if field > 7 || Some(field) <= *before {
+        Err((13, at + 2, Field))
+    } else if length == 0 || length > 96 {
+        Err((14, at + 3, PatternLength))
+    } else if bytes.len() < end {
+        Err((11, bytes.len(), CutShort))
+    } else if let Some((number, place, shown)) = of_pattern(&bytes[body..end]) {
+        Err((number, body + place, shown))
+    } else {
+        *before = Some(field);
+        Ok(end)
+    }
+}
+
+fn side_record(bytes: &[u8], at: usize) -> Result<usize, Fault> {
+    let body = at + 3;
+    if bytes.len() < body {
+        return Err((11, bytes.len(), CutShort));
+    }
+    let end = body + usize::from(bytes[at + 2]);
+    if end > body + 24 {
+        return Err((14, at + 2, SideLength));
+    }
+    if bytes.len() < end {
+        return Err((11, bytes.len(), CutShort));
+    }
+    match bytes[body..end].iter().position(|token| !matches!(token, 0..=42 | 64..=71)) {
+        None => Ok(end),
+        Some(0) => Err((17, body, FirstToken)),
+        Some(number) => Err((17, body + number, LaterToken)),
+    }
+}
+
+fn of_pattern(body: &[u8]) -> Option<Fault> {
+    let mut leaves = Vec::new();
+    let wrong = of_codes(body, &mut leaves);
+    match (wrong, leaves.get(31)) {
+        (Some((place, _)), Some(_)) => Some((15, place, BehindThe32ndLeaf)),
+        (Some((place, shown)), None) => Some((15, place, shown)),
+        (None, Some(&(place, shown))) => Some((16, place, shown)),
+        (None, None) => None,
+    }
+}
+
+/// Where the bytes are not one pattern; the leaves up to there are gathered.
+fn of_codes(body: &[u8], leaves: &mut Vec<(usize, Shown)>) -> Option<(usize, Shown)> {
+    // So many patterns have still to come.
+    let mut missing = 1;
+    let mut at = 0;
+    while missing > 0 {
+        match body[at..] {
+            [] | [65] | [65, 0..=42] => return Some((body.len(), RunsOut)),
+            [65, 43..=255] => return Some((at + 1, LoAbove42WithoutHi)),
+            [65, 43..=255, ..] => return Some((at + 1, LoAbove42)),
+            [65, _, 43..=255, ..] => return Some((at + 2, HiAbove42)),
+            [65, lo, hi, ..] if hi < lo => return Some((at + 2, HiBelowLo)),
+            [65, ..] => {
+                leaves.push((at, Range));
+                missing -= 1;
+                at += 3;
+            }
+            [0..=42, ..] => {
+                leaves.push((at, Character));
+                missing -= 1;
+                at += 1;
+            }
+            [64, ..] => {
+                missing -= 1;
+                at += 1;
+            }
+            [66 | 67, ..] => {
+                missing += 1;
+                at += 1;
+            }
+            [68, ..] => at += 1,
+            _ => return Some((at, NoCode)),
+        }
+    }
+    match body[at..] {
+        [] => None,
+        [0..=42 | 64..=68, ..] => Some((at, LeftOver)),
+        _ => Some((at, LeftOverNoCode)),
+    }
+}
+
+/// Each of them comes up so many times, in the first record and in later ones.
+pub fn all_come_up(seen: &BTreeMap<(Shown, bool), usize>, times: usize) {
+    let everywhere = [
+        CutShort,
+        Mark,
+        Field,
+        PatternLength,
+        SideLength,
+        NoCode,
+        LoAbove42,
+        LoAbove42WithoutHi,
+        HiAbove42,
+        HiBelowLo,
+        LeftOver,
+        LeftOverNoCode,
+        RunsOut,
+        BehindThe32ndLeaf,
+        Character,
+        Range,
+        FirstToken,
+        LaterToken,
+    ];
+    let first = everywhere.map(|shown| (shown, false));
+    let later = everywhere.map(|shown| (shown, true));
+    for row in first.into_iter().chain(later).chain([(BehindTheEnd, true)]) {
+        let seen_times = seen.get(&row).copied().unwrap_or(0);
+        assert!(seen_times >= times, "{row:?}: {seen_times} of {seen:?}");
+    }
+}
