@@ -2,14 +2,17 @@
  * Bradovusc for C: can two part-label rules make the same label?
  *
  * A rule is fixed Code 39 characters with fields between them; a field may have a pattern. Two rules clash when one label can be
- * read by both. The two rules stand on a question sheet; the answer is a number, and after a clash a text for each field.
- * A catalogue has up to 32 rules in one buffer. A rule is added only if it clashes with none that is there; it can be withdrawn.
+ * read by both. Spaces at the end of a label are dropped before it is read, so LT4 and LT4 with a space are the same label. The two
+ * rules stand on a question sheet; the answer is a number, and after a clash a text for each field.
+ * A catalogue has up to 32 rules in one buffer. A rule is added only if it clashes with none that is there; it can be withdrawn. One
+ * that was kept can be checked again, pair by pair.
  *
- * The static library libexported.a, for x86-64 Linux, defines three functions: bradovusc_clash, bradovusc_add, bradovusc_withdraw.
- * They keep nothing from one call to the next, ask for no memory, and touch nothing but what they are lent, so calls in several
- * threads don't meet. Each takes at most about 40 KiB of stack; 35 were measured, in bradovusc_add. All else is in this header:
- * bradovusc_ask, bradovusc_enter and bradovusc_remove call them with any buffers, bradovusc_text and bradovusc_catalogue_text say a
- * number in words, bradovusc_next walks the texts of a clash, bradovusc_sign and bradovusc_value go between values and signs.
+ * The static library libexported.a, for x86-64 Linux, defines four functions: bradovusc_clash, bradovusc_add, bradovusc_withdraw,
+ * bradovusc_recheck. They keep nothing from one call to the next, ask for no memory, and touch nothing but what they are lent, so
+ * calls in several threads don't meet. Each takes at most about 40 KiB of stack; 37 were measured, in bradovusc_add. All else is in
+ * this header: bradovusc_ask, bradovusc_enter, bradovusc_remove and bradovusc_check_again call them with any buffers, bradovusc_text
+ * and bradovusc_catalogue_text say a number in words, bradovusc_next walks the texts of a clash, bradovusc_next_pair the pairs that
+ * were listed, bradovusc_sign and bradovusc_value go between values and signs.
  *
  * The header is C99 and C++11. The rules in full: docs/RULES.md.
  */
@@ -21,9 +24,9 @@
 
 /* The version of this header, of the library and of the Rust package. It rises where one of them, or a rule, changes for callers. */
 #define BRADOVUSC_VERSION_MAJOR 0
-#define BRADOVUSC_VERSION_MINOR 3
+#define BRADOVUSC_VERSION_MINOR 4
 #define BRADOVUSC_VERSION_PATCH 0
-#define BRADOVUSC_VERSION "0.3.0"
+#define BRADOVUSC_VERSION "0.4.0"
 
 #ifdef __cplusplus
 extern "C" {
@@ -35,12 +38,13 @@ extern "C" {
  * Of a sheet, 0 and 1 settle the question. So do 20 and 21: the rules clash, but the texts couldn't be written. 18 and 19 are
  * neither yes nor no. 11 to 17 say what is wrong with the sheet: the first fault met, whose byte is told as its place.
  *
- * Of a catalogue's call, 0 is success. 11 to 17 say what is wrong with the rule that was to be added, 30 to 34 why it can't be done.
+ * Of a catalogue's call, 0 is success. 11 to 17 say what is wrong with the rule that was to be added, 30 to 35 why it can't be done.
  */
 enum bradovusc_number {
-    /* The rules clash. The answer buffer says what each field holds on a label that both can make. */
+    /* The rules clash. The answer buffer says what each field holds on a label that both can make; one of the two may have spaces
+     * at its end that the other has not. */
     BRADOVUSC_CLASH = 0,
-    /* The rules don't clash: no label, however long, can be made by both. */
+    /* The rules don't clash: no label, however long, and with whatever spaces at its end, can be made by both. */
     BRADOVUSC_NO_CLASH = 1,
 
     /* The sheet, or the rule, ends too early: a mark, a field byte, a length byte or a body is not all there. */
@@ -55,19 +59,19 @@ enum bradovusc_number {
     BRADOVUSC_NOT_ONE_PATTERN = 15,
     /* A pattern has more than 31 leaves. */
     BRADOVUSC_TOO_MANY_LEAVES = 16,
-    /* A side holds a byte that is neither a character nor a field. */
+    /* A side holds a byte that is neither a character nor a field 0 to 7. */
     BRADOVUSC_WRONG_TOKEN = 17,
 
     /* Given up: the working buffer is full. Lend a longer one, though some questions fill any. */
     BRADOVUSC_NO_ROOM = 18,
-    /* Given up: a side grew above 48 tokens. */
+    /* Given up: a side grew above 48 tokens, its hidden field counted. */
     BRADOVUSC_SIDE_TOO_LONG = 19,
     /* The rules clash, but the answer buffer is too short for the texts. Lend a longer one. */
     BRADOVUSC_ANSWER_TOO_SHORT = 20,
     /* The rules clash, but a text has more than 65,535 characters, too many for its record. */
     BRADOVUSC_TEXT_TOO_LONG = 21,
 
-    /* Of a catalogue's call: the rule was added, or withdrawn. */
+    /* Of a catalogue's call: the rule was added, or withdrawn, or the pairs are listed. */
     BRADOVUSC_DONE = 0,
     /* The new rule clashes with one that is there, or that is not decided. That rule and the answer of the pair are told. */
     BRADOVUSC_NOT_APART = 30,
@@ -78,7 +82,9 @@ enum bradovusc_number {
     /* No rule has the number that was to be withdrawn. */
     BRADOVUSC_NO_RULE = 33,
     /* The buffer is no catalogue. */
-    BRADOVUSC_NO_CATALOGUE = 34
+    BRADOVUSC_NO_CATALOGUE = 34,
+    /* The list buffer is too short for all the pairs that are to be listed. None is. */
+    BRADOVUSC_LIST_TOO_SHORT = 35
 };
 
 /* The number in words, 0 as the answer of a sheet or a pair. Never null. */
@@ -120,6 +126,8 @@ static inline const char *bradovusc_text(uint32_t number) {
         return "no rule has that number";
     case BRADOVUSC_NO_CATALOGUE:
         return "the buffer is no catalogue";
+    case BRADOVUSC_LIST_TOO_SHORT:
+        return "the list buffer is too short for the pairs";
     default:
         return "no number of an answer";
     }
@@ -160,21 +168,26 @@ static inline int bradovusc_value(int sign) {
  * A token is a character, 0 to 42 (the digits, A to Z, then - . space $ / + %), or 64 to 71, field 0 to 7.
  * A pattern is written operator first: 0 to 42 that character; 64 the empty text; 65 lo hi one character from lo to hi;
  * 66 A B first A then B; 67 A B one of the two; 68 A any number of A, none included. A field without a pattern holds any text.
+ *
+ * Labels are compared without the spaces, 38, at their ends; a space elsewhere is a character like the others. So each side is
+ * searched as if one hidden field, of any number of spaces, stood at its end: field 8 on the left, field 9 on the right. It is not
+ * written, 72 and 73 are no tokens, it does not count among the 24, and it has no text in the answer.
  */
 
 /*
  * The working buffer. A situation of the search takes 144 bytes. Room is counted in whole situations, at most 65,535; bytes beyond
  * that are no use. Where no field stands more than once in the two sides together, (1 + L) * (1 + R) situations are always enough,
- * unless that is above 65,535: L adds, over the left side, one for each character and each field without a pattern, and for a field
- * with a pattern the number of its reachable place sets; R does so for the right side. Other questions may need any number. The
- * program `clash` lends 455 situations. The buffer need not be cleared beforehand.
+ * unless that is above 65,535: L adds, over the left side, one for each character and each field without a pattern, for a field
+ * with a pattern the number of its reachable place sets, and 2 for the hidden field; R does so for the right side. Other questions
+ * may need any number. The program `clash` lends 455 situations. The buffer need not be cleared beforehand.
  */
 #define BRADOVUSC_SITUATION_BYTES 144
 #define BRADOVUSC_MOST_SITUATIONS 65535
 #define BRADOVUSC_WORK_BYTES(situations) ((size_t)BRADOVUSC_SITUATION_BYTES * (size_t)(situations))
 
 /*
- * The answer buffer. A clash writes, for each field that stands in a side, by rising number, one record directly behind the other:
+ * The answer buffer. A clash writes, for each field that stands in a side of the sheet, by rising number, one record directly behind
+ * the other:
  *
  *   VA  field, length in two bytes (low first), that many characters 0 to 42
  *
@@ -315,8 +328,9 @@ static inline struct bradovusc_answer bradovusc_ask(const uint8_t *sheet, size_t
  * the first byte on, at most 32 of them, and all bytes behind the last one are zero. A rule's number is its place in that order,
  * from 0. All bytes zero, or no byte at all, is the empty catalogue. Between calls the buffer may be stored and moved.
  *
- * A catalogue that began empty and was changed by these calls alone has no two rules that make the same label. Of a buffer filled
- * otherwise only the form is looked at, at each call, and not whether its rules clash.
+ * A catalogue that began empty and was changed by bradovusc_add and bradovusc_withdraw alone has no two rules that make the same
+ * label. Of a buffer filled otherwise these two look only at the form, and not whether its rules clash. Nor do they in one that was
+ * kept since an older version: up to 0.3 a space at the end made another label. bradovusc_recheck looks at all of its pairs.
  *
  * A record has at most 429 bytes, so a buffer of that many for each rule is always long enough.
  */
@@ -363,6 +377,46 @@ uint32_t bradovusc_add(uint8_t *catalogue, size_t catalogue_length, const uint8_
  */
 uint32_t bradovusc_withdraw(uint8_t *catalogue, size_t catalogue_length, size_t number);
 
+/*
+ * The list buffer. Checking again writes five bytes for each pair that is listed, directly behind those of the one before:
+ *
+ *   the lower number of the two rules, the higher one, the answer of the pair, its count in two bytes (low first)
+ *
+ * The answer is BRADOVUSC_CLASH, BRADOVUSC_NO_ROOM or BRADOVUSC_SIDE_TOO_LONG. So many bytes are always enough for this number of
+ * rules; for 32 rules, which have 496 pairs, that is 2,480.
+ */
+#define BRADOVUSC_PAIR_BYTES 5
+#define BRADOVUSC_LIST_BYTES(rules) (BRADOVUSC_PAIR_BYTES * ((size_t)(rules) * ((size_t)(rules) - 1) / 2))
+
+/*
+ * What bradovusc_recheck tells beside the number, by its index in `told`; both are 0 after 34 and 35. Fewer elements than these are
+ * filled as far as there are any; elements behind them are left as they are.
+ */
+enum bradovusc_told_rechecked {
+    /* the pairs that are listed */
+    BRADOVUSC_RECHECKED_PAIRS = 0,
+    /* bytes written to the list buffer: five for each of them */
+    BRADOVUSC_RECHECKED_WRITTEN = 1,
+    BRADOVUSC_RECHECKED_TOLD = 2
+};
+
+/*
+ * Checks every pair of the catalogue's rules again, the one with the lower number as the left side, each in the whole working
+ * buffer. The pairs that are not answered 1 are listed, by the lower number, then the higher one: those that clash, and those that
+ * are not decided. Where 0 is returned and no pair is listed, no two rules make the same label, wherever the catalogue is from. No
+ * byte of it changes. Afterwards
+ *
+ *   number    list buffer                      working buffer
+ *   0         the list, the rest unchanged     all zero; unchanged if fewer than two rules are there
+ *   35        unchanged                        all zero
+ *   34        unchanged                        unchanged
+ *
+ * 34 comes before 35. Any bytes and any lengths are taken, 0 included. Each pointer must be that of so many elements, and not null,
+ * also where the length is 0; the four must not overlap.
+ */
+uint32_t bradovusc_recheck(const uint8_t *catalogue, size_t catalogue_length, uint8_t *work, size_t work_length, uint8_t *list,
+                           size_t list_length, uint64_t *told, size_t told_length);
+
 /* An addition's answer: the number, and what is told beside it. */
 struct bradovusc_added {
     uint32_t number;
@@ -390,6 +444,72 @@ static inline struct bradovusc_added bradovusc_enter(uint8_t *catalogue, size_t 
 static inline uint32_t bradovusc_remove(uint8_t *catalogue, size_t catalogue_length, size_t number) {
     uint8_t no_catalogue = 0;
     return bradovusc_withdraw(catalogue == NULL && catalogue_length == 0 ? &no_catalogue : catalogue, catalogue_length, number);
+}
+
+/* What checking again answers: the number, and what is told beside it. */
+struct bradovusc_rechecked {
+    uint32_t number;
+    uint64_t pairs, written;
+};
+
+/* bradovusc_recheck with all three numbers at once, and each pointer may be null where its length is 0. This is the one to call. */
+static inline struct bradovusc_rechecked bradovusc_check_again(const uint8_t *catalogue, size_t catalogue_length, uint8_t *work,
+                                                               size_t work_length, uint8_t *list, size_t list_length) {
+    uint8_t no_catalogue = 0, no_work = 0, no_list = 0;
+    uint64_t told[BRADOVUSC_RECHECKED_TOLD] = {0, 0};
+    struct bradovusc_rechecked rechecked;
+    rechecked.number =
+        bradovusc_recheck(catalogue == NULL && catalogue_length == 0 ? &no_catalogue : catalogue, catalogue_length,
+                          work == NULL && work_length == 0 ? &no_work : work, work_length,
+                          list == NULL && list_length == 0 ? &no_list : list, list_length, told, BRADOVUSC_RECHECKED_TOLD);
+    rechecked.pairs = told[BRADOVUSC_RECHECKED_PAIRS];
+    rechecked.written = told[BRADOVUSC_RECHECKED_WRITTEN];
+    return rechecked;
+}
+
+/*
+ * A walk over the pairs of a list.
+ *
+ *   struct bradovusc_pairs pairs = bradovusc_pairs_in(list, written);
+ *   while (bradovusc_next_pair(&pairs)) {
+ *       .. pairs.lower, pairs.higher, pairs.answer, pairs.count ..
+ *   }
+ */
+struct bradovusc_pairs {
+    /* the two rules, the answer of their pair and the situations entered for it: what the last bradovusc_next_pair found */
+    uint64_t lower, higher;
+    uint32_t answer;
+    uint64_t count;
+    /* what is still to be walked */
+    const uint8_t *rest;
+    size_t rest_length;
+};
+
+/* From the first pair on. `written` is what checking again has told; with 0 the pointer may be null. */
+static inline struct bradovusc_pairs bradovusc_pairs_in(const uint8_t *list, size_t written) {
+    struct bradovusc_pairs pairs;
+    pairs.lower = 0;
+    pairs.higher = 0;
+    pairs.answer = 0;
+    pairs.count = 0;
+    pairs.rest = list;
+    pairs.rest_length = written;
+    return pairs;
+}
+
+/* 1 and the next pair, or 0: none is left, or fewer bytes are than a pair has. No byte behind the `written` ones is read. */
+static inline int bradovusc_next_pair(struct bradovusc_pairs *pairs) {
+    const uint8_t *bytes = pairs->rest;
+    if (pairs->rest_length < BRADOVUSC_PAIR_BYTES) {
+        return 0;
+    }
+    pairs->lower = bytes[0];
+    pairs->higher = bytes[1];
+    pairs->answer = bytes[2];
+    pairs->count = bytes[3] + (uint64_t)256 * bytes[4];
+    pairs->rest = bytes + BRADOVUSC_PAIR_BYTES;
+    pairs->rest_length -= BRADOVUSC_PAIR_BYTES;
+    return 1;
 }
 
 #ifdef __cplusplus

@@ -6,11 +6,13 @@
  *   AD  length in two bytes, that many bytes               add this rule
  *   WI  one byte                                           withdraw the rule with this number
  *   CA  length in two bytes, another, that many bytes      the catalogue is now a buffer of the first length: these bytes, then zeros
- *   WO  length in four bytes                               from now on so many bytes of work are lent to each AD
+ *   WO  length in four bytes                               from now on so many bytes of work are lent to each AD and RE
+ *   RE  length in two bytes                                check all pairs again, with a list buffer of so many bytes
  *
- * The stream ends where it ends, where an operation is cut short, has another mark or asks for more than is allowed. The line of AD
- * or WI is what is told, and every byte of the catalogue: those up to the last that is not zero one by one, the zeros by their
- * number; for AD the working buffer too, in a word where it is as it was lent, or all zero, and one by one where it is neither.
+ * The stream ends where it ends, where an operation is cut short, has another mark or asks for more than is allowed. The line of AD,
+ * WI or RE is what is told, and every byte of the catalogue: those up to the last that is not zero one by one, the zeros by their
+ * number; for RE before it the list buffer likewise; for AD and RE the working buffer too, in a word where it is as it was lent, or
+ * all zero, and one by one where it is neither.
  */
 #include <inttypes.h>
 #include <stdio.h>
@@ -19,7 +21,7 @@
 #include "bradovusc.h"
 #include "streams.h"
 
-enum { LONGEST_CATALOGUE = 8192, WORK = 65520, MOST_WORK = 65663 };
+enum { LONGEST_CATALOGUE = 8192, WORK = 65520, MOST_WORK = 65663, LONGEST_LIST = 2560, LIST_FILL = 165 };
 
 static uint8_t *catalogue;
 static size_t catalogue_length, work_length;
@@ -36,15 +38,17 @@ static bool next_number(size_t length, size_t *number) {
     return true;
 }
 
-static void print_catalogue(void) {
-    size_t records = catalogue_length;
-    while (records > 0 && catalogue[records - 1] == 0) {
-        records--;
+static void print_buffer(const char *name, const uint8_t *buffer, size_t length) {
+    size_t front = length;
+    while (front > 0 && buffer[front - 1] == 0) {
+        front--;
     }
-    fputs(", catalogue", stdout);
-    print_each(catalogue, records);
-    printf(", zeros %zu", catalogue_length - records);
+    printf(", %s", name);
+    print_each(buffer, front);
+    printf(", zeros %zu", length - front);
 }
+
+static void print_catalogue(void) { print_buffer("catalogue", catalogue, catalogue_length); }
 
 static void add(const uint8_t *rule, size_t rule_length) {
     uint8_t *work = lend(work_length, WORK_FILL);
@@ -97,6 +101,27 @@ static bool next_catalogue(void) {
 
 static bool next_work(void) { return next_number(4, &work_length) && work_length <= MOST_WORK; }
 
+static bool next_recheck(void) {
+    size_t length;
+    if (!next_number(2, &length) || length > LONGEST_LIST) {
+        return false;
+    }
+    uint8_t *work = lend(work_length, WORK_FILL);
+    uint8_t *list = lend(length, LIST_FILL);
+    uint64_t told[BRADOVUSC_RECHECKED_TOLD];
+    uint32_t number =
+        bradovusc_recheck(catalogue, catalogue_length, work, work_length, list, length, told, BRADOVUSC_RECHECKED_TOLD);
+    printf("recheck %" PRIu32 " %" PRIu64 " %" PRIu64, number, told[BRADOVUSC_RECHECKED_PAIRS],
+           told[BRADOVUSC_RECHECKED_WRITTEN]);
+    print_buffer("list", list, length);
+    print_catalogue();
+    print_work(work, work_length);
+    putchar('\n');
+    free(work);
+    free(list);
+    return true;
+}
+
 static bool next_operation(void) {
     uint8_t mark[2];
     if (!next(mark, 2)) {
@@ -111,6 +136,8 @@ static bool next_operation(void) {
         return next_catalogue();
     case 256 * 'W' + 'O':
         return next_work();
+    case 256 * 'R' + 'E':
+        return next_recheck();
     default:
         return false;
     }

@@ -1,9 +1,10 @@
 /*
  * Two rules: one makes labels of any digits, the other the label 4. Do they clash? Then the same sheet with a wrong byte. Then a
- * catalogue of rules is kept.
+ * catalogue of rules is kept. Then one that was kept since a space at the end made another label is checked again.
  *
  * The first line of a sheet is number, count and place, and the number in words. After a clash follows a line for each field, its
- * number and its text, and after a fault a line with the byte at its place. Then comes a line for each call of the catalogue.
+ * number and its text, and after a fault a line with the byte at its place. Then comes a line for each call of a catalogue, and one
+ * for each pair that is listed.
  */
 #include <inttypes.h>
 #include <stdio.h>
@@ -35,9 +36,17 @@ static const uint8_t lever[] = {
     'L', 'E', 3, 21, 29, 64       /* its side: L, T, field 0 */
 };
 
+/* Kept since spaces at the end counted: rule 0 is LT4, rule 1 is LT4 with a space, and rule 2 is LT5. */
+static const uint8_t kept[] = {
+    'R', 'U', 'L', 'E', 3, 21, 29, 4,     /* L, T, 4 */
+    'R', 'U', 'L', 'E', 4, 21, 29, 4, 38, /* L, T, 4, space */
+    'R', 'U', 'L', 'E', 3, 21, 29, 5      /* L, T, 5 */
+};
+
 static uint8_t work[BRADOVUSC_WORK_BYTES(455)];
 static uint8_t answer[BRADOVUSC_ANSWER_BYTES(455)];
 static uint8_t catalogue[BRADOVUSC_CATALOGUE_BYTES(BRADOVUSC_RULES)]; /* all zero: no rule is there */
+static uint8_t list[BRADOVUSC_LIST_BYTES(BRADOVUSC_RULES)];
 
 static void print_texts(uint64_t written) {
     struct bradovusc_records texts = bradovusc_records_in(answer, (size_t)written);
@@ -82,6 +91,16 @@ static void withdraw(size_t number) {
     printf("withdraw rule %zu: %" PRIu32 ", %s\n", number, withdrawn, bradovusc_catalogue_text(withdrawn));
 }
 
+static void check_again(void) {
+    struct bradovusc_rechecked rechecked = bradovusc_check_again(kept, sizeof kept, work, sizeof work, list, sizeof list);
+    struct bradovusc_pairs pairs = bradovusc_pairs_in(list, (size_t)rechecked.written);
+    printf("check again: %" PRIu32 ", %s: %" PRIu64 " listed\n", rechecked.number, bradovusc_catalogue_text(rechecked.number),
+           rechecked.pairs);
+    while (bradovusc_next_pair(&pairs)) {
+        printf("rule %" PRIu64 " and rule %" PRIu64 ": %s\n", pairs.lower, pairs.higher, bradovusc_text(pairs.answer));
+    }
+}
+
 int main(void) {
     sheet[CHARACTER_OF_FIELD_1] = (uint8_t)bradovusc_value('4');
     ask();
@@ -93,5 +112,7 @@ int main(void) {
     withdraw(0);
     add("lever", lever, sizeof lever);
     add("latch", latch, sizeof latch);
+
+    check_again();
     return 0;
 }

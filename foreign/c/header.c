@@ -1,7 +1,7 @@
 /*
- * Tries what bradovusc.h itself defines: the texts of the numbers, the signs, the walk over records, null pointers of length 0, the
- * calls of a catalogue, the version, the lengths of buffers; and the places of faults, as it lists them. C99, and C++11 too. Prints
- * what does not hold, and how many checks there were; the exit status is 0 if all hold.
+ * Tries what bradovusc.h itself defines: the texts of the numbers, the signs, the walks over records and over listed pairs, null
+ * pointers of length 0, the calls of a catalogue, the version, the lengths of buffers; and the places of faults, as it lists them.
+ * C99, and C++11 too. Prints what does not hold, and how many checks there were; the exit status is 0 if all hold.
  */
 #include <stdio.h>
 #include <stdlib.h>
@@ -11,10 +11,12 @@
 #define bradovusc_clash watched_clash
 #define bradovusc_add watched_add
 #define bradovusc_withdraw watched_withdraw
+#define bradovusc_recheck watched_recheck
 #include "bradovusc.h"
 #undef bradovusc_clash
 #undef bradovusc_add
 #undef bradovusc_withdraw
+#undef bradovusc_recheck
 
 #ifdef __cplusplus
 extern "C" {
@@ -24,6 +26,8 @@ uint32_t bradovusc_clash(const uint8_t *sheet, size_t sheet_length, uint8_t *wor
 uint32_t bradovusc_add(uint8_t *catalogue, size_t catalogue_length, const uint8_t *rule, size_t rule_length, uint8_t *work,
                        size_t work_length, uint64_t *told, size_t told_length);
 uint32_t bradovusc_withdraw(uint8_t *catalogue, size_t catalogue_length, size_t number);
+uint32_t bradovusc_recheck(const uint8_t *catalogue, size_t catalogue_length, uint8_t *work, size_t work_length, uint8_t *list,
+                           size_t list_length, uint64_t *told, size_t told_length);
 #ifdef __cplusplus
 }
 #endif
@@ -61,6 +65,15 @@ uint32_t watched_withdraw(uint8_t *catalogue, size_t catalogue_length, size_t nu
     return bradovusc_withdraw(catalogue, catalogue_length, number);
 }
 
+uint32_t watched_recheck(const uint8_t *catalogue, size_t catalogue_length, uint8_t *work, size_t work_length, uint8_t *list,
+                         size_t list_length, uint64_t *told, size_t told_length) {
+    check(catalogue != NULL, "the catalogue's pointer is not null", (long)catalogue_length);
+    check(work != NULL, "the working buffer's pointer is not null", (long)work_length);
+    check(list != NULL, "the list buffer's pointer is not null", (long)list_length);
+    check(told != NULL, "the pointer of what is told is not null", (long)told_length);
+    return bradovusc_recheck(catalogue, catalogue_length, work, work_length, list, list_length, told, told_length);
+}
+
 /* ---- the texts of the numbers */
 
 static const struct {
@@ -85,6 +98,7 @@ static const struct {
     {32, "no room in the catalogue"},
     {33, "no rule has that number"},
     {34, "the buffer is no catalogue"},
+    {35, "the list buffer is too short for the pairs"},
 };
 
 static void try_texts(void) {
@@ -100,7 +114,7 @@ static void try_texts(void) {
         expected = number == 0 ? "done" : expected;
         check(strcmp(bradovusc_catalogue_text(number), expected) == 0, "the text of a catalogue's number", (long)number);
     }
-    check(next == 18, "18 numbers have a text", (long)next);
+    check(next == 19, "19 numbers have a text", (long)next);
     check(strcmp(bradovusc_text(UINT32_MAX), none) == 0, "the greatest number has no text", -1);
 }
 
@@ -185,9 +199,50 @@ static void try_records(void) {
     check(!bradovusc_next(&records), "no record in nothing", 0);
 }
 
+/* ---- the walk over listed pairs */
+
+/* How many pairs there are in the first `written` of these bytes, which stand in memory that ends behind them. */
+static int pairs_in(const uint8_t *bytes, size_t written) {
+    uint8_t *exact = (uint8_t *)malloc(written > 0 ? written : 1);
+    struct bradovusc_pairs pairs;
+    int found = 0;
+    if (exact == NULL) {
+        fputs("header: no memory\n", stderr);
+        exit(EXIT_FAILURE);
+    }
+    memcpy(exact, bytes, written);
+    pairs = bradovusc_pairs_in(exact, written);
+    while (bradovusc_next_pair(&pairs)) {
+        found++;
+        check(pairs.rest_length == written - 5 * (size_t)found, "the walk goes on behind the pair", (long)written);
+    }
+    check(!bradovusc_next_pair(&pairs), "a walk that is over stays so", (long)written);
+    free(exact);
+    return found;
+}
+
+static void try_pairs(void) {
+    static const uint8_t bytes[] = {0, 1, 0, 6, 0, 2, 31, 18, 199, 1, 30, 31, 19, 255, 255};
+    struct bradovusc_pairs pairs = bradovusc_pairs_in(bytes, sizeof bytes);
+    size_t written;
+
+    check(bradovusc_next_pair(&pairs) && pairs.lower == 0 && pairs.higher == 1, "the first pair", 0);
+    check(pairs.answer == BRADOVUSC_CLASH && pairs.count == 6, "its answer", 0);
+    check(bradovusc_next_pair(&pairs) && pairs.lower == 2 && pairs.higher == 31, "the second pair", 1);
+    check(pairs.answer == BRADOVUSC_NO_ROOM && pairs.count == 455, "its answer", 1);
+    check(bradovusc_next_pair(&pairs) && pairs.lower == 30 && pairs.higher == 31, "the third pair", 2);
+    check(pairs.answer == BRADOVUSC_SIDE_TOO_LONG && pairs.count == 65535, "its answer", 2);
+    check(!bradovusc_next_pair(&pairs), "the end", 0);
+    for (written = 0; written <= sizeof bytes; written++) {
+        check(pairs_in(bytes, written) == (int)(written / 5), "the whole pairs of those cut short", (long)written);
+    }
+    pairs = bradovusc_pairs_in(NULL, 0);
+    check(!bradovusc_next_pair(&pairs), "no pair in nothing", 0);
+}
+
 /* ---- null pointers of length 0 */
 
-static uint8_t work[BRADOVUSC_WORK_BYTES(6)], answer[12];
+static uint8_t work[BRADOVUSC_WORK_BYTES(13)], answer[12];
 
 static int is(struct bradovusc_answer given, uint32_t number, uint64_t count, uint64_t place, uint64_t written) {
     return given.number == number && given.count == count && given.place == place && given.written == written;
@@ -200,18 +255,18 @@ static void try_null(void) {
     static const uint8_t records[] = {'V', 'A', 0, 1, 0, 4, 'V', 'A', 1, 1, 0, 4};
     uint64_t told[] = {7, 7, 7, 7};
 
-    check(is(bradovusc_ask(s, sizeof s, work, sizeof work, answer, sizeof answer), 0, 6, 0, 12), "no null pointer", 0);
+    check(is(bradovusc_ask(s, sizeof s, work, sizeof work, answer, sizeof answer), 0, 13, 0, 12), "no null pointer", 0);
     check(memcmp(answer, records, sizeof records) == 0, "the answer's bytes", 0);
     check(is(bradovusc_ask(NULL, 0, work, sizeof work, answer, sizeof answer), 11, 0, 0, 0), "no sheet", 0);
     check(is(bradovusc_ask(s, sizeof s, NULL, 0, answer, sizeof answer), 18, 0, 0, 0), "no working buffer", 0);
-    check(is(bradovusc_ask(s, sizeof s, work, sizeof work, NULL, 0), 20, 6, 0, 0), "no answer buffer", 0);
-    check(is(bradovusc_ask(empty, sizeof empty, work, sizeof work, NULL, 0), 0, 1, 0, 0), "none needed", 0);
+    check(is(bradovusc_ask(s, sizeof s, work, sizeof work, NULL, 0), 20, 13, 0, 0), "no answer buffer", 0);
+    check(is(bradovusc_ask(empty, sizeof empty, work, sizeof work, NULL, 0), 0, 5, 0, 0), "none needed", 0);
     check(is(bradovusc_ask(one_more, sizeof one_more, NULL, 0, NULL, 0), 12, 0, 6, 0), "a place, and no buffer", 0);
     check(is(bradovusc_ask(NULL, 0, NULL, 0, NULL, 0), 11, 0, 0, 0), "nothing at all", 0);
     check(bradovusc_clash_or_null(s, sizeof s, work, sizeof work, answer, sizeof answer, NULL, 0) == 0, "nothing told", 0);
     check(bradovusc_clash_or_null(NULL, 0, NULL, 0, NULL, 0, NULL, 0) == 11, "nothing at all, nothing told", 0);
     check(bradovusc_clash_or_null(s, sizeof s, work, sizeof work, NULL, 0, told, 4) == 20, "told as well", 0);
-    check(told[0] == 6 && told[1] == 0 && told[2] == 0 && told[3] == 7, "three numbers told, no more", 0);
+    check(told[0] == 13 && told[1] == 0 && told[2] == 0 && told[3] == 7, "three numbers told, no more", 0);
 }
 
 /* ---- the places of faults */
@@ -238,6 +293,7 @@ static const struct {
     {{'P', 'A', 0, 2, 65, 42}, 6, 15, 6},    /* the code runs out, and the sheet ends */
     {{'P', 'A', 0, 1, 68, 'L'}, 6, 15, 5},   /* the code runs out, and the sheet goes on */
     {{'L', 'E', 3, 10, 72, 43}, 6, 17, 4},
+    {{'L', 'E', 0, 'R', 'I', 1, 73}, 7, 17, 6}, /* the token of a hidden field */
 };
 
 static void try_places(void) {
@@ -290,7 +346,7 @@ static void try_catalogue(void) {
     check(bradovusc_remove(catalogue, length, (size_t)-1) == 33, "nor one with the greatest number", 33);
     check(bradovusc_remove(catalogue, length, 0) == 0, "the first rule withdrawn", 0);
     check(memcmp(catalogue, rule_b, 6) == 0 && all_zero(catalogue + 6, 7), "the gap is closed", 0);
-    check(is_added(bradovusc_enter(catalogue, length, rule_x, 6, work, sizeof work), 30, 3, 0, 0, 0), "a clash", 30);
+    check(is_added(bradovusc_enter(catalogue, length, rule_x, 6, work, sizeof work), 30, 11, 0, 0, 0), "a clash", 30);
     check(is_added(bradovusc_enter(catalogue, length, rule_x, 6, work, 144), 30, 1, 0, 0, 18), "room for one situation", 18);
     check(memcmp(catalogue, rule_b, 6) == 0 && all_zero(catalogue + 6, 7), "no byte changed", 30);
     catalogue[length - 1] = 1;
@@ -307,6 +363,74 @@ static void try_catalogue_of_nothing(void) {
     check(is_added(bradovusc_enter(catalogue, 12, rule_b, 6, NULL, 0), 30, 0, 0, 0, 18), "no working buffer", 18);
     check(is_added(bradovusc_enter(NULL, 0, NULL, 0, NULL, 0), 11, 0, 0, 0, 0), "nothing at all", 11);
     check(bradovusc_remove(NULL, 0, 0) == 33, "nothing to withdraw", 33);
+}
+
+/* A, B, B with a space and A with a space, kept since a space at the end made another label */
+static const uint8_t kept[] = {'R', 'U', 'L', 'E', 1, 10, 'R', 'U', 'L', 'E', 1, 11,
+                               'R', 'U', 'L', 'E', 2, 11, 38, 'R', 'U', 'L', 'E', 2, 10, 38};
+
+static int is_rechecked(struct bradovusc_rechecked rechecked, uint32_t number, uint64_t pairs, uint64_t written) {
+    return rechecked.number == number && rechecked.pairs == pairs && rechecked.written == written;
+}
+
+static void try_recheck(void) {
+    static const uint8_t clashes[] = {0, 3, 0, 6, 0, 1, 2, 0, 6, 0}, one_more[] = {'R', 'U', 'L', 'E', 1, 10, 0, 1};
+    uint8_t list[11];
+    memset(work, 7, sizeof work);
+    memset(list, 7, sizeof list);
+
+    check(is_rechecked(bradovusc_check_again(kept, 6, work, sizeof work, list, 11), 0, 0, 0), "one rule", 0);
+    check(is_rechecked(bradovusc_check_again(one_more, 8, work, sizeof work, list, 11), 34, 0, 0), "no catalogue", 34);
+    check(work[0] == 7 && work[sizeof work - 1] == 7, "nothing was searched", 0);
+    check(is_rechecked(bradovusc_check_again(kept, sizeof kept, work, sizeof work, list, 9), 35, 0, 0), "a byte too few", 35);
+    check(list[0] == 7 && list[8] == 7, "nothing is listed", 35);
+    check(all_zero(work, sizeof work), "the working buffer is all zero", 35);
+    memset(work, 7, sizeof work);
+    check(is_rechecked(bradovusc_check_again(kept, sizeof kept, work, sizeof work, list, 11), 0, 2, 10), "two pairs", 0);
+    check(memcmp(list, clashes, sizeof clashes) == 0 && list[10] == 7, "their bytes, and no more", 0);
+    check(all_zero(work, sizeof work), "the working buffer is all zero", 0);
+    check(is_rechecked(bradovusc_check_again(kept, 12, work, sizeof work, NULL, 0), 0, 0, 0), "A and B, no list", 0);
+    check(is_rechecked(bradovusc_check_again(kept, 12, NULL, 0, list, 11), 0, 1, 5), "A and B, no working buffer", 18);
+    check(list[1] == 1 && list[2] == 18 && list[3] == 0, "not decided", 18);
+    check(is_rechecked(bradovusc_check_again(NULL, 0, NULL, 0, NULL, 0), 0, 0, 0), "nothing at all", 0);
+}
+
+/* a list of so many elements told */
+static void try_rechecked_told(void) {
+    uint8_t list[10];
+    size_t length, i;
+    for (length = 0; length <= 3; length++) {
+        uint64_t told[] = {7, 7, 7};
+        static const uint64_t expected[] = {2, 10, 7};
+        check(bradovusc_recheck(kept, sizeof kept, work, sizeof work, list, 10, told, length) == 0, "listed", (long)length);
+        for (i = 0; i < 3; i++) {
+            check(told[i] == (i < length ? expected[i] : 7), "an element of what is told", (long)i);
+        }
+    }
+}
+
+/* every pair of 32 rules listed, in just enough bytes */
+static void try_longest_list(void) {
+    static uint8_t catalogue[BRADOVUSC_RULES * 5], list[BRADOVUSC_LIST_BYTES(BRADOVUSC_RULES)];
+    static const uint8_t rule[] = {'R', 'U', 'L', 'E', 0};
+    struct bradovusc_pairs pairs = bradovusc_pairs_in(list, sizeof list);
+    struct bradovusc_rechecked rechecked;
+    unsigned lower, higher;
+    size_t i;
+    for (i = 0; i < BRADOVUSC_RULES; i++) {
+        memcpy(catalogue + 5 * i, rule, 5);
+    }
+    rechecked = bradovusc_check_again(catalogue, sizeof catalogue, work, sizeof work, list, sizeof list - 1);
+    check(is_rechecked(rechecked, 35, 0, 0), "a byte too few", 35);
+    rechecked = bradovusc_check_again(catalogue, sizeof catalogue, work, sizeof work, list, sizeof list);
+    check(is_rechecked(rechecked, 0, 496, 2480), "every pair", 496);
+    for (lower = 0; lower < BRADOVUSC_RULES; lower++) {
+        for (higher = lower + 1; higher < BRADOVUSC_RULES; higher++) {
+            check(bradovusc_next_pair(&pairs) && pairs.lower == lower && pairs.higher == higher, "the order", (long)lower);
+            check(pairs.answer == BRADOVUSC_CLASH && pairs.count == 5, "a clash", (long)higher);
+        }
+    }
+    check(!bradovusc_next_pair(&pairs), "the end", 496);
 }
 
 /* 30 told in so many elements */
@@ -367,14 +491,20 @@ int main(void) {
     check(BRADOVUSC_WORK_BYTES(455) == 65520, "455 situations of work", 455);
     check(BRADOVUSC_ANSWER_BYTES(455) == 3680, "an answer buffer for them", 455);
     check(BRADOVUSC_CATALOGUE_BYTES(32) == 13728, "a catalogue of 32 rules", 32);
+    check(BRADOVUSC_LIST_BYTES(32) == 2480, "a list of their pairs", 32);
+    check(BRADOVUSC_LIST_BYTES(2) == 5 && BRADOVUSC_LIST_BYTES(1) == 0 && BRADOVUSC_LIST_BYTES(0) == 0, "of fewer rules", 2);
     try_texts();
     try_signs();
     try_records();
+    try_pairs();
     try_null();
     try_places();
     try_catalogue();
     try_catalogue_of_nothing();
     try_told();
+    try_recheck();
+    try_rechecked_told();
+    try_longest_list();
     try_longest_rules();
     printf("%u checks, %u failed\n", checks, failed);
     return failed == 0 ? EXIT_SUCCESS : EXIT_FAILURE;

@@ -7,10 +7,12 @@
 //! | `AD` | length n in two bytes, n bytes | add this rule |
 //! | `WI` | one byte | withdraw the rule with this number |
 //! | `CA` | length b in two bytes, length n in two bytes, n bytes | from now on the catalogue is a buffer of b bytes that begins with these n, the rest zeros |
-//! | `WO` | length in four bytes | from now on so many bytes of work are lent to each `AD` |
+//! | `WO` | length in four bytes | from now on so many bytes of work are lent to each `AD` and `RE` |
+//! | `RE` | length in two bytes | check the pairs again, with a list buffer of so many bytes |
 
 use crate::cases::{push_each, push_work, WORK_FILL};
-use crate::catalogue::{add, withdraw, Added, Searcher};
+use crate::catalogue::{add, recheck, withdraw};
+use crate::catalogue::{Added, Pair, Rechecked, Searcher, DONE, PAIR_BYTES};
 
 /// The catalogue's length at the start, and the greatest.
 pub const MOST_CATALOGUE: usize = 8_192;
@@ -18,6 +20,11 @@ pub const MOST_CATALOGUE: usize = 8_192;
 pub const WORK: usize = 65_520;
 /// The most bytes of work: still 455 situations.
 pub const MOST_WORK: usize = 65_663;
+/// The greatest length of a list buffer: more than enough for the 496 pairs of
+/// 32 rules.
+pub const MOST_LIST: usize = 2_560;
+/// Each byte of a list buffer before the call.
+pub const LIST_FILL: u8 = 165;
 
 #[derive(Clone, Debug, PartialEq, Eq)]
 pub enum Operation {
@@ -25,6 +32,7 @@ pub enum Operation {
     Withdraw(u8),
     Catalogue { length: usize, front: Vec<u8> },
     Work(usize),
+    Recheck(usize),
 }
 
 impl Operation {
@@ -56,6 +64,10 @@ impl Operation {
                 let (length, rest) = number(rest, 4)?;
                 (length <= MOST_WORK).then_some((Operation::Work(length), rest))
             }
+            b"RE" => {
+                let (length, rest) = number(rest, 2)?;
+                (length <= MOST_LIST).then_some((Operation::Recheck(length), rest))
+            }
             _ => None,
         }
     }
@@ -81,6 +93,10 @@ impl Operation {
             Operation::Work(length) => {
                 stream.extend_from_slice(b"WO");
                 stream.extend_from_slice(&(*length as u32).to_le_bytes());
+            }
+            Operation::Recheck(length) => {
+                stream.extend_from_slice(b"RE");
+                stream.extend_from_slice(&(*length as u16).to_le_bytes());
             }
         }
     }
@@ -110,6 +126,7 @@ pub struct After {
 pub enum Call {
     Add { told: Added, work: Vec<u8> },
     Withdraw { number: u8 },
+    Recheck { told: Rechecked, list: Vec<u8>, work: Vec<u8> },
 }
 
 impl Calls {
@@ -140,32 +157,67 @@ impl Calls {
                 self.work = *length;
                 return None;
             }
+            Operation::Recheck(length) => {
+                let mut list = vec![LIST_FILL; *length];
+                let mut work = vec![WORK_FILL; self.work];
+                let told = recheck(&self.catalogue, &mut work, &mut list, self.search);
+                Call::Recheck { told, list, work }
+            }
         };
         Some(After { call, catalogue: self.catalogue.clone() })
     }
 }
 
 impl After {
-    /// What the program `catalogue` prints.
+    /// What the program `catalogue` prints: a line, and for a recheck one more
+    /// for each pair listed.
     pub fn numbers(&self) -> String {
+        let mut lines = self.told();
+        if let Call::Recheck { told: Rechecked { number: DONE, written, .. }, list, .. } =
+            &self.call
+        {
+            let (pairs, _) = list[..*written].as_chunks::<PAIR_BYTES>();
+            for &pair in pairs {
+                let Pair { lower, higher, answer, count } = Pair::of_bytes(pair);
+                lines += &format!("\npair {lower} {higher} {answer} {count}");
+            }
+        }
+        lines
+    }
+
+    /// What is told beside the buffers.
+    fn told(&self) -> String {
         match &self.call {
             Call::Add { told: Added { number, count, place, rule, pair }, .. } => {
                 format!("add {number} {count} {place} {rule} {pair}")
             }
             Call::Withdraw { number } => format!("withdraw {number}"),
+            Call::Recheck { told: Rechecked { number, pairs, written }, .. } => {
+                format!("recheck {number} {pairs} {written}")
+            }
         }
     }
 
     /// What the program `calls` prints: every byte of the lent buffers too.
     pub fn line(&self) -> String {
-        let mut line = self.numbers() + ", catalogue";
-        let last = self.catalogue.iter().rposition(|&byte| byte != 0);
-        let (records, zeros) = self.catalogue.split_at(last.map_or(0, |last| last + 1));
-        push_each(&mut line, records);
-        line += &format!(", zeros {}", zeros.len());
-        if let Call::Add { work, .. } = &self.call {
-            push_work(&mut line, work);
+        let mut line = self.told();
+        if let Call::Recheck { list, .. } = &self.call {
+            push_buffer(&mut line, "list", list);
+        }
+        push_buffer(&mut line, "catalogue", &self.catalogue);
+        match &self.call {
+            Call::Add { work, .. } | Call::Recheck { work, .. } => push_work(&mut line, work),
+            Call::Withdraw { .. } => {}
         }
         line
     }
+}
+
+/// Each byte of a buffer but the zeros at its end, which are counted.
+fn push_buffer(line: &mut String, name: &str, buffer: &[u8]) {
+    let last = buffer.iter().rposition(|&byte| byte != 0);
+    let (front, zeros) = buffer.split_at(last.map_or(0, |last| last + 1));
+    *line += &format!(", {name}");
+    push_each(line, front);
+    *line += &format!(", zeros {}", zeros.len());
 }

@@ -8,7 +8,7 @@ use crate::pattern::Allowed;
 use crate::sheet::{Cursor, Question, Token, FIELDS, LEFT};
 use crate::{scan, NO_CLASH};
 
-/// A rule is entered, or withdrawn.
+/// A rule is entered or withdrawn, or the pairs are listed.
 pub const DONE: u8 = 0;
 /// The refusals, by their numbers in the request.
 pub const PAIR_NOT_1: u8 = 30;
@@ -16,6 +16,8 @@ pub const FIELD_ABOVE_3: u8 = 31;
 pub const DOES_NOT_FIT: u8 = 32;
 pub const NO_SUCH_RULE: u8 = 33;
 pub const NOT_OF_THIS_FORM: u8 = 34;
+/// The list of a recheck is longer than its buffer.
+pub const LIST_TOO_SHORT: u8 = 35;
 
 /// "A rule's record is the mark `RU` ..."
 pub const RULE: &[u8; 2] = b"RU";
@@ -62,20 +64,18 @@ impl Rule {
 }
 
 /// "In a pair the present rule is the left side, the new one the right, with
-/// its fields as 4 to 7." Both rules' own fields are 0 to 3.
+/// its fields as 4 to 7." Both rules' own fields are 0 to 3; the hidden ones
+/// stand as in a sheet.
 fn question(present: &Rule, new: &Rule) -> Question {
     let renumbered = |token: &Token| match *token {
         Token::Field(field) => Token::Field(field + RULE_FIELDS as u8),
         character => character,
     };
-    Question {
-        left: present.side.clone(),
-        right: new.side.iter().map(renumbered).collect(),
-        allowed: std::array::from_fn(|field| match field.checked_sub(RULE_FIELDS) {
-            None => present.allowed[field].clone(),
-            Some(own) => new.allowed[own].clone(),
-        }),
-    }
+    let allowed = std::array::from_fn(|field| match field.checked_sub(RULE_FIELDS) {
+        None => present.allowed[field].clone(),
+        Some(own) => new.allowed[own].clone(),
+    });
+    Question::of(present.side.clone(), new.side.iter().map(renumbered).collect(), allowed)
 }
 
 /// A rule of the catalogue and where its bytes stand.
@@ -177,4 +177,66 @@ pub fn withdraw(catalogue: &mut [u8], number: usize) -> u8 {
     let kept = catalogue.len() - (end - start);
     catalogue[kept..].fill(0);
     DONE
+}
+
+/// What `recheck` tells; with 34 and 35 nothing is listed.
+#[derive(Clone, Copy, Debug, Default, PartialEq, Eq)]
+pub struct Rechecked {
+    /// The answer's number.
+    pub number: u8,
+    /// The pairs listed.
+    pub pairs: usize,
+    /// The bytes written.
+    pub written: usize,
+}
+
+/// The bytes of a listed pair.
+pub const PAIR_BYTES: usize = 5;
+
+/// A pair not answered 1.
+#[derive(Clone, Copy, Debug, PartialEq, Eq)]
+pub struct Pair {
+    pub lower: u8,
+    pub higher: u8,
+    pub answer: u8,
+    pub count: u16,
+}
+
+impl Pair {
+    /// Lower number, higher number, answer, and the count with its low byte
+    /// first.
+    pub fn bytes(&self) -> [u8; PAIR_BYTES] {
+        let [low, high] = self.count.to_le_bytes();
+        [self.lower, self.higher, self.answer, low, high]
+    }
+
+    pub fn of_bytes([lower, higher, answer, low, high]: [u8; PAIR_BYTES]) -> Pair {
+        Pair { lower, higher, answer, count: u16::from_le_bytes([low, high]) }
+    }
+}
+
+/// "a kept catalogue's pairs are all checked again and those not answered 1
+/// listed, by lower, then higher number." The rule with the lower number is the
+/// left side.
+pub fn recheck(catalogue: &[u8], work: &mut [u8], list: &mut [u8], search: Searcher) -> Rechecked {
+    let Some(present) = read(catalogue) else {
+        return Rechecked { number: NOT_OF_THIS_FORM, ..Rechecked::default() };
+    };
+    let mut pairs = Vec::new();
+    for (lower, left) in present.iter().enumerate() {
+        for (higher, right) in present.iter().enumerate().skip(lower + 1) {
+            let (answer, count) = search(&question(&left.rule, &right.rule), work);
+            if answer != NO_CLASH {
+                // At most 32 rules, and at most 65,535 situations.
+                let (lower, higher, count) = (lower as u8, higher as u8, count as u16);
+                pairs.push(Pair { lower, higher, answer, count });
+            }
+        }
+    }
+    let bytes: Vec<u8> = pairs.iter().flat_map(Pair::bytes).collect();
+    let Some(front) = list.get_mut(..bytes.len()) else {
+        return Rechecked { number: LIST_TOO_SHORT, ..Rechecked::default() };
+    };
+    front.copy_from_slice(&bytes);
+    Rechecked { number: DONE, pairs: pairs.len(), written: bytes.len() }
 }

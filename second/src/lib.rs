@@ -6,9 +6,13 @@
 //! `scan::answer` does the same with the situations in the lent working buffer
 //! and a plain scan over them.
 //!
+//! Two labels are the same "when they are equal after trailing spaces are
+//! dropped": `sheet::Question` has a hidden field of spaces at the end of each
+//! side, and the search knows nothing else of it.
+//!
 //! `catalogue::add` and `catalogue::withdraw` keep a catalogue of rules of which
-//! no two can make the same label; they search by `searched` or by
-//! `scan::searched`.
+//! no two can make the same label, and `catalogue::recheck` lists the pairs of a
+//! kept one that may; they search by `searched` or by `scan::searched`.
 //!
 //! Sentences in quotation marks in the comments are those of the text in which
 //! the rules were first given, or of the requests that changed them;
@@ -127,7 +131,7 @@ pub fn searched(question: &Question, work: &mut [u8]) -> (u8, usize) {
 
 /// "Answer records, for each field standing in the sides, by rising number,
 /// each record written directly behind the one before: `VA`, field byte,
-/// length in two bytes (low first), the values."
+/// length in two bytes (low first), the values." The hidden fields have none.
 fn records(texts: &Texts) -> Vec<u8> {
     let mut bytes = Vec::new();
     for (field, text) in texts {

@@ -1,15 +1,17 @@
 //! Makes cases from a seed: good sheets of all kinds, damaged sheets, rooms
-//! and answer buffers near their bounds. `calls` makes operations on a
-//! catalogue with the same parts, `damages` the faults of both.
+//! and answer buffers near their bounds. `spaces` makes the ends of labels,
+//! `calls` operations on a catalogue with the same parts, `damages` the faults
+//! of both.
 
 pub mod calls;
 mod damages;
+mod spaces;
 
 use std::ops::Range;
 
 use self::damages::{damaged, random_bytes};
 use crate::cases::Case;
-use crate::pattern::CHARACTERS;
+use crate::pattern::{CHARACTERS, SPACE};
 use crate::sheet::{FIELDS, LEFT, PATTERN, RIGHT};
 use crate::{ANSWER_BUFFER_TOO_SHORT, CLASH, SITUATION_BYTES};
 
@@ -137,10 +139,10 @@ fn work_length(dice: &mut Dice, room: usize) -> u32 {
 
 fn any_room(dice: &mut Dice) -> usize {
     match dice.below(40) {
-        0 | 1 => 455,
-        2..=5 => dice.below(4),
-        6..=8 => dice.between(41, 100),
-        _ => dice.between(1, 40),
+        0..=3 => 455,
+        4..=6 => dice.below(4),
+        7..=16 => dice.between(41, 150),
+        _ => dice.between(5, 40),
     }
 }
 
@@ -200,7 +202,7 @@ fn some_fields(dice: &mut Dice, below: u8) -> Vec<u8> {
     fields
 }
 
-/// Two sides with these fields.
+/// Two sides with these fields, often with something at their ends.
 fn sides(dice: &mut Dice, alphabet: &[u8], fields: &[u8]) -> Sides {
     let (mut left, mut right, texts) = match dice.below(10) {
         0 | 1 => plain(dice, alphabet, fields),
@@ -215,6 +217,7 @@ fn sides(dice: &mut Dice, alphabet: &[u8], fields: &[u8]) -> Sides {
                 side.swap(0, at);
             }
         }
+        spaces::end(dice, side, &texts);
     }
     (left, right, texts)
 }
@@ -245,14 +248,19 @@ fn patterns(
     patterns
 }
 
-/// A few characters, so that clashes and no clashes both come up; now and then
-/// all of them.
+/// A few characters, so that clashes and no clashes both come up, often with the
+/// space; now and then all of them.
 fn alphabet(dice: &mut Dice) -> Vec<u8> {
     if dice.one_in(12) {
         return (0..CHARACTERS).collect();
     }
     let first = dice.below(43) as u8;
-    (0..dice.pick(&[1, 2, 2, 2, 3, 3])).map(|step| (first + step) % CHARACTERS).collect()
+    let number = dice.pick(&[1, 2, 2, 2, 3, 3]);
+    let mut alphabet: Vec<u8> = (0..number).map(|step| (first + step) % CHARACTERS).collect();
+    if dice.one_in(4) && !alphabet.contains(&SPACE) {
+        alphabet.push(SPACE);
+    }
+    alphabet
 }
 
 fn side_length(dice: &mut Dice) -> usize {
@@ -299,13 +307,19 @@ fn mixed(dice: &mut Dice, alphabet: &[u8], fields: &[u8]) -> Sides {
     (left, right, Vec::new())
 }
 
-/// Both sides made from one label, so that there is a clash.
+/// Both sides made from one label, so that there is a clash; one of them now and
+/// then without the spaces at the label's end.
 fn planted(dice: &mut Dice, alphabet: &[u8], fields: &[u8]) -> Sides {
     let texts: Vec<(u8, Vec<u8>)> = fields
         .iter()
         .map(|&field| {
             let length = dice.pick(&[0, 1, 1, 2, 2, 3]);
-            (field, (0..length).map(|_| dice.pick(alphabet)).collect())
+            let mut text: Vec<u8> = (0..length).map(|_| dice.pick(alphabet)).collect();
+            if dice.one_in(6) {
+                text.truncate(dice.below(2));
+                text.resize(dice.between(1, 3), SPACE);
+            }
+            (field, text)
         })
         .collect();
     let (mut left, _, _) = mixed(dice, alphabet, fields);
@@ -313,7 +327,7 @@ fn planted(dice: &mut Dice, alphabet: &[u8], fields: &[u8]) -> Sides {
         left.insert(dice.below(left.len().min(2) + 1), 64 + dice.pick(fields));
     }
     // The label has at most 24 characters, so that the right side has no more.
-    let label = loop {
+    let mut label = loop {
         let mut label = Vec::new();
         for &token in &left {
             match texts.iter().find(|(field, _)| 64 + field == token) {
@@ -326,6 +340,9 @@ fn planted(dice: &mut Dice, alphabet: &[u8], fields: &[u8]) -> Sides {
         }
         left.pop();
     };
+    if dice.one_in(2) {
+        spaces::drop(&mut label);
+    }
     // The right side: walk along the label, taking a field wherever its text
     // stands and the dice say so.
     let mut right = Vec::new();
@@ -374,6 +391,9 @@ fn many_times(dice: &mut Dice, alphabet: &[u8], fields: &[u8]) -> Sides {
 fn field_pattern(dice: &mut Dice, alphabet: &[u8], text: Option<&[u8]>) -> Vec<u8> {
     if dice.one_in(30) {
         return big_pattern(dice, alphabet);
+    }
+    if dice.one_in(8) {
+        return spaces::pattern(dice, alphabet, text);
     }
     let all = || vec![68, 65, *alphabet.iter().min().unwrap(), *alphabet.iter().max().unwrap()];
     match (text, dice.below(5)) {

@@ -6,6 +6,8 @@ use crate::fault::{Fault, NOT_ONE_PATTERN, TOO_MANY_LEAVES};
 pub const MOST_LEAVES: usize = 31;
 /// Characters are the values 0 to 42.
 pub const CHARACTERS: u8 = 43;
+/// "38 space"
+pub const SPACE: u8 = 38;
 
 /// A set of places: bit 0 is the start, bit k the k-th leaf of the pattern.
 pub type PlaceSet = u32;

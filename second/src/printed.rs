@@ -29,15 +29,18 @@ pub fn cases() -> Vec<Case> {
         plain(meeting(16, 0, 17, 1)),
         // all fields, empty texts between the others and at the end
         plain(sheet(&held, &fields, &[0, 2, 4, 6])),
-        // no field
+        // no field, and no field but the hidden ones, one of which holds a space
         plain(sheet(&[], &[], &[])),
+        plain(sheet(&[], &values("LT4"), &values("LT4 "))),
+        // texts that end in spaces, one of them of spaces alone
+        plain(ending_in_spaces()),
         // no clash
         plain(sheet(&[], &[A], &[B])),
         // no room, after 455 situations and for the first
         plain(sheet(&[], &[field(0), A], &[B, field(1), field(0)])),
         case(0, ANSWER, sheet(&[], &[field(0), A], &[B, field(0)])),
         // a side above 48 tokens
-        case(2, ANSWER, sheet(&[], &[field(0); 24], &[A, A])),
+        case(4, ANSWER, sheet(&[], &[field(0); 24], &[A, A])),
         // an answer buffer too short by one byte, and one just long enough
         case(ROOM, 11, sheet(&[], &[field(0), field(1)], &[A, B])),
         case(ROOM, 12, sheet(&[], &[field(0), field(1)], &[A, B])),
@@ -56,9 +59,9 @@ pub fn cases() -> Vec<Case> {
     ]
 }
 
-/// x is `+` 20 times and `%`, any number of times, then 7 times `+`; w is
-/// `-. $/`; y is `+` or `%` 19 times, any number of times, then 5 times more; z
-/// is empty. w x z and `-. $/`y: both long texts have 385 characters, the
+/// x is `+` 20 times and `%`, any number of times, then 8 times `+`; w is
+/// `-. $/`; y is `+` or `%` 17 times, any number of times, then 4 times more; z
+/// is empty. w x z and `-. $/`y: both long texts have 344 characters, the
 /// search enters the 455th situation at its end, and patterns of fields that
 /// stand nowhere make the sheet longer than 512 bytes.
 fn long_texts() -> Vec<u8> {
@@ -66,16 +69,21 @@ fn long_texts() -> Vec<u8> {
     let mut round = vec![values("+"); 20];
     round.push(values("%"));
     let patterns = [
-        (x, many_then(round, vec![values("+"); 7])),
+        (x, many_then(round, vec![values("+"); 8])),
         (w, text("-. $/")),
         (2, full(0, 9)),
-        (y, many_then(vec![vec![65, 41, 42]; 19], vec![vec![65, 41, 42]; 5])),
+        (y, many_then(vec![vec![65, 41, 42]; 17], vec![vec![65, 41, 42]; 4])),
         (4, full(10, 35)),
         (5, full(36, 42)),
         (6, full(0, 42)),
         (z, vec![64]),
     ];
     sheet(&patterns, &[field(w), field(x), field(z)], &[values("-. $/"), vec![field(y)]].concat())
+}
+
+/// x is `A` and two spaces, y is three spaces; x and `A`y.
+fn ending_in_spaces() -> Vec<u8> {
+    sheet(&[(0, text("A  ")), (1, text("   "))], &[field(0)], &[A, field(1)])
 }
 
 /// x is the first 31 characters, z the other 12; xz and y: y is all of them.

@@ -9,15 +9,15 @@
 //! | 0, 1 | lengths of the left and of the right token list |
 //! | 2 to 49 | left tokens, the rest 0 |
 //! | 50 to 97 | right tokens, the rest 0 |
-//! | 98 to 129 | place set of each field in four bytes, 0 for a field that is gone |
-//! | 130, 131 | number of the parent |
-//! | 132 | the character put, or 255 for a strike or the start |
+//! | 98 to 137 | place set of each field in four bytes, 0 for a field that is gone |
+//! | 138, 139 | number of the parent |
+//! | 140 | the character put, or 255 for a strike or the start |
 //!
-//! Bytes 0 to 129 are the situation, the others its way.
+//! Bytes 0 to 137 are the situation, the others its way.
 
 use crate::pattern::{Allowed, PlaceSet, CHARACTERS, ONLY_START};
 use crate::search::Ending;
-use crate::sheet::{self, Question, Token, FIELDS};
+use crate::sheet::{self, Question, Token, ALL_FIELDS, FIELDS};
 use crate::{
     room, Outcome, ANSWER_BUFFER_TOO_SHORT, ANSWER_RECORD_HEAD, CLASH, MOST_TEXT, MOST_TOKENS,
     SITUATION_BYTES, TEXT_TOO_LONG,
@@ -26,7 +26,7 @@ use crate::{
 const LEFT: usize = 2;
 const RIGHT: usize = LEFT + MOST_TOKENS;
 const SETS: usize = RIGHT + MOST_TOKENS;
-const KEY_BYTES: usize = SETS + 4 * FIELDS;
+const KEY_BYTES: usize = SETS + 4 * ALL_FIELDS;
 const PARENT: usize = KEY_BYTES;
 const STEP: usize = PARENT + 2;
 /// The step byte where no character was put.
@@ -195,12 +195,12 @@ impl Side {
 struct Flat {
     left: Side,
     right: Side,
-    sets: [PlaceSet; FIELDS],
+    sets: [PlaceSet; ALL_FIELDS],
 }
 
 impl Flat {
     fn of(question: &Question) -> Flat {
-        let mut start = Flat { left: Side::empty(), right: Side::empty(), sets: [0; FIELDS] };
+        let mut start = Flat { left: Side::empty(), right: Side::empty(), sets: [0; ALL_FIELDS] };
         for &token in &question.left {
             start.left.push(token.byte());
         }
@@ -253,7 +253,7 @@ impl Flat {
     }
 
     /// The child with a field struck, if its set may end.
-    fn strike(&self, token: u8, allowed: &[Allowed; FIELDS]) -> Option<Flat> {
+    fn strike(&self, token: u8, allowed: &[Allowed; ALL_FIELDS]) -> Option<Flat> {
         let field = field(token)?;
         if !allowed[field].may_end(self.sets[field]) {
             return None;
@@ -265,7 +265,12 @@ impl Flat {
 
     /// The child with the character put before the front fields, if both
     /// fronts allow it.
-    fn put(&self, character: u8, fronts: (u8, u8), allowed: &[Allowed; FIELDS]) -> Option<Flat> {
+    fn put(
+        &self,
+        character: u8,
+        fronts: (u8, u8),
+        allowed: &[Allowed; ALL_FIELDS],
+    ) -> Option<Flat> {
         let mut sets = self.sets;
         for front in [fronts.0, fronts.1] {
             match field(front) {
@@ -360,6 +365,7 @@ fn offer(mut child: Flat, parent: usize, step: u8, slots: &mut Slots) -> Option<
 }
 
 /// Writes the records if they fit: the answer's number and the bytes written.
+/// The hidden fields "get no answer record".
 fn write_answer(
     question: &Question,
     slots: &Slots,
@@ -367,11 +373,11 @@ fn write_answer(
     answer: &mut [u8],
 ) -> (u8, usize) {
     // Each text's length, by walking the way back.
-    let mut lengths = [0; FIELDS];
+    let mut lengths = [0; ALL_FIELDS];
     walk_back(slots, finish, |_, field| lengths[field] += 1);
 
     // "21 comes before 20."
-    if lengths.iter().any(|&length| length > MOST_TEXT) {
+    if lengths[..FIELDS].iter().any(|&length| length > MOST_TEXT) {
         return (TEXT_TOO_LONG, 0);
     }
     let stands = |field: usize| {
@@ -398,8 +404,10 @@ fn write_answer(
     }
     // The values, from the last to the first.
     walk_back(slots, finish, |character, field| {
-        ends[field] -= 1;
-        answer[ends[field]] = character;
+        if field < FIELDS {
+            ends[field] -= 1;
+            answer[ends[field]] = character;
+        }
     });
     (CLASH, written)
 }

@@ -3,7 +3,7 @@
 use std::collections::HashSet;
 use std::rc::Rc;
 
-use crate::sheet::{Question, Token};
+use crate::sheet::{Question, Token, FIELDS};
 use crate::situation::{Situation, State, Step};
 use crate::{CLASH, MOST_TOKENS, NO_CLASH, NO_ROOM, SIDE_TOO_LONG};
 
@@ -28,7 +28,8 @@ impl<W> Ending<W> {
     }
 }
 
-/// Each field that stands in the sides, by rising number, and its text.
+/// Each field that stands in the sides, by rising number, and its text; none
+/// of the hidden ones.
 pub type Texts = Vec<(u8, Vec<u8>)>;
 
 /// The ending and the number of situations entered.
@@ -132,6 +133,8 @@ fn clash(question: &Question, entered: &[Entered], finish: usize) -> Found {
         }
         text
     };
-    let texts = (0..8).filter(|&field| standing(field)).map(|field| (field, text(field)));
+    // The hidden fields "get no answer record".
+    let fields = 0..FIELDS as u8;
+    let texts = fields.filter(|&field| standing(field)).map(|field| (field, text(field)));
     Found { ending: Ending::Clash(texts.collect()), count: entered.len() }
 }

@@ -3,10 +3,15 @@
 use std::ops::RangeInclusive;
 
 use crate::fault::{Fault, CUT_SHORT, WRONG_FIELD, WRONG_LENGTH, WRONG_MARK, WRONG_TOKEN};
-use crate::pattern::{Allowed, Pattern, Places};
+use crate::pattern::{Allowed, Pattern, Places, SPACE};
 
-/// Fields 0 to 7.
+/// Fields 0 to 7, which may stand in a sheet.
 pub const FIELDS: usize = 8;
+/// "one hidden field ...: field 8 on the left and 9 on the right"
+pub const HIDDEN_LEFT: u8 = 8;
+pub const HIDDEN_RIGHT: u8 = 9;
+/// The fields of a sheet and the hidden ones.
+pub const ALL_FIELDS: usize = FIELDS + 2;
 
 pub const PATTERN: &[u8; 2] = b"PA";
 pub const LEFT: &[u8; 2] = b"LE";
@@ -21,7 +26,8 @@ const PATTERN_LENGTHS: RangeInclusive<u8> = 1..=96;
 const SIDE_HEAD: usize = 3;
 const SIDE_LENGTHS: RangeInclusive<u8> = 0..=24;
 
-/// "A token is 0 to 42 (a character) or 64 to 71 (field 0 to 7)."
+/// "A token is 0 to 42 (a character) or 64 to 71 (field 0 to 7)." The hidden
+/// fields have "tokens 72 and 73, never allowed in a sheet".
 #[derive(Clone, Copy, Debug, PartialEq, Eq, Hash)]
 pub enum Token {
     Character(u8),
@@ -29,6 +35,7 @@ pub enum Token {
 }
 
 impl Token {
+    /// The token of a sheet's byte.
     pub fn of_byte(byte: u8) -> Option<Token> {
         match byte {
             0..=42 => Some(Token::Character(byte)),
@@ -45,13 +52,28 @@ impl Token {
     }
 }
 
-/// A sheet that passed all checks.
+/// A sheet that passed all checks, or a pair of rules, with the hidden fields.
 #[derive(Clone, Debug)]
 pub struct Question {
     pub left: Vec<Token>,
     pub right: Vec<Token>,
     /// What each field may stand for.
-    pub allowed: [Allowed; FIELDS],
+    pub allowed: [Allowed; ALL_FIELDS],
+}
+
+impl Question {
+    /// "Each side is to be read as if one hidden field, of any number of
+    /// spaces, stood at its end".
+    pub fn of(mut left: Vec<Token>, mut right: Vec<Token>, allowed: [Allowed; FIELDS]) -> Question {
+        left.push(Token::Field(HIDDEN_LEFT));
+        right.push(Token::Field(HIDDEN_RIGHT));
+        let space = Pattern::Leaf { lo: SPACE, hi: SPACE };
+        let spaces = Places::of(&Pattern::AnyTimes(Box::new(space)));
+        let hidden = || Allowed::Pattern(Box::new(spaces.clone()));
+        let mut allowed = allowed.into_iter();
+        let allowed = std::array::from_fn(|_| allowed.next().unwrap_or_else(hidden));
+        Question { left, right, allowed }
+    }
 }
 
 /// Reads and judges a whole sheet: "no, one or several `PA`, field numbers
@@ -62,7 +84,7 @@ pub fn read(sheet: &[u8]) -> Result<Question, Fault> {
     let left = cursor.side(LEFT)?;
     let right = cursor.side(RIGHT)?;
     cursor.end()?;
-    Ok(Question { left, right, allowed })
+    Ok(Question::of(left, right, allowed))
 }
 
 /// Bytes and how far they are read: "Reading goes on from where the last

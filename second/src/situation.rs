@@ -3,7 +3,7 @@
 use std::collections::BTreeMap;
 
 use crate::pattern::{Allowed, PlaceSet, CHARACTERS, ONLY_START};
-use crate::sheet::{Question, Token, FIELDS};
+use crate::sheet::{Question, Token, ALL_FIELDS};
 
 /// "A situation is the two token lists and the place set of each field still
 /// standing in them."
@@ -79,7 +79,7 @@ impl Situation {
     }
 
     /// The children of an open situation in their order, not yet trimmed.
-    pub fn children(&self, allowed: &[Allowed; FIELDS]) -> Vec<(Situation, Step)> {
+    pub fn children(&self, allowed: &[Allowed; ALL_FIELDS]) -> Vec<(Situation, Step)> {
         let left = self.left.first().copied();
         let right = self.right.first().copied();
         let mut children = Vec::new();
@@ -124,10 +124,9 @@ impl Situation {
         &self,
         character: u8,
         fronts: &[Token],
-        allowed: &[Allowed; FIELDS],
+        allowed: &[Allowed; ALL_FIELDS],
     ) -> Option<(Situation, Step)> {
-        let mut child = self.clone();
-        let mut fields = Vec::new();
+        let mut sets = Vec::new();
         for &front in fronts {
             match front {
                 Token::Character(in_front) => {
@@ -140,13 +139,17 @@ impl Situation {
                     if set == 0 {
                         return None;
                     }
-                    child.sets.insert(field, set);
-                    child.left = put_before(character, front, &child.left);
-                    child.right = put_before(character, front, &child.right);
-                    fields.push(field);
+                    sets.push((field, set));
                 }
             }
         }
+        let mut child = self.clone();
+        for &(field, set) in &sets {
+            child.sets.insert(field, set);
+            child.left = put_before(character, Token::Field(field), &child.left);
+            child.right = put_before(character, Token::Field(field), &child.right);
+        }
+        let fields = sets.into_iter().map(|(field, _)| field).collect();
         Some((child, Step::Put { character, fields }))
     }
 }

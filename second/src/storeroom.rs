@@ -18,6 +18,8 @@
 //! | strip of tags | `TG`, any digits 22 times | `TG7777777777777777777777` |
 //! | lever | `LV`, any letters and digits | `LV42BR` |
 //!
+//! A label is the same with spaces at its end: scanners drop them.
+//!
 //! And a full catalogue of 32 rules, to measure what a pair costs.
 
 use crate::calls::{Operation, WORK};
@@ -25,7 +27,7 @@ use crate::cases::Case;
 use crate::write::{choice, many, row, rule, sheet, text, tokens};
 use crate::SITUATION_BYTES;
 
-/// An operation, what it is, and the line that it prints, if any.
+/// An operation, what it is, and the line that it prints, or the lines, if any.
 pub struct Row {
     pub what: &'static str,
     pub operation: Operation,
@@ -33,7 +35,8 @@ pub struct Row {
 }
 
 pub fn rows() -> Vec<Row> {
-    [entered(), refused(), withdrawn(), other_buffers()].into_iter().flatten().collect()
+    let rows = [entered(), refused(), withdrawn(), rechecked(), other_buffers()];
+    rows.into_iter().flatten().collect()
 }
 
 /// The operations one behind the other.
@@ -99,6 +102,10 @@ fn strip_of_tags() -> Vec<u8> {
     rule(&[(A, many(digit()))], &tokens(&format!("TG{}", "a".repeat(22))))
 }
 
+fn tag_and_letter() -> Vec<u8> {
+    rule(&[(A, row(vec![many(digit()), text("X")]))], &tokens("TGa"))
+}
+
 fn lever(made: &str) -> Vec<u8> {
     rule(&[(A, many(letter_or_digit()))], &tokens(made))
 }
@@ -120,7 +127,7 @@ fn entered() -> Vec<Row> {
         add("the box of a left-hand pair is rule 8", box_of_a_pair("BXaaL"), ENTERED),
         add("the strip of tags is rule 9", strip_of_tags(), ENTERED),
         // The clash that cost a latch: `LT42BR` on two shelves.
-        add("a lever can be marked as mortice latches are", lever("LTa"), "add 30 22 0 0 0"),
+        add("a lever can be marked as mortice latches are", lever("LTa"), "add 30 37 0 0 0"),
         add("the lever with a mark of its own is rule 10", lever("LVa"), ENTERED),
     ]
 }
@@ -128,7 +135,7 @@ fn entered() -> Vec<Row> {
 /// Rules that are not entered, for each cause.
 fn refused() -> Vec<Row> {
     let any_keypad = rule(&[(A, row(vec![digit(), many(digit())]))], &tokens("KPa"));
-    let tag_and_letter = rule(&[(A, row(vec![many(digit()), text("X")]))], &tokens("TGa"));
+    let filled_up = rule(&[(A, one_of(&["40  ", "45  ", "60  "]))], &tokens("NLa"));
     let mut sheets_side = battery();
     sheets_side[2..4].copy_from_slice(b"RI");
     let falling = rule(&[(B, digit()), (A, digit())], &tokens("LTab"));
@@ -145,9 +152,11 @@ fn refused() -> Vec<Row> {
         "WH",
     ]);
     vec![
-        add("`KP100` is a keypad already", any_keypad, "add 30 9 0 3 0"),
+        add("`KP100` is a keypad already", any_keypad, "add 30 17 0 3 0"),
         add("18: the search runs on", box_of_a_pair("BXaaR"), "add 30 455 0 8 18"),
-        add("19: a side above 48 tokens", tag_and_letter, "add 30 13 0 9 19"),
+        add("19: a side above 48 tokens", tag_and_letter(), "add 30 14 0 9 19"),
+        add("a space behind the battery's mark", shelf_mark("BT 9V "), "add 30 6 0 7 0"),
+        add("a night latch filled up with spaces", filled_up, "add 30 22 0 2 0"),
         add("11: cut short", battery()[..9].to_vec(), "add 11 0 9 0 0"),
         add("12: a sheet's right side", sheets_side, "add 12 0 2 0 0"),
         add("12: a sheet, and not a rule", battery_and_battery, "add 12 0 0 0 0"),
@@ -174,13 +183,50 @@ fn withdrawn() -> Vec<Row> {
         withdraw("33: there is no rule 11", 11, "withdraw 33"),
         withdraw("the rim latch goes, and the others move up", 1, "withdraw 0"),
         add("it comes back as rule 10", rim_latch(), "add 0 0 0 0 0"),
-        add("`RL07L` is a rim latch already, of rule 10", left_hand, "add 30 8 0 10 0"),
+        add("`RL07L` is a rim latch already, of rule 10", left_hand, "add 30 13 0 10 0"),
         work("room for one situation", SITUATION_BYTES),
         add("18: not enough for the pair with rule 2", keypad_with_cable(), "add 30 1 0 2 18"),
         work("no room", 0),
         add("18: for the pair with rule 0", keypad_with_cable(), "add 30 0 0 0 18"),
         work("455 situations again", WORK),
         add("the keypad with a cable is rule 11", keypad_with_cable(), "add 0 0 0 0 0"),
+    ]
+}
+
+/// Kept catalogues checked again.
+fn rechecked() -> Vec<Row> {
+    let numbered = rule(&[(A, many(digit()))], &tokens("LTa"));
+    let kept = [shelf_mark("LT4"), shelf_mark("LT4 "), shelf_mark("LT5"), shelf_mark("LT4  ")];
+    let kept = [&kept[..], &[numbered]].concat().concat();
+    let given_up =
+        [box_of_a_pair("BXaaL"), box_of_a_pair("BXaaR"), strip_of_tags(), tag_and_letter()]
+            .concat();
+    vec![
+        recheck("no two of the twelve rules clash", 0, "recheck 0 0 0"),
+        catalogue("rules kept from when spaces counted", 100, kept),
+        recheck("35: seven pairs clash, a byte is missing", 34, "recheck 35 0 0"),
+        recheck(
+            "the seven pairs",
+            35,
+            "recheck 0 7 35\n\
+            pair 0 1 0 6\npair 0 3 0 7\npair 0 4 0 9\npair 1 3 0 6\n\
+            pair 1 4 0 9\npair 2 4 0 9\npair 3 4 0 10",
+        ),
+        withdraw("the open number goes", 4, "withdraw 0"),
+        withdraw("and `LT4` without spaces", 0, "withdraw 0"),
+        recheck("`LT4` with one space and with two", 2_560, "recheck 0 1 5\npair 0 2 0 6"),
+        withdraw("the one with two goes", 2, "withdraw 0"),
+        recheck("no pair is left", 5, "recheck 0 0 0"),
+        catalogue("pairs that are given up", 200, given_up),
+        recheck("18 and 19 are listed too", 12, "recheck 0 2 10\npair 0 1 18 455\npair 2 3 19 14"),
+        work("no room", 0),
+        recheck(
+            "every pair is given up",
+            30,
+            "recheck 0 6 30\npair 0 1 18 0\npair 0 2 18 0\npair 0 3 18 0\n\
+            pair 1 2 18 0\npair 1 3 18 0\npair 2 3 18 0",
+        ),
+        work("455 situations again", WORK),
     ]
 }
 
@@ -204,9 +250,11 @@ fn other_buffers() -> Vec<Row> {
         catalogue("a rule whose last token is none", 64, damaged),
         add("34: no catalogue to add to", night_latch(), "add 34 0 0 0 0"),
         withdraw("34: nor to withdraw from", 0, "withdraw 34"),
+        recheck("34: nor to check again", 0, "recheck 34 0 0"),
         catalogue("no bytes", 0, Vec::new()),
         add("32: nothing fits", rule(&[], &[]), "add 32 0 0 0 0"),
         withdraw("33: no rule", 0, "withdraw 33"),
+        recheck("no pair", 0, "recheck 0 0 0"),
     ]
 }
 
@@ -264,6 +312,10 @@ fn add(what: &'static str, rule: Vec<u8>, line: &'static str) -> Row {
 
 fn withdraw(what: &'static str, number: u8, line: &'static str) -> Row {
     Row { what, operation: Operation::Withdraw(number), line: Some(line) }
+}
+
+fn recheck(what: &'static str, length: usize, lines: &'static str) -> Row {
+    Row { what, operation: Operation::Recheck(length), line: Some(lines) }
 }
 
 fn catalogue(what: &'static str, length: usize, front: Vec<u8>) -> Row {

@@ -6,7 +6,7 @@ mod table;
 use std::collections::BTreeMap;
 
 use second::calls::{After, Call, Calls, Operation};
-use second::catalogue::{Added, Searcher, HASHING, SCANNING};
+use second::catalogue::{withdraw, Added, Searcher, HASHING, SCANNING};
 use second::make::calls::{operations, stream};
 use second::make::Dice;
 use second::{storeroom, SITUATION_BYTES};
@@ -29,20 +29,27 @@ fn the_two_modules_agree() {
 #[test]
 fn all_answers_come_up() {
     let mut seen = BTreeMap::new();
+    let mut see = |answer| *seen.entry(answer).or_insert(0) += 1;
     for After { call, .. } in run(&operations(&mut Dice::new(2), 6000), HASHING) {
-        let answer = match call {
-            Call::Add { told: Added { number, pair, .. }, .. } => ("add", number, pair),
-            Call::Withdraw { number } => ("withdraw", number, 0),
-        };
-        *seen.entry(answer).or_insert(0) += 1;
+        match call {
+            Call::Add { told: Added { number, pair, .. }, .. } => see(("add", number, pair)),
+            Call::Withdraw { number } => see(("withdraw", number, 0)),
+            Call::Recheck { told, list, .. } => {
+                see(("recheck", told.number, u8::from(told.pairs > 0)));
+                list[..told.written].chunks_exact(5).for_each(|pair| see(("pair", pair[2], 0)));
+            }
+        }
     }
     let adds = [0, 11, 12, 13, 14, 15, 16, 17, 31, 32, 34].map(|number| ("add", number, 0));
     let pairs = [0, 18, 19].map(|answer| ("add", 30, answer));
     let withdrawals = [0, 33, 34].map(|number| ("withdraw", number, 0));
-    for answer in adds.into_iter().chain(pairs).chain(withdrawals) {
+    let rechecks = [("recheck", 0, 0), ("recheck", 0, 1), ("recheck", 35, 0)];
+    let listed = [0, 18, 19].map(|answer| ("pair", answer, 0));
+    for answer in adds.into_iter().chain(pairs).chain(withdrawals).chain(rechecks).chain(listed) {
         let times = seen.remove(&answer).unwrap_or(0);
         assert!(times >= 20, "{answer:?}: {times}");
     }
+    assert!(seen.remove(&("recheck", 34, 0)).is_some_and(|times| times >= 5));
     assert!(seen.is_empty(), "{seen:?}");
 }
 
@@ -196,6 +203,81 @@ fn each_pair_is_answered_as_a_sheet_of_its_own() {
         }
     }
     assert!(entered > 1000 && refused > 300);
+}
+
+/// How much longer a list buffer is than what is written into it.
+#[derive(Clone, Copy, Debug, PartialEq, Eq, PartialOrd, Ord)]
+enum Length {
+    None,
+    Below,
+    OneLess,
+    Exact,
+    More,
+}
+
+#[test]
+fn each_pair_is_checked_again_as_a_sheet_of_its_own() {
+    let mut calls = Calls::new(HASHING);
+    let mut work = 65_520;
+    let mut seen = BTreeMap::new();
+    let mut most = 0;
+    for operation in operations(&mut Dice::new(6), 10_000) {
+        if let Operation::Work(length) = operation {
+            work = length;
+        }
+        let before = calls.catalogue.clone();
+        let after = calls.run(&operation);
+        let (Operation::Recheck(length), Some(after)) = (operation, after) else {
+            continue;
+        };
+        let After { call: Call::Recheck { told, list, work: worked }, catalogue } = after else {
+            panic!("a recheck is told as one");
+        };
+        assert_eq!(catalogue, before);
+        // `withdraw` knows a catalogue of another form too.
+        if told.number == 34 {
+            assert_eq!(withdraw(&mut before.clone(), 0), 34);
+            assert_eq!((told.pairs, told.written), (0, 0));
+            assert!(list.iter().all(|&byte| byte == 165) && worked.iter().all(|&byte| byte == 90));
+            continue;
+        }
+        let records = records(&before);
+        let mut expected = Vec::new();
+        for (lower, left) in records.iter().enumerate() {
+            for (higher, right) in records.iter().enumerate().skip(lower + 1) {
+                let sheet = sheet(left, right);
+                let outcome = second::answer(&sheet, &mut vec![9; work], &mut [9; 4096]);
+                if outcome.number != 1 {
+                    let [low, high] = (outcome.count as u16).to_le_bytes();
+                    expected.push([lower as u8, higher as u8, outcome.number, low, high]);
+                }
+            }
+        }
+        most = most.max(expected.len());
+        let bytes = expected.concat();
+        let how = match length {
+            0 if !bytes.is_empty() => Length::None,
+            _ if length + 1 == bytes.len() => Length::OneLess,
+            _ if length < bytes.len() => Length::Below,
+            _ if length == bytes.len() => Length::Exact,
+            _ => Length::More,
+        };
+        *seen.entry((how, !bytes.is_empty())).or_insert(0) += 1;
+        let fits = bytes.len() <= length;
+        let number = if fits { 0 } else { 35 };
+        let listed = if fits { &bytes[..] } else { &[] };
+        assert_eq!((told.number, told.pairs), (number, listed.len() / 5));
+        assert_eq!(told.written, listed.len());
+        assert_eq!(&list[..listed.len()], listed);
+        assert!(list.len() == length && list[listed.len()..].iter().all(|&byte| byte == 165));
+        let filled = if records.len() < 2 { 90 } else { 0 };
+        assert!(worked.iter().all(|&byte| byte == filled));
+    }
+    for how in [Length::None, Length::Below, Length::OneLess, Length::Exact, Length::More] {
+        let times = seen.get(&(how, true)).copied().unwrap_or(0);
+        assert!(times >= 10, "{how:?}: {seen:?}");
+    }
+    assert!(most > 400, "{most}");
 }
 
 #[test]

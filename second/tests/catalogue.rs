@@ -1,12 +1,15 @@
 //! The catalogue: each answer and what it leaves in the lent buffers, worked
-//! out by hand from the bytes.
+//! out by hand from the bytes. In lists of situations h is the hidden field of
+//! the left rule, k that of the right one, `_` a space, and a field with a
+//! stroke one whose set is no longer the first.
 
 use second::calls::{Calls, Operation};
-use second::catalogue::{add, withdraw, Added, HASHING, SCANNING};
+use second::catalogue::{add, recheck, withdraw, Added, Rechecked, HASHING, SCANNING};
 use second::SITUATION_BYTES;
 
 const A: u8 = 10;
 const B: u8 = 11;
+const SPACE: u8 = 38;
 const X: u8 = 64;
 const FILL: u8 = 90;
 
@@ -99,30 +102,45 @@ fn the_first_rule_is_entered_without_a_search() {
 fn no_clash_is_entered() {
     // `A` and `B`, count 1
     enters(&[rule(&[A])], &rule(&[B]), 1);
-    // xx and `A`, count 2
-    enters(&[rule(&[X, X])], &rule(&[A]), 2);
+    // any digits and `A`: xh|Ak, h|Ak
+    enters(&[with(b"PA\x00\x04\x44\x41\x00\x09", &[X])], &rule(&[A]), 2);
+    // `A` and `A`, a space, `B`: h|_Bk, h'|Bk
+    enters(&[rule(&[A])], &rule(&[A, SPACE, B]), 2);
     // behind three others
     enters(&[rule(&[A]), rule(&[B]), rule(&[])], &rule(&[A, A]), 1);
 }
 
 #[test]
 fn a_clash_is_refused() {
-    // both sides empty, count 1; the rule `B` before it gives 1
-    refused_by_pair(&[rule(&[]), rule(&[B])], &rule(&[]), 1, pair(0, 0, 1));
-    refused_by_pair(&[rule(&[B]), rule(&[])], &rule(&[]), 1, pair(1, 0, 1));
-    // x and `A`, count 3
-    refused_by_pair(&[rule(&[X])], &rule(&[A]), 3, pair(0, 0, 3));
-    // x and 24 times `A`: one more for each `A`, and the finish
-    refused_by_pair(&[rule(&[X])], &rule(&[A; 24]), 26, pair(0, 0, 26));
+    // both sides empty, count 5; the rule `B` before it gives 1
+    refused_by_pair(&[rule(&[]), rule(&[B])], &rule(&[]), 5, pair(0, 0, 5));
+    refused_by_pair(&[rule(&[B]), rule(&[])], &rule(&[]), 5, pair(1, 0, 5));
+    // x and `A`, count 11
+    refused_by_pair(&[rule(&[X])], &rule(&[A]), 11, pair(0, 0, 11));
+    // x and 24 times `A`: two more for each `A`
+    refused_by_pair(&[rule(&[X])], &rule(&[A; 24]), 57, pair(0, 0, 57));
+}
+
+#[test]
+fn rules_that_differ_in_spaces_at_their_ends() {
+    let spaces = |number: usize| rule(&[&[A][..], &vec![SPACE; number]].concat());
+    for (present, new) in [(0, 1), (1, 0), (0, 2), (2, 1), (3, 23), (23, 0)] {
+        let count = 5 + usize::abs_diff(present, new);
+        refused_by_pair(&[spaces(present)], &spaces(new), count, pair(0, 0, count));
+        refused_by_pair(&[spaces(present)], &spaces(new), count - 1, pair(0, 18, count - 1));
+    }
+    // A rule of spaces alone makes the empty label.
+    refused_by_pair(&[rule(&[B]), rule(&[SPACE])], &rule(&[]), 6, pair(1, 0, 6));
 }
 
 #[test]
 fn the_first_pair_that_is_not_1_is_told() {
     // Rules 1 and 2 both make `A`; so does rule 3.
     let rules = [rule(&[B]), rule(&[A]), rule(&[X]), rule(&[X, X])];
-    refused_by_pair(&rules, &rule(&[A]), 455, pair(1, 0, 1));
-    refused_by_pair(&rules, &rule(&[A, A]), 455, pair(2, 0, 4));
-    refused_by_pair(&rules[..2], &rule(&[X]), 455, pair(0, 0, 3));
+    refused_by_pair(&rules, &rule(&[A]), 455, pair(1, 0, 5));
+    refused_by_pair(&rules, &rule(&[A, A]), 455, pair(2, 0, 13));
+    // Bh|yk, Bh|k, h|yk, |yk, h|k, h'|yk, |k, h|, h'|k', h'|k, |
+    refused_by_pair(&rules[..2], &rule(&[X]), 455, pair(0, 0, 11));
     // A pair given up ends it too, though a later one has a clash.
     refused_by_pair(&[rule(&[X, X]), rule(&[A])], &rule(&[A]), 1, pair(0, 18, 1));
 }
@@ -130,12 +148,13 @@ fn the_first_pair_that_is_not_1_is_told() {
 #[test]
 fn the_new_rules_fields_are_others() {
     // As one sheet xA and Bx have no clash; as rules they have: BA. Entered:
-    // xA|By, xA|y, A|y, xA|, |y, |.
-    refused_by_pair(&[rule(&[X, A])], &rule(&[B, X]), 455, pair(0, 0, 6));
-    refused_by_pair(&[rule(&[X, A])], &rule(&[B, X]), 6, pair(0, 0, 6));
-    refused_by_pair(&[rule(&[X, A])], &rule(&[B, X]), 5, pair(0, 18, 5));
+    // xAh|Byk, xAh|yk, Ah|yk, xAh|k, Ah|k, h|yk, xAh|, xAh|k', |yk, h|k, h'|yk,
+    // Ah|k', |k, h|, h'|k', h'|k, |.
+    refused_by_pair(&[rule(&[X, A])], &rule(&[B, X]), 455, pair(0, 0, 17));
+    refused_by_pair(&[rule(&[X, A])], &rule(&[B, X]), 17, pair(0, 0, 17));
+    refused_by_pair(&[rule(&[X, A])], &rule(&[B, X]), 16, pair(0, 18, 16));
     // Field 3 becomes 7.
-    refused_by_pair(&[rule(&[X + 3, A])], &rule(&[B, X + 3]), 6, pair(0, 0, 6));
+    refused_by_pair(&[rule(&[X + 3, A])], &rule(&[B, X + 3]), 17, pair(0, 0, 17));
 }
 
 #[test]
@@ -143,17 +162,17 @@ fn each_rule_keeps_its_own_patterns() {
     let digit = with(b"PA\x00\x03\x41\x00\x09", &[X]);
     let four = with(b"PA\x00\x01\x04", &[X]);
     let letter = with(b"PA\x00\x01\x0a", &[X]);
-    // x|y; no character is taken by both.
+    // xh|yk; no character is taken by both.
     enters(std::slice::from_ref(&digit), &letter, 1);
-    // x|y, x'|y', |y', x'|, |
-    refused_by_pair(std::slice::from_ref(&digit), &four, 5, pair(0, 0, 5));
-    refused_by_pair(&[four], &digit, 5, pair(0, 0, 5));
-    // An open field is not held to the other's pattern: x|y, x|, x'|y, |y,
-    // x'|, |.
-    refused_by_pair(&[digit], &rule(&[X]), 6, pair(0, 0, 6));
+    // xh|yk, x'h|y'k, h|y'k, x'h|k, |y'k, h|k, x'h|, |k, h|, h'|k', |
+    refused_by_pair(std::slice::from_ref(&digit), &four, 11, pair(0, 0, 11));
+    refused_by_pair(&[four], &digit, 11, pair(0, 0, 11));
+    // An open field is not held to the other's pattern: xh|yk, xh|k, x'h|yk,
+    // xh|, h|yk, x'h|k, |yk, h|k, h'|yk, x'h|, |k, h|, h'|k', h'|k, |.
+    refused_by_pair(&[digit], &rule(&[X]), 15, pair(0, 0, 15));
     // A pattern of a field that stands nowhere is ignored.
     let ignored = with(b"PA\x01\x01\x04", &[X]);
-    refused_by_pair(&[letter], &ignored, 6, pair(0, 0, 6));
+    refused_by_pair(&[letter], &ignored, 15, pair(0, 0, 15));
 }
 
 #[test]
@@ -177,8 +196,10 @@ fn a_working_buffer_of_no_bytes() {
 
 #[test]
 fn a_side_above_48_tokens() {
-    refused_by_pair(&[rule(&[X; 24])], &rule(&[A, A]), 2, pair(0, 19, 2));
-    refused_by_pair(&[rule(&[B]), rule(&[A, A])], &rule(&[X; 24]), 2, pair(1, 19, 2));
+    refused_by_pair(&[rule(&[X; 24])], &rule(&[A, A]), 4, pair(0, 19, 4));
+    // AAh|y..k, AAh|k, Ah|y(Ay)..k, h|A..k, then 68 tokens
+    let many_times = rule(&[&[A][..], &[X; 23]].concat());
+    refused_by_pair(&[rule(&[B]), rule(&[A, A, A])], &many_times, 4, pair(1, 19, 4));
 }
 
 // ------------------------------------------------------- 11 to 17, then 31
@@ -381,7 +402,7 @@ fn a_rule_entered_again_is_the_last() {
     let (told, again, _) = added(&after, &rules[0], 455);
     assert_eq!(told, DONE);
     assert_eq!(again, catalogue(&[&rules[1..], &rules[..1]].concat(), 40));
-    refused_by_pair(&[&rules[1..], &rules[..1]].concat(), &rules[0], 455, pair(2, 0, 1));
+    refused_by_pair(&[&rules[1..], &rules[..1]].concat(), &rules[0], 455, pair(2, 0, 5));
 }
 
 // ------------------------------------------------------------------- 34
@@ -415,6 +436,10 @@ fn not_of_this_form() {
         not_a_catalogue(&bytes);
         not_a_catalogue(&[&bytes[..], &[0]].concat());
     }
+    // The hidden fields' tokens are none in a rule.
+    for token in [72, 73] {
+        not_a_catalogue(&[&good[..], &rule(&[B, token])].concat());
+    }
     // A zero more is the length of a side, or its last character.
     for bytes in [&b"RULE"[..], b"RULE\x01", b"RULE\x01\x0aRULE\x02\x0a"] {
         not_a_catalogue(bytes);
@@ -432,6 +457,9 @@ fn not_a_catalogue(before: &[u8]) {
         let mut after = before.to_vec();
         assert_eq!(withdraw(&mut after, number), 34, "{before:?}");
         assert_eq!(after, before);
+    }
+    for length in [0, 2, 2560] {
+        rechecks_to(before, 9, length, told(34, 0), &[], FILL);
     }
 }
 
@@ -455,6 +483,163 @@ fn pairs_of_a_kept_catalogue_are_not_searched_again() {
     let mut after = catalogue(&kept, 30);
     assert_eq!(withdraw(&mut after, 1), 0);
     assert_eq!(after, catalogue(&kept[..1], 30));
+}
+
+// ---------------------------------------------------------- checking again
+
+const LIST_FILL: u8 = 165;
+
+fn told(number: u8, pairs: usize) -> Rechecked {
+    Rechecked { number, pairs, written: 5 * pairs }
+}
+
+/// Checks again with this room and length of the list buffer, by both modules:
+/// what is told, the list in front and the rest unchanged, and what each byte
+/// of the working buffer is afterwards.
+fn rechecks_to(
+    catalogue: &[u8],
+    room: usize,
+    length: usize,
+    expected: Rechecked,
+    listed: &[u8],
+    worked: u8,
+) {
+    for search in [HASHING, SCANNING] {
+        let mut list = vec![LIST_FILL; length];
+        // Bytes beyond the last situation's are no room.
+        let mut work = vec![FILL; room * SITUATION_BYTES + 143];
+        let told = recheck(catalogue, &mut work, &mut list, search);
+        assert_eq!(told, expected, "{catalogue:?}");
+        let (front, rest) = list.split_at(listed.len());
+        assert_eq!(front, listed);
+        assert!(rest.iter().all(|&byte| byte == LIST_FILL));
+        assert!(work.iter().all(|&byte| byte == worked));
+    }
+}
+
+/// The list of rules of which at least two stand, in buffers just long enough
+/// and longer; one byte less is too short.
+fn lists(rules: &[Vec<u8>], room: usize, pairs: &[[u8; 5]]) {
+    let listed = pairs.concat();
+    for zeros in [0, 1, 40] {
+        let kept = catalogue(rules, rules.concat().len() + zeros);
+        for more in [0, 1, 4, 5, 1000] {
+            let expected = told(0, pairs.len());
+            rechecks_to(&kept, room, listed.len() + more, expected, &listed, 0);
+        }
+        for less in 1..=listed.len() {
+            rechecks_to(&kept, room, listed.len() - less, told(35, 0), &[], 0);
+        }
+    }
+}
+
+#[test]
+fn without_a_pair_nothing_is_searched() {
+    for length in [0, 1, 5, 2560] {
+        for kept in [vec![], vec![0; 9], rule(&[X; 24]), catalogue(&[rule(&[A])], 99)] {
+            for room in [0, 9] {
+                rechecks_to(&kept, room, length, told(0, 0), &[], FILL);
+            }
+        }
+    }
+}
+
+#[test]
+fn pairs_answered_1_are_not_listed() {
+    lists(&[rule(&[A]), rule(&[B])], 1, &[]);
+    lists(&[rule(&[A]), rule(&[B]), rule(&[]), rule(&[A, SPACE, B])], 2, &[]);
+    let all: Vec<Vec<u8>> = (0..32).map(|label| rule(&[label])).collect();
+    lists(&all, 1, &[]);
+}
+
+#[test]
+fn pairs_that_clash_are_listed() {
+    // both empty, and with a space behind one of them
+    lists(&[rule(&[]), rule(&[])], 5, &[[0, 1, 0, 5, 0]]);
+    lists(&[rule(&[A]), rule(&[A, SPACE])], 6, &[[0, 1, 0, 6, 0]]);
+    // x and 24 times `A`
+    lists(&[rule(&[X]), rule(&[A; 24])], 57, &[[0, 1, 0, 57, 0]]);
+    // By lower, then higher number; `B` clashes with none of them.
+    let rules = [rule(&[A, SPACE]), rule(&[B]), rule(&[A]), rule(&[A; 2]), rule(&[A, SPACE])];
+    lists(&rules, 455, &[[0, 2, 0, 6, 0], [0, 4, 0, 5, 0], [2, 4, 0, 6, 0]]);
+    lists(&rules[1..], 455, &[[1, 3, 0, 6, 0]]);
+    // Each rule has fields of its own: xA and Bx make BA.
+    lists(&[rule(&[X, A]), rule(&[B, X])], 17, &[[0, 1, 0, 17, 0]]);
+}
+
+#[test]
+fn the_lower_number_is_the_left_side() {
+    // x is `A` or empty, y any spaces. xh|yAyk, h|yAyk, xh|Ak, |yAyk, h|Ak,
+    // h'|y'A_y'k, x'h|k, |y'A_y'k, h'|A_k, h'|y'A__y'k, h|k, x'h|, |y'A__y'k,
+    // h'|A__k, h'|y'A___y'k, |k, h|, h'|k', |y'A___y'k, h'|A___k,
+    // h'|y'A____y'k, |
+    let x = with(b"PA\x00\x03\x43\x40\x0a", &[X]);
+    let yay = with(b"PA\x01\x02\x44\x26", &[X + 1, A, X + 1]);
+    lists(&[x.clone(), yay.clone()], 22, &[[0, 1, 0, 22, 0]]);
+    // yAyh|xk, Ah|xk, yAyh|k, Ah|k, h|x'k, yAyh|, y'A_y'h|k', |x'k, h|k,
+    // A_h|k', y'A_y'h|, y'A__y'h|k', |k, h|, h'|k', A__h|k', y'A__y'h|,
+    // y'A___y'h|k', |
+    lists(&[yay.clone(), x.clone()], 19, &[[0, 1, 0, 19, 0]]);
+    // As present and new rule of `add`.
+    refused_by_pair(std::slice::from_ref(&x), &yay, 22, pair(0, 0, 22));
+    refused_by_pair(&[yay], &x, 19, pair(0, 0, 19));
+}
+
+#[test]
+fn pairs_given_up_are_listed() {
+    // No room: also with bytes that are no situation's.
+    lists(&[rule(&[A]), rule(&[B])], 0, &[[0, 1, 18, 0, 0]]);
+    let rules = [rule(&[A]), rule(&[B]), rule(&[A])];
+    lists(&rules, 0, &[[0, 1, 18, 0, 0], [0, 2, 18, 0, 0], [1, 2, 18, 0, 0]]);
+    lists(&rules, 4, &[[0, 2, 18, 4, 0]]);
+    // xxA and yyB: a count above 255. With x..x and AA a side above 48 tokens.
+    let runs_on = [rule(&[X, X, A]), rule(&[X, X, B])];
+    lists(&runs_on, 455, &[[0, 1, 18, 0xc7, 1]]);
+    lists(&runs_on, 256, &[[0, 1, 18, 0, 1]]);
+    lists(&[rule(&[X; 24]), rule(&[A, A])], 4, &[[0, 1, 19, 4, 0]]);
+}
+
+#[test]
+fn a_working_buffer_of_no_bytes_for_a_recheck() {
+    for search in [HASHING, SCANNING] {
+        let mut list = [LIST_FILL; 6];
+        let kept = catalogue(&[rule(&[A]), rule(&[B])], 20);
+        assert_eq!(recheck(&kept, &mut [], &mut list, search), told(0, 1));
+        assert_eq!(list, [0, 1, 18, 0, 0, LIST_FILL]);
+        assert_eq!(recheck(&kept, &mut [], &mut [], search), told(35, 0));
+    }
+}
+
+#[test]
+fn all_pairs_of_32_rules() {
+    // The same label with 0 to 19 spaces, and with none: 496 pairs.
+    let spaces = |rule: usize| if rule < 20 { rule } else { 0 };
+    let side = |number: usize| [vec![A], vec![SPACE; spaces(number)]].concat();
+    let rules: Vec<Vec<u8>> = (0..32).map(|number| rule(&side(number))).collect();
+    let mut pairs = Vec::new();
+    for lower in 0..32 {
+        for higher in lower + 1..32 {
+            let count = 5 + spaces(lower).abs_diff(spaces(higher)) as u8;
+            pairs.push([lower as u8, higher as u8, 0, count, 0]);
+        }
+    }
+    assert_eq!(pairs.len(), 496);
+    let kept = catalogue(&rules, 8192);
+    rechecks_to(&kept, 24, 2480, told(0, 496), &pairs.concat(), 0);
+    rechecks_to(&kept, 24, 2560, told(0, 496), &pairs.concat(), 0);
+    rechecks_to(&kept, 24, 2479, told(35, 0), &[], 0);
+    rechecks_to(&kept, 24, 0, told(35, 0), &[], 0);
+}
+
+#[test]
+fn what_add_entered_is_not_listed() {
+    let mut kept = vec![0; 100];
+    for new in [rule(&[A]), rule(&[A, SPACE]), rule(&[A, A]), rule(&[]), rule(&[SPACE; 3])] {
+        add(&mut kept, &new, &mut vec![0; 20 * SITUATION_BYTES], HASHING);
+    }
+    // `A`, `AA` and the empty label are entered.
+    assert_eq!(kept, catalogue(&[rule(&[A]), rule(&[A, A]), rule(&[])], 100));
+    rechecks_to(&kept, 20, 0, told(0, 0), &[], 0);
 }
 
 // ---------------------------------------------------------------- operations
@@ -492,12 +677,22 @@ fn lines_have_every_byte() {
         CA\x00\x00\x00\x00\
         WI\xff\
         CA\x03\x00\x02\x00\x00X\
-        WI\x00";
+        WI\x00\
+        RE\x02\x00\
+        CA\x10\x00\x0d\x00RULE\x01\x0aRULE\x02\x0a\x26\
+        RE\x05\x00\
+        WO\xd0\x03\x00\x00\
+        RE\x04\x00\
+        RE\x05\x00\
+        RE\x07\x00\
+        WI\x00\
+        RE\x00\x00\
+        RE\x01\x00";
     assert_eq!(
         lines(stream),
         [
             "add 0 0 0 0 0, catalogue 52 55 4c 45 01 0a, zeros 8186, work unchanged",
-            "add 30 1 0 0 0, catalogue 52 55 4c 45 01 0a, zeros 8186, work all zero",
+            "add 30 5 0 0 0, catalogue 52 55 4c 45 01 0a, zeros 8186, work all zero",
             "withdraw 33, catalogue 52 55 4c 45 01 0a, zeros 8186",
             "add 11 0 2 0 0, catalogue 52 55 4c 45 01 0a, zeros 8186, work unchanged",
             "withdraw 0, catalogue, zeros 8192",
@@ -506,13 +701,26 @@ fn lines_have_every_byte() {
             "add 11 0 0 0 0, catalogue 52 55 4c 45 01 0a 52 55 4c 45, zeros 1, work all zero",
             "withdraw 33, catalogue, zeros 0",
             "withdraw 34, catalogue 00 58, zeros 1",
+            "recheck 34 0 0, list a5 a5, zeros 0, catalogue 00 58, zeros 1, work all zero",
+            "recheck 0 1 5, list 00 01 12, zeros 2, catalogue 52 55 4c 45 01 0a 52 55 4c 45 02 0a \
+             26, zeros 3, work all zero",
+            "recheck 35 0 0, list a5 a5 a5 a5, zeros 0, catalogue 52 55 4c 45 01 0a 52 55 4c 45 02 \
+             0a 26, zeros 3, work all zero",
+            "recheck 0 1 5, list 00 01 00 06, zeros 1, catalogue 52 55 4c 45 01 0a 52 55 4c 45 02 \
+             0a 26, zeros 3, work all zero",
+            "recheck 0 1 5, list 00 01 00 06 00 a5 a5, zeros 0, catalogue 52 55 4c 45 01 0a 52 55 \
+             4c 45 02 0a 26, zeros 3, work all zero",
+            "withdraw 0, catalogue 52 55 4c 45 02 0a 26, zeros 9",
+            "recheck 0 0 0, list, zeros 0, catalogue 52 55 4c 45 02 0a 26, zeros 9, work unchanged",
+            "recheck 0 0 0, list a5, zeros 0, catalogue 52 55 4c 45 02 0a 26, zeros 9, \
+             work unchanged",
         ]
     );
 }
 
 #[test]
 fn a_stream_ends_where_an_operation_is_none() {
-    let ends: [&[u8]; 16] = [
+    let ends: [&[u8]; 22] = [
         b"",
         b"W",
         b"WI",
@@ -522,16 +730,22 @@ fn a_stream_ends_where_an_operation_is_none() {
         b"CA\x01\x00\x01\x00",
         b"CA\x01\x00\x00",
         b"WO\x00\x00\x00",
+        b"RE",
+        b"RE\x00",
         // other marks
         b"XX\x00WI\x00",
         b"ad\x00\x00WI\x00",
+        b"re\x00\x00WI\x00",
+        b"RI\x00\x00WI\x00",
         // more than is allowed: 8,193 bytes, a front longer than the buffer,
-        // 65,664 bytes of work
+        // 65,664 bytes of work, 2,561 bytes of list
         b"CA\x01\x20\x00\x00WI\x00",
         b"CA\x01\x00\x02\x00\x00\x00WI\x00",
         b"WO\x80\x00\x01\x00WI\x00",
         b"WO\x00\x00\x00\x01WI\x00",
         b"WO\xff\xff\xff\xffWI\x00",
+        b"RE\x01\x0aWI\x00",
+        b"RE\xff\xffWI\x00",
     ];
     for end in ends {
         assert_eq!(lines(&[b"WI\x00", end].concat()).len(), 1, "{end:?}");
@@ -539,6 +753,8 @@ fn a_stream_ends_where_an_operation_is_none() {
     // The most that is allowed.
     let most = [b"CA\x00\x20\x00\x00", &b"WO\x7f\x00\x01\x00"[..], b"WI\x00"].concat();
     assert_eq!(lines(&most), ["withdraw 33, catalogue, zeros 8192"]);
+    let list = lines(b"RE\x00\x0aWI\x00");
+    assert!(list[0].starts_with("recheck 0 0 0, list a5 a5 ") && list.len() == 2);
     let full = [&b"CA\x02\x00\x02\x00RU"[..], b"WI\x00"].concat();
     assert_eq!(lines(&full), ["withdraw 34, catalogue 52 55, zeros 0"]);
 }

@@ -1,10 +1,14 @@
-//! Every row of "Known sheets", and sheet S in all its variants.
+//! Every row of "Known sheets", and sheet S in all its variants; then sheets
+//! whose labels end in spaces. Counts are worked out by hand where a comment
+//! lists the situations: h is the left hidden field, k the right one, `_` a
+//! space, and a field with a stroke one whose set is no longer the first.
 
 use second::cases::{After, Case, ANSWER_FILL};
 use second::{lines, Outcome, SITUATION_BYTES};
 
 const A: u8 = 10;
 const B: u8 = 11;
+const SPACE: u8 = 38;
 const X: u8 = 64;
 const Y: u8 = 65;
 
@@ -40,10 +44,18 @@ fn check(sheet: &[u8], room: usize, answer: u32, expected: (u8, usize, usize), r
     assert_eq!(&answer[..outcome.written], records);
 }
 
+/// The same at the least room for it; with one situation less there is no room.
+fn check_at_least_room(sheet: &[u8], number: u8, count: usize, records: &[u8]) {
+    check(sheet, 455, 4096, (number, count, 0), records);
+    check(sheet, count, 4096, (number, count, 0), records);
+    check(sheet, count - 1, 4096, (18, count - 1, 0), &[]);
+}
+
 #[test]
 fn both_sides_empty() {
-    check(&sheet(&[], &[]), 455, 4096, (0, 1, 0), &[]);
-    check(&sheet(&[], &[]), 455, 0, (0, 1, 0), &[]);
+    // h|k, |k, h|, h'|k', |
+    check_at_least_room(&sheet(&[], &[]), 0, 5, &[]);
+    check(&sheet(&[], &[]), 455, 0, (0, 5, 0), &[]);
 }
 
 #[test]
@@ -53,20 +65,23 @@ fn a_and_b() {
 
 #[test]
 fn x_and_a() {
+    // xh|Ak, h|Ak, xh|k, h|k, xh|, xh|k', |k, h|, h'|k', h|k', |
     let records = [b"VA", &[0, 1, 0, A][..]].concat();
-    check(&sheet(&[X], &[A]), 455, 4096, (0, 3, 0), &records);
-    check(&sheet(&[X], &[A]), 3, 6, (0, 3, 0), &records);
-    check(&sheet(&[X], &[A]), 3, 5, (20, 3, 0), &[]);
+    check_at_least_room(&sheet(&[X], &[A]), 0, 11, &records);
+    check(&sheet(&[X], &[A]), 11, 6, (0, 11, 0), &records);
+    check(&sheet(&[X], &[A]), 11, 5, (20, 11, 0), &[]);
     check(&sheet(&[X], &[A]), 2, 6, (18, 2, 0), &[]);
 }
 
 #[test]
 fn xa_and_bx() {
+    // xAh|Bxk comes back after `B`.
     check(&sheet(&[X, A], &[B, X]), 455, 4096, (1, 1, 0), &[]);
 }
 
 #[test]
 fn xa_and_bx_with_a_pattern() {
+    // xAh|Bxk, x'Ah|Bx'k
     let with_pattern = [b"PA", &[0, 4, 68, 65, 0, 42][..], &sheet(&[X, A], &[B, X])].concat();
     check(&with_pattern, 455, 4096, (1, 2, 0), &[]);
 }
@@ -84,19 +99,29 @@ fn xa_and_bx_without_room() {
 
 #[test]
 fn xx_and_aa() {
+    // xxh|AAk, h|AAk, xAxh|Ak, h|k, xAAxh|k, |k, h|, h'|k', AAh|k, xAAxh|,
+    // xAA_xh|k', |
     let records = [b"VA", &[0, 1, 0, A][..]].concat();
-    check(&sheet(&[X, X], &[A, A]), 455, 4096, (0, 3, 0), &records);
+    check_at_least_room(&sheet(&[X, X], &[A, A]), 0, 12, &records);
 }
 
 #[test]
 fn xx_and_a() {
-    check(&sheet(&[X, X], &[A]), 455, 4096, (1, 2, 0), &[]);
+    // xxh|Ak, h|Ak, then xAxh|k. From there each space makes three: A_..h|k',
+    // xA_..xh| and xA_..xh|k', until the last has more than 48 tokens: x, A,
+    // 44 spaces, x and h are 48. So 3, two more without a space, and three for
+    // each of 44 spaces.
+    check(&sheet(&[X, X], &[A]), 455, 4096, (19, 137, 0), &[]);
+    check(&sheet(&[X, X], &[A]), 137, 4096, (19, 137, 0), &[]);
+    check(&sheet(&[X, X], &[A]), 136, 4096, (18, 136, 0), &[]);
 }
 
 #[test]
 fn abxb_and_xby() {
     let records = [b"VA", &[0, 1, 0, A][..], b"VA", &[1, 2, 0, A, B]].concat();
-    check(&sheet(&[A, B, X, B], &[X, B, Y]), 455, 4096, (0, 6, 0), &records);
+    // ABxBh|xByk, BAxBh|xByk, ABh|yk, ABh|k, Bh|yk, Bh|k, h|yk, |yk, h|k,
+    // h'|yk, |k, h|, h'|k', h'|k, |
+    check_at_least_room(&sheet(&[A, B, X, B], &[X, B, Y]), 0, 15, &records);
 }
 
 #[test]
@@ -106,7 +131,11 @@ fn xa_and_byx_runs_on() {
 
 #[test]
 fn twenty_four_times_x_and_aa() {
-    check(&sheet(&[X; 24], &[A, A]), 2, 4096, (19, 2, 0), &[]);
+    // x..h|AAk, h|AAk, x(Ax)..h|Ak of 48 tokens, A..h|k, then 71 tokens
+    check(&sheet(&[X; 24], &[A, A]), 455, 4096, (19, 4, 0), &[]);
+    check(&sheet(&[X; 24], &[A, A]), 4, 4096, (19, 4, 0), &[]);
+    check(&sheet(&[X; 24], &[A, A]), 3, 4096, (18, 3, 0), &[]);
+    check(&sheet(&[X; 24], &[A, A]), 2, 4096, (18, 2, 0), &[]);
 }
 
 #[test]
@@ -123,16 +152,18 @@ fn one_byte_more() {
 #[test]
 fn sheet_s() {
     let records = [0x56, 0x41, 0x00, 0x01, 0x00, 0x04, 0x56, 0x41, 0x01, 0x01, 0x00, 0x04];
-    check(&SHEET_S, 455, 4096, (0, 6, 0), &records);
-    check(&SHEET_S, 6, 12, (0, 6, 0), &records);
-    check(&SHEET_S, 455, 11, (20, 6, 0), &[]);
-    check(&SHEET_S, 5, 4096, (18, 5, 0), &[]);
+    // xh|yk, h|yk, x'h|y'k, |yk, h|y'k, x'h|k, |y'k, h|k, x'h|, |k, h|, h'|k',
+    // |
+    check_at_least_room(&SHEET_S, 0, 13, &records);
+    check(&SHEET_S, 13, 12, (0, 13, 0), &records);
+    check(&SHEET_S, 455, 11, (20, 13, 0), &[]);
+    check(&SHEET_S, 12, 4096, (18, 12, 0), &[]);
 }
 
 #[test]
 fn sheet_s_as_printed() {
     let After { outcome, answer, .. } = run(&SHEET_S, 455, 4096);
-    assert_eq!(lines(&outcome, &answer), "0 6 0\n0 4\n1 4\n");
+    assert_eq!(lines(&outcome, &answer), "0 13 0\n0 4\n1 4\n");
 }
 
 #[test]
@@ -142,4 +173,138 @@ fn characters_as_printed() {
     let printed = lines(&outcome, &answer);
     // x is struck first, so y is the whole label.
     assert_eq!(printed, format!("0 {} 0\n0 \n1 JKLMNOPQRSTUVWXYZ-. $/+%\n", outcome.count));
+}
+
+// ----------------------------------------------------------- trailing spaces
+
+/// So many spaces behind these tokens.
+fn then_spaces(tokens: &[u8], spaces: usize) -> Vec<u8> {
+    [tokens, &vec![SPACE; spaces]].concat()
+}
+
+/// `PA` with the right length byte.
+fn pattern(field: u8, body: &[u8]) -> Vec<u8> {
+    [b"PA", &[field, body.len() as u8][..], body].concat()
+}
+
+/// `VA` of field 0.
+fn record(text: &[u8]) -> Vec<u8> {
+    [b"VA", &[0, text.len() as u8, 0][..], text].concat()
+}
+
+#[test]
+fn lt4_and_lt4_with_spaces() {
+    let lt4 = [21, 29, 4];
+    for spaces in 0..=21 {
+        // h|_..k, then h'|_..k with a space less each time, down to h'|k; then
+        // |k, h'|, h'|k', |. Without a space it is h|k from the start.
+        let spaced = then_spaces(&lt4, spaces);
+        check_at_least_room(&sheet(&lt4, &spaced), 0, 5 + spaces, &[]);
+        check_at_least_room(&sheet(&spaced, &lt4), 0, 5 + spaces, &[]);
+        // Spaces on both sides are trimmed as far as they are equal.
+        let twice = then_spaces(&lt4, 21 - spaces);
+        check(&sheet(&spaced, &twice), 455, 0, (0, 5 + spaces.abs_diff(21 - spaces), 0), &[]);
+    }
+}
+
+#[test]
+fn sides_of_spaces_alone() {
+    for spaces in 0..=24 {
+        check_at_least_room(&sheet(&[], &then_spaces(&[], spaces)), 0, 5 + spaces, &[]);
+        check_at_least_room(&sheet(&then_spaces(&[], spaces), &[]), 0, 5 + spaces, &[]);
+    }
+}
+
+#[test]
+fn other_spaces_count() {
+    // In front, and between characters: h|_..Bk, then h'|_..Bk with a space
+    // less each time.
+    check(&sheet(&[SPACE, A], &[A]), 455, 4096, (1, 1, 0), &[]);
+    for spaces in 1..=22 {
+        let inside = [then_spaces(&[A], spaces), vec![B]].concat();
+        check_at_least_room(&sheet(&[A], &inside), 1, spaces + 1, &[]);
+        check_at_least_room(&sheet(&inside, &[A]), 1, spaces + 1, &[]);
+    }
+    check(&sheet(&[A, SPACE, B], &[A, B, SPACE]), 455, 4096, (1, 1, 0), &[]);
+    // Only spaces are dropped: `.` and `$` are the values beside.
+    for other in [37, 39, 0, 42] {
+        check(&sheet(&[A], &[A, other]), 455, 4096, (1, 1, 0), &[]);
+        check(&sheet(&[A, other], &[A]), 455, 4096, (1, 1, 0), &[]);
+    }
+}
+
+#[test]
+fn x_and_a_label() {
+    // For each `A` two: xh|A..k and h|A..k; then as for x and `A` the nine from
+    // xh|k to the finish.
+    for length in 1..=24 {
+        let label = vec![A; length];
+        check_at_least_room(&sheet(&[X], &label), 0, 2 * length + 9, &record(&label));
+    }
+}
+
+#[test]
+fn a_field_of_spaces_at_the_end() {
+    // xh|k, h|k, xh|, x'h|k', |k, h|, h'|k', h|k', x'h|, |
+    let spaces = pattern(0, &[68, SPACE]);
+    let at_the_end = [&spaces[..], &sheet(&[A, X], &[A])].concat();
+    check_at_least_room(&at_the_end, 0, 10, &record(&[]));
+    // x is one space: xh|k, xh|, x'h|k', h|k', x'h|, |k', h|, h'|k', |
+    let one_space = [&pattern(0, &[SPACE])[..], &sheet(&[A, X], &[A])].concat();
+    check_at_least_room(&one_space, 0, 9, &record(&[SPACE]));
+}
+
+#[test]
+fn a_text_that_ends_in_a_space() {
+    // x is `A `: xh|Ak, x'h|k, x'h|, x''h|k', h|k', x''h|, |k', h|, h'|k', |
+    let a_space = pattern(0, &[66, A, SPACE]);
+    let with_a = [&a_space[..], &sheet(&[X], &[A])].concat();
+    check_at_least_room(&with_a, 0, 10, &record(&[A, SPACE]));
+    let printed = run(&with_a, 455, 4096);
+    assert_eq!(lines(&printed.outcome, &printed.answer), "0 10 0\n0 A \n");
+    // It is no longer at the end: xBh|Ak, x'Bh|k, x'Bh|, x''Bh|k', Bh|k', x''Bh|
+    check_at_least_room(&[&a_space[..], &sheet(&[X, B], &[A])].concat(), 1, 6, &[]);
+}
+
+#[test]
+fn a_pattern_beside_the_space_takes_none() {
+    let range = |lo, hi| [&pattern(0, &[65, lo, hi])[..], &sheet(&[A], &[A, X])].concat();
+    // h|xk, |xk
+    check_at_least_room(&range(0, 37), 1, 2, &[]);
+    check_at_least_room(&range(39, 42), 1, 2, &[]);
+    // h|xk, |xk, h'|x'k, |x'k, h'|k, |k, h'|, h'|k', |
+    check_at_least_room(&range(38, 38), 0, 9, &record(&[SPACE]));
+    check_at_least_room(&range(37, 38), 0, 9, &record(&[SPACE]));
+    check_at_least_room(&range(38, 39), 0, 9, &record(&[SPACE]));
+}
+
+#[test]
+fn the_limit_of_24_does_not_count_the_hidden_field() {
+    check(&sheet(&[A; 24], &[A; 24]), 5, 0, (0, 5, 0), &[]);
+    check(&sheet(&[A; 25], &[]), 5, 0, (14, 0, 2), &[]);
+}
+
+#[test]
+fn the_limit_of_48_counts_the_hidden_field() {
+    // x 16 times, B, AAA: x..Bh|AAAk, x(Ax)..Bh|AAk of 33 tokens, A..Bh|k,
+    // x(AAx)..Bh|Ak of 48, A..Bh|k, then 63.
+    let left = [vec![X; 16], vec![B]].concat();
+    check(&sheet(&left, &[A; 3]), 455, 0, (19, 5, 0), &[]);
+    check(&sheet(&[A; 3], &left), 455, 0, (19, 5, 0), &[]);
+    // With one B more the 48 are 49.
+    let left = [vec![X; 16], vec![B, B]].concat();
+    check(&sheet(&left, &[A; 3]), 455, 0, (19, 3, 0), &[]);
+    check(&sheet(&[A; 3], &left), 455, 0, (19, 3, 0), &[]);
+}
+
+#[test]
+fn the_hidden_fields_tokens_are_none_in_a_sheet() {
+    for token in [72, 73] {
+        check(&sheet(&[A, token], &[]), 455, 0, (17, 0, 4), &[]);
+        check(&sheet(&[A], &[A, token]), 455, 0, (17, 0, 8), &[]);
+    }
+    for field in [8, 9] {
+        let hidden = [&pattern(field, &[68, SPACE])[..], &sheet(&[], &[])].concat();
+        check(&hidden, 455, 0, (13, 0, 2), &[]);
+    }
 }

@@ -1,6 +1,8 @@
 // Do two label rules clash? A question sheet and two lent buffers in, an answer out.
 use answers::Answer;
 use answers::Found;
+use inner::HIDDEN_LEFT;
+use inner::HIDDEN_RIGHT;
 use sheets::Sheet;
 ghost use mathlib.Core.Path.{_≡_};
 ghost use Rattle.paper.specs.Buffers.{Demand1};
@@ -28,14 +30,17 @@ pub fn clash(sheet: &[u8], work: &mut [u8], answer: &mut [u8]) -> Answer
     }
 }
 
-// A good sheet: its question is searched.
+// A good sheet: its question is searched, with a hidden field at the end of each side.
 fn searched(sheet: &[u8], question: Sheet, work: &mut [u8], answer: &mut [u8]) -> Answer
     requires { ⌜ Asks (now sheet) question ⌝ }
     ensures { λ r. ⌜ told r (now (answer .exit)) (now (work .exit)) ≡ outcome (now (sheet .entry)) (now (work .entry)) (now (answer .entry)) ⌝ }
 {
-    let left = question.left;
-    let right = question.right;
-    let fields = question.fields;
+    let own_left = question.left;
+    let own_right = question.right;
+    let own_fields = question.fields;
+    let left = hidden::side(own_left, HIDDEN_LEFT);
+    let right = hidden::side(own_right, HIDDEN_RIGHT);
+    let fields = hidden::fields(own_fields);
     let follow = tables::follow_sets(fields);
     let taking = tables::taking_sets(fields);
     let last = tables::last_sets(fields);

@@ -1,4 +1,4 @@
--- What the catalogue's answers and their numbers say of `adding` and `withdrawing`. Follows from the definitions of the answers.
+-- What the catalogue's answers and their numbers say of `adding`, `withdrawing` and `rechecking`. Follows from the definitions of the answers.
 use Prim.Native.Nat.{ℕ, _<_}
 use mathlib.Core.Path.{_≡_, ap, _∙_, refl}
 use mathlib.Core.List.{List}
@@ -6,15 +6,20 @@ use native.Mathlib.Omega.{arith}
 use lib.Dec.{lit<}
 use lib.ListN.{set}
 use Rattle.paper.specs.Catalogue as Catalogue
+use Rattle.paper.specs.Recheck as Recheck
 use Rattle.answers.specs.Faults.{fault-of}
 use Rattle.storeroom.specs.Told.{told-added, told-withdrawn}
 use Rattle.storeroom.specs.declared.Added.{Added}
 use Rattle.storeroom.specs.declared.Added.the-variants.{Entered, Refused, NotApart, ForeignField, Full, NoCatalogue}
 use Rattle.storeroom.specs.declared.Withdrawn.{Withdrawn}
 use Rattle.storeroom.specs.declared.Withdrawn.the-variants as Withdrawn-as
-use Rattle.numbered.specs.Numbered.{as-numbers, number-of-withdrawn}
+use Rattle.recheck.specs.Told.{told-rechecked}
+use Rattle.recheck.specs.declared.Rechecked.{Rechecked}
+use Rattle.recheck.specs.declared.Rechecked.the-variants as Rechecked-as
+use Rattle.numbered.specs.Numbered.{as-numbers, number-of-withdrawn, as-totals}
 use Rattle.numbered.specs.declared.Numbers.{Numbers}
-use Rattle.exported.specs.Exported.{with-numbers, telling-added}
+use Rattle.numbered.specs.declared.Totals.{Totals}
+use Rattle.exported.specs.Exported.{with-numbers, telling-added, telling-rechecked}
 use Rattle.exported.proofs.Telling.{fault-below}
 
 -- 34 is the last of request K1's numbers
@@ -30,6 +35,12 @@ pub withdrawn-below : (w : Withdrawn) → number-of-withdrawn w < 35
 withdrawn-below Withdrawn-as.Gone = lit< tt
 withdrawn-below Withdrawn-as.NoRule = lit< tt
 withdrawn-below Withdrawn-as.NoCatalogue = lit< tt
+
+-- and 35 of request K3's
+pub rechecked-below : (r : Rechecked) → as-totals r .number < 36
+rechecked-below (Rechecked-as.Listed pairs written) = lit< tt
+rechecked-below Rechecked-as.TooShort = lit< tt
+rechecked-below Rechecked-as.NoCatalogue = lit< tt
 
 -- what an answer tells is its numbers, whatever the buffers hold
 abbrev in-numbers : Numbers → List ℕ → List ℕ → Catalogue.Added
@@ -60,6 +71,14 @@ withdrawn-number Withdrawn-as.Gone catalogue = refl
 withdrawn-number Withdrawn-as.NoRule catalogue = refl
 withdrawn-number Withdrawn-as.NoCatalogue catalogue = refl
 
+abbrev in-totals : Totals → List ℕ → List ℕ → Recheck.Rechecked
+in-totals t list work = record { number = t .number; pairs = t .pairs; written = t .written; list = list; work = work }
+
+rechecked-totals : (r : Rechecked) (list work : List ℕ) → in-totals (as-totals r) list work ≡ told-rechecked r list work
+rechecked-totals (Rechecked-as.Listed pairs written) list work = refl
+rechecked-totals Rechecked-as.TooShort list work = refl
+rechecked-totals Rechecked-as.NoCatalogue list work = refl
+
 -- an answer that tells the addition, with its numbers named and written
 pub added-promised :
     (a : Added) (numbers : Numbers) {catalogue work : List ℕ} {o : Catalogue.Added} (before : List ℕ) {three four : List ℕ}
@@ -85,3 +104,20 @@ pub withdrawn-promised :
 withdrawn-promised w n {catalogue = catalogue} whole named =
     let same = ap (λ (n : ℕ). in-number n catalogue) named ∙ withdrawn-number w catalogue ∙ whole in
     (ap (λ (o : Catalogue.Withdrawn). o .number) same, ap (λ (o : Catalogue.Withdrawn). o .catalogue) same)
+
+-- an answer that tells the list, with its totals named and written
+pub rechecked-promised :
+    (r : Rechecked) (totals : Totals) {list work : List ℕ} {o : Recheck.Rechecked} (before : List ℕ) {one two : List ℕ}
+    → told-rechecked r list work ≡ o
+    → totals ≡ as-totals r
+    → one ≡ set before 0 (totals .pairs)
+    → two ≡ set one 1 (totals .written)
+    → (totals .number ≡ o .number) × ((two ≡ telling-rechecked before o) × ((list ≡ o .list) × (work ≡ o .work)))
+rechecked-promised r totals {list = list} {work = work} before whole named first second =
+    let same = ap (λ (t : Totals). in-totals t list work) named ∙ rechecked-totals r list work ∙ whole in (
+      ap (λ (o : Recheck.Rechecked). o .number) same,
+      (
+        second ∙ ap (λ (l : List ℕ). set l 1 (totals .written)) first ∙ ap (telling-rechecked before) same,
+        (ap (λ (o : Recheck.Rechecked). o .list) same, ap (λ (o : Recheck.Rechecked). o .work) same),
+      ),
+    )

@@ -4,6 +4,7 @@ use mathlib.Core.List.{List}
 use lib.ListN.{set}
 use Rattle.paper.specs.Outcome.{Outcome}
 use Rattle.paper.specs.Catalogue.{Added}
+use Rattle.paper.specs.Recheck.{Rechecked}
 
 -- three numbers in the first three elements. `set` past the end changes nothing, so there are as many as there is room for.
 abbrev pub with-numbers : List ℕ → ℕ → ℕ → ℕ → List ℕ
@@ -16,3 +17,7 @@ telling told o = with-numbers told (o .count) (o .place) (o .written)
 -- those of an addition, and a fourth
 abbrev pub telling-added : List ℕ → Added → List ℕ
 telling-added told a = set (with-numbers told (a .count) (a .place) (a .rule)) 3 (a .answer)
+
+-- those of checking again
+abbrev pub telling-rechecked : List ℕ → Rechecked → List ℕ
+telling-rechecked told r = set (set told 0 (r .pairs)) 1 (r .written)

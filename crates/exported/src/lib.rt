@@ -3,7 +3,8 @@ ghost use mathlib.Core.Path.{_≡_};
 ghost use lib.ListN.{set};
 ghost use Rattle.paper.specs.Outcome.{outcome};
 ghost use Rattle.paper.specs.Catalogue.{adding, withdrawing};
-ghost use Rattle.exported.specs.Exported.{telling, telling-added, with-numbers};
+ghost use Rattle.paper.specs.Recheck.{rechecking};
+ghost use Rattle.exported.specs.Exported.{telling, telling-added, telling-rechecked, with-numbers};
 
 // Can the two rules of the sheet make the same label? Returns document 01's number; count, place and written length go into the first three
 // elements of `told`, as many as there is room for.
@@ -54,6 +55,28 @@ pub extern "C" fn bradovusc_withdraw(catalogue: &mut [u8], number: usize) -> u32
 {
     let withdrawn = storeroom::withdraw(catalogue, number);
     numbered::withdrawn(withdrawn) as u32
+}
+
+// Lists the pairs of the catalogue's rules that are not answered 1, by lower, then higher number, five bytes each: lower, higher, answer, count
+// (low byte first). Returns request K3's number; how many pairs are listed and how many bytes they have go into the first two elements of `told`, as
+// many as there is room for.
+#[no_mangle]
+pub extern "C" fn bradovusc_recheck(
+    catalogue: &[u8],
+    work: &mut [u8],
+    list: &mut [u8],
+    told: &mut [u64],
+) -> u32
+    ensures number { λ r. ⌜ r ≡ rechecking (now (catalogue .entry)) (now (work .entry)) (now (list .entry)) .number ⌝ }
+    ensures told { λ _. ⌜ now (told .exit) ≡ telling-rechecked (now (told .entry)) (rechecking (now (catalogue .entry)) (now (work .entry)) (now (list .entry))) ⌝ }
+    ensures list { λ _. ⌜ now (list .exit) ≡ rechecking (now (catalogue .entry)) (now (work .entry)) (now (list .entry)) .list ⌝ }
+    ensures work { λ _. ⌜ now (work .exit) ≡ rechecking (now (catalogue .entry)) (now (work .entry)) (now (list .entry)) .work ⌝ }
+{
+    let rechecked = recheck::recheck(catalogue, work, list);
+    let totals = numbered::rechecked(rechecked);
+    put(told, 0, totals.pairs);
+    put(told, 1, totals.written);
+    totals.number as u32
 }
 
 // Three numbers into the first three elements.

@@ -11,7 +11,7 @@
 //  95 to 104  good sheets: both sides empty, 24 tokens a side, a pattern for each field, one of 31 leaves, one of 96 bytes, 95 deep
 // 105 to 166  x with a pattern and y open: each operator under the others, ranges, 31 leaves, and patterns with a fault
 // 167 to 198  the place of a fault: the rows of docs/RULES.md, section 5, that do not stand above
-// 199 to 214  15 in a later pattern, at the end of the sheet, in 96 bytes: lo above 42 with hi and without, hi below lo, no code left over
+// 199 to 214  15 in a later pattern, at the sheet's end and in 96 bytes: lo above 42, with hi and without, hi below lo, a byte left over
 // 215 to 225  16: as many ranges as fit among 32 leaves, the 32nd a range, under stars, behind 64, the last of 96 bytes
 // 226 to 237  15 where there are 32 leaves: behind the 32nd, at it, before it
 // 238 to 241  17: the last of 24 tokens, the first of several that are none

@@ -24,8 +24,13 @@ pub const LONGEST_SIDE: usize = 48;
 // "field byte 0 to 7": how many fields a sheet may name, and so an answer may have
 pub const SHEET_FIELDS: usize = 8;
 
-// how many fields a situation has place sets for
-pub const FIELDS: usize = SHEET_FIELDS;
+// how many fields a situation has place sets for: those, and the two hidden ones
+pub const FIELDS: usize = SHEET_FIELDS + 2;
+
+// "one hidden field .. at its end: field 8 on the left and 9 on the right"
+pub const HIDDEN_LEFT: u8 = FIELD_CODE + 8;
+
+pub const HIDDEN_RIGHT: u8 = FIELD_CODE + 9;
 
 // The number of the field with the token b; 0 of one that is no field's.
 pub fn field_of(b: u8) -> usize

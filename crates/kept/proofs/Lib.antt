@@ -1,3 +1,5 @@
 pub mod FrontBytes
 pub mod OneMore
 pub mod Reached
+pub mod Told
+pub mod Standing

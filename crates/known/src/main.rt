@@ -10,13 +10,15 @@
 //  7  xx and `A`, open
 //  8  `AB`x`B` and x`B`y, open
 //  9  x`A` and `B`yx, open
-// 10  24 times x and `AA`, open, room 2
+// 10  24 times x and `AA`, open, room 4
 // 11  empty sheet
 // 12  both sides empty and one more byte
 // 13  xA and Bx, open, no room: 143 bytes of work
 // 14  sheet S
 // 15  sheet S, an answer buffer of 11 bytes
-// 16  sheet S, room 5
+// 16  sheet S, room 12
+// 17  `LT4` and `LT4` with a space
+// 18  24 times x and `AA`, open, room 2
 fn main() {
     stream::answer_all(stream::Shown::Bytes);
 }

@@ -1,10 +1,9 @@
-// The answers of a catalogue in request K1's numbers.
-use pairs::Pair;
+// The answers of a catalogue in the numbers of requests K1 and K3.
+use recheck::Rechecked;
 use storeroom::Added;
 use storeroom::Withdrawn;
 ghost use mathlib.Core.Path.{_≡_};
-ghost use Rattle.pairs.specs.Ask.{number-of, count-of};
-ghost use Rattle.numbered.specs.Numbered.{as-numbers, number-of-withdrawn};
+ghost use Rattle.numbered.specs.Numbered.{as-numbers, number-of-withdrawn, as-totals};
 
 // What adding a rule tells. Each is 0 where nothing is said of it.
 pub struct Numbers {
@@ -24,10 +23,10 @@ pub fn added(a: Added) -> Numbers
         Added::Refused { fault, place } => refusal(answers::number(fault) as usize, place),
         Added::NotApart { rule, pair } => Numbers {
             number: 30,
-            count: count(pair),
+            count: pairs::count(pair),
             place: 0,
             rule,
-            answer: answer(pair),
+            answer: pairs::answer(pair),
         },
         Added::ForeignField => refusal(31, 0),
         Added::Full => refusal(32, 0),
@@ -47,30 +46,6 @@ fn refusal(number: usize, place: usize) -> Numbers
     }
 }
 
-// The number of a pair's answer.
-fn answer(pair: Pair) -> usize
-    ensures { λ r. ⌜ r ≡ number-of pair ⌝ }
-{
-    match pair {
-        Pair::Clash { count: _ } => 0,
-        Pair::NoClash { count: _ } => 1,
-        Pair::NoRoom { count: _ } => 18,
-        Pair::SideTooLong { count: _ } => 19,
-    }
-}
-
-// The situations entered.
-fn count(pair: Pair) -> usize
-    ensures { λ r. ⌜ r ≡ count-of pair ⌝ }
-{
-    match pair {
-        Pair::Clash { count } => count,
-        Pair::NoClash { count } => count,
-        Pair::NoRoom { count } => count,
-        Pair::SideTooLong { count } => count,
-    }
-}
-
 pub fn withdrawn(w: Withdrawn) -> usize
     ensures { λ r. ⌜ r ≡ number-of-withdrawn w ⌝ }
 {
@@ -78,5 +53,37 @@ pub fn withdrawn(w: Withdrawn) -> usize
         Withdrawn::Gone => 0,
         Withdrawn::NoRule => 33,
         Withdrawn::NoCatalogue => 34,
+    }
+}
+
+// What checking again tells. Both totals are 0 where nothing is listed.
+pub struct Totals {
+    pub number: usize,
+    // the pairs listed, and the bytes of their records
+    pub pairs: usize,
+    pub written: usize,
+}
+
+pub fn rechecked(r: Rechecked) -> Totals
+    ensures { λ t. ⌜ t ≡ as-totals r ⌝ }
+{
+    match r {
+        Rechecked::Listed { pairs, written } => Totals {
+            number: 0,
+            pairs,
+            written,
+        },
+        Rechecked::TooShort => none_listed(35),
+        Rechecked::NoCatalogue => none_listed(34),
+    }
+}
+
+fn none_listed(number: usize) -> Totals
+    ensures { λ r. ⌜ r ≡ record { number = number; pairs = 0; written = 0 } ⌝ }
+{
+    Totals {
+        number,
+        pairs: 0,
+        written: 0,
     }
 }

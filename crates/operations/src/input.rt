@@ -14,6 +14,8 @@ const CATALOGUE: usize = b'C' as usize + 256 * (b'A' as usize);
 
 const WORK: usize = b'W' as usize + 256 * (b'O' as usize);
 
+const RECHECK: usize = b'R' as usize + 256 * (b'E' as usize);
+
 // The mark of the next operation.
 pub enum Mark {
     // `AD`
@@ -24,6 +26,8 @@ pub enum Mark {
     Catalogue,
     // `WO`
     Work,
+    // `RE`
+    Recheck,
     // none of these
     None(How),
 }
@@ -57,6 +61,7 @@ fn mark_of(letters: usize) -> Mark {
         WITHDRAW => Mark::Withdraw,
         CATALOGUE => Mark::Catalogue,
         WORK => Mark::Work,
+        RECHECK => Mark::Recheck,
         _ => Mark::None(How::Stopped),
     }
 }

@@ -1,5 +1,5 @@
-// Does the operations on standard input, one after the other, to a catalogue, and prints a line for each addition and withdrawal. For
-// programs that try a catalogue.
+// Does the operations on standard input, one after the other, to a catalogue, and prints lines for each addition, withdrawal and
+// recheck. For programs that try a catalogue.
 mod input;
 mod output;
 
@@ -12,6 +12,7 @@ use lines::WORK;
 use lines::WORK_FILL;
 use lines::fill;
 use output::print_added;
+use output::print_rechecked;
 use output::print_withdrawn;
 ghost use Prim.Native.Nat.{_≤_};
 
@@ -23,11 +24,17 @@ const CATALOGUE: usize = 8192;
 // 455 situations
 const FIRST_WORK: usize = 65520;
 
+// more than the 496 pairs of 32 rules
+const LIST: usize = 2560;
+
+// each byte of the list before a call
+const LIST_FILL: u8 = 165;
+
 // What is printed of a call.
 pub enum Shown {
-    // a line with what it tells
+    // a line with what it tells, and one for each pair that is listed
     Lines,
-    // the same, and every byte of the catalogue and of the working buffer as they are afterwards
+    // the same, and every byte of the lent buffers as they are afterwards
     Bytes,
 }
 
@@ -56,11 +63,18 @@ pub fn run(shown: Shown) -> How {
     let mut rule = [0u8; RULE];
     let mut catalogue = [0u8; CATALOGUE];
     let mut work = [0u8; WORK];
-    run_each(&mut rule, &mut catalogue, &mut work, shown)
+    let mut list = [0u8; LIST];
+    run_each(&mut rule, &mut catalogue, &mut work, &mut list, shown)
 }
 
 // A proved loop has to end, and nothing says that a stream does: the turns are counted down from a number that no run uses up.
-fn run_each(rule: &mut [u8], catalogue: &mut [u8], work: &mut [u8], shown: Shown) -> How {
+fn run_each(
+    rule: &mut [u8],
+    catalogue: &mut [u8],
+    work: &mut [u8],
+    list: &mut [u8],
+    shown: Shown,
+) -> How {
     let mut state = State {
         how: How::Going,
         catalogue: CATALOGUE,
@@ -68,7 +82,7 @@ fn run_each(rule: &mut [u8], catalogue: &mut [u8], work: &mut [u8], shown: Shown
     };
     let mut turns = u64::MAX;
     while turns > 0 && is_going(state) {
-        state = run_next(rule, catalogue, work, state, shown);
+        state = run_next(rule, catalogue, work, list, state, shown);
         turns -= 1;
     }
     let how = state.how;
@@ -87,6 +101,7 @@ fn run_next(
     rule: &mut [u8],
     catalogue: &mut [u8],
     work: &mut [u8],
+    list: &mut [u8],
     state: State,
     shown: Shown,
 ) -> State {
@@ -106,6 +121,15 @@ fn run_next(
         Mark::Withdraw => with(withdraw(&mut catalogue[0..catalogue_len], shown), state),
         Mark::Catalogue => new_catalogue(catalogue, state),
         Mark::Work => new_work(work.len(), state),
+        Mark::Recheck => with(
+            check_again(
+                &catalogue[0..catalogue_len],
+                &mut work[0..work_len],
+                list,
+                shown,
+            ),
+            state,
+        ),
         Mark::None(how) => with(how, state),
     }
 }
@@ -130,6 +154,23 @@ fn withdraw(catalogue: &mut [u8], shown: Shown) -> How {
     }
     let told = numbered::withdrawn(storeroom::withdraw(catalogue, rule.number));
     print_withdrawn(told, catalogue, shown)
+}
+
+// `RE`: the list's length in two bytes.
+fn check_again(catalogue: &[u8], work: &mut [u8], list: &mut [u8], shown: Shown) -> How {
+    let length = read_number(2, list.len());
+    if !length.there {
+        return How::Stopped;
+    }
+    let n = length.number;
+    list_pairs(catalogue, work, &mut list[0..n], shown)
+}
+
+fn list_pairs(catalogue: &[u8], work: &mut [u8], list: &mut [u8], shown: Shown) -> How {
+    fill(work, WORK_FILL);
+    fill(list, LIST_FILL);
+    let told = numbered::rechecked(recheck::recheck(catalogue, work, list));
+    print_rechecked(told, list, catalogue, work, shown)
 }
 
 // `CA`: the catalogue's length and that of its front in two bytes each, the front. The rest are zeros.

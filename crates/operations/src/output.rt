@@ -1,18 +1,22 @@
 // The lines of the calls.
 use crate::How;
 use crate::Shown;
+use crate::least;
+use lines::low_first;
 use lines::print;
 use lines::print_each;
 use lines::print_number;
 use lines::print_work;
 use numbered::Numbers;
-ghost use Prim.Native.Nat.{_≤_};
+use numbered::Totals;
+use recheck::PAIR_BYTES;
+ghost use Prim.Native.Nat.{_+_, _≤_};
 ghost use lib.ListN.{length};
 
 pub fn print_added(told: Numbers, catalogue: &[u8], work: &[u8], shown: Shown) -> How {
     print_numbers(told);
     if has_bytes(shown) {
-        print_catalogue(catalogue);
+        print_buffer(b", catalogue", catalogue);
         print_work(work);
     }
     print_end()
@@ -36,9 +40,57 @@ pub fn print_withdrawn(number: usize, catalogue: &[u8], shown: Shown) -> How {
     print(b"withdraw ");
     print_number(number);
     if has_bytes(shown) {
-        print_catalogue(catalogue);
+        print_buffer(b", catalogue", catalogue);
     }
     print_end()
+}
+
+// Number, pairs and bytes written; then every byte, or the pairs.
+pub fn print_rechecked(
+    told: Totals,
+    list: &[u8],
+    catalogue: &[u8],
+    work: &[u8],
+    shown: Shown,
+) -> How {
+    print(b"recheck ");
+    print_number(told.number);
+    print(b" ");
+    print_number(told.pairs);
+    print(b" ");
+    print_number(told.written);
+    if has_bytes(shown) {
+        print_buffer(b", list", list);
+        print_buffer(b", catalogue", catalogue);
+        print_work(work);
+    } else {
+        print_pairs(list, told.written);
+    }
+    print_end()
+}
+
+// A line for each pair listed in so many bytes.
+fn print_pairs(list: &[u8], written: usize) {
+    let end = least(written, list.len());
+    let mut at = 0;
+    while PAIR_BYTES <= end - at {
+        print_pair(list, at);
+        at += PAIR_BYTES;
+    }
+}
+
+// Both numbers, answer and count.
+fn print_pair(list: &[u8], at: usize)
+    requires { ⌜ at + 5 ≤ length (now list) ⌝ }
+{
+    print(b"\npair ");
+    print_number(low_first(list[at], 0, 0, 0));
+    print(b" ");
+    print_number(low_first(list[at + 1], 0, 0, 0));
+    print(b" ");
+    print_number(low_first(list[at + 2], 0, 0, 0));
+    print(b" ");
+    print_number(low_first(list[at + 3], list[at + 4], 0, 0));
 }
 
 // If a line's end is written, there may be more operations.
@@ -57,20 +109,20 @@ fn has_bytes(shown: Shown) -> bool {
     }
 }
 
-// Every byte of the catalogue: those up to the last that is not zero, and how many zeros stand behind.
-fn print_catalogue(catalogue: &[u8]) {
-    let used = used(catalogue);
-    print(b", catalogue");
-    print_each(&catalogue[0..used]);
+// Every byte of a buffer: those up to the last that is not zero, and how many zeros stand behind.
+fn print_buffer(name: &[u8], buffer: &[u8]) {
+    let used = used(buffer);
+    print(name);
+    print_each(&buffer[0..used]);
     print(b", zeros ");
-    print_number(catalogue.len() - used);
+    print_number(buffer.len() - used);
 }
 
-fn used(catalogue: &[u8]) -> usize
-    ensures { λ r. ⌜ r ≤ length (now (catalogue .entry)) ⌝ }
+fn used(buffer: &[u8]) -> usize
+    ensures { λ r. ⌜ r ≤ length (now (buffer .entry)) ⌝ }
 {
-    let mut n = catalogue.len();
-    while n > 0 && catalogue[n - 1] == 0 {
+    let mut n = buffer.len();
+    while n > 0 && buffer[n - 1] == 0 {
         n -= 1;
     }
     n

@@ -10,12 +10,12 @@ use mathlib.Core.List.{List, [], _∷_, _++_, map, map-map, List·Memᴰ, List·
 use lib.Dec.{leb, eqb}
 use lib.ListN.{length, take, replicate, length-map}
 use Rattle.paper.specs.Lists.{upto}
-use Rattle.paper.specs.Numbers.{set-fields, rule-fields, longest-side}
+use Rattle.paper.specs.Numbers.{hidden-left, hidden-right, set-fields, rule-fields, longest-side}
 use Rattle.paper.specs.Places.{PlaceSet}
 use Rattle.paper.specs.Equation.{Token, chr, fld, Side}
 use Rattle.paper.specs.Search.{End, found, used-up, no-room, too-long}
 use Rattle.paper.specs.Situation.{Situation, Move}
-use Rattle.paper.specs.Question.{Question, held-by}
+use Rattle.paper.specs.Question.{Question, held-by, any-spaces, hidden}
 use Rattle.paper.specs.Rule.{Rule, moved-up, pair}
 use Rattle.paper.specs.Outcome.{Outcome, room-of, searched, records, some-text-too-long, cleared, clash, answered, count-of, how-of}
 use Rattle.paper.specs.Outcome as Outcome
@@ -34,21 +34,27 @@ use Rattle.search.specs.Lent.{tables}
 use Rattle.answers.specs.declared.Ended.{Ended}
 use Rattle.answers.specs.declared.Ended.the-variants as Ended-as
 use Rattle.search.proofs.Told.{run-told}
-use Rattle.sides.proofs.Codes.{side-back}
+use Rattle.paper.proofs.sheets.Hidden.{hidden-searchable}
+use Rattle.hidden.specs.Behind.{side-with}
+use Rattle.hidden.proofs.Codes.{side-behind, fields-behind}
 use Rattle.tables.specs.Tables.{follow-of, taking-of, last-of}
 use Rattle.places.proofs.ByNumber.{by-number}
 use Rattle.pairs.specs.Ask.{moved-code, pair-of, joined, pair-ended, number-of}
 use Rattle.pairs.specs.Ask as Ask
 use Rattle.pairs.specs.declared.Pair.{Pair}
 
-pub asked-pair : (left right moved : List ℕ) (first second fields : List PlaceTables) (follow taking : List (List ℕ)) (last : List ℕ) (bytes : ℕ)
+pub asked-pair : (left right moved left-hidden right-hidden : List ℕ) (first second both fields : List PlaceTables)
+    (follow taking : List (List ℕ)) (last : List ℕ) (bytes : ℕ)
     (end : Ended) (r : Pair)
-    → moved ≡ map moved-code right → fields ≡ joined first second
+    → moved ≡ map moved-code right → both ≡ joined first second
+    → left-hidden ≡ side-with (field-code + hidden-left) left → right-hidden ≡ side-with (field-code + hidden-right) moved
+    → fields ≡ both ++ (worked-out any-spaces ∷ worked-out any-spaces ∷ [])
     → follow ≡ map follow-of fields → taking ≡ map taking-of fields → last ≡ map last-of fields
-    → end ≡ ended-with (tables follow taking last) (room-for bytes) (question-coded (tokens left) (tokens moved)) []
+    → end ≡ ended-with (tables follow taking last) (room-for bytes) (question-coded (tokens left-hidden) (tokens right-hidden)) []
     → r ≡ pair-of end → r ≡ pair-of (pair-ended left right first second bytes)
 unfolding pair-ended
-asked-pair left right moved first second fields follow taking last bytes end r m f a b c e n = rw (n, e, a, b, c, f, m)
+asked-pair left right moved left-hidden right-hidden first second both fields follow taking last bytes end r m j l k f a b c e n =
+    rw (n, e, a, b, c, f, j, l, k, m)
 
 -- A pair's answer by the number of its sheet's: a clash is 0, whether or not its texts fit.
 abbrev clash-is-0 : ℕ → ℕ
@@ -114,13 +120,13 @@ module _ (r s : Rule) (g : GoodRule r) (h : GoodRule s) where
   good : GoodQuestion (pair r s)
   good = pair-asks r s g h (pair r s) refl
 
-  left-is : tokens (padded (side-code (r .side))) ≡ side-code (pair r s .left)
+  left-is : tokens (side-with (field-code + hidden-left) (padded (side-code (r .side)))) ≡ side-code (hidden (pair r s) .left)
   unfolding pair
-  left-is = side-back (r .side) (good .left)
+  left-is = side-behind (r .side) (good .left) hidden-left (omega arith)
 
-  right-is : tokens (map moved-code (padded (side-code (s .side)))) ≡ side-code (pair r s .right)
+  right-is : tokens (side-with (field-code + hidden-right) (map moved-code (padded (side-code (s .side))))) ≡ side-code (hidden (pair r s) .right)
   unfolding pair
-  right-is = rw (moved-padded (s .side) (h .tokens)) (side-back (map moved-up (s .side)) (good .right))
+  right-is = rw (moved-padded (s .side) (h .tokens)) (side-behind (map moved-up (s .side)) (good .right) hidden-right (omega arith))
 
   joins : joined (map worked-out (r .fields .held)) (map worked-out (s .fields .held)) ≡ map worked-out (pair r s .held)
   unfolding pair
@@ -128,31 +134,34 @@ module _ (r s : Rule) (g : GoodRule r) (h : GoodRule s) where
       ap₂ _++_ (take-map worked-out rule-fields (r .fields .held)) (take-map worked-out rule-fields (s .fields .held))
       ∙ sym (map-append worked-out (take rule-fields (r .fields .held)) (take rule-fields (s .fields .held)))
 
-  fields-are : joined (map worked-out (r .fields .held)) (map worked-out (s .fields .held)) ≡ map (λ (f : ℕ). worked-out (held-by (pair r s) f)) (upto set-fields)
-  fields-are = joins ∙ by-number (pair r s .held) (good .held .each-field)
+  fields-are : joined (map worked-out (r .fields .held)) (map worked-out (s .fields .held)) ++ (worked-out any-spaces ∷ worked-out any-spaces ∷ [])
+      ≡ map (λ (f : ℕ). worked-out (held-by (hidden (pair r s)) f)) (upto set-fields)
+  fields-are =
+      ap (λ (l : List PlaceTables). l ++ (worked-out any-spaces ∷ worked-out any-spaces ∷ [])) (joins ∙ by-number (pair r s .held) (good .held .each-field))
+      ∙ fields-behind (pair r s)
 
   module _ (left right : List ℕ) (first second : List PlaceTables)
       (a : left ≡ padded (side-code (r .side))) (b : right ≡ padded (side-code (s .side)))
       (c : first ≡ map worked-out (r .fields .held)) (d : second ≡ map worked-out (s .fields .held))
       (work : List ℕ) where
     abbrev end : Ended
-    end = ended-with (tables-of (pair r s)) (room-of work) (question-coded (side-code (pair r s .left)) (side-code (pair r s .right))) []
+    end = ended-with (tables-of (hidden (pair r s))) (room-of work) (question-coded (side-code (hidden (pair r s) .left)) (side-code (hidden (pair r s) .right))) []
 
     ended-is : pair-ended left right first second (length work) ≡ end
     unfolding pair-ended tables-of room-of
     ended-is =
-        let worked : ℕ → PlaceTables = λ (f : ℕ). worked-out (held-by (pair r s) f) in
+        let worked : ℕ → PlaceTables = λ (f : ℕ). worked-out (held-by (hidden (pair r s)) f) in
         rw (a, b, c, d, fields-are, left-is, right-is, map-map follow-of worked (upto set-fields), map-map taking-of worked (upto set-fields), map-map last-of worked (upto set-fields))
 
-    told : told-end end (buffer-with (tables-of (pair r s)) (room-of work) (question-coded (side-code (pair r s .left)) (side-code (pair r s .right))) []) (cleared work)
-        ≡ answered (pair r s) (count-of (searched (pair r s) (room-of work))) (how-of (searched (pair r s) (room-of work))) work []
-    told = run-told (pair r s) good (room-of work) work []
+    told : told-end end (buffer-with (tables-of (hidden (pair r s))) (room-of work) (question-coded (side-code (hidden (pair r s) .left)) (side-code (hidden (pair r s) .right))) []) (cleared work)
+        ≡ answered (hidden (pair r s)) (count-of (searched (hidden (pair r s)) (room-of work))) (how-of (searched (hidden (pair r s)) (room-of work))) work []
+    told = run-told (hidden (pair r s)) (hidden-searchable (pair r s) good) (room-of work) work []
 
     pub pair-told : Pair-told r s (room-of work) (pair-of (pair-ended left right first second (length work)))
     unfolding pair-answer pair-count
     pair-told =
-        let st = searched (pair r s) (room-of work) in
-        let is = answered-is (pair r s) (count-of st) work [] (how-of st) in
+        let st = searched (hidden (pair r s)) (room-of work) in
+        let is = answered-is (hidden (pair r s)) (count-of st) work [] (how-of st) in
         let ends = end-pair end in
         rw ended-is (record {
           answer = ends .0 ∙ ap (λ (o : Outcome). clash-is-0 (o .number)) told ∙ is .0;

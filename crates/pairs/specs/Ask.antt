@@ -1,10 +1,13 @@
 -- What a pair is asked and answered, for all sides, tables and lengths of a working buffer.
 use Prim.Native.Nat.{ℕ, _+_}
 use mathlib.Core.Bool.{cond, _&&_}
-use mathlib.Core.List.{List, [], _++_, map}
+use mathlib.Core.List.{List, [], _∷_, _++_, map}
 use lib.Dec.{leb, ltb}
 use lib.ListN.{take}
-use Rattle.paper.specs.Numbers.{rule-fields}
+use Rattle.paper.specs.Numbers.{hidden-left, hidden-right, rule-fields}
+use Rattle.paper.specs.Question.{any-spaces}
+use Rattle.places.specs.WorkedOut.{worked-out}
+use Rattle.hidden.specs.Behind.{side-with}
 use Rattle.inner.specs.Inner.{field-code, no-token, tokens}
 use Rattle.places.specs.declared.PlaceTables.{PlaceTables}
 use Rattle.trimming.specs.Trimming.{question-coded}
@@ -33,12 +36,12 @@ pair-of (Ended-as.TextTooLong n) = Clash n
 abbrev pub joined : List PlaceTables → List PlaceTables → List PlaceTables
 joined first second = take rule-fields first ++ take rule-fields second
 
--- how the search of the pair ends, in a working buffer of so many bytes, with no room for an answer
+-- how the search of the pair ends, with a hidden field at the end of each side, in a working buffer of so many bytes, with no room for an answer
 unfoldable pub pair-ended : List ℕ → List ℕ → List PlaceTables → List PlaceTables → ℕ → Ended
 pair-ended left right first second bytes =
-    let fields = joined first second in
+    let fields = joined first second ++ (worked-out any-spaces ∷ worked-out any-spaces ∷ []) in
     ended-with (tables (map follow-of fields) (map taking-of fields) (map last-of fields)) (room-for bytes)
-    (question-coded (tokens left) (tokens (map moved-code right))) []
+    (question-coded (tokens (side-with (field-code + hidden-left) left)) (tokens (side-with (field-code + hidden-right) (map moved-code right)))) []
 
 -- 02's number of a pair's answer, and its count
 abbrev pub number-of : Pair → ℕ

@@ -1,6 +1,8 @@
 // A pair of rules: "the present rule is the left side, the new one the right, with its fields as 4 to 7". No text is written.
 use answers::Ended;
 use inner::FIELD_CODE;
+use inner::HIDDEN_LEFT;
+use inner::HIDDEN_RIGHT;
 use inner::LONGEST_SIDE;
 use inner::SHEET_FIELDS;
 use places::PlaceTables;
@@ -8,7 +10,7 @@ use rules::RULE_FIELDS;
 ghost use mathlib.Core.Path.{_≡_};
 ghost use mathlib.Core.List.{map};
 ghost use lib.ListN.{length, replicate};
-ghost use Rattle.pairs.specs.Ask.{moved-code, pair-of, joined, pair-ended};
+ghost use Rattle.pairs.specs.Ask.{moved-code, pair-of, joined, pair-ended, number-of, count-of};
 
 // What a pair is answered.
 pub enum Pair {
@@ -37,12 +39,15 @@ pub fn ask(
     ensures work { λ _. ⌜ now (work .exit) ≡ replicate (length (now (work .entry))) 0 ⌝ }
 {
     let moved = moved_up(right);
-    let fields = joined(first, second);
+    let both = joined(first, second);
+    let l = hidden::side(left, HIDDEN_LEFT);
+    let r = hidden::side(moved, HIDDEN_RIGHT);
+    let fields = hidden::fields(both);
     let follow = tables::follow_sets(fields);
     let taking = tables::taking_sets(fields);
     let last = tables::last_sets(fields);
     let mut none = [0; 1];
-    let ended = search::run(left, moved, follow, taking, last, work, &mut none[0..0]);
+    let ended = search::run(l, r, follow, taking, last, work, &mut none[0..0]);
     answer_of(ended)
 }
 
@@ -101,4 +106,28 @@ fn joined(
         f += 1;
     }
     fields
+}
+
+// The number of a pair's answer.
+pub fn answer(pair: Pair) -> usize
+    ensures { λ r. ⌜ r ≡ number-of pair ⌝ }
+{
+    match pair {
+        Pair::Clash { count: _ } => 0,
+        Pair::NoClash { count: _ } => 1,
+        Pair::NoRoom { count: _ } => 18,
+        Pair::SideTooLong { count: _ } => 19,
+    }
+}
+
+// The situations entered.
+pub fn count(pair: Pair) -> usize
+    ensures { λ r. ⌜ r ≡ count-of pair ⌝ }
+{
+    match pair {
+        Pair::Clash { count } => count,
+        Pair::NoClash { count } => count,
+        Pair::NoRoom { count } => count,
+        Pair::SideTooLong { count } => count,
+    }
 }

@@ -10,3 +10,4 @@ pub mod Pair
 pub mod Adding
 pub mod Withdrawing
 pub mod Apart
+pub mod Rechecked

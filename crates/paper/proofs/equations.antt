@@ -14,3 +14,4 @@ pub mod Answered
 pub mod Sound
 pub mod Complete
 pub mod TokenTotal
+pub mod TrailingSpaces

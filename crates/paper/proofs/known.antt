@@ -3,3 +3,4 @@ pub mod KnownLengths
 pub mod KnownBounds
 pub mod KnownPrinted
 pub mod KnownCatalogue
+pub mod KnownRechecks

@@ -1,5 +1,6 @@
 pub mod Asked
 pub mod FaultPlaces
+pub mod Hidden
 pub mod QuestionSearched
 pub mod TextLength
 pub mod Rows

@@ -5,6 +5,8 @@ use mathlib.Core.Bool.{cond}
 use mathlib.Core.List.{List, [], _∷_}
 use lib.Dec.{eqb}
 use lib.ListN.{length, getD, replicate}
+use Rattle.paper.specs.Numbers.{space}
+use Rattle.paper.specs.Equation.{Same}
 use Rattle.paper.specs.Sheet.{open-fields, asked, read-sheet}
 use Rattle.paper.specs.Outcome.{room-of, outcome}
 use Rattle.paper.specs.Rule.{Rule, Makes, pair}
@@ -39,13 +41,13 @@ present-at l i = getD l i behind-last
 abbrev pub rule-at : List Present → ℕ → Rule
 rule-at l i = present-at l i .rule
 
--- "no label can be made by two of its rules"
+-- "no label can be made by two of its rules": no two of them make labels that are the same
 pub record Apart (catalogue : List ℕ) : Type 0 where
   pub rules-present : List Present
   -- "The catalogue stays of its form after every call."
   pub of-form : form catalogue ≡ rules rules-present
   pub apart : (i j : ℕ) → i < length rules-present → j < length rules-present → (i ≡ j → ⊥)
-      → (l : List ℕ) → Makes (rule-at rules-present i) l → Makes (rule-at rules-present j) l → ⊥
+      → (l m : List ℕ) → Same space l m → Makes (rule-at rules-present i) l → Makes (rule-at rules-present j) m → ⊥
 
 -- a clash is 0: "a pair's texts are not written, so it can't give 20"
 abbrev pub without-20 : ℕ → ℕ

@@ -9,6 +9,7 @@ use Rattle.paper.specs.Numbers.{catalogue-rules}
 use Rattle.paper.specs.Places.{PlaceSet}
 use Rattle.paper.specs.Search.{End, found, used-up, no-room, too-long}
 use Rattle.paper.specs.Situation.{Situation, Move}
+use Rattle.paper.specs.Question.{hidden}
 use Rattle.paper.specs.Sheet.{fault-number, Records, faulty, records}
 use Rattle.paper.specs.Rule.{Rule, rule-front, read-rule, foreign-field, pair}
 use Rattle.paper.specs.Outcome.{room-of, searched, cleared, count-of, how-of}
@@ -67,10 +68,10 @@ pub data Pairs : Type 0 where
 
 -- the pair of a present rule and a new one, searched in a room
 unfoldable pub pair-answer : Rule → Rule → ℕ → ℕ
-pair-answer present new room = pair-number (how-of (searched (pair present new) room))
+pair-answer present new room = pair-number (how-of (searched (hidden (pair present new)) room))
 
 unfoldable pub pair-count : Rule → Rule → ℕ → ℕ
-pair-count present new room = count-of (searched (pair present new) room)
+pair-count present new room = count-of (searched (hidden (pair present new)) room)
 
 -- the rules from number i on
 abbrev pub pairs-from : ℕ → List Present → Rule → ℕ → Pairs

@@ -1,7 +1,7 @@
 -- Demands 2 and 3 as statements about any outcome o for a reading, a working buffer and an answer buffer, lists of bytes. A reading is a fault
 -- or a question, however it was written; a sheet's is `read-sheet sheet`. That the outcome of 01 (`Outcome.outcome-of`, for a sheet
--- `Outcome.outcome`) meets them, for all lists, is proved in `Demand2` and `Demand3`. What a solution is says `Equation.Solves`, which knows of
--- no search.
+-- `Outcome.outcome`) meets them, for all lists, is proved in `Demand2` and `Demand3`. What a solution is says `Question.Solution`, which knows
+-- of no search.
 use Prim.Native.Nat.{ℕ, _≤_, _<_}
 use mathlib.Core.Path.{_≡_}
 use mathlib.Core.Logic.{_⊎_}
@@ -19,7 +19,7 @@ use Rattle.paper.specs.Situation.{Situation, Move, question}
 use Rattle.paper.specs.Children.{ChildOf}
 use Rattle.paper.specs.Way.{texts-of}
 use Rattle.paper.specs.Plain.{plain, plain-bound}
-use Rattle.paper.specs.Question.{Question, held-by, Solution, acceptor}
+use Rattle.paper.specs.Question.{Question, held-by, Solution, hidden, acceptor}
 use Rattle.paper.specs.Sheet.{Fault, Reading, refused, asked}
 use Rattle.paper.specs.Outcome.{Outcome, room-of, searched, standing, value-record, how-of}
 
@@ -27,7 +27,7 @@ use Rattle.paper.specs.Outcome.{Outcome, room-of, searched, standing, va
 abbrev pub Good : Reading → Question → Type 0
 Good r q = r ≡ asked q
 
--- how the search of the question ends, in the room that the working buffer has
+-- how the search of a question ends, in the room that the working buffer has; of a sheet's question the one with its hidden fields is searched
 abbrev pub end-of : Question → List ℕ → End (Situation PlaceSet) Move
 end-of q work = how-of (searched q (room-of work))
 
@@ -41,11 +41,11 @@ pub record Solved (r : Reading) (work : List ℕ) : Type 0 where
   pub question : Question
   pub good : Good r question
   pub entry : Entry (Situation PlaceSet) Move
-  pub is-found : end-of question work ≡ found entry
-  pub solution : Solution question (spelt question entry)
+  pub is-found : end-of (hidden question) work ≡ found entry
+  pub solution : Solution question (spelt (hidden question) entry)
 
 abbrev pub texts-found : {r : Reading} {work : List ℕ} → Solved r work → Texts
-texts-found s = spelt (s .question) (s .entry)
+texts-found s = spelt (hidden (s .question)) (s .entry)
 
 -- the answer records of texts: for each field standing in the sides, by rising number, one directly behind the other
 abbrev pub records-of : Question → Texts → List ℕ
@@ -88,7 +88,7 @@ pub record NoRoom (r : Reading) (work : List ℕ) (o : Outcome) : Type 0 where
   pub question : Question
   pub good : Good r question
   pub full : o .count ≡ room-of work
-  pub left-out : (room-of work ≡ 0) ⊎ LeftOut question work
+  pub left-out : (room-of work ≡ 0) ⊎ LeftOut (hidden question) work
 
 -- 19, "a side above 48 tokens": a situation entered has a child with such a side
 pub record TooLong (r : Reading) (work : List ℕ) : Type 0 where
@@ -97,8 +97,8 @@ pub record TooLong (r : Reading) (work : List ℕ) : Type 0 where
   pub parent : Situation PlaceSet
   pub move : Move
   pub long : Situation PlaceSet
-  pub parent-entered : List·Memᴰ parent (entered question work)
-  pub is-child : ChildOf (acceptor question) parent move long
+  pub parent-entered : List·Memᴰ parent (entered (hidden question) work)
+  pub is-child : ChildOf (acceptor (hidden question)) parent move long
   pub above : (longest-side < length (long .left)) ⊎ (longest-side < length (long .right))
 
 -- 20, "answer buffer too short": the records of the texts found have more bytes than the buffer
@@ -108,7 +108,7 @@ pub record TooShort (r : Reading) (work answer : List ℕ) : Type 0 where
 
 -- the number for each end of the search; where it finds a finished situation, 0 if the records fit into the answer buffer
 abbrev pub number-of : Question → List ℕ → End (Situation PlaceSet) Move → ℕ
-number-of q answer (found e) = cond (leb (length (records-of q (spelt q e))) (length answer)) 0 20
+number-of q answer (found e) = cond (leb (length (records-of q (spelt (hidden q) e))) (length answer)) 0 20
 number-of q answer used-up = 1
 number-of q answer no-room = 18
 number-of q answer too-long = 19
@@ -125,12 +125,12 @@ equal-characters-in-front (chr a ∷ l) (chr b ∷ r) = eqb a b
 -- order": the number is that of the search's end, the count that of the situations entered, of which the trimmed question is the first. Each is
 -- trimmed to the last.
 pub record InOrder (q : Question) (work answer : List ℕ) (o : Outcome) : Type 0 where
-  pub number : o .number ≡ number-of q answer (end-of q work)
-  pub count : o .count ≡ length (entered q work)
+  pub number : o .number ≡ number-of q answer (end-of (hidden q) work)
+  pub count : o .count ≡ length (entered (hidden q) work)
   pub first :
       0 < room-of work
-      → (later : List (Situation PlaceSet)) × (entered q work ≡ question (acceptor q) (q .left) (q .right) ∷ later)
-  pub all-trimmed : (s : Situation PlaceSet) → List·Memᴰ s (entered q work) → equal-characters-in-front (s .left) (s .right) ≡ false
+      → (later : List (Situation PlaceSet)) × (entered (hidden q) work ≡ question (acceptor (hidden q)) (hidden q .left) (hidden q .right) ∷ later)
+  pub all-trimmed : (s : Situation PlaceSet) → List·Memᴰ s (entered (hidden q) work) → equal-characters-in-front (s .left) (s .right) ≡ false
 
 -- Demand 2.
 pub record Demand2 (r : Reading) (work answer : List ℕ) (o : Outcome) : Type 0 where
@@ -154,9 +154,9 @@ pub record Demand2 (r : Reading) (work answer : List ℕ) (o : Outcome) : Type 0
   pub count-within : o .count ≤ room-of work
 
 -- "(1 + L) times (1 + R)": "L adds, over the left side, one for each character and, for each field, the number of its reachable place
--- sets; R does so for the right side."
+-- sets; R does so for the right side." "L and R each include 2 for the hidden field".
 abbrev pub bound-of : Question → ℕ
-bound-of q = plain-bound (λ (f : ℕ). reachable-sets characters (held-by q f)) (q .left) (q .right)
+bound-of q = plain-bound (λ (f : ℕ). reachable-sets characters (held-by (hidden q) f)) (hidden q .left) (hidden q .right)
 
 -- Demand 3.
 pub record Demand3 (r : Reading) (work : List ℕ) (o : Outcome) : Type 0 where

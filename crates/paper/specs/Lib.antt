@@ -21,6 +21,7 @@ pub mod Sheet
 pub mod Outcome
 pub mod Rule
 pub mod Catalogue
+pub mod Recheck
 pub mod Saying
 pub mod Printed
 -- what is promised of the whole

@@ -10,9 +10,20 @@ characters = 43
 abbrev pub fields : ℕ
 fields = 8
 
--- the fields that a situation has place sets for: those that a sheet may name
+-- "one hidden field, of any number of spaces, .. field 8 on the left and 9 on the right" (request K3)
+abbrev pub hidden-left : ℕ
+hidden-left = 8
+
+abbrev pub hidden-right : ℕ
+hidden-right = 9
+
+-- the fields that a situation has place sets for: those that a sheet may name, and the hidden ones
 abbrev pub set-fields : ℕ
-set-fields = fields
+set-fields = 10
+
+-- the value of the space in Code 39
+abbrev pub space : ℕ
+space = 38
 
 -- "A token is 0 to 42 (a character) or 64 to 71 (field 0 to 7)": the token of field 0
 abbrev pub field-token : ℕ

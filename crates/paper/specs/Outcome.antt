@@ -12,7 +12,7 @@ use Rattle.paper.specs.Search.{Entry, End, found, used-up, no-room, too-
 use Rattle.paper.specs.Equation.{stands-in}
 use Rattle.paper.specs.Situation.{Situation, Move}
 use Rattle.paper.specs.Way.{search-from, texts-of}
-use Rattle.paper.specs.Question.{Question, acceptor}
+use Rattle.paper.specs.Question.{Question, hidden, acceptor}
 use Rattle.paper.specs.Sheet.{fault-number, Reading, refused, asked, read-sheet}
 
 pub record Outcome : Type 0 where
@@ -31,7 +31,7 @@ room-of work = min (length work / situation-bytes) most-room
 unfoldable pub searched : Question → ℕ → State (Situation PlaceSet) Move
 searched q room = search-from (acceptor q) longest-side room (q .left) (q .right)
 
--- "for each field standing in the sides, by rising number"
+-- "for each field standing in the sides, by rising number"; the hidden fields "get no answer record"
 unfoldable pub standing : Question → List ℕ
 standing q = keep (λ (f : ℕ). stands-in f (q .left ++ q .right)) (upto fields)
 
@@ -84,12 +84,12 @@ count-of st = count st
 unfoldable pub how-of : State (Situation PlaceSet) Move → End (Situation PlaceSet) Move
 how-of st = how st
 
--- the outcome by what reading the sheet gives: a refused sheet changes no buffer
+-- the outcome by what reading the sheet gives: a refused sheet changes no buffer, and of a good one the question with its hidden fields is searched
 abbrev pub outcome-of : Reading → List ℕ → List ℕ → Outcome
 outcome-of (refused x at) work answer =
     record { number = fault-number x; count = 0; place = at; written = 0; answer = answer; work = work }
 outcome-of (asked q) work answer =
-    let st = searched q (room-of work) in answered q (count-of st) (how-of st) work answer
+    let st = searched (hidden q) (room-of work) in answered (hidden q) (count-of st) (how-of st) work answer
 
 unfoldable pub outcome : List ℕ → List ℕ → List ℕ → Outcome
 outcome sheet work answer = outcome-of (read-sheet sheet) work answer

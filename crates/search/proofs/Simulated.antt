@@ -22,7 +22,8 @@ use Rattle.paper.specs.Way.{text-along, texts-of, search-from}
 use Rattle.paper.specs.Question.{Question, held-by, acceptor}
 use Rattle.paper.specs.Outcome.{searched, count-of, how-of}
 use Rattle.paper.proofs.base.Listed.{getD-mem}
-use Rattle.paper.proofs.sheets.Asked.{GoodHeld, GoodQuestion}
+use Rattle.paper.proofs.sheets.Asked.{GoodHeld}
+use Rattle.paper.proofs.sheets.Hidden.{Searchable}
 use Rattle.paper.proofs.equations.Same.{situation-equal, situation-same}
 use Rattle.paper.proofs.places.PlaceSets.{same-equal, equal-same}
 use Rattle.paper.proofs.search.Searched as Searched
@@ -71,9 +72,9 @@ few-leaves : (h : Held) → GoodHeld h → Few h
 few-leaves any-text g = tt
 few-leaves (pattern p) g = g .1
 
-module _ (q : Question) (good : GoodQuestion q) where
+module _ (q : Question) (good : Searchable q) where
   few : (f : ℕ) → Few (held-by q f)
-  few f = few-leaves (held-by q f) (good .held .good f)
+  few f = few-leaves (held-by q f) (good .held f)
 
   same-agrees : (s t : Situation PlaceSet) → Codable s → Codable t
       → same-coded (situation-code s) (situation-code t) ≡ same-situation (acceptor q) s t
@@ -99,10 +100,10 @@ module _ (q : Question) (good : GoodQuestion q) where
   first = question (acceptor q) (q .left) (q .right)
 
   left-known : Known-side (q .left)
-  left-known = known-side (q .left) (good .left .tokens)
+  left-known = known-side (q .left) (good .left)
 
   right-known : Known-side (q .right)
-  right-known = known-side (q .right) (good .right .tokens)
+  right-known = known-side (q .right) (good .right)
 
   first-codable : Codable first
   first-codable = question-codable q few (q .left) (q .right) left-known right-known

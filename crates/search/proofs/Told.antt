@@ -20,7 +20,7 @@ use Rattle.paper.specs.Situation.{Situation, Move}
 use Rattle.paper.specs.Way.{texts-of}
 use Rattle.paper.specs.Question.{Question, acceptor}
 use Rattle.paper.specs.Outcome.{searched, standing, value-record, records, some-text-too-long, cleared, without-bytes, clash, answered, count-of, how-of}
-use Rattle.paper.proofs.sheets.Asked.{GoodQuestion}
+use Rattle.paper.proofs.sheets.Hidden.{Searchable}
 use Rattle.paper.proofs.base.Lists.{mem-keep, mem-upto, map-append}
 use Rattle.paper.proofs.base.Listed.{getD-map-upto, any-same, keep-same, each-same}
 use Rattle.inner.specs.Inner.{field-code, token-code, side-code}
@@ -55,7 +55,7 @@ clash-cases true short n rs work buffer = refl
 clash-cases false true n rs work buffer = refl
 clash-cases false false n rs work buffer = refl
 
-module _ (q : Question) (good : GoodQuestion q) where
+module _ (q : Question) (good : Searchable q) where
   -- the codes of the sides' tokens
   abbrev codes : List ℕ
   codes = side-code (q .left) ++ side-code (q .right)
@@ -63,7 +63,7 @@ module _ (q : Question) (good : GoodQuestion q) where
   stands-alike : (f : ℕ) → member (field-code + f) codes ≡ stands-in f (q .left ++ q .right)
   stands-alike f =
       ap (member (field-code + f)) (sym (map-append token-code (q .left) (q .right)))
-      ∙ stands-coded f (q .left ++ q .right) (known-append (q .left) (q .right) (known-side (q .left) (good .left .tokens)) (known-side (q .right) (good .right .tokens)))
+      ∙ stands-coded f (q .left ++ q .right) (known-append (q .left) (q .right) (known-side (q .left) (good .left)) (known-side (q .right) (good .right)))
 
   standing-alike : standing-fields (first-masks codes) ≡ standing q
   unfolding standing-fields first-mask first-masks standing

@@ -15,7 +15,7 @@ use Rattle.paper.specs.Equation.{Token, chr, fld, Side, is-field}
 use Rattle.paper.specs.Situation.{Acceptor, Sides, trim, same-token, Kind, is-finished, is-dead, is-open, kind-of, strike-in, put-in, front-field, front-fields, kind-finished}
 use Rattle.paper.proofs.base.Tests.{by-bool, cond-by, true-false, not-true, same-tests, neq-eqb, eq-eqb, eqb-true, eqb-symmetric, lt-leb, le-leb, lt-ltb, le-ltb}
 use Rattle.paper.proofs.base.Lists.{cons-eq, map-append, any-append, NoDup, none, more, member-true}
-use Rattle.paper.proofs.sheets.Asked.{InRange}
+use Rattle.paper.proofs.sheets.Hidden.{HasSet}
 use Rattle.paper.proofs.equations.Moves.{front-fields-different}
 use Rattle.inner.specs.Inner as Inner
 use Rattle.inner.specs.Inner.{field-code, no-token, token-code, side-code, is-char, field-of, front}
@@ -32,15 +32,15 @@ abbrev pub Known-side : Side → Type 0
 Known-side [] = Unit {0}
 Known-side (t ∷ side) = Known t × Known-side side
 
--- the tokens of a sheet are known
-in-range-known : (t : Token) → InRange t → Known t
-in-range-known (chr c) h = h
-in-range-known (fld f) h = omega arith
+-- the tokens of a question that can be searched are known
+has-set-known : (t : Token) → HasSet t → Known t
+has-set-known (chr c) h = h
+has-set-known (fld f) h = h
 
-pub known-side : (side : Side) → ((t : Token) → List·Memᴰ t side → InRange t) → Known-side side
+pub known-side : (side : Side) → ((t : Token) → List·Memᴰ t side → HasSet t) → Known-side side
 known-side [] h = tt
 known-side (t ∷ side) h =
-    (in-range-known t (h t (List·Memᴰ·head refl)), known-side side (λ u d. h u (List·Memᴰ·tail d)))
+    (has-set-known t (h t (List·Memᴰ·head refl)), known-side side (λ u d. h u (List·Memᴰ·tail d)))
 
 -- characters and fields have different codes
 char-is-char : (c : ℕ) → c < characters → is-char c ≡ true

@@ -2,20 +2,21 @@
 -- tests that they make.
 use Prim.Native.Nat.{ℕ, zero, suc, _+_, _≤_, _<_}
 use native.Mathlib.Omega.{arith}
-use mathlib.Core.Path.{_≡_, refl, sym, ap, _∙_}
+use mathlib.Core.Path.{_≡_, refl, sym, _∙_}
 use mathlib.Core.Bool.{Bool, true, false}
 use mathlib.Core.List.{List, [], _∷_, map}
 use lib.ListN.{length, getD}
 use Rattle.paper.specs.Sheet.{Fault, fault-number, faulty, records}
 use Rattle.paper.specs.Rule.{Rule, read-rule, foreign-field}
-use Rattle.paper.specs.Catalogue.{Present, Form, no-catalogue, rules, form, used, is-full, not-entered, adding, withdrawing, withdrawn-from}
+use Rattle.paper.specs.Catalogue.{Present, no-catalogue, rules, form, used, is-full, not-entered, adding, withdrawing, withdrawn-from}
 use Rattle.paper.specs.Catalogue as Catalogue
 use Rattle.paper.specs.Calls.{present-at}
 use Rattle.paper.proofs.base.Tests.{lt-ltb}
 use Rattle.paper.proofs.catalogue.Form.{offset-of, rule-fits, record-inside}
 use Rattle.paper.proofs.catalogue.Withdrawing.{leaves}
-use Rattle.kept.specs.Kept.{kept-of, record-at, record-bytes}
+use Rattle.kept.specs.Kept.{record-at, record-bytes}
 use Rattle.kept.specs.declared.Kept.{Kept}
+use Rattle.kept.proofs.Told.{Rules}
 use Rattle.moving.specs.Moving.{put-at, closed-at}
 use Rattle.moving.proofs.Within.{is-put, is-closed}
 use Rattle.pairs.specs.declared.Pair.{Pair}
@@ -24,32 +25,6 @@ use Rattle.storeroom.specs.declared.Asked.the-variants.{Apart, NotApart}
 use Rattle.storeroom.specs.Told.{full-of, Pairs-asked, Ready}
 use Rattle.storeroom.specs.Told as Told
 use Rattle.storeroom.specs.declared.Added.the-variants as Added
-
--- What the struct of a catalogue says of its form.
-pub record Rules (i : ℕ) (f : Form) (k : Kept) : Type 0 where
-  pub rules-present : List Present
-  pub is : f ≡ rules rules-present
-  pub counted : k .rules ≡ length rules-present
-  pub its-used : k .used ≡ used rules-present
-  pub its-at : k .at ≡ record-at rules-present i
-  pub its-bytes : k .bytes ≡ record-bytes rules-present i
-
-module _ (k : Kept) (i : ℕ) where
-  pub no-rules : (f : Form) → k ≡ kept-of i f → k .good ≡ false → f ≡ no-catalogue
-  no-rules no-catalogue e h = refl
-  no-rules (rules l) e h = let z : _≡_ {A = ℕ} 0 1 = cc in absurd (omega arith)
-
-  pub some-rules : (f : Form) → k ≡ kept-of i f → k .good ≡ true → Rules i f k
-  some-rules no-catalogue e h = let z : _≡_ {A = ℕ} 0 1 = cc in absurd (omega arith)
-  some-rules (rules l) e h =
-      record {
-        rules-present = l;
-        is = refl;
-        counted = ap (λ (x : Kept). x .rules) e;
-        its-used = ap (λ (x : Kept). x .used) e;
-        its-at = ap (λ (x : Kept). x .at) e;
-        its-bytes = ap (λ (x : Kept). x .bytes) e;
-      }
 
 -- 32, by what was read
 pub full-is : (k : Kept) (l : List Present) (c bytes : List ℕ) (b : Bool) → k .rules ≡ length l → k .used ≡ used l

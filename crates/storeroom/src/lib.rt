@@ -6,9 +6,7 @@ use kept::Kept;
 use pairs::Pair;
 use rules::Rule;
 ghost use mathlib.Core.Path.{_≡_};
-ghost use lib.Dec.{eqb};
 ghost use Rattle.paper.specs.Catalogue.{adding, withdrawing};
-ghost use Rattle.pairs.specs.Ask.{number-of};
 ghost use Rattle.storeroom.specs.Told.{told-added, told-withdrawn, full-of, Ready-to-ask, Ready, Pairs-asked};
 
 // The answer to a new rule. specs/Told.antt gives each its number, count, place, rule's number and pair's answer.
@@ -110,25 +108,13 @@ fn ask_all(catalogue: &[u8], count: usize, new: Rule, work: &mut [u8]) -> Asked
         let left = present.side;
         let first = present.fields;
         let pair = pairs::ask(left, right, first, second, work);
-        if !is_no_clash(pair) {
+        if pairs::answer(pair) != 1 {
             return Asked::NotApart { rule: i, pair };
         }
         at += present.bytes;
         i += 1;
     }
     Asked::Apart
-}
-
-// Is the pair answered 1?
-fn is_no_clash(pair: Pair) -> bool
-    ensures { λ r. ⌜ r ≡ eqb (number-of pair) 1 ⌝ }
-{
-    match pair {
-        Pair::Clash { count: _ } => false,
-        Pair::NoClash { count: _ } => true,
-        Pair::NoRoom { count: _ } => false,
-        Pair::SideTooLong { count: _ } => false,
-    }
 }
 
 // Withdraws the rule with this number: "withdrawing closes the gap".

@@ -1,13 +1,11 @@
-// The tables of a sheet's fields in the form in which the search holds them: for each field its masks, by its number.
+// The tables of the fields in the form in which the search holds them: for each field its masks, by its number.
+use inner::FIELDS;
 use places::CHARACTERS;
 use places::PLACES;
 use places::PlaceTables;
 ghost use mathlib.Core.Path.{_≡_};
 ghost use mathlib.Core.List.{map};
 ghost use Rattle.tables.specs.Tables.{follow-of, taking-of, last-of};
-
-// "field byte 0 to 7"
-const FIELDS: usize = inner::SHEET_FIELDS;
 
 // "For every field and every place, the set of places that may follow".
 pub fn follow_sets(fields: [PlaceTables; FIELDS]) -> [[u32; PLACES]; FIELDS]

@@ -1,6 +1,8 @@
 //! A catalogue of rules in a lent buffer.
 
 use std::fmt;
+use std::iter::FusedIterator;
+use std::slice::ChunksExact;
 
 use crate::{Answer, Fault};
 
@@ -16,6 +18,14 @@ pub const RULE_BYTES: usize = 429;
 /// A buffer of so many bytes is always long enough for this number of rules.
 pub const fn catalogue_bytes(rules: usize) -> usize {
     RULE_BYTES * rules
+}
+
+/// A listed pair takes so many bytes of the list buffer.
+pub const PAIR_BYTES: usize = 5;
+
+/// A list buffer of so many bytes is always long enough for the pairs of this number of rules.
+pub const fn list_bytes(rules: usize) -> usize {
+    PAIR_BYTES * (rules * rules.saturating_sub(1) / 2)
 }
 
 /// The answer to a rule that is to be added.
@@ -103,6 +113,86 @@ impl fmt::Display for Withdrawn {
     }
 }
 
+/// What checking a catalogue again answers. The pairs stand in the list buffer.
+#[derive(Clone, Debug)]
+pub enum Rechecked<'a> {
+    /// 0: these pairs are not answered 1. Where there are none, no two rules of the catalogue make
+    /// the same label.
+    Listed(Pairs<'a>),
+    /// 34: the buffer is no catalogue.
+    NoCatalogue,
+    /// 35: the list buffer is too short for all the pairs. None is listed.
+    ListTooShort,
+}
+
+impl Rechecked<'_> {
+    /// Its number, as in the table of the rules.
+    pub fn number(&self) -> u32 {
+        match self {
+            Rechecked::Listed(_) => 0,
+            Rechecked::NoCatalogue => 34,
+            Rechecked::ListTooShort => 35,
+        }
+    }
+}
+
+/// In words.
+impl fmt::Display for Rechecked<'_> {
+    fn fmt(&self, to: &mut fmt::Formatter<'_>) -> fmt::Result {
+        to.write_str(match self {
+            Rechecked::Listed(_) => "done",
+            Rechecked::NoCatalogue => "the buffer is no catalogue",
+            Rechecked::ListTooShort => "the list buffer is too short for the pairs",
+        })
+    }
+}
+
+/// Two rules of a catalogue that can make the same label, or of which that is not decided.
+#[derive(Clone, Copy, Debug, PartialEq, Eq)]
+pub struct Pair {
+    /// The lower number of the two; this rule was the left side.
+    pub lower: usize,
+    /// The higher number.
+    pub higher: usize,
+    /// [`Answer::Clash`], of which no texts are written, [`Answer::NoRoom`] or
+    /// [`Answer::SideTooLong`].
+    pub answer: Answer,
+}
+
+/// In words.
+impl fmt::Display for Pair {
+    fn fmt(&self, to: &mut fmt::Formatter<'_>) -> fmt::Result {
+        write!(to, "rule {} and rule {}: {}", self.lower, self.higher, self.answer)
+    }
+}
+
+/// The pairs that [`recheck`] has listed, by the lower number, then the higher one.
+#[derive(Clone, Debug)]
+pub struct Pairs<'a> {
+    rest: ChunksExact<'a, u8>,
+}
+
+impl Iterator for Pairs<'_> {
+    type Item = Pair;
+
+    fn next(&mut self) -> Option<Pair> {
+        let &[lower, higher, answer, low, high] = self.rest.next()? else {
+            unreachable!("a pair has five bytes");
+        };
+        let count = usize::from(u16::from_le_bytes([low, high]));
+        let answer = Answer::numbered(u32::from(answer), count, 0, 0);
+        Some(Pair { lower: usize::from(lower), higher: usize::from(higher), answer })
+    }
+
+    fn size_hint(&self) -> (usize, Option<usize>) {
+        self.rest.size_hint()
+    }
+}
+
+impl ExactSizeIterator for Pairs<'_> {}
+
+impl FusedIterator for Pairs<'_> {}
+
 /// Adds a rule behind the last one, if it clashes with none that is there.
 ///
 /// The rules that are there are tried by rising number, each pair in the whole working buffer;
@@ -113,7 +203,8 @@ impl fmt::Display for Withdrawn {
 ///
 /// A catalogue is rules one behind the other from the first byte on, and zeros behind them. One
 /// that began as zeros and was changed by [`add`] and [`withdraw`] alone has no two rules that make
-/// the same label.
+/// the same label. Of one that was filled otherwise, or kept since a version before 0.4, for which a
+/// space at the end made another label, [`recheck`] says which rules do.
 pub fn add(catalogue: &mut [u8], rule: &[u8], work: &mut [u8]) -> Added {
     let mut told = [0; 4];
     // SAFETY: each pointer and length are those of one slice. No two of the slices overlap, since
@@ -156,6 +247,41 @@ pub fn withdraw(catalogue: &mut [u8], number: usize) -> Withdrawn {
     }
 }
 
+/// Checks every pair of the catalogue's rules again.
+///
+/// Each pair is tried in the whole working buffer, the rule with the lower number as the left side.
+/// Those that clash and those that are not decided are listed, in five bytes of the list buffer
+/// each; [`list_bytes`] are always enough, 2,480 for [`MOST_RULES`]. Only [`Rechecked::Listed`]
+/// changes the list buffer, and only the bytes of the pairs. The working buffer is all zero
+/// afterwards, but a buffer that is no catalogue, or has fewer than two rules, leaves it unchanged.
+pub fn recheck<'a>(catalogue: &[u8], work: &mut [u8], list: &'a mut [u8]) -> Rechecked<'a> {
+    let mut told = [0; 2];
+    // SAFETY: each pointer and length are those of one slice. No two of the slices overlap, since
+    // three are borrowed mutably. The function keeps no pointer.
+    let number = unsafe {
+        bradovusc_recheck(
+            catalogue.as_ptr(),
+            catalogue.len(),
+            work.as_mut_ptr(),
+            work.len(),
+            list.as_mut_ptr(),
+            list.len(),
+            told.as_mut_ptr(),
+            told.len(),
+        )
+    };
+    match number {
+        0 => {
+            // This is the length of a part of the list.
+            let written = &list[..told[1] as usize];
+            Rechecked::Listed(Pairs { rest: written.chunks_exact(PAIR_BYTES) })
+        }
+        34 => Rechecked::NoCatalogue,
+        35 => Rechecked::ListTooShort,
+        _ => unreachable!("the library promises its numbers"),
+    }
+}
+
 extern "C" {
     fn bradovusc_add(
         catalogue: *mut u8,
@@ -169,4 +295,15 @@ extern "C" {
     ) -> u32;
 
     fn bradovusc_withdraw(catalogue: *mut u8, catalogue_length: usize, number: usize) -> u32;
+
+    fn bradovusc_recheck(
+        catalogue: *const u8,
+        catalogue_length: usize,
+        work: *mut u8,
+        work_length: usize,
+        list: *mut u8,
+        list_length: usize,
+        told: *mut u64,
+        told_length: usize,
+    ) -> u32;
 }

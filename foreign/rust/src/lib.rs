@@ -1,8 +1,10 @@
 //! Can two part-label rules make the same label?
 //!
 //! A rule is fixed Code 39 characters with fields between them; a field may have a pattern. Two
-//! rules clash when one label can be read by both. The two rules stand on a question sheet;
-//! [`clash`] answers it in memory that the caller lends.
+//! rules clash when one label can be read by both. Spaces at the end of a label are dropped before
+//! it is read, so `LT4` and `LT4` with a space are the same label; a space elsewhere is a character
+//! like the others. The two rules stand on a question sheet; [`clash`] answers it in memory that the
+//! caller lends.
 //!
 //! ```
 //! use bradovusc::{answer_bytes, clash, texts, SITUATION_BYTES};
@@ -14,7 +16,7 @@
 //! let given = clash(sheet, &mut work, &mut answer);
 //! assert_eq!(given.clashes(), Some(true));
 //! assert_eq!(given.to_string(), "clash");
-//! assert_eq!(given.count(), 6);
+//! assert_eq!(given.count(), 13);
 //! let texts: Vec<String> =
 //!     texts(&answer[..given.written()]).map(|text| text.to_string()).collect();
 //! assert_eq!(texts, ["4", "4"]);
@@ -34,7 +36,8 @@
 //! ```
 //!
 //! A catalogue has up to 32 rules in a lent buffer. [`add`] enters a rule only if it clashes with
-//! none that is there; [`withdraw`] takes one out.
+//! none that is there; [`withdraw`] takes one out; [`recheck`] checks the pairs of one that was kept
+//! again.
 //!
 //! ```
 //! use bradovusc::{add, catalogue_bytes, withdraw, Added, Answer, Withdrawn, SITUATION_BYTES};
@@ -46,17 +49,35 @@
 //! let four = b"RULE\x01\x04";
 //! assert_eq!(add(&mut catalogue, digits, &mut work), Added::Entered);
 //! let refused = add(&mut catalogue, four, &mut work);
-//! let pair = Answer::Clash { count: 3, written: 0 };
+//! let pair = Answer::Clash { count: 9, written: 0 };
 //! assert_eq!(refused, Added::NotApart { rule: 0, pair });
 //! assert_eq!(refused.to_string(), "not apart from a rule of the catalogue: rule 0, clash");
 //! assert_eq!(withdraw(&mut catalogue, 0), Withdrawn::Gone);
 //! assert_eq!(add(&mut catalogue, four, &mut work), Added::Entered);
 //! ```
+//!
+//! ```
+//! use bradovusc::{list_bytes, recheck, Pair, Rechecked, SITUATION_BYTES};
+//!
+//! // Kept since a space at the end made another label: the digit 4; the same with a space.
+//! let catalogue = b"RULE\x01\x04RULE\x02\x04\x26";
+//! let mut work = [0; 455 * SITUATION_BYTES];
+//! let mut list = [0; list_bytes(2)];
+//! let Rechecked::Listed(pairs) = recheck(catalogue, &mut work, &mut list) else {
+//!     panic!("a catalogue, and the list is long enough");
+//! };
+//! let pairs: Vec<Pair> = pairs.collect();
+//! assert_eq!(pairs.len(), 1);
+//! assert_eq!((pairs[0].lower, pairs[0].higher), (0, 1));
+//! assert_eq!(pairs[0].answer.clashes(), Some(true));
+//! assert_eq!(pairs[0].to_string(), "rule 0 and rule 1: clash");
+//! ```
 
 mod catalogue;
 
 pub use catalogue::{
-    add, catalogue_bytes, withdraw, Added, Withdrawn, MOST_RULES, RULE_BYTES, RULE_FIELDS,
+    add, catalogue_bytes, list_bytes, recheck, withdraw, Added, Pair, Pairs, Rechecked, Withdrawn,
+    MOST_RULES, PAIR_BYTES, RULE_BYTES, RULE_FIELDS,
 };
 
 use std::error::Error;
@@ -85,7 +106,7 @@ pub fn value(sign: char) -> Option<u8> {
     (0..).zip(SIGNS).find(|&(_, &each)| char::from(each) == sign).map(|(value, _)| value)
 }
 
-/// Fields 0 to 7.
+/// Fields 0 to 7: those that a sheet may name, and that have a text in the answer.
 const FIELDS: usize = 8;
 
 /// A record of the answer buffer before its characters: `VA`, the field, the length in two bytes
@@ -125,8 +146,8 @@ pub enum Fault {
     NotOnePattern,
     /// 16: a pattern has more than 31 leaves. Its place is the first byte of the 32nd.
     TooManyLeaves,
-    /// 17: a side holds a byte that is neither a character nor a field. Its place is the first such
-    /// byte.
+    /// 17: a side holds a byte that is neither a character nor a field 0 to 7. Its place is the
+    /// first such byte.
     WrongToken,
 }
 
@@ -180,16 +201,18 @@ impl Error for Fault {}
 #[derive(Clone, Copy, Debug, PartialEq, Eq)]
 pub enum Answer {
     /// 0: a label can be made by both rules. The first `written` bytes of the answer buffer hold
-    /// the [`texts`] of the fields on it.
+    /// the [`texts`] of the fields on it. With them one side may have spaces at its end that the
+    /// other has not.
     Clash { count: usize, written: usize },
-    /// 1: no label, however long, can be made by both rules.
+    /// 1: no label, however long, and with whatever spaces at its end, can be made by both rules.
     NoClash { count: usize },
     /// 11 to 17: the sheet is at fault. `place` is the offset of the byte at fault, as [`Fault`]
     /// says.
     Refused { fault: Fault, place: usize },
     /// 18: neither yes nor no; the working buffer is full.
     NoRoom { count: usize },
-    /// 19: neither yes nor no; a side grew above 48 tokens.
+    /// 19: neither yes nor no; a side grew above 48 tokens, the hidden field of spaces at its end
+    /// counted.
     SideTooLong { count: usize },
     /// 20: the rules clash, but the answer buffer is too short for the texts.
     AnswerTooShort { count: usize },

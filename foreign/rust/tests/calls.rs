@@ -3,8 +3,8 @@
 
 use std::collections::BTreeSet;
 
-use bradovusc::{add, withdraw, Added};
-use second::calls::{After, Call, Calls, Operation, MOST_CATALOGUE, WORK};
+use bradovusc::{add, recheck, withdraw, Added, Pair, Rechecked, PAIR_BYTES};
+use second::calls::{After, Call, Calls, Operation, LIST_FILL, MOST_CATALOGUE, WORK};
 use second::cases::WORK_FILL;
 use second::catalogue::HASHING;
 use second::make::calls::operations;
@@ -42,6 +42,13 @@ impl Library {
                 self.work = *length;
                 return None;
             }
+            Operation::Recheck(length) => {
+                let mut list = vec![LIST_FILL; *length];
+                let mut work = vec![WORK_FILL; self.work];
+                let (told, pairs) = listed(recheck(&self.catalogue, &mut work, &mut list));
+                assert_eq!(list[..told.written], pairs, "the pairs, read from their bytes");
+                Call::Recheck { told, list, work }
+            }
         };
         Some(After { call, catalogue: self.catalogue.clone() })
     }
@@ -58,6 +65,24 @@ fn told(added: Added) -> second::catalogue::Added {
         }
         _ => nothing,
     }
+}
+
+/// What is told, and the bytes of the pairs.
+fn listed(rechecked: Rechecked) -> (second::catalogue::Rechecked, Vec<u8>) {
+    let number = rechecked.number() as u8;
+    let pairs: Vec<Pair> = match rechecked {
+        Rechecked::Listed(pairs) => pairs.collect(),
+        Rechecked::NoCatalogue | Rechecked::ListTooShort => Vec::new(),
+    };
+    let bytes: Vec<u8> = pairs.iter().flat_map(pair_bytes).collect();
+    let (pairs, written) = (pairs.len(), pairs.len() * PAIR_BYTES);
+    (second::catalogue::Rechecked { number, pairs, written }, bytes)
+}
+
+fn pair_bytes(pair: &Pair) -> [u8; PAIR_BYTES] {
+    let (lower, higher) = (pair.lower as u8, pair.higher as u8);
+    let (answer, count) = (pair.answer.number() as u8, pair.answer.count() as u16);
+    second::catalogue::Pair { lower, higher, answer, count }.bytes()
 }
 
 /// Both do these operations; hands back what each call was answered.
@@ -77,15 +102,24 @@ fn agreed(operations: &[Operation]) -> Vec<Call> {
 fn generated_calls() {
     let mut seen = BTreeSet::new();
     for call in agreed(&operations(&mut Dice::new(39), 4000)) {
-        seen.insert(match call {
+        let answered = match call {
             Call::Add { told, .. } => ("add", told.number, told.pair),
             Call::Withdraw { number } => ("withdraw", number, 0),
-        });
+            Call::Recheck { told, list, .. } => {
+                let answers = list[..told.written].chunks(PAIR_BYTES).map(|pair| pair[2]);
+                seen.extend(answers.map(|answer| ("listed", 0, answer)));
+                ("recheck", told.number, 0)
+            }
+        };
+        seen.insert(answered);
     }
     let alone = [0, 11, 12, 13, 14, 15, 16, 17, 31, 32, 34].map(|number| ("add", number, 0));
     let pairs = [0, 18, 19].map(|answer| ("add", 30, answer));
     let withdrawals = [0, 33, 34].map(|number| ("withdraw", number, 0));
-    assert_eq!(seen, alone.into_iter().chain(pairs).chain(withdrawals).collect());
+    let rechecks = [0, 34, 35].map(|number| ("recheck", number, 0));
+    let listed = [0, 18, 19].map(|answer| ("listed", 0, answer));
+    let additions = alone.into_iter().chain(pairs);
+    assert_eq!(seen, additions.chain(withdrawals).chain(rechecks).chain(listed).collect());
 }
 
 #[test]

@@ -1,15 +1,17 @@
 //! Calls of a catalogue known by hand: the answer, and both buffers to the last byte.
 
 use bradovusc::{
-    add, catalogue_bytes, withdraw, Added, Answer, Fault, Withdrawn, MOST_RULES, RULE_BYTES,
-    RULE_FIELDS, SITUATION_BYTES,
+    add, catalogue_bytes, list_bytes, recheck, withdraw, Added, Answer, Fault, Pair, Rechecked,
+    Withdrawn, MOST_RULES, PAIR_BYTES, RULE_BYTES, RULE_FIELDS, SITUATION_BYTES,
 };
 
 const A: u8 = 10;
 const B: u8 = 11;
+const SPACE: u8 = 38;
 const X: u8 = 64;
 
 const WORK_FILL: u8 = 90;
+const LIST_FILL: u8 = 165;
 
 /// A rule without patterns.
 fn rule(side: &[u8]) -> Vec<u8> {
@@ -78,30 +80,40 @@ fn entered() {
     enters(&[], &rule(&[]), 0);
     enters(&[rule(&[A])], &rule(&[B]), SITUATION_BYTES);
     enters(&[rule(&[A]), rule(&[B]), rule(&[])], &rule(&[A, A]), SITUATION_BYTES);
-    // xx and `A`: the start and one strike.
-    enters(&[rule(&[X, X])], &rule(&[A]), 2 * SITUATION_BYTES);
+    // A space that is not at the end is a character like the others.
+    enters(&[rule(&[A])], &rule(&[A, SPACE, B]), 2 * SITUATION_BYTES);
+    enters(&[rule(&[A])], &rule(&[SPACE, A]), SITUATION_BYTES);
 }
 
 #[test]
 fn a_clash() {
-    assert_eq!(not_apart(&[rule(&[])], &rule(&[]), 1), (0, clash(1)));
-    assert_eq!(not_apart(&[rule(&[A]), rule(&[B])], &rule(&[B]), 1), (1, clash(1)));
+    assert_eq!(not_apart(&[rule(&[])], &rule(&[]), 5), (0, clash(5)));
+    assert_eq!(not_apart(&[rule(&[A]), rule(&[B])], &rule(&[B]), 5), (1, clash(5)));
     // x and `A`
-    assert_eq!(not_apart(&[rule(&[X])], &rule(&[A]), 3), (0, clash(3)));
+    assert_eq!(not_apart(&[rule(&[X])], &rule(&[A]), 11), (0, clash(11)));
     // The first of several, though a later one has a clash too.
     let rules = [rule(&[B]), rule(&[A]), rule(&[X])];
-    assert_eq!(not_apart(&rules, &rule(&[A]), 3), (1, clash(1)));
-    assert_eq!(not_apart(&rules, &rule(&[B, B]), 4), (2, clash(4)));
+    assert_eq!(not_apart(&rules, &rule(&[A]), 5), (1, clash(5)));
+    assert_eq!(not_apart(&rules, &rule(&[B, B]), 13), (2, clash(13)));
+}
+
+#[test]
+fn spaces_at_the_end() {
+    let (none, one, two) = (rule(&[A]), rule(&[A, SPACE]), rule(&[A, SPACE, SPACE]));
+    assert_eq!(not_apart(std::slice::from_ref(&none), &one, 6), (0, clash(6)));
+    assert_eq!(not_apart(std::slice::from_ref(&one), &none, 6), (0, clash(6)));
+    assert_eq!(not_apart(&[none], &two, 7), (0, clash(7)));
+    assert_eq!(not_apart(&[rule(&[SPACE, SPACE])], &rule(&[]), 7), (0, clash(7)));
 }
 
 #[test]
 fn a_rules_fields_are_its_own() {
     // As a sheet xA and Bx have no clash; here x is another field in each: BA.
-    assert_eq!(not_apart(&[rule(&[X, A])], &rule(&[B, X]), 6), (0, clash(6)));
+    assert_eq!(not_apart(&[rule(&[X, A])], &rule(&[B, X]), 17), (0, clash(17)));
     // Any digits, and the digit 4: sheet S of the rules.
     let digits = with(b"PA\x00\x04\x44\x41\x00\x09", &[X]);
     let four = with(b"PA\x00\x01\x04", &[X]);
-    assert_eq!(not_apart(&[digits], &four, 6), (0, clash(6)));
+    assert_eq!(not_apart(&[digits], &four, 13), (0, clash(13)));
     // x is `A` in the one and `B` in the other.
     let patterns = [&b"PA\x00\x01\x0a"[..], b"PA\x00\x01\x0b"];
     enters(&[with(patterns[0], &[X])], &with(patterns[1], &[X]), SITUATION_BYTES);
@@ -110,8 +122,8 @@ fn a_rules_fields_are_its_own() {
 #[test]
 fn the_present_rule_is_the_left_one() {
     let (two, three) = (rule(&[X, A, A]), rule(&[X, A, A, A]));
-    assert_eq!(not_apart(std::slice::from_ref(&three), &two, 8), (0, clash(6)));
-    assert_eq!(not_apart(&[two], &three, 8), (0, clash(7)));
+    assert_eq!(not_apart(std::slice::from_ref(&three), &two, 20), (0, clash(19)));
+    assert_eq!(not_apart(&[two], &three, 20), (0, clash(20)));
 }
 
 #[test]
@@ -120,7 +132,10 @@ fn not_decided() {
     assert_eq!(not_apart(&present, &rule(&[A]), 2), (0, Answer::NoRoom { count: 2 }));
     assert_eq!(not_apart(&present, &rule(&[A]), 0), (0, Answer::NoRoom { count: 0 }));
     let long = [rule(&[B]), rule(&[X; 24])];
-    assert_eq!(not_apart(&long, &rule(&[A, A]), 2), (1, Answer::SideTooLong { count: 2 }));
+    assert_eq!(not_apart(&long, &rule(&[A, A]), 4), (1, Answer::SideTooLong { count: 4 }));
+    // xx and `A` make no label that is the same, but x can take one space after the other.
+    let twice = [rule(&[X, X])];
+    assert_eq!(not_apart(&twice, &rule(&[A]), 455), (0, Answer::SideTooLong { count: 137 }));
 }
 
 #[test]
@@ -233,4 +248,93 @@ fn no_catalogue() {
     let mut twice = [&a[..], &a].concat();
     assert_eq!(withdraw(&mut twice, 0), Withdrawn::Gone);
     assert_eq!(twice, catalogue(&[a], 12));
+}
+
+/// Checks again with so many bytes of work and of list, after which the working buffer must be all
+/// zero where a pair was searched, else unchanged, and the list unchanged behind the pairs. Hands
+/// back the number and the pairs.
+fn rechecked(catalogue: &[u8], work: usize, list: usize, searched: bool) -> (u32, Vec<Pair>) {
+    let mut work = vec![WORK_FILL; work];
+    let mut list = vec![LIST_FILL; list];
+    let given = recheck(catalogue, &mut work, &mut list);
+    let number = given.number();
+    let pairs: Vec<Pair> = match given {
+        Rechecked::Listed(pairs) => pairs.collect(),
+        Rechecked::NoCatalogue | Rechecked::ListTooShort => Vec::new(),
+    };
+    let left = if searched { 0 } else { WORK_FILL };
+    assert!(work.iter().all(|&byte| byte == left), "{pairs:?}");
+    assert!(list[PAIR_BYTES * pairs.len()..].iter().all(|&byte| byte == LIST_FILL), "{pairs:?}");
+    (number, pairs)
+}
+
+fn pair(lower: usize, higher: usize, answer: Answer) -> Pair {
+    Pair { lower, higher, answer }
+}
+
+#[test]
+fn nothing_listed() {
+    // No pair is searched.
+    for catalogue in [vec![], vec![0; 16], rule(&[X]), catalogue(&[rule(&[A])], 9)] {
+        assert_eq!(rechecked(&catalogue, 150, 8, false), (0, vec![]));
+        assert_eq!(rechecked(&catalogue, 0, 0, false), (0, vec![]));
+    }
+    let apart = [rule(&[A]), rule(&[B]), rule(&[A, SPACE, B])];
+    assert_eq!(rechecked(&catalogue(&apart, 40), 2 * SITUATION_BYTES, 0, true), (0, vec![]));
+}
+
+#[test]
+fn listed() {
+    let (none, one, two) = (rule(&[A]), rule(&[A, SPACE]), rule(&[A, SPACE, SPACE]));
+    let kept = catalogue(&[none.clone(), one.clone()], 16);
+    let room = 6 * SITUATION_BYTES;
+    for list in [5, 6, list_bytes(MOST_RULES)] {
+        assert_eq!(rechecked(&kept, room, list, true), (0, vec![pair(0, 1, clash(6))]));
+    }
+    for list in 0..5 {
+        assert_eq!(rechecked(&kept, room, list, true), (35, vec![]));
+    }
+    let no_room = Answer::NoRoom { count: 5 };
+    assert_eq!(rechecked(&kept, room - 1, 8, true), (0, vec![pair(0, 1, no_room)]));
+    // Each pair has the whole room; one that is not decided does not stop the rest.
+    let three = [none, one, two].concat();
+    let pairs = [(0, 1, clash(6)), (0, 2, Answer::NoRoom { count: 6 }), (1, 2, clash(6))];
+    let pairs = pairs.map(|(lower, higher, answer)| pair(lower, higher, answer));
+    assert_eq!(rechecked(&three, room + 9, 15, true), (0, pairs.to_vec()));
+    assert_eq!(rechecked(&three, room + 9, 14, true), (35, vec![]));
+    let long = [rule(&[X; 24]), rule(&[A, A])].concat();
+    let too_long = Answer::SideTooLong { count: 4 };
+    assert_eq!(rechecked(&long, 600, 8, true), (0, vec![pair(0, 1, too_long)]));
+}
+
+#[test]
+fn the_lower_rule_is_the_left_one() {
+    let (two, three) = (rule(&[X, A, A]), rule(&[X, A, A, A]));
+    let both = [&three[..], &two].concat();
+    assert_eq!(rechecked(&both, 3000, 8, true), (0, vec![pair(0, 1, clash(19))]));
+    let both = [two, three].concat();
+    assert_eq!(rechecked(&both, 3000, 8, true), (0, vec![pair(0, 1, clash(20))]));
+}
+
+#[test]
+fn every_pair_by_the_lower_number() {
+    let rules: Vec<u8> = (0..MOST_RULES).flat_map(|_| rule(&[])).collect();
+    let length = list_bytes(MOST_RULES);
+    assert_eq!(length, 2_480);
+    let (number, pairs) = rechecked(&rules, 5 * SITUATION_BYTES, length, true);
+    let expected = (0..MOST_RULES)
+        .flat_map(|lower| (lower + 1..MOST_RULES).map(move |higher| pair(lower, higher, clash(5))));
+    assert_eq!((number, pairs.len()), (0, 496));
+    assert!(pairs.into_iter().eq(expected));
+    assert_eq!(rechecked(&rules, 5 * SITUATION_BYTES, length - 1, true), (35, vec![]));
+}
+
+#[test]
+fn nothing_to_check_again() {
+    // A byte behind the zeros; field 4; 33 rules. Before 35.
+    let rules: Vec<u8> = (0..33).flat_map(|_| rule(&[])).collect();
+    for wrong in [[&rule(&[A])[..], &[0, 1]].concat(), rule(&[X + 4]), rules] {
+        assert_eq!(rechecked(&wrong, 864, 8, false), (34, vec![]));
+        assert_eq!(rechecked(&wrong, 864, 0, false), (34, vec![]));
+    }
 }

@@ -4,6 +4,7 @@ use bradovusc::{clash, texts, Answer, Fault, SITUATION_BYTES};
 
 const A: u8 = 10;
 const B: u8 = 11;
+const SPACE: u8 = 38;
 const X: u8 = 64;
 const Y: u8 = 65;
 
@@ -48,16 +49,16 @@ fn plain(answer: Answer) -> (Answer, Vec<(u8, String)>) {
 
 #[test]
 fn no_fields() {
-    assert_eq!(as_usual(&sheet(&[], &[])), holds(1, 0, &[]));
+    assert_eq!(as_usual(&sheet(&[], &[])), holds(5, 0, &[]));
     assert_eq!(as_usual(&sheet(&[A], &[B])), plain(Answer::NoClash { count: 1 }));
 }
 
 #[test]
 fn one_field() {
-    assert_eq!(as_usual(&sheet(&[X], &[A])), holds(3, 6, &["A"]));
+    assert_eq!(as_usual(&sheet(&[X], &[A])), holds(11, 6, &["A"]));
     assert_eq!(as_usual(&sheet(&[X, A], &[B, X])), plain(Answer::NoClash { count: 1 }));
-    assert_eq!(as_usual(&sheet(&[X, X], &[A, A])), holds(3, 6, &["A"]));
-    assert_eq!(as_usual(&sheet(&[X, X], &[A])), plain(Answer::NoClash { count: 2 }));
+    assert_eq!(as_usual(&sheet(&[X, X], &[A, A])), holds(12, 6, &["A"]));
+    assert_eq!(as_usual(&sheet(&[X, X], &[A])), plain(Answer::SideTooLong { count: 137 }));
 }
 
 #[test]
@@ -68,15 +69,37 @@ fn one_field_with_a_pattern() {
 
 #[test]
 fn two_fields() {
-    assert_eq!(as_usual(&sheet(&[A, B, X, B], &[X, B, Y])), holds(6, 13, &["A", "AB"]));
+    assert_eq!(as_usual(&sheet(&[A, B, X, B], &[X, B, Y])), holds(15, 13, &["A", "AB"]));
     assert_eq!(as_usual(&sheet(&[X, A], &[B, Y, X])), plain(Answer::NoRoom { count: 455 }));
+}
+
+/// Spaces at the end are dropped, others are not.
+#[test]
+fn spaces() {
+    let (none, one) = ([21, 29, 4], [21, 29, 4, SPACE]);
+    assert_eq!(as_usual(&sheet(&none, &one)), holds(6, 0, &[]));
+    assert_eq!(as_usual(&sheet(&one, &none)), holds(6, 0, &[]));
+    assert_eq!(as_usual(&sheet(&one, &one)), holds(5, 0, &[]));
+    assert_eq!(as_usual(&sheet(&[SPACE, SPACE], &[])), holds(7, 0, &[]));
+    let between = sheet(&[A, SPACE, B], &[A, B]);
+    assert_eq!(as_usual(&between), plain(Answer::NoClash { count: 1 }));
+    let behind = sheet(&[A, SPACE, B], &[A]);
+    assert_eq!(as_usual(&behind), plain(Answer::NoClash { count: 2 }));
+    let in_front = sheet(&[SPACE, A], &[A]);
+    assert_eq!(as_usual(&in_front), plain(Answer::NoClash { count: 1 }));
+    // x leaves the space where it can, and has it where its pattern asks for it.
+    assert_eq!(as_usual(&sheet(&[X], &[A, SPACE])), holds(15, 6, &["A"]));
+    let with_space = [b"PA\x00\x03\x42\x0A\x26", &sheet(&[X], &[A])[..]].concat();
+    assert_eq!(as_usual(&with_space), holds(10, 7, &["A "]));
 }
 
 #[test]
 fn giving_up() {
     let long = sheet(&[X; 24], &[A, A]);
     let answer = answered(&long, 2 * SITUATION_BYTES, 4096);
-    assert_eq!(answer, plain(Answer::SideTooLong { count: 2 }));
+    assert_eq!(answer, plain(Answer::NoRoom { count: 2 }));
+    let answer = answered(&long, 4 * SITUATION_BYTES, 4096);
+    assert_eq!(answer, plain(Answer::SideTooLong { count: 4 }));
     for no_room in [0, 1, SITUATION_BYTES - 1] {
         let answer = answered(&sheet(&[X, A], &[B, X]), no_room, 4096);
         assert_eq!(answer, plain(Answer::NoRoom { count: 0 }));
@@ -100,6 +123,9 @@ fn faults() {
     refused(b"LE\x19", Fault::WrongLength, 2);
     refused(&sheet(&[X], &[43]), Fault::WrongToken, 7);
     refused(&sheet(&[A, B, 72, 43], &[]), Fault::WrongToken, 5);
+    // the tokens of the hidden fields
+    refused(&sheet(&[72], &[]), Fault::WrongToken, 3);
+    refused(&sheet(&[], &[73]), Fault::WrongToken, 6);
 }
 
 /// A sheet with this pattern is refused; `at` counts from the pattern's first byte. More may stand
@@ -156,18 +182,18 @@ fn too_many_leaves() {
 
 #[test]
 fn sheet_s() {
-    assert_eq!(as_usual(SHEET_S), holds(6, 12, &["4", "4"]));
-    let exactly = answered(SHEET_S, 6 * SITUATION_BYTES, 12);
-    assert_eq!(exactly, holds(6, 12, &["4", "4"]));
-    let short = answered(SHEET_S, 6 * SITUATION_BYTES, 11);
-    assert_eq!(short, plain(Answer::AnswerTooShort { count: 6 }));
-    let no_room = answered(SHEET_S, 6 * SITUATION_BYTES - 1, 12);
-    assert_eq!(no_room, plain(Answer::NoRoom { count: 5 }));
+    assert_eq!(as_usual(SHEET_S), holds(13, 12, &["4", "4"]));
+    let exactly = answered(SHEET_S, 13 * SITUATION_BYTES, 12);
+    assert_eq!(exactly, holds(13, 12, &["4", "4"]));
+    let short = answered(SHEET_S, 13 * SITUATION_BYTES, 11);
+    assert_eq!(short, plain(Answer::AnswerTooShort { count: 13 }));
+    let no_room = answered(SHEET_S, 13 * SITUATION_BYTES - 1, 12);
+    assert_eq!(no_room, plain(Answer::NoRoom { count: 12 }));
 }
 
 #[test]
 fn sheet_s_in_bytes() {
-    let mut work = [0; 6 * SITUATION_BYTES];
+    let mut work = [0; 13 * SITUATION_BYTES];
     let mut answer = [0; 12];
     clash(SHEET_S, &mut work, &mut answer);
     assert_eq!(&answer, b"VA\x00\x01\x00\x04VA\x01\x01\x00\x04");

@@ -1,8 +1,8 @@
 //! Numbers in words, signs, texts of records cut short, the version: as the C header has them.
 
 use bradovusc::{
-    catalogue_bytes, sign, texts, value, Added, Answer, Fault, Text, Withdrawn, MOST_RULES,
-    RULE_BYTES, RULE_FIELDS, SIGNS, VERSION,
+    catalogue_bytes, list_bytes, recheck, sign, texts, value, Added, Answer, Fault, Pair,
+    Rechecked, Text, Withdrawn, MOST_RULES, PAIR_BYTES, RULE_BYTES, RULE_FIELDS, SIGNS, VERSION,
 };
 
 const HEADER: &str = include_str!("../../c/bradovusc.h");
@@ -45,15 +45,16 @@ fn header_texts() -> Vec<(u32, &'static str)> {
 #[test]
 fn answers_in_words() {
     let expected = header_texts();
-    assert_eq!(expected.len(), 18);
+    assert_eq!(expected.len(), 19);
     let faults = FAULTS.map(|fault| (fault.number(), fault.to_string()));
     let others = OTHERS.map(|answer| (answer.number(), answer.to_string()));
     let added = [Added::ForeignField, Added::Full, Added::NoCatalogue]
         .map(|added| (added.number(), added.to_string()));
     let not_apart = NOT_APART.to_string().split(':').next().unwrap().to_string();
     let no_rule = (Withdrawn::NoRule.number(), Withdrawn::NoRule.to_string());
-    let mut ours =
-        [&faults[..], &others, &added, &[(NOT_APART.number(), not_apart), no_rule]].concat();
+    let short = (Rechecked::ListTooShort.number(), Rechecked::ListTooShort.to_string());
+    let others_of_a_catalogue = [(NOT_APART.number(), not_apart), no_rule, short];
+    let mut ours = [&faults[..], &others, &added, &others_of_a_catalogue].concat();
     ours.sort();
     assert!(ours.iter().map(|(number, text)| (*number, text.as_str())).eq(expected));
 }
@@ -79,11 +80,17 @@ fn calls_of_a_catalogue_in_words() {
     assert_eq!(NOT_APART.to_string(), format!("not apart from a rule of the catalogue: {pair}"));
     assert_eq!(Withdrawn::NoCatalogue.number(), Added::NoCatalogue.number());
     assert_eq!(Withdrawn::NoCatalogue.to_string(), Added::NoCatalogue.to_string());
-    assert_eq!((Added::Entered.number(), Withdrawn::Gone.number()), (0, 0));
+    assert_eq!(Rechecked::NoCatalogue.number(), Added::NoCatalogue.number());
+    assert_eq!(Rechecked::NoCatalogue.to_string(), Added::NoCatalogue.to_string());
+    let listed = recheck(&[], &mut [], &mut []);
+    assert_eq!((Added::Entered.number(), Withdrawn::Gone.number(), listed.number()), (0, 0, 0));
     let done = HEADER.split("BRADOVUSC_DONE ? ").nth(1).unwrap();
-    for ours in [Added::Entered.to_string(), Withdrawn::Gone.to_string()] {
+    for ours in [Added::Entered.to_string(), Withdrawn::Gone.to_string(), listed.to_string()] {
         assert_eq!(done.split('"').nth(1), Some(ours.as_str()));
     }
+    let pair = Pair { lower: 3, higher: 31, answer: Answer::NoRoom { count: 7 } };
+    let words = "rule 3 and rule 31: not decided: no room for a situation";
+    assert_eq!(pair.to_string(), words);
 }
 
 #[test]
@@ -130,7 +137,9 @@ fn lengths_of_a_catalogue() {
     defined("RULES", MOST_RULES);
     defined("RULE_FIELDS", RULE_FIELDS);
     defined("RULE_BYTES", RULE_BYTES);
+    defined("PAIR_BYTES", PAIR_BYTES);
     assert_eq!(catalogue_bytes(MOST_RULES), 13_728);
+    assert_eq!([0, 1, 2, 3, MOST_RULES].map(list_bytes), [0, 0, 5, 15, 2_480]);
 }
 
 #[test]

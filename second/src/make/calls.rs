@@ -1,16 +1,16 @@
 //! Makes operations on a catalogue from a seed: rules that clash and rules that
-//! do not, damaged rules, catalogues that are full, short or damaged, rooms of
-//! all sizes.
+//! do not, damaged rules, catalogues that are full, short or damaged or hold
+//! rules that clash, rooms of all sizes, list buffers near their bounds.
 
-use super::{alphabet, damaged, patterns, random_bytes, sides, some_fields, write_out};
-use super::{big_pattern, Dice, Record, Sides};
-use crate::calls::{Calls, Operation, MOST_CATALOGUE, MOST_WORK};
-use crate::catalogue::{read, HASHING, MOST_RULES, RULE, RULE_FIELDS};
-use crate::pattern::CHARACTERS;
+use super::{alphabet, damaged, patterns, random_bytes, sides, some_fields, spaces, write_out};
+use super::{big_pattern, Dice, Record, Sides, MOST_SIDE};
+use crate::calls::{After, Call, Calls, Operation, MOST_CATALOGUE, MOST_LIST, MOST_WORK};
+use crate::catalogue::{read, HASHING, MOST_RULES, PAIR_BYTES, RULE, RULE_FIELDS};
+use crate::pattern::{CHARACTERS, SPACE};
 use crate::sheet::{FIELDS, LEFT, PATTERN};
 use crate::write::{self, choice, many, row, tokens};
 
-/// A stream of so many `AD` and `WI` together, and an end.
+/// A stream of so many `AD`, `WI` and `RE` together, and an end.
 pub fn stream(dice: &mut Dice, number: usize) -> Vec<u8> {
     let mut stream = Vec::new();
     for operation in operations(dice, number) {
@@ -22,22 +22,26 @@ pub fn stream(dice: &mut Dice, number: usize) -> Vec<u8> {
 
 /// What stands behind the operations: nothing, an operation cut short, another
 /// mark, or more than is allowed; where a good `WI` follows it is not done.
-const ENDS: [&[u8]; 12] = [
+const ENDS: [&[u8]; 16] = [
     b"",
     b"A",
     b"AD\x05\x00RULE",
     b"WI",
     b"CA\x02\x00\x02\x00R",
     b"WO\x00\x00\x00",
+    b"RE",
+    b"RE\x00",
     b"AXWI\x00",
     b"wi\x00WI\x00",
     b"CA\x01\x20\x00\x00WI\x00",
     b"CA\x02\x00\x03\x00RULWI\x00",
     b"WO\x80\x00\x01\x00WI\x00",
     b"WO\x00\x00\x00\x01WI\x00",
+    b"RE\x01\x0aWI\x00",
+    b"RE\xff\xffWI\x00",
 ];
 
-/// So many `AD` and `WI` together, with the `CA` and `WO` between them.
+/// So many `AD`, `WI` and `RE` together, with the `CA` and `WO` between them.
 pub fn operations(dice: &mut Dice, number: usize) -> Vec<Operation> {
     let mut maker = Maker::new(dice);
     while maker.told < number {
@@ -63,7 +67,7 @@ enum Style {
 struct Maker<'a> {
     dice: &'a mut Dice,
     made: Vec<Operation>,
-    /// How many of them are `AD` or `WI`.
+    /// How many of them are `AD`, `WI` or `RE`.
     told: usize,
     calls: Calls,
     style: Style,
@@ -71,6 +75,8 @@ struct Maker<'a> {
     left: usize,
     /// Rules to be added soon: one that was withdrawn, one that clashes.
     soon: Vec<Vec<u8>>,
+    /// The next operation is `RE`.
+    recheck: bool,
 }
 
 impl Maker<'_> {
@@ -79,15 +85,21 @@ impl Maker<'_> {
     fn new(dice: &mut Dice) -> Maker<'_> {
         let calls = Calls::new(HASHING);
         let style = Style::Storeroom(PREFIXES.to_vec());
-        Maker { dice, made: Vec::new(), told: 0, calls, style, left: 12, soon: Vec::new() }
+        let (made, soon) = (Vec::new(), Vec::new());
+        Maker { dice, made, told: 0, calls, style, left: 12, soon, recheck: false }
     }
 
     fn make(&mut self, operation: Operation) {
-        self.told += usize::from(self.calls.run(&operation).is_some());
+        // A recheck changes nothing, and needs no run to be made.
+        let is_told = match operation {
+            Operation::Recheck(_) => true,
+            _ => self.calls.run(&operation).is_some(),
+        };
+        self.told += usize::from(is_told);
         self.made.push(operation);
     }
 
-    /// One `AD` or `WI`, and what is lent to it.
+    /// One `AD`, `WI` or `RE`, and what is lent to it.
     fn next(&mut self) {
         if self.left == 0 {
             self.other_catalogue();
@@ -97,11 +109,33 @@ impl Maker<'_> {
             self.other_work();
         }
         let operation = match self.dice.below(20) {
+            _ if self.recheck => self.recheck(),
             0..=3 => self.withdrawal(),
             4 => self.just_long_enough(),
+            5 => self.recheck(),
             _ => Operation::Add(self.any_rule()),
         };
         self.make(operation);
+    }
+
+    /// The pairs checked again, with a list buffer that is just long enough, or
+    /// too short by a byte or more, or of any other length.
+    fn recheck(&mut self) -> Operation {
+        self.recheck = false;
+        let needed = match self.calls.run(&Operation::Recheck(MOST_LIST)) {
+            Some(After { call: Call::Recheck { told, .. }, .. }) => told.written,
+            _ => 0,
+        };
+        let length = match self.dice.below(12) {
+            0..=3 => needed,
+            4 | 5 => needed.saturating_sub(1),
+            6 => needed.saturating_sub(self.dice.between(2, PAIR_BYTES)),
+            7 => self.dice.below(needed + 1),
+            8 => 0,
+            9 | 10 => needed + self.dice.between(1, 2 * PAIR_BYTES),
+            _ => self.dice.pick(&[3, 100, 1_000, MOST_LIST - 1, MOST_LIST]),
+        };
+        Operation::Recheck(length.min(MOST_LIST))
     }
 
     /// The bytes of the rules in the catalogue, if it is of the form.
@@ -145,8 +179,8 @@ impl Maker<'_> {
         let room = match self.dice.below(20) {
             0 => 0,
             1 => 1,
-            2..=6 => self.dice.between(2, 12),
-            7..=11 => self.dice.between(13, 80),
+            2..=4 => self.dice.between(2, 12),
+            5..=9 => self.dice.between(13, 120),
             _ => 455,
         };
         let length = super::work_length(self.dice, room) as usize;
@@ -164,17 +198,24 @@ impl Maker<'_> {
             4..=6 => Style::Small(alphabet(self.dice)),
             _ => Style::Labels,
         };
-        let operation = match self.dice.below(12) {
+        let operation = match self.dice.below(15) {
             0..=5 => Operation::Catalogue { length: self.any_length(), front: Vec::new() },
             6..=8 => {
                 let rules = if self.dice.one_in(30) { 20 } else { self.dice.between(1, 5) };
                 let front = self.rules(rules).concat();
+                self.recheck = self.dice.one_in(4);
                 self.with_zeros(front)
             }
             9 => self.full(),
-            _ => {
+            10 | 11 => {
                 self.left = self.dice.between(1, 5);
                 let front = self.damaged_catalogue();
+                self.with_zeros(front)
+            }
+            _ => {
+                self.left = self.dice.between(1, 5);
+                let front = self.clashing_rules().concat();
+                self.recheck = true;
                 self.with_zeros(front)
             }
         };
@@ -218,6 +259,36 @@ impl Maker<'_> {
                 rules.push(rule);
             }
         }
+        rules
+    }
+
+    /// Rules of a few labels with spaces or a field at the end and uneven ones,
+    /// so that many pairs clash; now and then as many rules as there can be.
+    fn clashing_rules(&mut self) -> Vec<Vec<u8>> {
+        self.style = Style::Labels;
+        let number = match self.dice.below(10) {
+            0 => self.dice.between(MOST_RULES - 2, MOST_RULES),
+            1 | 2 => self.dice.between(8, 20),
+            _ => self.dice.between(2, 7),
+        };
+        let labels: Vec<Vec<u8>> = (0..self.dice.pick(&[1, 2, 2, 3, 8]))
+            .map(|_| {
+                let first = self.dice.below(CHARACTERS.into());
+                label(self.dice, first)
+            })
+            .collect();
+        let mut rules = Vec::new();
+        // The search of an uneven one may be long.
+        let few = if number < 8 { 5 } else { 30 };
+        while rules.len() < number {
+            if self.dice.one_in(few) {
+                rules.extend(uneven(self.dice).map(|records| rule_of(&records)));
+            } else {
+                let label = &labels[self.dice.below(labels.len())];
+                rules.push(with_an_end(self.dice, label));
+            }
+        }
+        rules.truncate(number);
         rules
     }
 
@@ -303,21 +374,30 @@ impl Maker<'_> {
         }
     }
 
-    /// A rule that stands, or its side alone, all fields open.
+    /// A rule that stands, or one with other spaces at its end, or its side
+    /// alone, all fields open.
     fn like_a_present_one(&mut self) -> Vec<u8> {
         let present = self.present();
         if present.is_empty() {
             return self.good_rule();
         }
         let rule = &present[self.dice.below(present.len())];
-        if self.dice.one_in(2) {
-            return rule.clone();
-        }
         let mut side = &rule[RULE.len()..];
         while side.starts_with(PATTERN) {
             side = &side[4 + usize::from(side[3])..];
         }
-        [RULE, side].concat()
+        match self.dice.below(3) {
+            0 => rule.clone(),
+            1 => [RULE, side].concat(),
+            _ => {
+                let before = &rule[..rule.len() - side.len()];
+                let mut tokens = side[3..].to_vec();
+                spaces::drop(&mut tokens);
+                tokens.extend(vec![SPACE; self.dice.below(4)]);
+                tokens.truncate(MOST_SIDE);
+                [before, &write_out(&[Record::side(LEFT, tokens)])].concat()
+            }
+        }
     }
 
     /// A good rule in the catalogue's style.
@@ -420,15 +500,15 @@ fn uneven(dice: &mut Dice) -> [Vec<Record>; 2] {
     let d = c + 1;
     let (x, y) = (write::field(0), write::field(1));
     let twice_c = row(vec![vec![c]; 2]);
-    let c_and_d = row(vec![vec![c], vec![d]]);
     let maybe = |part: Vec<u8>| choice(vec![vec![64], part]);
+    let spaces = || many(vec![SPACE]);
     let mut two = match dice.below(3) {
-        0 => [records(&[(0, many(twice_c))], &[x, d]), records(&[(1, many(vec![c]))], &[x, y])],
+        0 => [records(&[(0, maybe(vec![c]))], &[x]), records(&[(1, spaces())], &[y, c, y])],
         1 => [
-            records(&[(0, many(c_and_d.clone()))], &[x, c]),
-            records(&[(0, maybe(vec![c])), (1, many(c_and_d))], &[x, y]),
+            records(&[(0, maybe(twice_c)), (1, many(vec![c]))], &[x, y]),
+            records(&[(0, spaces())], &[x, x, c]),
         ],
-        _ => [records(&[(1, maybe(twice_c))], &[x, y]), records(&[], &[x, d])],
+        _ => [records(&[(1, many(vec![c]))], &[c, y, d]), records(&[], &[x, x, d])],
     };
     dice.shuffle(&mut two);
     two
@@ -471,6 +551,9 @@ fn as_in_a_storeroom(dice: &mut Dice, prefixes: &[&str]) -> Vec<Record> {
     if dice.one_in(5) {
         side.extend(tokens(dice.pick(&["L", "R", "BR", "SS", "0", "-1"])));
     }
+    if dice.one_in(6) {
+        side.extend(vec![SPACE; dice.between(1, 2)]);
+    }
     patterns.sort_by_key(|record| record.field);
     patterns.push(Record::side(LEFT, side));
     patterns
@@ -488,7 +571,8 @@ fn storeroom_pattern(dice: &mut Dice) -> Option<Vec<u8>> {
     let sizes = some(&["40", "45", "57", "60"], 3);
     let finishes = some(&["BR", "CH", "SS", "PB", "SC", "BK", "WH", "AB"], 5);
     let hands = some(&["L", "R"], 2);
-    match dice.below(16) {
+    let filled_up = some(&["L   ", "LH  ", "R   ", "RH  ", "    "], 4);
+    match dice.below(18) {
         0..=3 => Some(row(vec![digit(); dice.between(1, 3)])),
         4 => Some(many(digit())),
         5 | 6 => Some(row(vec![digit(), many(digit())])),
@@ -496,6 +580,7 @@ fn storeroom_pattern(dice: &mut Dice) -> Option<Vec<u8>> {
         9..=12 => Some(finishes),
         13 => Some(hands),
         14 => Some(many(vec![65, 10, 35])),
+        15 | 16 => Some(filled_up),
         _ => None,
     }
 }
@@ -507,11 +592,30 @@ fn labels(dice: &mut Dice, number: usize) -> Vec<Vec<u8>> {
     (first..first + number).map(|first| write::rule(&[], &label(dice, first))).collect()
 }
 
-/// A label of one or two characters.
+/// A label of one or two characters, now and then with spaces behind them.
 fn label(dice: &mut Dice, first: usize) -> Vec<u8> {
     let mut label = vec![(first % usize::from(CHARACTERS)) as u8];
     if dice.one_in(2) {
         label.push(dice.pick(&[0, 10]));
     }
+    label.extend(vec![SPACE; dice.pick(&[0, 0, 0, 0, 1, 2])]);
     label
+}
+
+/// The rule of a label with spaces behind it, or with a field.
+fn with_an_end(dice: &mut Dice, label: &[u8]) -> Vec<u8> {
+    let field = dice.below(RULE_FIELDS) as u8;
+    let then = |tokens: &[u8]| [label, tokens].concat();
+    let token = write::field(field);
+    match dice.below(12) {
+        0 => write::rule(&[(field, many(vec![SPACE]))], &then(&[token])),
+        1 => write::rule(&[(field, many(vec![65, 36, SPACE]))], &then(&[token])),
+        2 => write::rule(&[(field, vec![65, 0, 42])], &then(&[token, SPACE])),
+        3 => write::rule(&[(field, row(vec![vec![SPACE]; 2]))], &then(&[SPACE, token, token])),
+        4 => write::rule(&[], &then(&[token])),
+        5 => write::rule(&[], &then(&[dice.pick(&[0, 10, 39])])),
+        // One field many times: a side above 48 tokens.
+        6 => write::rule(&[], &then(&[token; 20])),
+        _ => write::rule(&[], &then(&vec![SPACE; dice.pick(&[0, 0, 1, 1, 2, 3, 20])])),
+    }
 }

@@ -4,6 +4,15 @@ use borrow.Author.Needs.{needs}
 use Rattle.bradovusc.proofs.searched.Statement.{statement}
 use Rattle.bradovusc.proofs.searched.Tie as tie
 
+side-requires : tie.Need-side-requires
+side-requires c κs = search needs
+
+side-requires-2 : tie.Need-side-requires-2
+side-requires-2 c κs = search needs
+
+fields-requires : tie.Need-fields-requires
+fields-requires c κs = search needs
+
 follow-sets-requires : tie.Need-follow-sets-requires
 follow-sets-requires c κs = search needs
 
@@ -29,9 +38,10 @@ returns : tie.Need-returns
 returns c =
     let run = c .before .before .before .before .before in
     let last = run .before .before .before in
-    let fields = last .before .before .before in
-    let a = fields .before .before .before .before .before .before .pre in
-    searched-told _ (a .question) (a .good) _ (a .is) _ _ _
+    let hidden = last .before .before .before in
+    let sides = hidden .before in
+    let a = sides .before .before .before .before .before .before .before .before .pre in
+    searched-told _ (a .question) (a .good) _ (a .is) _ _ _ (sides .before .side .ensures) (sides .side2 .ensures) (hidden .fields .ensures) _ _ _
     (last .before .before .follow-sets .ensures) (last .before .taking-sets .ensures) (last .last-sets .ensures) _ _ _ _ _ _
     (run .run .ensures .0) (run .run .ensures .1 .0) (run .run .ensures .1 .1) (c .answer-of .ensures)
 
@@ -39,6 +49,9 @@ pub searched-spec : {M : Type 1} → statement M
 searched-spec =
     tie.close
     (tie.spec
+    side-requires
+    side-requires-2
+    fields-requires
     follow-sets-requires
     taking-sets-requires
     last-sets-requires

@@ -10,6 +10,15 @@ moved-up-requires c κs = search needs
 joined-requires : tie.Need-joined-requires
 joined-requires c κs = search needs
 
+side-requires : tie.Need-side-requires
+side-requires c κs = search needs
+
+side-requires-2 : tie.Need-side-requires-2
+side-requires-2 c κs = search needs
+
+fields-requires : tie.Need-fields-requires
+fields-requires c κs = search needs
+
 follow-sets-requires : tie.Need-follow-sets-requires
 follow-sets-requires c κs = search needs
 
@@ -41,8 +50,11 @@ returns : tie.Need-returns
 returns c =
     let run = c .before .before .before .before in
     let last = run .before .before .before in
-    let joined = last .before .before .before in (
-      asked-pair _ _ _ _ _ _ _ _ _ _ _ _ (joined .before .moved-up .ensures) (joined .joined .ensures)
+    let hidden = last .before .before .before in
+    let sides = hidden .before in
+    let joined = sides .before .before in (
+      asked-pair _ _ _ _ _ _ _ _ _ _ _ _ _ _ _ (joined .before .moved-up .ensures) (joined .joined .ensures)
+          (sides .before .side .ensures) (sides .side2 .ensures) (hidden .fields .ensures)
           (last .before .before .follow-sets .ensures) (last .before .taking-sets .ensures) (last .last-sets .ensures)
           (run .run .ensures .0) (c .answer-of .ensures),
       run .run .ensures .1 .1,
@@ -54,6 +66,9 @@ ask-spec =
     (tie.spec
     moved-up-requires
     joined-requires
+    side-requires
+    side-requires-2
+    fields-requires
     follow-sets-requires
     taking-sets-requires
     last-sets-requires

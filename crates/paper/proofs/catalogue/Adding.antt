@@ -20,6 +20,7 @@ use Rattle.paper.specs.Search.{End, found, used-up, no-room, too-long}
 use Rattle.paper.specs.Situation.{Situation, Move}
 use Rattle.paper.specs.Sheet.{Fault, fault-number, Records, faulty, records}
 use Rattle.paper.specs.Rule.{Rule, read-rule, foreign-field, pair}
+use Rattle.paper.specs.Question.{hidden}
 use Rattle.paper.specs.Outcome.{room-of, searched, how-of}
 use Rattle.paper.specs.Catalogue.{Present, Form, no-catalogue, rules, form, used, pair-number, Pairs, all-answered-1, not-answered-1}
 use Rattle.paper.specs.Catalogue.{pair-answer, pair-count, pairs-from, Added, not-entered, work-behind, entered-if, is-full}
@@ -38,7 +39,7 @@ number-not-1 too-long n = refl
 
 answer-not-1 : (r s : Rule) (room : ℕ) → (pair-answer r s room ≡ 1 → ⊥) → member (pair-answer r s room) (0 ∷ 18 ∷ 19 ∷ []) ≡ true
 unfolding pair-answer
-answer-not-1 r s room = number-not-1 (how-of (searched (pair r s) room))
+answer-not-1 r s room = number-not-1 (how-of (searched (hidden (pair r s)) room))
 
 -- every pair of the rules present with the new one is answered 1
 abbrev pub AllAnswered : List Present → Rule → ℕ → Type 0

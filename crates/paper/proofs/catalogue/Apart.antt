@@ -5,12 +5,14 @@
 -- apart from those before it, since each of its pairs was answered 1 (`pair-apart`); withdrawing takes pairs away.
 use Prim.Native.Nat.{ℕ, zero, suc, _<_}
 use native.Mathlib.Omega.{arith}
-use mathlib.Core.Path.{_≡_, subst}
+use mathlib.Core.Path.{_≡_, sym, subst}
 use mathlib.Core.List.{List, [], _∷_, _++_}
 use lib.Dec.{ltb, eqb}
 use lib.ListN.{length, take, drop}
 use Rattle.paper.specs.Rule.{Makes}
 use Rattle.paper.specs.Outcome.{room-of}
+use Rattle.paper.specs.Numbers.{space}
+use Rattle.paper.specs.Equation.{Same}
 use Rattle.paper.specs.Catalogue.{Present, rules, form, adding, withdrawing}
 use Rattle.paper.specs.Calls.{Call, add, withdraw, after-call, after-calls, empty-catalogue, present-at, rule-at, Apart}
 use Rattle.paper.proofs.base.Tests.{by-bool, ltb-true, ltb-false, eqb-true, eqb-false}
@@ -20,12 +22,12 @@ use Rattle.paper.proofs.catalogue.Pair.{pair-apart}
 use Rattle.paper.proofs.catalogue.Adding.{Enters, entered, refused-same, added-form}
 use Rattle.paper.proofs.catalogue.Withdrawing.{Leaves, withdrawn-exactly, unchanged, withdrawn-form}
 
--- no label is made by both
+-- they make no labels that are the same
 abbrev pub TwoApart : Present → Present → Type 0
-TwoApart x y = (l : List ℕ) → Makes (x .rule) l → Makes (y .rule) l → ⊥
+TwoApart x y = (l m : List ℕ) → Same space l m → Makes (x .rule) l → Makes (y .rule) m → ⊥
 
 -- of every rule
-abbrev Every : (Present → Type 0) → List Present → Type 0
+abbrev pub Every : (Present → Type 0) → List Present → Type 0
 Every P [] = Unit {0}
 Every P (x ∷ l) = P x × Every P l
 
@@ -79,15 +81,15 @@ at-apart (x ∷ l) h = (
 )
 
 -- "no label can be made by two of its rules", from each rule being apart from those behind it, and back
-each-apart : (c : List ℕ) (l : List Present) → form c ≡ rules l → EachApart l → Apart c
+pub each-apart : (c : List ℕ) (l : List Present) → form c ≡ rules l → EachApart l → Apart c
 each-apart c l e h =
     record {
       rules-present = l;
       of-form = e;
-      apart = λ i j in-i in-j other w m k.
+      apart = λ i j in-i in-j other w v same m k.
           by-bool (ltb i j)
-          (λ less. apart-at l h i j (ltb-true i j less) in-j w m k)
-          (λ more. apart-at l h j i (omega (arith, ltb-false i j more, other)) in-i w k m);
+          (λ less. apart-at l h i j (ltb-true i j less) in-j w v same m k)
+          (λ more. apart-at l h j i (omega (arith, ltb-false i j more, other)) in-i v w (sym same) k m);
     }
 
 apart-each : (c : List ℕ) (a : Apart c) → EachApart (a .rules-present)
@@ -95,7 +97,7 @@ apart-each c a = at-apart (a .rules-present) (λ i j less k. a .apart i j (omega
 
 -- A rule that is entered is apart from each rule that stands.
 pub new-apart : (c bytes work : List ℕ) (x : Enters c bytes work) (i : ℕ) → i < length (x .rules-present)
-    → (l : List ℕ) → Makes (rule-at (x .rules-present) i) l → Makes (x .rule) l → ⊥
+    → (l m : List ℕ) → Same space l m → Makes (rule-at (x .rules-present) i) l → Makes (x .rule) m → ⊥
 new-apart c bytes work x i h =
     let l = x .rules-present in
     pair-apart (rule-at l i) (x .rule)

@@ -10,7 +10,7 @@ use lib.ListN.{length}
 use Rattle.paper.specs.Places.{PlaceSet}
 use Rattle.paper.specs.Search.{End, found, used-up, no-room, too-long}
 use Rattle.paper.specs.Situation.{Situation, Move}
-use Rattle.paper.specs.Question.{Question}
+use Rattle.paper.specs.Question.{Question, hidden}
 use Rattle.paper.specs.Sheet.{asked, read-sheet}
 use Rattle.paper.specs.Outcome.{outcome-of, outcome}
 use Rattle.paper.specs.Buffers.{Demand1}
@@ -46,7 +46,7 @@ module _ (r s : Rule) (good-r : GoodRule r) (good-s : GoodRule s) (work answer :
       record {
         asks = asks-pair;
         count = count;
-        number = same-number (pair r s) answer (end-of (pair r s) work) ∙ ap without-20 (sym number);
+        number = same-number (pair r s) answer (end-of (hidden (pair r s)) work) ∙ ap without-20 (sym number);
       }
 
   same-outcome : outcome (sheet-saying (pair r s)) work answer ≡ outcome-of (asked (pair r s)) work answer

@@ -1,7 +1,7 @@
 -- Two good rules as a question.
---   pair-apart    : where it is answered 1, no label is made by both
---   pair-together : where it is answered 0, some label is
--- The texts of two rules for the same label are one assignment that solves their question: the first's below `rule-fields`, then the second's. So
+--   pair-apart    : where it is answered 1, no two labels that are the same are made, one by each
+--   pair-together : where it is answered 0, some are
+-- The texts of two rules for labels that are the same are one assignment that solves their question: the first's below `rule-fields`, then the second's. So
 -- it follows from the search of a question that is used up, and back from one that has found.
 use Prim.Native.Nat.{ℕ, _+_, _-_, _<_}
 use native.Mathlib.Omega.{arith}
@@ -12,20 +12,23 @@ use mathlib.Core.List.{List, [], _∷_, _++_, map, List·Memᴰ}
 use lib.Dec.{ltb, eqb}
 use lib.ListN.{getD, take, List·getD-append}
 use lib.Seq.{getD-take, getD-append-add}
-use Rattle.paper.specs.Numbers.{characters, set-fields, rule-fields}
+use Rattle.paper.specs.Numbers.{characters, rule-fields, space}
 use Rattle.paper.specs.Pattern.{any-text, Holds}
 use Rattle.paper.specs.Places.{PlaceSet}
 use Rattle.paper.specs.Search.{Entry, End, found, used-up, no-room, too-long}
-use Rattle.paper.specs.Equation.{Token, chr, fld, Side, is-field, stands-in, Texts, label, Over}
+use Rattle.paper.specs.Equation.{Token, chr, fld, Side, is-field, stands-in, Texts, label, without-trailing, Same, Over}
 use Rattle.paper.specs.Situation.{Situation, Move}
-use Rattle.paper.specs.Question.{held-by, Solution}
+use Rattle.paper.specs.Question.{held-by, Solution, hidden}
 use Rattle.paper.specs.Rule.{Rule, rule-holds, Makes, moved-up, pair}
 use Rattle.paper.specs.Outcome.{searched, how-of}
 use Rattle.paper.specs.Catalogue.{pair-number, pair-answer}
 use Rattle.paper.proofs.base.Tests.{true-false, or-is-true, left-true, right-true, lt-ltb, le-ltb, eqb-true, eqb-same, eq-eqb}
 use Rattle.paper.proofs.base.Lists.{cons-eq, any-true, mem-any, any-append, mem-map, map-mem}
+use Rattle.paper.proofs.equations.Labels.{label-same}
+use Rattle.paper.proofs.sheets.Asked.{GoodQuestion}
+use Rattle.paper.proofs.sheets.Hidden.{hidden-known, own-solves, with-spaces, hidden-solves}
 use Rattle.paper.proofs.sheets.QuestionSearched.{found-solves, used-up-unsolved}
-use Rattle.paper.proofs.catalogue.GoodRule.{GoodRule, own-field, own-held}
+use Rattle.paper.proofs.catalogue.GoodRule.{GoodRule, own-field, own-held, pair-sayable}
 
 -- The side moved up.
 moved-field : (side : Side) (f : ℕ) → stands-in f (map moved-up side) ≡ true → (g : ℕ) × (f ≡ rule-fields + g) × (stands-in g side ≡ true)
@@ -51,13 +54,6 @@ label-moved : (texts : Texts) (side : Side) → label texts (map moved-up side) 
 label-moved texts [] = refl
 label-moved texts (chr c ∷ side) = cons-eq refl (label-moved texts side)
 label-moved texts (fld f ∷ side) = ap (λ (l : List ℕ). texts (rule-fields + f) ++ l) (label-moved texts side)
-
--- A label by the texts of the fields that stand in the side.
-label-same : (a b : Texts) (side : Side) → ((f : ℕ) → stands-in f side ≡ true → a f ≡ b f) → label a side ≡ label b side
-label-same a b [] h = refl
-label-same a b (chr c ∷ side) h = cons-eq refl (label-same a b side h)
-label-same a b (fld g ∷ side) h =
-    rw (h g (left-true (eqb g g) (stands-in g side) (eqb-same g)), label-same a b side (λ f e. h f (right-true (eqb f g) (stands-in f side) e)))
 
 -- The texts of both as one assignment.
 abbrev joined : Texts → Texts → Texts
@@ -114,18 +110,21 @@ module _ (r s : Rule) (g : GoodRule r) (h : GoodRule s) where
       (or-is-true (stands-in f (r .side)) (stands-in f (map moved-up (s .side)))
       (sym (any-append (is-field f) (r .side) (map moved-up (s .side))) ∙ e))
 
-  -- Texts by which both make the label solve the question.
-  both-solve : (l : List ℕ) (m : Makes r l) (k : Makes s l) → Solution (pair r s) (joined (m .texts) (k .texts))
+  -- Texts by which they make labels that are the same solve the question.
+  both-solve : (l n : List ℕ) → Same space l n → (m : Makes r l) (k : Makes s n) → Solution (pair r s) (joined (m .texts) (k .texts))
   unfolding pair
-  both-solve l m k =
+  both-solve l n same m k =
       let a = m .texts in
       let b = k .texts in
       record {
         same-label =
-            label-same (joined a b) a (r .side) (λ f e. joined-present a b f (own-field r g f e))
-            ∙ m .made ∙ sym (k .made)
+            ap (without-trailing space)
+            (label-same (joined a b) a (r .side) (λ f e. joined-present a b f (own-field r g f e)) ∙ m .made)
+            ∙ same
+            ∙ ap (without-trailing space)
+            (sym (k .made)
             ∙ label-same b (λ (f : ℕ). joined a b (rule-fields + f)) (s .side) (λ f e. sym (joined-new a b f))
-            ∙ sym (label-moved (joined a b) (s .side));
+            ∙ sym (label-moved (joined a b) (s .side)));
         over =
             by-rule (λ (f : ℕ). Over characters (joined a b f))
             (λ f e i. rw (joined-present a b f i) (m .over f e))
@@ -136,15 +135,20 @@ module _ (r s : Rule) (g : GoodRule r) (h : GoodRule s) where
             (λ f e i. rw (joined-new a b f, held-new f i) (k .holds f e));
       }
 
-  -- Answered 1, no label is made by both.
-  pub pair-apart : (room : ℕ) → pair-answer r s room ≡ 1 → (l : List ℕ) → Makes r l → Makes s l → ⊥
-  unfolding pair-answer
-  pair-apart room e l m k =
-      used-up-unsolved (pair r s) room (by-rule (λ (f : ℕ). f < set-fields) (λ f _ i. omega arith) (λ f _ i. omega arith))
-      (answered-1 (how-of (searched (pair r s) room)) e) (joined (m .texts) (k .texts)) (both-solve l m k)
+  good-pair : GoodQuestion (pair r s)
+  good-pair = pair-sayable r s g h .good
 
-  -- Texts that solve the question make both the same label.
-  solve-both : (texts : Texts) → Solution (pair r s) texts → Makes r (label texts (r .side)) × Makes s (label texts (r .side))
+  -- Answered 1, they make no labels that are the same.
+  pub pair-apart : (room : ℕ) → pair-answer r s room ≡ 1 → (l n : List ℕ) → Same space l n → Makes r l → Makes s n → ⊥
+  unfolding pair-answer
+  pair-apart room e l n same m k =
+      let texts = joined (m .texts) (k .texts) in
+      let solution = both-solve l n same m k in
+      used-up-unsolved (hidden (pair r s)) room (hidden-known (pair r s) good-pair) (answered-1 (how-of (searched (hidden (pair r s)) room)) e)
+      (with-spaces (pair r s) good-pair texts solution) (hidden-solves (pair r s) good-pair texts solution)
+
+  -- Texts that solve the question make, of each rule, labels that are the same.
+  solve-both : (texts : Texts) → Solution (pair r s) texts → Makes r (label texts (r .side)) × Makes s (label texts (map moved-up (s .side)))
   unfolding pair
   solve-both texts x =
       let right = map moved-up (s .side) in
@@ -163,14 +167,15 @@ module _ (r s : Rule) (g : GoodRule r) (h : GoodRule s) where
           texts = λ f. texts (rule-fields + f);
           over = λ f e. x .over (rule-fields + f) (new f e);
           holds = λ f e. rw (← (held-new f (own-field s h f e))) (x .holds (rule-fields + f) (new f e));
-          made = sym (label-moved texts (s .side)) ∙ sym (x .same-label);
+          made = sym (label-moved texts (s .side));
         },
       )
 
-  -- Answered 0, some label is made by both.
-  pub pair-together : (room : ℕ) → pair-answer r s room ≡ 0 → (l : List ℕ) × Makes r l × Makes s l
-  unfolding pair-answer
+  -- Answered 0, they make labels that are the same.
+  pub pair-together : (room : ℕ) → pair-answer r s room ≡ 0 → (l : List ℕ) × (n : List ℕ) × Same space l n × Makes r l × Makes s n
+  unfolding pair-answer pair
   pair-together room e =
-      let (entry, f) = answered-0 (how-of (searched (pair r s) room)) e in
-      let (m, k) = solve-both _ (found-solves (pair r s) room entry f) in
-      (_, m, k)
+      let (entry, f) = answered-0 (how-of (searched (hidden (pair r s)) room)) e in
+      let x = own-solves (pair r s) good-pair _ (found-solves (hidden (pair r s)) room entry f) in
+      let (m, k) = solve-both _ x in
+      (_, _, x .same-label, m, k)

@@ -12,7 +12,7 @@ use Rattle.paper.specs.Lists.{member}
 use Rattle.paper.specs.Places.{PlaceSet}
 use Rattle.paper.specs.Search.{Entry, End, found, used-up, no-room, too-long}
 use Rattle.paper.specs.Situation.{Situation, Move}
-use Rattle.paper.specs.Question.{Question}
+use Rattle.paper.specs.Question.{Question, hidden}
 use Rattle.paper.specs.Sheet.{Fault, cut-short, wrong-mark, wrong-field, wrong-length, not-one-pattern, too-many-leaves, wrong-token}
 use Rattle.paper.specs.Sheet.{fault-number, Reading, refused, asked, read-sheet}
 use Rattle.paper.specs.Outcome.{Outcome, room-of, searched, records, some-text-too-long, without-bytes, clash, answered, count-of, how-of}
@@ -59,11 +59,11 @@ module _ (work answer : List ℕ) where
           first-fault = λ x at e. absurd (no-fault x at e);
         }
 
-    clash-met : (c : ℕ) (e : Entry (Situation PlaceSet) Move) → Met (clash q c e work answer)
+    clash-met : (c : ℕ) (e : Entry (Situation PlaceSet) Move) → Met (clash (hidden q) c e work answer)
     unfolding clash
     clash-met c e =
-        cond-by Met (some-text-too-long q e) (λ _. without-met 21 c refl false≢true)
-        (λ _. cond-by Met (not (leb (length (records q e)) (length answer))) (λ _. without-met 20 c refl false≢true)
+        cond-by Met (some-text-too-long (hidden q) e) (λ _. without-met 21 c refl false≢true)
+        (λ _. cond-by Met (not (leb (length (records (hidden q) e)) (length answer))) (λ _. without-met 20 c refl false≢true)
         (λ _. record {
           numbered = refl;
           no-byte = λ h. absurd (h refl);
@@ -72,7 +72,7 @@ module _ (work answer : List ℕ) where
           first-fault = λ x at i. absurd (no-fault x at i);
         }))
 
-    answered-met : (c : ℕ) (x : End (Situation PlaceSet) Move) → Met (answered q c x work answer)
+    answered-met : (c : ℕ) (x : End (Situation PlaceSet) Move) → Met (answered (hidden q) c x work answer)
     answered-met c (found e) = clash-met c e
     answered-met c used-up = without-met 1 c refl false≢true
     answered-met c no-room = without-met 18 c refl false≢true
@@ -81,7 +81,8 @@ module _ (work answer : List ℕ) where
 -- For every reading and all buffers.
 pub demand-1 : (r : Reading) (work answer : List ℕ) → Demand1 r work answer (outcome-of r work answer)
 demand-1 (refused x at) work answer = fault-met work answer x at
-demand-1 (asked q) work answer = answered-met work answer q (count-of (searched q (room-of work))) (how-of (searched q (room-of work)))
+demand-1 (asked q) work answer =
+    let st = searched (hidden q) (room-of work) in answered-met work answer q (count-of st) (how-of st)
 
 -- For all sheets and buffers.
 pub sheet-demand-1 : (sheet work answer : List ℕ) → Demand1 (read-sheet sheet) work answer (outcome sheet work answer)

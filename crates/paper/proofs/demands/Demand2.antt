@@ -16,11 +16,12 @@ use Rattle.paper.specs.Places.{PlaceSet}
 use Rattle.paper.specs.Search.{Entry, found}
 use Rattle.paper.specs.Equation.{stands-in}
 use Rattle.paper.specs.Situation.{Situation, Move}
-use Rattle.paper.specs.Question.{Question}
+use Rattle.paper.specs.Question.{Question, hidden}
 use Rattle.paper.specs.Sheet.{Reading, read-sheet}
 use Rattle.paper.specs.Outcome.{Outcome, room-of, standing, outcome-of, outcome}
-use Rattle.paper.specs.Demands.{Good, end-of, Solved, Clash, NoClash, NoRoom, TooLong, TooShort, InOrder, Demand2}
-use Rattle.paper.proofs.sheets.Asked.{AsksGood, sheet-good, fields-known, fields-have-sets}
+use Rattle.paper.specs.Demands.{Good, end-of, spelt, Solved, Clash, NoClash, NoRoom, TooLong, TooShort, InOrder, Demand2}
+use Rattle.paper.proofs.sheets.Asked.{AsksGood, sheet-good, fields-known}
+use Rattle.paper.proofs.sheets.Hidden.{hidden-known, own-solves, with-spaces, hidden-solves}
 use Rattle.paper.proofs.sheets.QuestionSearched.{found-solves, used-up-unsolved, count-entered, count-in-room, first-entered, entered-trimmed}
 use Rattle.paper.proofs.sheets.QuestionSearched.{no-room-left, too-long-left}
 use Rattle.paper.proofs.sheets.TextLength.{text-short-enough}
@@ -43,7 +44,7 @@ demand-2 r good work answer =
       not-good = refused-outcome r work answer;
       count-within = by-reading r
           (λ x at e. let (low, high, none) = refused-outcome r work answer x at e in omega arith)
-          (λ q g. rw (good-outcome r work answer q g .1) (count-in-room q work));
+          (λ q g. rw (good-outcome r work answer q g .1) (count-in-room (hidden q) work));
     }
   where
     o : Outcome
@@ -52,9 +53,15 @@ demand-2 r good work answer =
     row : (n : ℕ) → o .number ≡ n → Row r work answer o n
     row = in-row r work answer
 
-    solved : (q : Question) (e : Entry (Situation PlaceSet) Move) → Good r q → end-of q work ≡ found e → Solved r work
+    solved : (q : Question) (e : Entry (Situation PlaceSet) Move) → Good r q → end-of (hidden q) work ≡ found e → Solved r work
     solved q e g h =
-        record { question = q; good = g; entry = e; is-found = h; solution = found-solves q (room-of work) e h }
+        record {
+          question = q;
+          good = g;
+          entry = e;
+          is-found = h;
+          solution = own-solves q (good q g) (spelt (hidden q) e) (found-solves (hidden q) (room-of work) e h);
+        }
 
     clash : Row r work answer o 0 → Clash r work answer o
     clash (faulty x at e low high c) = absurd (omega arith)
@@ -65,7 +72,7 @@ demand-2 r good work answer =
           solved = solved q e g h;
           written = rw (w, a) (take-append-seam bytes rest);
           each-field = λ f i. keep-mem (λ (k : ℕ). stands-in k (q .left ++ q .right)) (upto fields) (upto-mem fields (fields-known q (good q g) f i)) i;
-          lengths = λ f i. text-short-enough q work e h f;
+          lengths = λ f i. text-short-enough (hidden q) work e h f;
           rest = rw (w, a) (drop-append-seam bytes rest);
           fits = rw w fits;
           same-length = rw (a, length-append bytes rest, length-drop (length bytes) answer) (omega arith);
@@ -74,18 +81,24 @@ demand-2 r good work answer =
     no-clash : Row r work answer o 1 → NoClash r
     no-clash (faulty x at e low high c) = absurd (omega arith)
     no-clash (clashes-not q g h) =
-        record { question = q; good = g; none = used-up-unsolved q (room-of work) (fields-have-sets q (good q g)) h }
+        record {
+          question = q;
+          good = g;
+          none = λ texts x.
+              used-up-unsolved (hidden q) (room-of work) (hidden-known q (good q g)) h
+              (with-spaces q (good q g) texts x) (hidden-solves q (good q g) texts x);
+        }
 
     full : Row r work answer o 18 → NoRoom r work o
     full (faulty x at e low high c) = absurd (omega arith)
     full (has-no-room q g h) =
-        let (f, out) = no-room-left q work h in
+        let (f, out) = no-room-left (hidden q) work h in
         record { question = q; good = g; full = good-outcome r work answer q g .1 ∙ f; left-out = out }
 
     long : Row r work answer o 19 → TooLong r work
     long (faulty x at e low high c) = absurd (omega arith)
     long (is-too-long q g h) =
-        let (s, m, t, i, c, above) = too-long-left q work h in
+        let (s, m, t, i, c, above) = too-long-left (hidden q) work h in
         record { question = q; good = g; parent = s; move = m; long = t; parent-entered = i; is-child = c; above = above }
 
     short : Row r work answer o 20 → TooShort r work answer
@@ -98,10 +111,10 @@ demand-2 r good work answer =
     in-order : (q : Question) → Good r q → InOrder q work answer o
     in-order q g =
         let (n, c) = good-outcome r work answer q g in
-        record { number = n; count = c ∙ count-entered q work; first = first-entered q work; all-trimmed = entered-trimmed q work }
+        record { number = n; count = c ∙ count-entered (hidden q) work; first = first-entered (hidden q) work; all-trimmed = entered-trimmed (hidden q) work }
 
     good-number : (q : Question) → Good r q → member (o .number) (0 ∷ 1 ∷ 18 ∷ 19 ∷ 20 ∷ []) ≡ true
-    good-number q g = rw (good-outcome r work answer q g .0) (number-of-search q answer (end-of q work))
+    good-number q g = rw (good-outcome r work answer q g .0) (number-of-search q answer (end-of (hidden q) work))
 
 -- For all sheets and buffers.
 pub sheet-demand-2 : (sheet work answer : List ℕ) → Demand2 (read-sheet sheet) work answer (outcome sheet work answer)

@@ -4,24 +4,25 @@
 -- Follows from demand 3 over any acceptor (`Plain`), from the laws of good questions and of reachable place sets.
 use Prim.Native.Nat.{ℕ, _≤_}
 use native.Mathlib.Omega.{arith}
-use mathlib.Core.Path.{_≡_, refl}
+use mathlib.Core.Path.{_≡_, refl, subst}
 use mathlib.Core.Bool.{true}
 use mathlib.Core.List.{List, [], _∷_}
 use Rattle.paper.specs.Numbers.{characters, longest-side}
 use Rattle.paper.specs.Pattern.{range, char, leaf, many, any-text, pattern}
 use Rattle.paper.specs.Places.{PlaceSet, set-after, reachable-sets}
 use Rattle.paper.specs.Written.{judge}
-use Rattle.paper.specs.Search.{enter, offer, take-next, search}
+use Rattle.paper.specs.Search.{no-room, too-long, enter, offer, take-next, search}
 use Rattle.paper.specs.Equation.{fld}
 use Rattle.paper.specs.Plain.{plain, Reaches}
-use Rattle.paper.specs.Question.{Question, held-by, acceptor}
+use Rattle.paper.specs.Question.{Question, held-by, hidden, acceptor}
 use Rattle.paper.specs.Sheet.{marked, pattern-record, side-record, Reading, read-end, marked-side, next-is, read-sheet}
 use Rattle.paper.specs.Outcome.{room-of, searched, count-of, how-of, outcome-of, outcome}
-use Rattle.paper.specs.Demands.{Good, bound-of, Demand3}
+use Rattle.paper.specs.Demands.{Good, end-of, bound-of, Demand3}
 use Rattle.paper.proofs.places.PlaceSets.{same-equal, equal-same}
 use Rattle.paper.proofs.places.Reachable.{reachable-first, reachable-after}
 use Rattle.paper.proofs.plain.Plain.{plain-count, plain-has-room, plain-not-long}
-use Rattle.paper.proofs.sheets.Asked.{AsksGood, sheet-good, fields-have-sets}
+use Rattle.paper.proofs.sheets.Asked.{AsksGood, sheet-good}
+use Rattle.paper.proofs.sheets.Hidden.{hidden-known, hidden-short, hidden-plain}
 use Rattle.paper.proofs.known.Known.{sheet-S}
 use Rattle.paper.proofs.sheets.Rows.{Row, faulty, has-no-room, is-too-long, in-row, good-outcome}
 
@@ -31,7 +32,8 @@ unfolding acceptor room-of searched count-of how-of
 demand-3 r good work answer =
     record {
       bounded = λ q g p. rw (good-outcome r work answer q g .1)
-          (plain-count (acceptor q) same-equal equal-same (reach q) (reaches q) longest-side (room-of work) (q .left) (q .right) p (fields-have-sets q (good q g)));
+          (plain-count (acceptor (hidden q)) same-equal equal-same (reach (hidden q)) (reaches (hidden q)) longest-side (room-of work) (hidden q .left) (hidden q .right)
+          (hidden-plain q (good q g) p) (hidden-known q (good q g)));
       room-counted = omega arith;
       enough-room = λ q g p enough. (
         λ e. has-room q g p enough (in-row r work answer 18 e),
@@ -54,23 +56,25 @@ demand-3 r good work answer =
     has-room q g p enough (faulty x at e low high c) = omega arith
     has-room q g p enough (has-no-room q′ g′ h) =
         let same : q′ ≡ q = cc in
-        plain-has-room (acceptor q) same-equal equal-same (reach q) (reaches q) longest-side (room-of work) (q .left) (q .right) p (fields-have-sets q (good q g))
-        enough (rw same at h)
+        plain-has-room (acceptor (hidden q)) same-equal equal-same (reach (hidden q)) (reaches (hidden q)) longest-side (room-of work) (hidden q .left) (hidden q .right)
+        (hidden-plain q (good q g) p) (hidden-known q (good q g))
+        enough (subst (λ (t : Question). end-of (hidden t) work ≡ no-room) same h)
 
     not-long : (q : Question) → Good r q → plain (q .left) (q .right) ≡ true
         → Row r work answer (outcome-of r work answer) 19 → ⊥
     not-long q g p (faulty x at e low high c) = omega arith
     not-long q g p (is-too-long q′ g′ h) =
         let same : q′ ≡ q = cc in
-        plain-not-long (acceptor q) same-equal equal-same (reach q) (reaches q) longest-side (room-of work) (q .left) (q .right) p (fields-have-sets q (good q g))
-        (omega (arith, good q g .left .short)) (omega (arith, good q g .right .short)) (rw same at h)
+        plain-not-long (acceptor (hidden q)) same-equal equal-same (reach (hidden q)) (reaches (hidden q)) longest-side (room-of work) (hidden q .left) (hidden q .right)
+        (hidden-plain q (good q g) p) (hidden-known q (good q g)) (omega (arith, hidden-short q (good q g) .0)) (omega (arith, hidden-short q (good q g) .1))
+        (subst (λ (t : Question). end-of (hidden t) work ≡ too-long) same h)
 
 -- For all sheets and buffers.
 pub sheet-demand-3 : (sheet work answer : List ℕ) → Demand3 (read-sheet sheet) work (outcome sheet work answer)
 unfolding outcome
 sheet-demand-3 sheet = demand-3 (read-sheet sheet) (sheet-good sheet)
 
--- Sheet S, x any digits and y the digit 4: "The bound of demand 3 is (1 + 2) times (1 + 2) = 9."
+-- Sheet S, x any digits and y the digit 4: the bound of demand 3 is (1 + 4) times (1 + 4), since each side has a hidden field.
 abbrev pub question-S : Question
 question-S =
     record {
@@ -83,6 +87,6 @@ pub sheet-S-asks : Good (read-sheet sheet-S) question-S
 unfolding judge marked pattern-record side-record read-end marked-side next-is read-sheet
 sheet-S-asks = refl
 
-pub sheet-S-bound : bound-of question-S ≡ 9
+pub sheet-S-bound : bound-of question-S ≡ 25
 unfolding set-after enter offer take-next search reachable-sets
 sheet-S-bound = refl

@@ -10,23 +10,25 @@
 use Prim.Native.Nat.{ℕ, _*_, _≤_, _<_}
 use native.Mathlib.Omega.{arith}
 use mathlib.Core.Path.{_≡_, refl, sym, _∙_}
+use mathlib.Core.Bool.{false}
 use mathlib.Core.List.{List, [], _∷_, _++_}
 use lib.ListN.{length, drop, replicate, take-append-drop}
 use lib.Seq.{length-take-le}
 use Rattle.paper.specs.Numbers.{situation-bytes}
-use Rattle.paper.specs.Places.{set-after, may-end}
+use Rattle.paper.specs.Places.{PlaceSet, set-after, may-end}
 use Rattle.paper.specs.Written.{judge}
-use Rattle.paper.specs.Search.{enter, offer, take-next, search}
-use Rattle.paper.specs.Situation.{trimmed, strike, put-before, open-moves, child-by, children, question}
+use Rattle.paper.specs.Search.{Entry, End, found, used-up, no-room, too-long, enter, offer, take-next, search}
+use Rattle.paper.specs.Situation.{Situation, Move, trimmed, strike, put-before, open-moves, child-by, children, question}
 use Rattle.paper.specs.Way.{search-from, texts-of}
-use Rattle.paper.specs.Question.{Question, acceptor}
+use Rattle.paper.specs.Question.{Question, hidden, acceptor}
 use Rattle.paper.specs.Sheet.{marked, pattern-record, side-record, Reading, read-end, marked-side, next-is, read-sheet}
 use Rattle.paper.specs.Outcome.{Outcome, outcome, room-of, searched, standing, value-record, records, some-text-too-long, cleared, clash, count-of, how-of}
-use Rattle.paper.specs.Demands.{Good, Solved, texts-found, records-of, Clash, Demand2}
+use Rattle.paper.specs.Demands.{Good, end-of, Solved, texts-found, records-of, Clash, Demand2}
 use Rattle.paper.proofs.base.Tests.{le-leb}
 use Rattle.paper.proofs.known.Known.{sheet-S}
 use Rattle.paper.proofs.sheets.Rows.{by-reading}
 use Rattle.paper.proofs.demands.Demand2.{sheet-demand-2}
+use Rattle.paper.proofs.demands.Demand3.{question-S, sheet-S-asks}
 
 -- the records of the texts found
 abbrev solved-records : {r : Reading} {work : List ℕ} → Solved r work → List ℕ
@@ -66,9 +68,9 @@ module _ (r : Reading) (work answer : List ℕ) where
         let s = same-records (c .solved) (k .solved) in
         (cc (clash-written o c, clash-written p k, s), rw (clash-answer o c, clash-answer p k, s))
 
--- The outcome of 01 for two sheets, with room for six situations: `A` and `B`, and sheet S.
-abbrev pub six-situations : List ℕ
-six-situations = replicate (situation-bytes * 6) 0
+-- The outcome of 01 for two sheets, with room for 13 situations: `A` and `B`, and sheet S.
+abbrev pub roomy : List ℕ
+roomy = replicate (situation-bytes * 13) 0
 
 abbrev sheet-AB : List ℕ
 sheet-AB = 76 ∷ 69 ∷ 1 ∷ 10 ∷ 82 ∷ 73 ∷ 1 ∷ 11 ∷ []
@@ -77,15 +79,53 @@ sheet-AB = 76 ∷ 69 ∷ 1 ∷ 10 ∷ 82 ∷ 73 ∷ 1 ∷ 11 ∷ []
 abbrev pub bytes-S : List ℕ
 bytes-S = 86 ∷ 65 ∷ 0 ∷ 1 ∷ 0 ∷ 4 ∷ 86 ∷ 65 ∷ 1 ∷ 1 ∷ 0 ∷ 4 ∷ []
 
-record Computed : Type 0 where
-  of-AB : outcome sheet-AB six-situations [] .number ≡ 1
-  of-S : (answer : List ℕ) → 12 ≤ length answer
-      → outcome sheet-S six-situations answer
-      ≡ record { number = 0; count = 6; place = 0; written = 12; answer = bytes-S ++ drop 12 answer; work = cleared six-situations }
+-- where the search of sheet S ends
+abbrev no-entry : Entry (Situation PlaceSet) Move
+no-entry = record { at = record { left = []; right = []; sets = [] }; way = [] }
 
-computed : Computed
-unfolding set-after may-end judge enter offer take-next search trimmed strike put-before open-moves child-by children question search-from texts-of acceptor marked pattern-record side-record read-end marked-side next-is read-sheet outcome room-of searched standing value-record records some-text-too-long clash count-of how-of
-computed = record { of-AB = refl; of-S = λ answer h. rw (le-leb 12 (length answer) h) }
+abbrev entry-of : End (Situation PlaceSet) Move → Entry (Situation PlaceSet) Move
+entry-of (found e) = e
+entry-of used-up = no-entry
+entry-of no-room = no-entry
+entry-of too-long = no-entry
+
+abbrev entry-S : Entry (Situation PlaceSet) Move
+entry-S = entry-of (end-of (hidden question-S) roomy)
+
+end-S : end-of (hidden question-S) roomy ≡ found entry-S
+unfolding set-after may-end enter offer take-next search trimmed strike put-before open-moves child-by children question search-from acceptor room-of searched how-of
+end-S = refl
+
+count-S : count-of (searched (hidden question-S) (room-of roomy)) ≡ 13
+unfolding set-after may-end enter offer take-next search trimmed strike put-before open-moves child-by children question search-from acceptor room-of searched count-of
+count-S = refl
+
+short-S : some-text-too-long (hidden question-S) entry-S ≡ false
+unfolding set-after may-end enter offer take-next search trimmed strike put-before open-moves child-by children question search-from texts-of acceptor room-of searched standing some-text-too-long how-of
+short-S = refl
+
+records-S : records (hidden question-S) entry-S ≡ bytes-S
+unfolding set-after may-end enter offer take-next search trimmed strike put-before open-moves child-by children question search-from texts-of acceptor room-of searched standing value-record records how-of
+records-S = refl
+
+found-S : (answer : List ℕ) → outcome sheet-S roomy answer ≡ clash (hidden question-S) 13 entry-S roomy answer
+unfolding outcome
+found-S answer = rw (sheet-S-asks, count-S, end-S)
+
+written-S : (answer : List ℕ) → 12 ≤ length answer
+    → clash (hidden question-S) 13 entry-S roomy answer
+    ≡ record { number = 0; count = 13; place = 0; written = 12; answer = bytes-S ++ drop 12 answer; work = cleared roomy }
+unfolding clash
+written-S answer h = rw (short-S, records-S, le-leb 12 (length answer) h)
+
+number-AB : outcome sheet-AB roomy [] .number ≡ 1
+unfolding set-after may-end judge enter offer take-next search trimmed strike put-before open-moves child-by children question search-from texts-of acceptor marked pattern-record side-record read-end marked-side next-is read-sheet outcome room-of searched clash count-of how-of
+number-AB = refl
+
+outcome-S : (answer : List ℕ) → 12 ≤ length answer
+    → outcome sheet-S roomy answer
+    ≡ record { number = 0; count = 13; place = 0; written = 12; answer = bytes-S ++ drop 12 answer; work = cleared roomy }
+outcome-S answer h = found-S answer ∙ written-S answer h
 
 module _ (F : List ℕ → List ℕ → List ℕ → Outcome) (meets : (sheet work answer : List ℕ) → Demand2 (read-sheet sheet) work answer (F sheet work answer)) where
   -- a number below 11 in the outcome of 01 is F's too
@@ -96,31 +136,31 @@ module _ (F : List ℕ → List ℕ → List ℕ → Outcome) (meets : (sheet wo
       (λ x at r. let low = sheet-demand-2 sheet work answer .not-good x at r .0 in absurd (omega arith))
       (same-number (read-sheet sheet) work answer (F sheet work answer) (outcome sheet work answer) (meets sheet work answer) (sheet-demand-2 sheet work answer))
 
-  sheet-S-clashes : (answer : List ℕ) → 12 ≤ length answer → F sheet-S six-situations answer .number ≡ 0
+  sheet-S-clashes : (answer : List ℕ) → 12 ≤ length answer → F sheet-S roomy answer .number ≡ 0
   sheet-S-clashes answer h =
-      let e = computed .of-S answer h in
-      searched-number sheet-S six-situations answer (rw e (omega arith)) ∙ rw e
+      let e = outcome-S answer h in
+      searched-number sheet-S roomy answer (rw e (omega arith)) ∙ rw e
 
   pub not-always-refused : ((sheet work answer : List ℕ) → 11 ≤ F sheet work answer .number) → ⊥
   not-always-refused always =
-      omega (arith, always sheet-S six-situations bytes-S, sheet-S-clashes bytes-S (omega arith))
+      omega (arith, always sheet-S roomy bytes-S, sheet-S-clashes bytes-S (omega arith))
 
   pub not-always-clash : ((sheet work answer : List ℕ) → F sheet work answer .number ≡ 0) → ⊥
   not-always-clash always =
-      let e = computed .of-AB in
-      omega (arith, always sheet-AB six-situations [], searched-number sheet-AB six-situations [] (rw e (omega arith)), e)
+      let e = number-AB in
+      omega (arith, always sheet-AB roomy [], searched-number sheet-AB roomy [] (rw e (omega arith)), e)
 
   pub not-always-no-clash : ((sheet work answer : List ℕ) → F sheet work answer .number ≡ 1) → ⊥
   not-always-no-clash always =
-      omega (arith, always sheet-S six-situations bytes-S, sheet-S-clashes bytes-S (omega arith))
+      omega (arith, always sheet-S roomy bytes-S, sheet-S-clashes bytes-S (omega arith))
 
   pub sheet-S-written : (answer : List ℕ) → 12 ≤ length answer
-      → (F sheet-S six-situations answer .written ≡ 12) × (F sheet-S six-situations answer .answer ≡ bytes-S ++ drop 12 answer)
+      → (F sheet-S roomy answer .written ≡ 12) × (F sheet-S roomy answer .answer ≡ bytes-S ++ drop 12 answer)
   sheet-S-written answer h =
-      let e = computed .of-S answer h in
+      let e = outcome-S answer h in
       rw e at
-      (same-bytes (read-sheet sheet-S) six-situations answer (F sheet-S six-situations answer) (outcome sheet-S six-situations answer)
-      (meets sheet-S six-situations answer) (sheet-demand-2 sheet-S six-situations answer) (sheet-S-clashes answer h) (rw e))
+      (same-bytes (read-sheet sheet-S) roomy answer (F sheet-S roomy answer) (outcome sheet-S roomy answer)
+      (meets sheet-S roomy answer) (sheet-demand-2 sheet-S roomy answer) (sheet-S-clashes answer h) (rw e))
 
   pub search-count : (sheet work answer : List ℕ) → F sheet work answer .count ≡ outcome sheet work answer .count
   search-count sheet work answer =

@@ -1,15 +1,15 @@
--- Labels under a change of the texts at one field, and under trimming. Each law of a put speaks of two assignments of texts, one
+-- Labels by the texts of the fields that stand, of sides one behind the other, under a change of the texts at one field, and under trimming. Each law of a put speaks of two assignments of texts, one
 -- with the character c in front of the text of f and one without, and so serves both ways.
 -- Follows from the definitions by induction on the sides.
 use Prim.Native.Nat.{ℕ}
-use mathlib.Core.Path.{_≡_, refl, sym}
+use mathlib.Core.Path.{_≡_, refl, sym, ap, _∙_}
 use mathlib.Core.Bool.{Bool, true, false}
-use mathlib.Core.List.{[], _∷_, _++_, append-assoc, tail-eq-of-cons-eq}
+use mathlib.Core.List.{List, [], _∷_, _++_, append-assoc, append-nil, tail-eq-of-cons-eq}
 use lib.Dec.{eqb}
 use Rattle.paper.specs.Lists.{only}
-use Rattle.paper.proofs.base.Tests.{by-bool, eqb-true}
+use Rattle.paper.proofs.base.Tests.{by-bool, left-true, right-true, eqb-true, eqb-same}
 use Rattle.paper.proofs.base.Lists.{cons-eq}
-use Rattle.paper.specs.Equation.{chr, fld, Side, Texts, label}
+use Rattle.paper.specs.Equation.{chr, fld, Side, stands-in, Texts, label}
 use Rattle.paper.specs.Situation.{strike-in, put-in}
 use Rattle.paper.proofs.equations.Trimming.{Trimming, stop, drop}
 
@@ -47,3 +47,20 @@ trim-label texts (drop q t) e = trim-label texts t (tail-eq-of-cons-eq e)
 pub label-trim : (texts : Texts) {l r l′ r′ : Side} → Trimming l r l′ r′ → label texts l′ ≡ label texts r′ → label texts l ≡ label texts r
 label-trim texts stop e = e
 label-trim texts (drop q t) e = cons-eq q (label-trim texts t e)
+
+-- A label by the texts of the fields that stand in the side.
+pub label-same : (a b : Texts) (side : Side) → ((f : ℕ) → stands-in f side ≡ true → a f ≡ b f) → label a side ≡ label b side
+label-same a b [] h = refl
+label-same a b (chr c ∷ side) h = cons-eq refl (label-same a b side h)
+label-same a b (fld g ∷ side) h =
+    rw (h g (left-true (eqb g g) (stands-in g side) (eqb-same g)), label-same a b side (λ f e. h f (right-true (eqb f g) (stands-in f side) e)))
+
+-- Labels of sides one behind the other, and of a side with a field behind it.
+label-append : (texts : Texts) (a b : Side) → label texts (a ++ b) ≡ label texts a ++ label texts b
+label-append texts [] b = refl
+label-append texts (chr c ∷ a) b = cons-eq refl (label-append texts a b)
+label-append texts (fld f ∷ a) b =
+    ap (λ (l : List ℕ). texts f ++ l) (label-append texts a b) ∙ sym (append-assoc (texts f) (label texts a) (label texts b))
+
+pub label-with : (texts : Texts) (side : Side) (f : ℕ) → label texts (side ++ (fld f ∷ [])) ≡ label texts side ++ texts f
+label-with texts side f = label-append texts side (fld f ∷ []) ∙ ap (λ (l : List ℕ). label texts side ++ l) (append-nil (texts f))

@@ -1,5 +1,6 @@
 -- Known sheets through the whole-outcome definition: those marked * in document 01, and one for each way to go wrong by one. One proof over
--- one list; the checker computes it. Each row fixes the whole outcome: number, count, place, bytes written, both buffers afterwards.
+-- one list; the checker computes it. Each row fixes the whole outcome: number, count, place, bytes written, both buffers afterwards. The counts
+-- are those of the search with the hidden fields (request K3).
 --
 -- The buffers are lent full of other bytes. Where 01 says nothing else it lends 455 situations; a row here lends a few more than are entered,
 -- since a larger room gives the same (`Searched.larger-room`), and most working buffers have bytes behind the last whole situation.
@@ -71,7 +72,7 @@ RI side = 82 ∷ 73 ∷ length side ∷ side
 abbrev VA : ℕ → List ℕ → List ℕ
 VA f text = 86 ∷ 65 ∷ f ∷ length text ∷ 0 ∷ text
 
--- field 0, field 1, two characters
+-- field 0, field 1, three characters
 abbrev x : ℕ
 x = 64
 
@@ -83,6 +84,9 @@ A = 10
 
 abbrev B : ℕ
 B = 11
+
+abbrev space : ℕ
+space = 38
 
 -- x any digits, y the digit 4, x and y the sides
 abbrev pub sheet-S : List ℕ
@@ -96,31 +100,32 @@ answer-S = 86 ∷ 65 ∷ 0 ∷ 1 ∷ 0 ∷ 4 ∷ 86 ∷ 65 ∷ 1 ∷ 1 ∷ 0 ∷
 abbrev known-in-01 : List Known
 known-in-01 =
     -- both sides empty
-    answer-row (LE [] ++ RI []) 300 20 0 1 [] ∷
+    answer-row (LE [] ++ RI []) 1000 20 0 5 [] ∷
     -- `A` and `B`
     answer-row (LE (A ∷ []) ++ RI (B ∷ [])) 300 20 1 1 [] ∷
     -- x and `A`, open
-    answer-row (LE (x ∷ []) ++ RI (A ∷ [])) 600 20 0 3 (VA 0 (A ∷ [])) ∷
+    answer-row (LE (x ∷ []) ++ RI (A ∷ [])) 1800 20 0 11 (VA 0 (A ∷ [])) ∷
     -- xA and Bx, open
     answer-row (LE (x ∷ A ∷ []) ++ RI (B ∷ x ∷ [])) 300 20 1 1 [] ∷
     -- the same, x with pattern 68 65 0 42
     answer-row (PA 0 (68 ∷ 65 ∷ 0 ∷ 42 ∷ []) ++ LE (x ∷ A ∷ []) ++ RI (B ∷ x ∷ [])) 600 20 1 2 [] ∷
     -- xx and `AA`, open
-    answer-row (LE (x ∷ x ∷ []) ++ RI (A ∷ A ∷ [])) 600 20 0 3 (VA 0 (A ∷ [])) ∷
-    -- xx and `A`, open
-    answer-row (LE (x ∷ x ∷ []) ++ RI (A ∷ [])) 600 20 1 2 [] ∷
+    answer-row (LE (x ∷ x ∷ []) ++ RI (A ∷ A ∷ [])) 2000 20 0 12 (VA 0 (A ∷ [])) ∷
+    -- xx and `A`, open, room 20: no label exists, but x takes one space after the other (with room 455 `KnownPrinted` has it: 19)
+    answer-row (LE (x ∷ x ∷ []) ++ RI (A ∷ [])) 2880 20 18 20 [] ∷
     -- `AB`x`B` and x`B`y, open
-    answer-row (LE (A ∷ B ∷ x ∷ B ∷ []) ++ RI (x ∷ B ∷ y ∷ [])) 1000 20 0 6 (VA 0 (A ∷ []) ++ VA 1 (A ∷ B ∷ [])) ∷
-    -- 24 times x and `AA`, open, room 2
-    answer-row (LE (replicate 24 x) ++ RI (A ∷ A ∷ [])) 288 20 19 2 [] ∷
+    answer-row (LE (A ∷ B ∷ x ∷ B ∷ []) ++ RI (x ∷ B ∷ y ∷ [])) 2400 20 0 15 (VA 0 (A ∷ []) ++ VA 1 (A ∷ B ∷ [])) ∷
+    -- 24 times x and `AA`, open, room 2, then 4
+    answer-row (LE (replicate 24 x) ++ RI (A ∷ A ∷ [])) 288 20 18 2 [] ∷
+    answer-row (LE (replicate 24 x) ++ RI (A ∷ A ∷ [])) 576 20 19 4 [] ∷
     -- xA and Bx, open, no room
     answer-row (LE (x ∷ A ∷ []) ++ RI (B ∷ x ∷ [])) 0 20 18 0 [] ∷
     -- sheet S
-    answer-row sheet-S 1000 20 0 6 answer-S ∷
+    answer-row sheet-S 2000 20 0 13 answer-S ∷
     -- sheet S, an answer buffer of 11 bytes
-    answer-row sheet-S 1000 11 20 6 [] ∷
-    -- sheet S, room 5
-    answer-row sheet-S 720 20 18 5 [] ∷
+    answer-row sheet-S 2000 11 20 13 [] ∷
+    -- sheet S, room 12
+    answer-row sheet-S 1728 20 18 12 [] ∷
     -- empty sheet
     fault-row [] 11 0 ∷
     -- both sides empty and one more byte
@@ -130,52 +135,116 @@ known-in-01 =
 -- "Room is one situation for each whole 144 bytes"; what the buffers hold
 abbrev known-rooms : List Known
 known-rooms =
-    -- sheet S in six situations, to the byte
-    answer-row sheet-S 864 20 0 6 answer-S ∷
+    -- sheet S in 13 situations, to the byte
+    answer-row sheet-S 1872 20 0 13 answer-S ∷
     -- sheet S, a byte less
-    answer-row sheet-S 863 20 18 5 [] ∷
-    -- both sides empty in one situation, to the byte
-    answer-row (LE [] ++ RI []) 144 20 0 1 [] ∷
+    answer-row sheet-S 1871 20 18 12 [] ∷
+    -- both sides empty in five situations, to the byte
+    answer-row (LE [] ++ RI []) 720 20 0 5 [] ∷
     -- both sides empty, a byte less
+    answer-row (LE [] ++ RI []) 719 20 18 4 [] ∷
+    -- both sides empty in one situation, to the byte: it is entered, and its first child is not
+    answer-row (LE [] ++ RI []) 144 20 18 1 [] ∷
+    -- both sides empty, a byte less than one situation
     answer-row (LE [] ++ RI []) 143 20 18 0 [] ∷
     -- `A` and `B` in one situation, to the byte: it is taken, and none waits
     answer-row (LE (A ∷ []) ++ RI (B ∷ [])) 144 20 1 1 [] ∷
     -- xA and Bx, x with pattern 68 65 0 42, in two situations, to the byte: the child of the second is entered already
     answer-row (PA 0 (68 ∷ 65 ∷ 0 ∷ 42 ∷ []) ++ LE (x ∷ A ∷ []) ++ RI (B ∷ x ∷ [])) 288 20 1 2 [] ∷
     -- both sides empty, no answer buffer
-    answer-row (LE [] ++ RI []) 150 0 0 1 [] ∷
+    answer-row (LE [] ++ RI []) 750 0 0 5 [] ∷
     -- sheet S, an answer buffer of 12 bytes
-    answer-row sheet-S 1000 12 0 6 answer-S ∷
+    answer-row sheet-S 2000 12 0 13 answer-S ∷
     -- sheet S, an answer buffer of 13 bytes
-    answer-row sheet-S 1000 13 0 6 answer-S ∷
-    -- 24 times x and `AA`, open, two situations and a rest
-    answer-row (LE (replicate 24 x) ++ RI (A ∷ A ∷ [])) 300 20 19 2 [] ∷
+    answer-row sheet-S 2000 13 0 13 answer-S ∷
+    -- 24 times x and `AA`, open, four situations and a rest
+    answer-row (LE (replicate 24 x) ++ RI (A ∷ A ∷ [])) 600 20 19 4 [] ∷
     []
 
--- the order of the search and its limit of 48 tokens
+-- any number of `A`
+abbrev As : List ℕ
+As = 68 ∷ A ∷ []
+
+-- the order of the search and its limit of 48 tokens, the hidden field among them
 abbrev known-searches : List Known
 known-searches =
     -- `B` and xy, open: what was entered first is taken first
-    answer-row (LE (B ∷ []) ++ RI (x ∷ y ∷ [])) 1000 20 0 5 (VA 0 [] ++ VA 1 (B ∷ [])) ∷
+    answer-row (LE (B ∷ []) ++ RI (x ∷ y ∷ [])) 2400 20 0 15 (VA 0 [] ++ VA 1 (B ∷ [])) ∷
     -- x`AAA` and y`AA`, open: the left front is struck first
-    answer-row (LE (x ∷ A ∷ A ∷ A ∷ []) ++ RI (y ∷ A ∷ A ∷ [])) 1000 20 0 6 (VA 0 [] ++ VA 1 (A ∷ [])) ∷
+    answer-row (LE (x ∷ A ∷ A ∷ A ∷ []) ++ RI (y ∷ A ∷ A ∷ [])) 2900 20 0 19 (VA 0 [] ++ VA 1 (A ∷ [])) ∷
     -- x one digit, x and y: the lowest character is put first
-    answer-row (PA 0 (65 ∷ 0 ∷ 9 ∷ []) ++ LE (x ∷ []) ++ RI (y ∷ [])) 1200 20 0 6 (VA 0 (0 ∷ []) ++ VA 1 (0 ∷ [])) ∷
+    answer-row (PA 0 (65 ∷ 0 ∷ 9 ∷ []) ++ LE (x ∷ []) ++ RI (y ∷ [])) 2400 20 0 15 (VA 0 (0 ∷ []) ++ VA 1 (0 ∷ [])) ∷
     -- x and x, open, then with the pattern `A`: equal fields in front are not dropped, and c is put once
-    answer-row (LE (x ∷ []) ++ RI (x ∷ [])) 600 20 0 2 (VA 0 []) ∷
-    answer-row (PA 0 (A ∷ []) ++ LE (x ∷ []) ++ RI (x ∷ [])) 600 20 0 3 (VA 0 (A ∷ [])) ∷
+    answer-row (LE (x ∷ []) ++ RI (x ∷ [])) 1000 20 0 6 (VA 0 []) ∷
+    answer-row (PA 0 (A ∷ []) ++ LE (x ∷ []) ++ RI (x ∷ [])) 1100 20 0 7 (VA 0 (A ∷ [])) ∷
     -- x any number of `A`, x and xy`B`: the set of a field that is gone is not kept
-    answer-row (PA 0 (68 ∷ A ∷ []) ++ LE (x ∷ []) ++ RI (x ∷ y ∷ B ∷ [])) 1000 20 1 3 [] ∷
-    -- 16 times x, `BB` and `AA`, open: a left side of 48 tokens
-    answer-row (LE (replicate 16 x ++ B ∷ B ∷ []) ++ RI (A ∷ A ∷ [])) 600 20 1 3 [] ∷
-    -- 16 times x, `BBB` and `AA`, open: a left side of 49 tokens
-    answer-row (LE (replicate 16 x ++ B ∷ B ∷ B ∷ []) ++ RI (A ∷ A ∷ [])) 600 20 19 2 [] ∷
-    -- 16 times x, `BB` and `AAA`, open: a left side of 48 tokens and a right side of one
-    answer-row (LE (replicate 16 x ++ B ∷ B ∷ []) ++ RI (A ∷ A ∷ A ∷ [])) 600 20 19 3 [] ∷
-    -- `AA` and 16 times x, `BB`, open: a right side of 48 tokens
-    answer-row (LE (A ∷ A ∷ []) ++ RI (replicate 16 x ++ B ∷ B ∷ [])) 600 20 1 3 [] ∷
-    -- `AA` and 16 times x, `BBB`, open: a right side of 49 tokens
-    answer-row (LE (A ∷ A ∷ []) ++ RI (replicate 16 x ++ B ∷ B ∷ B ∷ [])) 600 20 19 2 [] ∷
+    answer-row (PA 0 As ++ LE (x ∷ []) ++ RI (x ∷ y ∷ B ∷ [])) 1100 20 1 7 [] ∷
+    -- x any number of `A`. 16 times x, `B` and `AA`: a left side of 48 tokens
+    answer-row (PA 0 As ++ LE (replicate 16 x ++ B ∷ []) ++ RI (A ∷ A ∷ [])) 1000 20 1 6 [] ∷
+    -- 16 times x, `BB` and `AA`: a left side of 49 tokens
+    answer-row (PA 0 As ++ LE (replicate 16 x ++ B ∷ B ∷ []) ++ RI (A ∷ A ∷ [])) 1000 20 19 3 [] ∷
+    -- 24 times x and `A`, then turned round: a side of 24 tokens begins with 25 and comes to 48
+    answer-row (PA 0 As ++ LE (replicate 24 x) ++ RI (A ∷ [])) 800 20 1 5 [] ∷
+    answer-row (PA 0 As ++ LE (A ∷ []) ++ RI (replicate 24 x)) 800 20 1 5 [] ∷
+    -- 16 times x, `B` and `AAA`: a left side of 48 tokens and a right side of two
+    answer-row (PA 0 As ++ LE (replicate 16 x ++ B ∷ []) ++ RI (A ∷ A ∷ A ∷ [])) 1000 20 19 5 [] ∷
+    -- `AA` and 16 times x, `B`: a right side of 48 tokens
+    answer-row (PA 0 As ++ LE (A ∷ A ∷ []) ++ RI (replicate 16 x ++ B ∷ [])) 1000 20 1 6 [] ∷
+    -- `AA` and 16 times x, `BB`: a right side of 49 tokens
+    answer-row (PA 0 As ++ LE (A ∷ A ∷ []) ++ RI (replicate 16 x ++ B ∷ B ∷ [])) 1000 20 19 3 [] ∷
+    []
+
+-- `LT4` and so many spaces
+abbrev LT4 : ℕ → List ℕ
+LT4 n = 21 ∷ 29 ∷ 4 ∷ replicate n space
+
+-- `A` with one space or none behind it
+abbrev A-or-A-space : List ℕ
+A-or-A-space = 67 ∷ A ∷ 66 ∷ A ∷ space ∷ []
+
+-- "Two labels are now the same when they are equal after trailing spaces are dropped"
+abbrev known-spaces : List Known
+known-spaces =
+    -- `LT4` and `LT4` with a space, in six situations to the byte, a byte less; the space on the left
+    answer-row (LE (LT4 0) ++ RI (LT4 1)) 864 20 0 6 [] ∷
+    answer-row (LE (LT4 0) ++ RI (LT4 1)) 863 20 18 5 [] ∷
+    answer-row (LE (LT4 1) ++ RI (LT4 0)) 864 20 0 6 [] ∷
+    -- spaces on both sides: as many, more on the right, more on the left
+    answer-row (LE (LT4 1) ++ RI (LT4 1)) 800 20 0 5 [] ∷
+    answer-row (LE (LT4 1) ++ RI (LT4 3)) 1200 20 0 7 [] ∷
+    answer-row (LE (LT4 2) ++ RI (LT4 1)) 1000 20 0 6 [] ∷
+    -- a side of 23 tokens and one of 24 with a space at its end
+    answer-row (LE (replicate 23 A) ++ RI (replicate 23 A ++ space ∷ [])) 1000 20 0 6 [] ∷
+    -- a label that is all spaces and the empty side, either way round; two labels that are all spaces
+    answer-row (LE (space ∷ space ∷ []) ++ RI []) 1200 20 0 7 [] ∷
+    answer-row (LE [] ++ RI (space ∷ space ∷ [])) 1200 20 0 7 [] ∷
+    answer-row (LE (space ∷ []) ++ RI (replicate 3 space)) 1200 20 0 7 [] ∷
+    -- spaces in the middle are not dropped: one and none, two and one, one and one; nor is one in front
+    answer-row (LE (A ∷ space ∷ B ∷ []) ++ RI (A ∷ B ∷ [])) 600 20 1 1 [] ∷
+    answer-row (LE (A ∷ space ∷ space ∷ B ∷ []) ++ RI (A ∷ space ∷ B ∷ [])) 600 20 1 1 [] ∷
+    answer-row (LE (A ∷ space ∷ B ∷ []) ++ RI (A ∷ space ∷ B ∷ [])) 800 20 0 5 [] ∷
+    answer-row (LE (space ∷ A ∷ []) ++ RI (A ∷ [])) 600 20 1 1 [] ∷
+    -- nor what stands behind a space: `A B` and `A`, either way round
+    answer-row (LE (A ∷ space ∷ B ∷ []) ++ RI (A ∷ [])) 600 20 1 2 [] ∷
+    answer-row (LE (A ∷ []) ++ RI (A ∷ space ∷ B ∷ [])) 600 20 1 2 [] ∷
+    -- labels that differ in a character before their spaces
+    answer-row (LE (A ∷ space ∷ []) ++ RI (B ∷ space ∷ [])) 600 20 1 1 [] ∷
+    answer-row (LE (A ∷ B ∷ space ∷ []) ++ RI (A ∷ space ∷ [])) 600 20 1 1 [] ∷
+    -- the characters before and behind the space are not dropped
+    answer-row (LE (A ∷ 37 ∷ []) ++ RI (A ∷ [])) 600 20 1 1 [] ∷
+    answer-row (LE (A ∷ []) ++ RI (A ∷ 39 ∷ [])) 600 20 1 1 [] ∷
+    -- x and `A` with a space, open, either way round: x could take the space and leaves it
+    answer-row (LE (x ∷ []) ++ RI (A ∷ space ∷ [])) 2300 20 0 15 (VA 0 (A ∷ [])) ∷
+    answer-row (LE (A ∷ space ∷ []) ++ RI (x ∷ [])) 2300 20 0 15 (VA 0 (A ∷ [])) ∷
+    -- x any number of spaces, `A`x and `A` with a space
+    answer-row (PA 0 (68 ∷ space ∷ []) ++ LE (A ∷ x ∷ []) ++ RI (A ∷ space ∷ [])) 2000 20 0 13 (VA 0 []) ∷
+    -- x `A` and a space, x and `A`, either way round: x can't leave the space
+    answer-row (PA 0 (66 ∷ A ∷ space ∷ []) ++ LE (x ∷ []) ++ RI (A ∷ [])) 1500 20 0 10 (VA 0 (A ∷ space ∷ [])) ∷
+    answer-row (PA 0 (66 ∷ A ∷ space ∷ []) ++ LE (A ∷ []) ++ RI (x ∷ [])) 1500 20 0 10 (VA 0 (A ∷ space ∷ [])) ∷
+    -- x `A` with a space or none, xx and `A A`: the space of the one x is kept, that of the other dropped
+    answer-row (PA 0 A-or-A-space ++ LE (x ∷ x ∷ []) ++ RI (A ∷ space ∷ A ∷ [])) 1400 20 0 9 (VA 0 (A ∷ space ∷ [])) ∷
+    -- x any number of spaces, `A`x`B` and `A` with two spaces
+    answer-row (PA 0 (68 ∷ space ∷ []) ++ LE (A ∷ x ∷ B ∷ []) ++ RI (A ∷ space ∷ space ∷ [])) 1200 20 1 7 [] ∷
     []
 
 -- x with a pattern on the left, a side on the right
@@ -199,35 +268,35 @@ ranges (suc n) = 65 ∷ 0 ∷ 9 ∷ ranges n
 abbrev known-patterns : List Known
 known-patterns =
     -- the empty text, against no character and against one
-    answer-row (against (64 ∷ []) []) 600 20 0 2 (VA 0 []) ∷
-    answer-row (against (64 ∷ []) (A ∷ [])) 600 20 1 1 [] ∷
+    answer-row (against (64 ∷ []) []) 1200 20 0 7 (VA 0 []) ∷
+    answer-row (against (64 ∷ []) (A ∷ [])) 600 20 1 2 [] ∷
     -- character 42
-    answer-row (against (42 ∷ []) (42 ∷ [])) 600 20 0 3 (VA 0 (42 ∷ [])) ∷
+    answer-row (against (42 ∷ []) (42 ∷ [])) 1200 20 0 8 (VA 0 (42 ∷ [])) ∷
     -- a range from 5 to 7, against 4, 5, 7 and 8
     answer-row (against (65 ∷ 5 ∷ 7 ∷ []) (4 ∷ [])) 600 20 1 1 [] ∷
-    answer-row (against (65 ∷ 5 ∷ 7 ∷ []) (5 ∷ [])) 600 20 0 3 (VA 0 (5 ∷ [])) ∷
-    answer-row (against (65 ∷ 5 ∷ 7 ∷ []) (7 ∷ [])) 600 20 0 3 (VA 0 (7 ∷ [])) ∷
+    answer-row (against (65 ∷ 5 ∷ 7 ∷ []) (5 ∷ [])) 1200 20 0 8 (VA 0 (5 ∷ [])) ∷
+    answer-row (against (65 ∷ 5 ∷ 7 ∷ []) (7 ∷ [])) 1200 20 0 8 (VA 0 (7 ∷ [])) ∷
     answer-row (against (65 ∷ 5 ∷ 7 ∷ []) (8 ∷ [])) 600 20 1 1 [] ∷
     -- a range of one character
-    answer-row (against (65 ∷ 5 ∷ 5 ∷ []) (5 ∷ [])) 600 20 0 3 (VA 0 (5 ∷ [])) ∷
+    answer-row (against (65 ∷ 5 ∷ 5 ∷ []) (5 ∷ [])) 1200 20 0 8 (VA 0 (5 ∷ [])) ∷
     -- `A` then `B`
-    answer-row (against (66 ∷ A ∷ B ∷ []) (A ∷ B ∷ [])) 600 20 0 4 (VA 0 (A ∷ B ∷ [])) ∷
+    answer-row (against (66 ∷ A ∷ B ∷ []) (A ∷ B ∷ [])) 1400 20 0 9 (VA 0 (A ∷ B ∷ [])) ∷
     answer-row (against (66 ∷ A ∷ B ∷ []) (B ∷ A ∷ [])) 600 20 1 1 [] ∷
-    answer-row (against (66 ∷ A ∷ B ∷ []) (A ∷ [])) 600 20 1 2 [] ∷
+    answer-row (against (66 ∷ A ∷ B ∷ []) (A ∷ [])) 600 20 1 3 [] ∷
     -- `A` or `B`
-    answer-row (against (67 ∷ A ∷ B ∷ []) (A ∷ [])) 600 20 0 3 (VA 0 (A ∷ [])) ∷
-    answer-row (against (67 ∷ A ∷ B ∷ []) (B ∷ [])) 600 20 0 3 (VA 0 (B ∷ [])) ∷
-    answer-row (against (67 ∷ A ∷ B ∷ []) (A ∷ B ∷ [])) 600 20 1 2 [] ∷
+    answer-row (against (67 ∷ A ∷ B ∷ []) (A ∷ [])) 1200 20 0 8 (VA 0 (A ∷ [])) ∷
+    answer-row (against (67 ∷ A ∷ B ∷ []) (B ∷ [])) 1200 20 0 8 (VA 0 (B ∷ [])) ∷
+    answer-row (against (67 ∷ A ∷ B ∷ []) (A ∷ B ∷ [])) 600 20 1 3 [] ∷
     -- `A` any number of times
-    answer-row (against (68 ∷ A ∷ []) []) 600 20 0 2 (VA 0 []) ∷
-    answer-row (against (68 ∷ A ∷ []) (A ∷ A ∷ [])) 600 20 0 4 (VA 0 (A ∷ A ∷ [])) ∷
+    answer-row (against (68 ∷ A ∷ []) []) 1200 20 0 7 (VA 0 []) ∷
+    answer-row (against (68 ∷ A ∷ []) (A ∷ A ∷ [])) 1700 20 0 11 (VA 0 (A ∷ A ∷ [])) ∷
     -- what may be empty: both of two, the first, the second, one of two
-    answer-row (against (66 ∷ 68 ∷ A ∷ 68 ∷ B ∷ []) []) 600 20 0 2 (VA 0 []) ∷
-    answer-row (against (66 ∷ 68 ∷ A ∷ B ∷ []) []) 600 20 1 1 [] ∷
-    answer-row (against (66 ∷ 68 ∷ A ∷ B ∷ []) (B ∷ [])) 600 20 0 3 (VA 0 (B ∷ [])) ∷
-    answer-row (against (66 ∷ A ∷ 68 ∷ B ∷ []) []) 600 20 1 1 [] ∷
-    answer-row (against (66 ∷ A ∷ 68 ∷ B ∷ []) (A ∷ [])) 600 20 0 3 (VA 0 (A ∷ [])) ∷
-    answer-row (against (67 ∷ A ∷ 64 ∷ []) []) 600 20 0 2 (VA 0 []) ∷
+    answer-row (against (66 ∷ 68 ∷ A ∷ 68 ∷ B ∷ []) []) 1200 20 0 7 (VA 0 []) ∷
+    answer-row (against (66 ∷ 68 ∷ A ∷ B ∷ []) []) 600 20 1 2 [] ∷
+    answer-row (against (66 ∷ 68 ∷ A ∷ B ∷ []) (B ∷ [])) 1200 20 0 8 (VA 0 (B ∷ [])) ∷
+    answer-row (against (66 ∷ A ∷ 68 ∷ B ∷ []) []) 600 20 1 2 [] ∷
+    answer-row (against (66 ∷ A ∷ 68 ∷ B ∷ []) (A ∷ [])) 1200 20 0 8 (VA 0 (A ∷ [])) ∷
+    answer-row (against (67 ∷ A ∷ 64 ∷ []) []) 1200 20 0 7 (VA 0 []) ∷
     -- bytes that are no code
     fault-row (judged-only (43 ∷ [])) 15 4 ∷
     fault-row (judged-only (63 ∷ [])) 15 4 ∷
@@ -258,9 +327,9 @@ known-patterns =
     fault-row (judged-only (0 ∷ 43 ∷ 0 ∷ [])) 15 5 ∷
     fault-row (judged-only (66 ∷ 64 ∷ 65 ∷ 0 ∷ 9 ∷ 68 ∷ 0 ∷ [])) 15 9 ∷
     -- 31 leaves; neither the empty text nor a star is one
-    answer-row (judged-only (leaves-by 66 30)) 150 8 0 1 [] ∷
-    answer-row (judged-only (66 ∷ 64 ∷ leaves-by 66 30)) 150 8 0 1 [] ∷
-    answer-row (judged-only (68 ∷ leaves-by 67 30)) 150 8 0 1 [] ∷
+    answer-row (judged-only (leaves-by 66 30)) 800 8 0 5 [] ∷
+    answer-row (judged-only (66 ∷ 64 ∷ leaves-by 66 30)) 800 8 0 5 [] ∷
+    answer-row (judged-only (68 ∷ leaves-by 67 30)) 800 8 0 5 [] ∷
     -- 32 leaves
     fault-row (judged-only (leaves-by 66 31)) 16 66 ∷
     fault-row (judged-only (leaves-by 67 31)) 16 66 ∷
@@ -275,17 +344,17 @@ known-patterns =
     fault-row (judged-only (replicate 32 66 ++ replicate 32 0 ++ 43 ∷ [])) 15 68 ∷
     fault-row (judged-only (replicate 32 66 ++ replicate 32 0)) 15 68 ∷
     -- 96 bytes
-    answer-row (judged-only (replicate 95 68 ++ 0 ∷ [])) 150 8 0 1 [] ∷
+    answer-row (judged-only (replicate 95 68 ++ 0 ∷ [])) 800 8 0 5 [] ∷
     []
 
 -- "Checks on the sheet": marks, fields, lengths, bodies, tokens, in 01's order
 abbrev known-records : List Known
 known-records =
     -- field 7
-    answer-row (PA 7 (4 ∷ []) ++ LE (71 ∷ []) ++ RI (4 ∷ [])) 600 20 0 3 (VA 7 (4 ∷ [])) ∷
+    answer-row (PA 7 (4 ∷ []) ++ LE (71 ∷ []) ++ RI (4 ∷ [])) 1200 20 0 8 (VA 7 (4 ∷ [])) ∷
     -- character 42; sides of 24 tokens
-    answer-row (LE (42 ∷ []) ++ RI (42 ∷ [])) 600 20 0 1 [] ∷
-    answer-row (LE (replicate 24 A) ++ RI (replicate 24 A)) 600 20 0 1 [] ∷
+    answer-row (LE (42 ∷ []) ++ RI (42 ∷ [])) 800 20 0 5 [] ∷
+    answer-row (LE (replicate 24 A) ++ RI (replicate 24 A)) 800 20 0 5 [] ∷
     -- one byte left
     fault-row (80 ∷ []) 11 1 ∷
     fault-row (PA 0 (0 ∷ []) ++ 76 ∷ []) 11 6 ∷
@@ -338,10 +407,15 @@ known-records =
     fault-row (76 ∷ 69 ∷ 1 ∷ []) 11 3 ∷
     fault-row (76 ∷ 69 ∷ 2 ∷ 43 ∷ []) 11 4 ∷
     fault-row (LE (A ∷ []) ++ 82 ∷ 73 ∷ 2 ∷ 43 ∷ []) 11 8 ∷
+    -- the tokens of the hidden fields, on either side
+    fault-row (LE (72 ∷ [])) 17 3 ∷
+    fault-row (LE (73 ∷ [])) 17 3 ∷
+    fault-row (LE (A ∷ []) ++ RI (72 ∷ [])) 17 7 ∷
+    fault-row (LE (A ∷ []) ++ RI (B ∷ 73 ∷ [])) 17 8 ∷
     -- bytes that are no token, alone and behind one
     fault-row (LE (43 ∷ [])) 17 3 ∷
     fault-row (LE (63 ∷ [])) 17 3 ∷
-    fault-row (LE (72 ∷ [])) 17 3 ∷
+    fault-row (LE (74 ∷ [])) 17 3 ∷
     fault-row (LE (255 ∷ [])) 17 3 ∷
     fault-row (LE (A ∷ 43 ∷ [])) 17 4 ∷
     fault-row (LE (A ∷ B ∷ 43 ∷ 44 ∷ A ∷ [])) 17 5 ∷
@@ -350,7 +424,7 @@ known-records =
     []
 
 abbrev known-sheets : List Known
-known-sheets = known-in-01 ++ known-rooms ++ known-searches ++ known-patterns ++ known-records
+known-sheets = known-in-01 ++ known-rooms ++ known-searches ++ known-spaces ++ known-patterns ++ known-records
 
 pub known-sheets-met : map got known-sheets ≡ map wanted known-sheets
 unfolding set-after may-end judge enter offer take-next search trimmed strike put-before open-moves child-by children question search-from texts-of acceptor marked pattern-record side-record read-end marked-side next-is read-sheet outcome room-of searched standing value-record records some-text-too-long clash count-of how-of

@@ -51,21 +51,21 @@ standings-known = refl
 abbrev known-bounds : List (List ℕ × ℕ)
 known-bounds =
     -- sheet S
-    (sheet-S, 9) ∷
+    (sheet-S, 25) ∷
     -- both sides empty
-    (LE [] ++ RI [], 1) ∷
+    (LE [] ++ RI [], 9) ∷
     -- `A` and `AB`
-    (LE (10 ∷ []) ++ RI (10 ∷ 11 ∷ []), 6) ∷
+    (LE (10 ∷ []) ++ RI (10 ∷ 11 ∷ []), 20) ∷
     -- x and `AA`, open
-    (LE (64 ∷ []) ++ RI (10 ∷ 10 ∷ []), 6) ∷
+    (LE (64 ∷ []) ++ RI (10 ∷ 10 ∷ []), 20) ∷
     -- `A`x and y`B`z, x the empty text, y `A` then `B`
-    (PA 0 (64 ∷ []) ++ PA 1 (66 ∷ 10 ∷ 11 ∷ []) ++ LE (10 ∷ 64 ∷ []) ++ RI (65 ∷ 11 ∷ 66 ∷ []), 18) ∷
+    (PA 0 (64 ∷ []) ++ PA 1 (66 ∷ 10 ∷ 11 ∷ []) ++ LE (10 ∷ 64 ∷ []) ++ RI (65 ∷ 11 ∷ 66 ∷ []), 40) ∷
     -- x`A` and nothing, x `A` then `B` then `A`
-    (PA 0 (66 ∷ 66 ∷ 10 ∷ 11 ∷ 10 ∷ []) ++ LE (64 ∷ 10 ∷ []) ++ RI [], 6) ∷
+    (PA 0 (66 ∷ 66 ∷ 10 ∷ 11 ∷ 10 ∷ []) ++ LE (64 ∷ 10 ∷ []) ++ RI [], 24) ∷
     -- nothing and x, x one or two of `A` and `B`
-    (PA 0 (66 ∷ 67 ∷ 10 ∷ 11 ∷ 67 ∷ 64 ∷ 67 ∷ 10 ∷ 11 ∷ []) ++ LE [] ++ RI (64 ∷ []), 6) ∷
+    (PA 0 (66 ∷ 67 ∷ 10 ∷ 11 ∷ 67 ∷ 64 ∷ 67 ∷ 10 ∷ 11 ∷ []) ++ LE [] ++ RI (64 ∷ []), 24) ∷
     -- x and nothing, x `A` or `AB`: after `A` one set of two places
-    (PA 0 (67 ∷ 10 ∷ 66 ∷ 10 ∷ 11 ∷ []) ++ LE (64 ∷ []) ++ RI [], 4) ∷
+    (PA 0 (67 ∷ 10 ∷ 66 ∷ 10 ∷ 11 ∷ []) ++ LE (64 ∷ []) ++ RI [], 18) ∷
     []
 
 abbrev bound-read : Reading → ℕ

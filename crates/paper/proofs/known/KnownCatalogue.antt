@@ -1,8 +1,8 @@
--- Known calls of a catalogue (request K1) through the definitions, worked out by hand. One proof over a list of additions and one over a list of
--- withdrawals; the checker computes them. Each row fixes all that a call tells and leaves: the numbers, the catalogue, and for an addition the
--- working buffer.
+-- Known calls of a catalogue (request K1) through the definitions. One proof over a list of additions and one over a list of withdrawals; the
+-- checker computes them. Each row fixes all that a call tells and leaves: the numbers, the catalogue, and for an addition the working buffer.
 --
--- The working buffer is lent full of another byte. The bytes of each catalogue are written out, its zeros too.
+-- The working buffer is lent full of another byte. The bytes of each catalogue are written out, its zeros too. A pair's count is that of the
+-- search with the hidden fields (request K3).
 use Prim.Native.Nat.{ℕ, _+_}
 use mathlib.Core.Path.{_≡_, refl}
 use mathlib.Core.Bool.{Bool, true, false, cond}
@@ -67,23 +67,26 @@ wanted k =
       work = cond (k .all-zero) (replicate (k .work-bytes) 0) (work-before k);
     }
 
-abbrev RU : List ℕ → List ℕ
+abbrev pub RU : List ℕ → List ℕ
 RU records = 82 ∷ 85 ∷ records
 
-abbrev zeros : ℕ → List ℕ
+abbrev pub zeros : ℕ → List ℕ
 zeros n = replicate n 0
 
--- rules: `A`, `B`, `AB`; x open; x any digits; x the digit 4; 24 times x
-abbrev rule-A : List ℕ
+-- rules: `A`, `B`, `AB`; `A` with spaces; x open; x any digits; x the digit 4; 24 times x
+abbrev pub rule-A : List ℕ
 rule-A = 82 ∷ 85 ∷ 76 ∷ 69 ∷ 1 ∷ 10 ∷ []
 
-abbrev rule-B : List ℕ
+abbrev pub rule-B : List ℕ
 rule-B = 82 ∷ 85 ∷ 76 ∷ 69 ∷ 1 ∷ 11 ∷ []
 
 abbrev rule-AB : List ℕ
 rule-AB = 82 ∷ 85 ∷ 76 ∷ 69 ∷ 2 ∷ 10 ∷ 11 ∷ []
 
-abbrev rule-x : List ℕ
+abbrev pub A-spaces : ℕ → List ℕ
+A-spaces n = RU (LE (10 ∷ replicate n 38))
+
+abbrev pub rule-x : List ℕ
 rule-x = 82 ∷ 85 ∷ 76 ∷ 69 ∷ 1 ∷ 64 ∷ []
 
 abbrev digits : List ℕ
@@ -92,7 +95,7 @@ digits = RU (PA 0 (68 ∷ 65 ∷ 0 ∷ 9 ∷ []) ++ LE (64 ∷ []))
 abbrev the-4 : List ℕ
 the-4 = RU (PA 0 (4 ∷ []) ++ LE (64 ∷ []))
 
-abbrev many-x : List ℕ
+abbrev pub many-x : List ℕ
 many-x = RU (LE (replicate 24 64))
 
 -- a field with one character for its pattern
@@ -104,7 +107,7 @@ abbrev of-33-bytes : List ℕ
 of-33-bytes = RU (PA 0 (0 ∷ []) ++ LE (replicate 23 10))
 
 -- n rules without a token, of five bytes each
-abbrev empty-rules : ℕ → List ℕ
+abbrev pub empty-rules : ℕ → List ℕ
 empty-rules n = each (λ (i : ℕ). RU (LE [])) (upto n)
 
 -- "rules added singly": where the bytes come to stand, and whether they fit
@@ -120,6 +123,8 @@ entered-rules =
     entered-row (rule-A ++ zeros 10) rule-B 144 (82 ∷ 85 ∷ 76 ∷ 69 ∷ 1 ∷ 10 ∷ 82 ∷ 85 ∷ 76 ∷ 69 ∷ 1 ∷ 11 ∷ zeros 4) true ∷
     -- `AB` behind both, to the last byte
     entered-row (rule-A ++ rule-B ++ zeros 7) rule-AB 864 (rule-A ++ rule-B ++ rule-AB) true ∷
+    -- `A B` behind `A`: a space in the middle is not dropped
+    entered-row (rule-A ++ zeros 8) (RU (LE (10 ∷ 38 ∷ 11 ∷ []))) 300 (rule-A ++ RU (LE (10 ∷ 38 ∷ 11 ∷ []))) true ∷
     -- `A` behind any digits
     entered-row (digits ++ zeros 7) rule-A 864 (digits ++ rule-A ++ zeros 1) true ∷
     -- the same field of both rules is not one field: x is `A` in the one and `B` in the other, for field 0 and for field 3
@@ -130,26 +135,33 @@ entered-rules =
 -- "30 for a pair not answered 1"
 abbrev clashing-rules : List KnownAddition
 clashing-rules =
-    -- x and `A`, either way round: three situations
-    clash-row (rule-x ++ zeros 6) rule-A 864 0 0 3 ∷
-    clash-row (rule-A ++ zeros 6) rule-x 864 0 0 3 ∷
-    -- two situations lent, one, none
-    clash-row (rule-x ++ zeros 6) rule-A 288 0 18 2 ∷
+    -- x and `A`, either way round: eleven situations
+    clash-row (rule-x ++ zeros 6) rule-A 1600 0 0 11 ∷
+    clash-row (rule-A ++ zeros 6) rule-x 1600 0 0 11 ∷
+    -- a byte less than eleven situations lent, one situation, none
+    clash-row (rule-x ++ zeros 6) rule-A 1583 0 18 10 ∷
     clash-row (rule-x ++ zeros 6) rule-A 144 0 18 1 ∷
     clash-row (rule-x ++ zeros 6) rule-A 143 0 18 0 ∷
     -- 24 times x and `AA`: 48 tokens are passed
-    clash-row (many-x ++ zeros 10) (RU (LE (10 ∷ 10 ∷ []))) 288 0 19 2 ∷
+    clash-row (many-x ++ zeros 10) (RU (LE (10 ∷ 10 ∷ []))) 576 0 19 4 ∷
     -- any digits and the digit 4, as sheet S
-    clash-row (digits ++ zeros 20) the-4 1000 0 0 6 ∷
+    clash-row (digits ++ zeros 20) the-4 2000 0 0 13 ∷
     -- x`AAA` and x`AA`: the present rule is the left side, whose front is struck first
-    clash-row (RU (LE (64 ∷ 10 ∷ 10 ∷ 10 ∷ [])) ++ zeros 10) (RU (LE (64 ∷ 10 ∷ 10 ∷ []))) 1200 0 0 6 ∷
-    clash-row (RU (LE (64 ∷ 10 ∷ 10 ∷ [])) ++ zeros 10) (RU (LE (64 ∷ 10 ∷ 10 ∷ 10 ∷ []))) 1200 0 0 7 ∷
+    clash-row (RU (LE (64 ∷ 10 ∷ 10 ∷ 10 ∷ [])) ++ zeros 10) (RU (LE (64 ∷ 10 ∷ 10 ∷ []))) 3000 0 0 19 ∷
+    clash-row (RU (LE (64 ∷ 10 ∷ 10 ∷ [])) ++ zeros 10) (RU (LE (64 ∷ 10 ∷ 10 ∷ 10 ∷ []))) 3000 0 0 20 ∷
     -- `B` again: the pair with `A` is answered 1, that with `B` is not
-    clash-row (rule-A ++ rule-B ++ zeros 6) rule-B 864 1 0 1 ∷
+    clash-row (rule-A ++ rule-B ++ zeros 6) rule-B 864 1 0 5 ∷
     -- x: the pairs with both are not answered 1, and the first is told
-    clash-row (rule-A ++ rule-B ++ zeros 6) rule-x 864 0 0 3 ∷
+    clash-row (rule-A ++ rule-B ++ zeros 6) rule-x 1600 0 0 11 ∷
     -- the same field of both rules: x is `A` in both
-    clash-row (one-character 3 10 ++ zeros 11) (one-character 3 10) 864 0 0 5 ∷
+    clash-row (one-character 3 10 ++ zeros 11) (one-character 3 10) 1600 0 0 11 ∷
+    -- rules that differ only in spaces at the end: on the right, on the left, on both; a byte less than six situations lent
+    clash-row (rule-A ++ zeros 7) (A-spaces 1) 864 0 0 6 ∷
+    clash-row (A-spaces 1 ++ zeros 6) rule-A 864 0 0 6 ∷
+    clash-row (A-spaces 1 ++ zeros 8) (A-spaces 2) 864 0 0 6 ∷
+    clash-row (rule-A ++ zeros 7) (A-spaces 1) 863 0 18 5 ∷
+    -- a rule that makes spaces alone, and one without a token
+    clash-row (RU (LE (38 ∷ 38 ∷ [])) ++ zeros 5) (RU (LE [])) 1200 0 0 7 ∷
     []
 
 -- the refusals before any pair: "34 .., then the rule's own 11 to 17, then 31 .., then 32"

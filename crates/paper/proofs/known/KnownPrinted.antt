@@ -1,4 +1,4 @@
--- Lines that the program `clash` prints (document 01, "The program"), known by hand, as text. The checker computes them.
+-- Lines that the program `clash` prints (document 01, "The program"), as text. The checker computes them.
 --   decimals-known, lines-known : numbers in decimal; the lines of an outcome, from its numbers and the records in its answer buffer
 --   sheets-printed : the lines for whole sheets, with what the program reads and lends
 --   program-never-20 : the answer buffer that the program lends is always long enough
@@ -68,18 +68,21 @@ longest-pattern f = PA f (replicate 95 68 ++ 0 ∷ [])
 abbrev longest-sheet : List ℕ
 longest-sheet = each longest-pattern (upto 8) ++ LE (replicate 24 10) ++ RI (replicate 24 10)
 
--- sheet S; xy and 24 times `A`, open, which takes more situations than 4,096 bytes have; the longest good sheet, and one byte more
+-- sheet S; xx and `A`, open, where x takes one space after the other up to 48 tokens; xy and eight times `A`, open; the longest good sheet,
+-- and one byte more. The second and the third take more situations than 4,096 bytes have.
 pub sheets-printed :
     map printed
     (sheet-S ∷
-    (LE (64 ∷ 65 ∷ []) ++ RI (replicate 24 10)) ∷
+    (LE (64 ∷ 64 ∷ []) ++ RI (10 ∷ [])) ∷
+    (LE (64 ∷ 65 ∷ []) ++ RI (replicate 8 10)) ∷
     longest-sheet ∷
     (longest-sheet ++ 0 ∷ []) ∷
     [])
     ≡ map ascii
-    ("0 6 0\n0 4\n1 4\n" ∷
-    "0 51 0\n0 \n1 AAAAAAAAAAAAAAAAAAAAAAAA\n" ∷
-    "0 1 0\n" ∷
+    ("0 13 0\n0 4\n1 4\n" ∷
+    "19 137 0\n" ∷
+    "0 36 0\n0 \n1 AAAAAAAA\n" ∷
+    "0 5 0\n" ∷
     "12 0 854\n" ∷
     [])
 unfolding set-after may-end judge enter offer take-next search trimmed strike put-before open-moves child-by children question search-from texts-of acceptor marked pattern-record side-record read-end marked-side next-is read-sheet outcome room-of searched standing value-record records some-text-too-long clash count-of how-of printed-of printed

@@ -15,7 +15,7 @@ use Rattle.paper.specs.Equation.{stands-in}
 use Rattle.paper.specs.Places.{PlaceSet}
 use Rattle.paper.specs.Search.{Entry, found}
 use Rattle.paper.specs.Situation.{Situation, Move}
-use Rattle.paper.specs.Question.{Question}
+use Rattle.paper.specs.Question.{Question, hidden}
 use Rattle.paper.specs.Sheet.{Reading}
 use Rattle.paper.specs.Outcome.{room-of, standing, value-record, outcome-of}
 use Rattle.paper.specs.Demands.{end-of, spelt, records-of}
@@ -43,15 +43,15 @@ unfolding standing
 standing-few q =
     omega (arith, keep-short (λ (f : ℕ). stands-in f (q .left ++ q .right)) (upto fields), length-from 0 fields)
 
-module _ (q : Question) (work : List ℕ) (e : Entry (Situation PlaceSet) Move) (h : end-of q work ≡ found e) where
-  record-short : (f : ℕ) → length (value-record f (spelt q e f)) ≤ record-head + room-of work
+module _ (q : Question) (work : List ℕ) (e : Entry (Situation PlaceSet) Move) (h : end-of (hidden q) work ≡ found e) where
+  record-short : (f : ℕ) → length (value-record f (spelt (hidden q) e f)) ≤ record-head + room-of work
   unfolding value-record
-  record-short f = omega (arith, text-below-count q work e h f, count-in-room q work)
+  record-short f = omega (arith, text-below-count (hidden q) work e h f, count-in-room (hidden q) work)
 
-  records-short : length (records-of q (spelt q e)) ≤ fields * (record-head + room-of work)
+  records-short : length (records-of q (spelt (hidden q) e)) ≤ fields * (record-head + room-of work)
   records-short =
       let few : length (standing q) ≤ fields = standing-few q in
-      let each-record = each-short (λ (f : ℕ). value-record f (spelt q e f)) (record-head + room-of work) record-short (standing q) in
+      let each-record = each-short (λ (f : ℕ). value-record f (spelt (hidden q) e f)) (record-head + room-of work) record-short (standing q) in
       omega (arith, each-record, mul-le-mul-right (record-head + room-of work) few)
 
 pub answer-enough : (r : Reading) (work answer : List ℕ) → fields * (record-head + room-of work) ≤ length answer

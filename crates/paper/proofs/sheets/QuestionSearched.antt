@@ -21,7 +21,7 @@ use Rattle.paper.specs.Situation.{Acceptor, Situation, Sides, trim, Move
 use Rattle.paper.specs.Children.{ChildOf}
 use Rattle.paper.specs.Decides.{Decides}
 use Rattle.paper.specs.Way.{search-from, texts-of}
-use Rattle.paper.specs.Question.{Question, held-by, Solution, acceptor}
+use Rattle.paper.specs.Question.{Question, held-by, Equated, acceptor}
 use Rattle.paper.specs.Outcome.{room-of, searched, count-of, how-of}
 use Rattle.paper.specs.Demands.{entered, equal-characters-in-front, LeftOut}
 use Rattle.paper.proofs.places.Accepts.{question-decides}
@@ -57,15 +57,15 @@ module _ (q : Question) where
   abbrev first : Situation PlaceSet
   first = question (acceptor q) (q .left) (q .right)
 
-  -- The texts of the entry found solve the question.
+  -- The texts of the entry found solve the word equation of the question.
   pub found-solves : (room : ℕ) (e : Entry (Situation PlaceSet) Move) → how-of (searched q room) ≡ found e
-      → Solution q (texts-of (acceptor q) (q .left) (q .right) e)
+      → Equated q (texts-of (acceptor q) (q .left) (q .right) e)
   unfolding how-of searched acceptor
   found-solves room e h = sound (acceptor q) decides longest-side room (q .left) (q .right) e h
 
-  -- Where all are used up, no texts solve the question, if its fields have place sets.
+  -- Where all are used up, no texts solve its word equation, if its fields have place sets.
   pub used-up-unsolved : (room : ℕ) → ((f : ℕ) → stands-in f (q .left ++ q .right) ≡ true → f < set-fields)
-      → how-of (searched q room) ≡ used-up → (texts : Texts) → Solution q texts → ⊥
+      → how-of (searched q room) ≡ used-up → (texts : Texts) → Equated q texts → ⊥
   unfolding how-of searched acceptor
   used-up-unsolved room known h = complete (acceptor q) decides longest-side room (q .left) (q .right) known h
 

@@ -3,21 +3,22 @@
 -- Follows from the definition of the outcome, test by test, and from `none-too-long`.
 use Prim.Native.Nat.{ℕ, _≤_, _<_}
 use native.Mathlib.Omega.{arith}
-use mathlib.Core.Path.{_≡_, refl, subst}
+use mathlib.Core.Path.{_≡_, refl, ap, subst}
 use mathlib.Core.Bool.{true, not}
 use mathlib.Core.List.{List, [], _∷_, _++_}
 use lib.Dec.{leb}
 use lib.ListN.{length, drop}
-use Rattle.paper.specs.Lists.{member}
+use Rattle.paper.specs.Lists.{each, member}
 use Rattle.paper.proofs.base.Tests.{by-bool, cond-by, not-is-true, not-is-false, leb-true, leb-false}
 use Rattle.paper.specs.Places.{PlaceSet}
 use Rattle.paper.specs.Search.{Entry, End, found, used-up, no-room, too-long}
 use Rattle.paper.specs.Situation.{Situation, Move}
-use Rattle.paper.specs.Question.{Question}
+use Rattle.paper.specs.Question.{Question, hidden}
 use Rattle.paper.specs.Sheet.{Fault, cut-short, wrong-mark, wrong-field, wrong-length, not-one-pattern, too-many-leaves, wrong-token}
 use Rattle.paper.specs.Sheet.{fault-number, Reading, refused, asked}
-use Rattle.paper.specs.Outcome.{Outcome, room-of, searched, records, clash, answered, count-of, outcome-of}
+use Rattle.paper.specs.Outcome.{Outcome, room-of, searched, value-record, records, clash, answered, count-of, outcome-of}
 use Rattle.paper.specs.Demands.{Good, end-of, spelt, records-of, number-of}
+use Rattle.paper.proofs.sheets.Hidden.{standing-hidden}
 use Rattle.paper.proofs.sheets.TextLength.{none-too-long}
 
 pub fault-range : (x : Fault) → (11 ≤ fault-number x) × (fault-number x ≤ 17)
@@ -31,36 +32,40 @@ fault-range wrong-token = omega arith
 
 -- the records of the texts that the way to an entry spells
 abbrev pub found-records : Question → Entry (Situation PlaceSet) Move → List ℕ
-found-records q e = records-of q (spelt q e)
+found-records q e = records-of q (spelt (hidden q) e)
+
+records-hidden : (q : Question) (e : Entry (Situation PlaceSet) Move) → records (hidden q) e ≡ found-records q e
+unfolding records
+records-hidden q e = ap (each (λ (f : ℕ). value-record f (spelt (hidden q) e f))) (standing-hidden q)
 
 module _ (r : Reading) (work answer : List ℕ) where
   -- the rows of the table, by their number
   pub data Row (o : Outcome) : ℕ → Type 0 where
     faulty : {n : ℕ} (x : Fault) (at : ℕ) → r ≡ refused x at → 11 ≤ n → n ≤ 17 → o .count ≡ 0 → Row o n
-    clashes : (q : Question) (e : Entry (Situation PlaceSet) Move) → Good r q → end-of q work ≡ found e
+    clashes : (q : Question) (e : Entry (Situation PlaceSet) Move) → Good r q → end-of (hidden q) work ≡ found e
         → length (found-records q e) ≤ length answer
         → o .written ≡ length (found-records q e) → o .answer ≡ found-records q e ++ drop (length (found-records q e)) answer → Row o 0
-    clashes-not : (q : Question) → Good r q → end-of q work ≡ used-up → Row o 1
-    has-no-room : (q : Question) → Good r q → end-of q work ≡ no-room → Row o 18
-    is-too-long : (q : Question) → Good r q → end-of q work ≡ too-long → Row o 19
-    is-too-short : (q : Question) (e : Entry (Situation PlaceSet) Move) → Good r q → end-of q work ≡ found e
+    clashes-not : (q : Question) → Good r q → end-of (hidden q) work ≡ used-up → Row o 1
+    has-no-room : (q : Question) → Good r q → end-of (hidden q) work ≡ no-room → Row o 18
+    is-too-long : (q : Question) → Good r q → end-of (hidden q) work ≡ too-long → Row o 19
+    is-too-short : (q : Question) (e : Entry (Situation PlaceSet) Move) → Good r q → end-of (hidden q) work ≡ found e
         → length answer < length (found-records q e) → Row o 20
 
   abbrev InRow : Outcome → Type 0
   InRow o = Row o (o .number)
 
-  clash-in-row : (q : Question) (n : ℕ) (e : Entry (Situation PlaceSet) Move) → Good r q → end-of q work ≡ found e
-      → InRow (clash q n e work answer)
-  unfolding clash records
+  clash-in-row : (q : Question) (n : ℕ) (e : Entry (Situation PlaceSet) Move) → Good r q → end-of (hidden q) work ≡ found e
+      → InRow (clash (hidden q) n e work answer)
+  unfolding clash
   clash-in-row q n e g h =
       let bytes = found-records q e in
-      rw (none-too-long q work e h)
+      rw (none-too-long (hidden q) work e h, records-hidden q e)
       (cond-by InRow (not (leb (length bytes) (length answer)))
       (λ k. is-too-short q e g h (leb-false (length bytes) (length answer) (not-is-true k)))
       (λ k. clashes q e g h (leb-true (length bytes) (length answer) (not-is-false k)) refl refl))
 
-  end-in-row : (q : Question) (n : ℕ) (x : End (Situation PlaceSet) Move) → Good r q → end-of q work ≡ x
-      → InRow (answered q n x work answer)
+  end-in-row : (q : Question) (n : ℕ) (x : End (Situation PlaceSet) Move) → Good r q → end-of (hidden q) work ≡ x
+      → InRow (answered (hidden q) n x work answer)
   end-in-row q n (found e) g h = clash-in-row q n e g h
   end-in-row q n used-up g h = clashes-not q g h
   end-in-row q n no-room g h = has-no-room q g h
@@ -69,31 +74,31 @@ module _ (r : Reading) (work answer : List ℕ) where
 reading-in-row : (r : Reading) (work answer : List ℕ) → InRow r work answer (outcome-of r work answer)
 reading-in-row (refused x at) work answer = let (low, high) = fault-range x in faulty x at refl low high refl
 reading-in-row (asked q) work answer =
-    end-in-row (asked q) work answer q (count-of (searched q (room-of work))) (end-of q work) refl refl
+    end-in-row (asked q) work answer q (count-of (searched (hidden q) (room-of work))) (end-of (hidden q) work) refl refl
 
 pub in-row : (r : Reading) (work answer : List ℕ) (n : ℕ) → outcome-of r work answer .number ≡ n → Row r work answer (outcome-of r work answer) n
 in-row r work answer n e = subst (Row r work answer (outcome-of r work answer)) e (reading-in-row r work answer)
 
 -- The number and the count of a good reading are those of the search.
-clash-number : (q : Question) (n : ℕ) (e : Entry (Situation PlaceSet) Move) (work answer : List ℕ) → end-of q work ≡ found e
-    → (clash q n e work answer .number ≡ number-of q answer (found e)) × (clash q n e work answer .count ≡ n)
-unfolding clash records
+clash-number : (q : Question) (n : ℕ) (e : Entry (Situation PlaceSet) Move) (work answer : List ℕ) → end-of (hidden q) work ≡ found e
+    → (clash (hidden q) n e work answer .number ≡ number-of q answer (found e)) × (clash (hidden q) n e work answer .count ≡ n)
+unfolding clash
 clash-number q n e work answer h =
-    rw (none-too-long q work e h)
+    rw (none-too-long (hidden q) work e h, records-hidden q e)
     (by-bool (leb (length (found-records q e)) (length answer)) (λ k. rw k (refl, refl)) (λ k. rw k (refl, refl)))
 
-end-number : (q : Question) (n : ℕ) (x : End (Situation PlaceSet) Move) (work answer : List ℕ) → end-of q work ≡ x
-    → (answered q n x work answer .number ≡ number-of q answer x) × (answered q n x work answer .count ≡ n)
+end-number : (q : Question) (n : ℕ) (x : End (Situation PlaceSet) Move) (work answer : List ℕ) → end-of (hidden q) work ≡ x
+    → (answered (hidden q) n x work answer .number ≡ number-of q answer x) × (answered (hidden q) n x work answer .count ≡ n)
 end-number q n (found e) work answer h = clash-number q n e work answer h
 end-number q n used-up work answer h = (refl, refl)
 end-number q n no-room work answer h = (refl, refl)
 end-number q n too-long work answer h = (refl, refl)
 
 pub good-outcome : (r : Reading) (work answer : List ℕ) (q : Question) → Good r q
-    → (outcome-of r work answer .number ≡ number-of q answer (end-of q work))
-    × (outcome-of r work answer .count ≡ count-of (searched q (room-of work)))
+    → (outcome-of r work answer .number ≡ number-of q answer (end-of (hidden q) work))
+    × (outcome-of r work answer .count ≡ count-of (searched (hidden q) (room-of work)))
 good-outcome r work answer q g =
-    rw g (end-number q (count-of (searched q (room-of work))) (end-of q work) work answer refl)
+    rw g (end-number q (count-of (searched (hidden q) (room-of work))) (end-of (hidden q) work) work answer refl)
 
 -- So the number is one of the search's.
 abbrev OfSearch : ℕ → Type 0

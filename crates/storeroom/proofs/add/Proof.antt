@@ -6,7 +6,8 @@ use borrow.Author.Tests.{not-true, not-false}
 use Rattle.paper.specs.Rule.{read-rule}
 use Rattle.paper.specs.Catalogue.{form, is-full}
 use Rattle.rules.proofs.Told.{RuleTold, rule-fault, rule-stands}
-use Rattle.storeroom.proofs.Entering.{Rules, no-rules, some-rules, full-is, adds-to-none, adds-fault, adds-foreign, adds-full}
+use Rattle.kept.proofs.Told.{Rules, no-rules, some-rules}
+use Rattle.storeroom.proofs.Entering.{full-is, adds-to-none, adds-fault, adds-foreign, adds-full}
 use Rattle.storeroom.proofs.add.Statement.{statement}
 use Rattle.storeroom.proofs.add.Tie as tie
 

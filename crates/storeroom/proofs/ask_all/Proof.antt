@@ -1,17 +1,17 @@
 -- `storeroom::ask_all` meets its contract. The loop's invariant: the pairs before number `i` are all answered 1 (`Going`). Assumes nothing.
 use Prim.Native.Nat.{ℕ, _-_, _≤_}
 use native.Mathlib.Omega.{arith}
-use mathlib.Core.Path.{_≡_, refl, sym, ap, _∙_}
+use mathlib.Core.Path.{_≡_, refl, ap, _∙_}
 use mathlib.Core.List.{List}
 use denote.Ref.{now}
 use borrow.Author.Needs.{needs}
-use borrow.Author.Tests.{not-true, not-false}
 use borrow.Rule.Slice.PartAt.{part-to-end}
 use lib.ListN.{length, drop, length-replicate}
 use Rattle.paper.specs.Rule.{rule-front}
 use Rattle.rules.specs.Read.{rule-of}
+use Rattle.kept.proofs.Standing.{standing-inside, next-inside}
 use Rattle.storeroom.specs.Told.{Ready-to-ask}
-use Rattle.storeroom.proofs.Going.{Going, going-start, going-inside, next-inside, going-more, going-stops, going-ends}
+use Rattle.storeroom.proofs.Going.{Going, going-start, going-more, going-stops, going-ends}
 use Rattle.storeroom.proofs.ask_all.Statement.{statement}
 use Rattle.storeroom.proofs.ask_all.Tie as tie
 
@@ -36,7 +36,7 @@ inside : (c : tie.In-loop Inv-loop μ-loop) →
 inside c =
     let l = c .before in
     let x = ready l in
-    going-inside x (l .loop .inv .1 x) (omega (arith, x .counted, c .loop-test .taken))
+    standing-inside _ (x .of-form) (l .loop .i) (omega (arith, x .counted, c .loop-test .taken)) _ (l .loop .inv .1 x .place)
 
 sub-front : tie.Need-sub-front Inv-loop μ-loop
 sub-front c = inside c
@@ -62,8 +62,8 @@ front-is f =
 ask-requires : tie.Need-ask-requires Inv-loop μ-loop
 ask-requires c κs = search needs
 
-is-no-clash-requires : tie.Need-is-no-clash-requires Inv-loop μ-loop
-is-no-clash-requires c κs = search needs
+answer-requires : tie.Need-answer-requires Inv-loop μ-loop
+answer-requires c κs = search needs
 
 same-length : tie.Need-same-length Inv-loop μ-loop
 same-length c =
@@ -77,8 +77,8 @@ returns c =
     let f = k .before .before .before .before in
     let l = f .before .before .before in
     λ x.
-    going-stops x (l .loop .inv .1 x) (omega (arith, x .counted, f .before .before .loop-test .taken)) _ (front-is f) _ (k .ask .ensures .0) _ (k .ask .ensures .1)
-    (sym (c .before .is-no-clash .ensures) ∙ not-true (c .before .is-no-clash .result) (c .if1 .taken))
+    going-stops x (l .loop .inv .1 x) (omega (arith, x .counted, f .before .before .loop-test .taken)) _ (front-is f) _ (k .ask .ensures .0) _ (c .before .answer .ensures)
+    _ (k .ask .ensures .1) (c .if1 .taken)
 
 add-at : tie.Need-add-at Inv-loop μ-loop
 add-at c =
@@ -87,7 +87,7 @@ add-at c =
     let l = f .before .before .before in
     let x = ready l in
     let within =
-    next-inside x (l .loop .inv .1 x) (omega (arith, x .counted, f .before .before .loop-test .taken)) _ (front-is f) in
+    next-inside _ (x .of-form) (l .loop .i) (omega (arith, x .counted, f .before .before .loop-test .taken)) _ (l .loop .inv .1 x .place) _ (front-is f) in
     omega (arith, within)
 
 add-i : tie.Need-add-i Inv-loop μ-loop
@@ -103,8 +103,8 @@ loop-again c =
     let l = f .before .before .before in (
       ap length (k .ask .ensures .1) ∙ length-replicate _ 0 ∙ l .loop .inv .0,
       λ x.
-          going-more x (l .loop .inv .1 x) (omega (arith, x .counted, f .before .before .loop-test .taken)) _ (front-is f) _ (k .ask .ensures .0) _ (k .ask .ensures .1)
-          (sym (c .before .before .is-no-clash .ensures) ∙ not-false (c .before .before .is-no-clash .result) (c .before .if1 .left)),
+          going-more x (l .loop .inv .1 x) (omega (arith, x .counted, f .before .before .loop-test .taken)) _ (front-is f) _ (k .ask .ensures .0) _ (c .before .before .answer .ensures)
+          _ (k .ask .ensures .1) (c .before .if1 .left),
     )
 
 same-length-2 : tie.Need-same-length-2 Inv-loop μ-loop
@@ -125,7 +125,7 @@ ask-all-spec =
     part-front-end
     front-requires
     ask-requires
-    is-no-clash-requires
+    answer-requires
     same-length
     returns
     add-at

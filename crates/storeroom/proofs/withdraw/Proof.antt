@@ -4,7 +4,8 @@ use denote.Ref.{now}
 use borrow.Author.Needs.{needs}
 use borrow.Author.Tests.{not-true, not-false}
 use Rattle.paper.specs.Catalogue.{form}
-use Rattle.storeroom.proofs.Entering.{Rules, no-rules, some-rules, takes-from-none, takes-none, takes-one}
+use Rattle.kept.proofs.Told.{Rules, no-rules, some-rules}
+use Rattle.storeroom.proofs.Entering.{takes-from-none, takes-none, takes-one}
 use Rattle.storeroom.proofs.withdraw.Statement.{statement}
 use Rattle.storeroom.proofs.withdraw.Tie as tie
 

@@ -5,7 +5,7 @@ use native.Mathlib.Omega.{arith}
 use mathlib.Core.Path.{_≡_, refl}
 use borrow.Author.Needs.{needs}
 use lib.ListN.{length}
-use Rattle.paper.specs.Numbers.{fields}
+use Rattle.paper.specs.Numbers.{set-fields}
 use Rattle.tables.specs.Tables.{last-of}
 use Rattle.tables.proofs.Spread.{Spread, spread-none, spread-more, spread-all}
 use Rattle.tables.proofs.last_sets.Statement.{statement}
@@ -15,11 +15,11 @@ abbrev Inv-loop : tie.InvT-loop
 Inv-loop tables sets₀ f₀ sets f = Spread last-of tables sets f
 
 abbrev μ-loop : tie.MeasureT-loop
-μ-loop tables sets₀ f₀ sets f = fields - f
+μ-loop tables sets₀ f₀ sets f = set-fields - f
 
 loop-holds : tie.Need-loop-holds Inv-loop μ-loop
 loop-holds c =
-    let all : length (c .args .t1) ≡ fields = search needs in
+    let all : length (c .args .t1) ≡ set-fields = search needs in
     spread-none last-of (c .args .t1) all _ refl
 
 mul-tables : tie.Need-mul-tables Inv-loop μ-loop

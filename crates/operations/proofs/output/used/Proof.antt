@@ -6,10 +6,10 @@ use Rattle.operations.proofs.output.used.Statement.{statement}
 use Rattle.operations.proofs.output.used.Tie as tie
 
 abbrev Inv-loop : tie.InvT-loop
-Inv-loop catalogue n₀ n = n ≤ length catalogue
+Inv-loop buffer n₀ n = n ≤ length buffer
 
 abbrev μ-loop : tie.MeasureT-loop
-μ-loop catalogue n₀ n = n
+μ-loop buffer n₀ n = n
 
 loop-holds : tie.Need-loop-holds Inv-loop μ-loop
 loop-holds c = search needs

@@ -6,7 +6,7 @@ use mathlib.Core.List.{List, _++_, append-nil}
 use lib.ListN.{length, take, drop, getD, replicate}
 use lib.Seq.{take-all}
 use Rattle.paper.specs.Lists.{each}
-use Rattle.paper.specs.Numbers.{fields}
+use Rattle.paper.specs.Numbers.{set-fields}
 use Rattle.search.specs.Slots.{mask-bytes}
 use Rattle.search.proofs.slots.Parts.{copied-more}
 use Rattle.search.proofs.slots.Sets.{set-part}
@@ -16,10 +16,10 @@ use Rattle.search.proofs.slots.sets_of.Tie as tie
 
 abbrev Inv-loop : tie.InvT-loop
 Inv-loop from sets₀ i₀ sets i =
-    (i ≤ fields) × ((ms : List ℕ) → length ms ≡ fields → from ≡ each mask-bytes ms → sets ≡ take i ms ++ drop i (replicate fields 0))
+    (i ≤ set-fields) × ((ms : List ℕ) → length ms ≡ set-fields → from ≡ each mask-bytes ms → sets ≡ take i ms ++ drop i (replicate set-fields 0))
 
 abbrev μ-loop : tie.MeasureT-loop
-μ-loop from sets₀ i₀ sets i = fields - i
+μ-loop from sets₀ i₀ sets i = set-fields - i
 
 loop-holds : tie.Need-loop-holds Inv-loop μ-loop
 loop-holds c = (search needs, λ ms n e. refl)
@@ -60,18 +60,18 @@ loop-less c = search needs
 loop-again : tie.Need-loop-again Inv-loop μ-loop
 loop-again c = (
   search needs,
-  λ (ms : List ℕ) (n : length ms ≡ fields) (e : c .before .before .before .before .before .args .from .now ≡ each mask-bytes ms).
+  λ (ms : List ℕ) (n : length ms ≡ set-fields) (e : c .before .before .before .before .before .args .from .now ≡ each mask-bytes ms).
       let at = c .before .before .before in
       let h : at .loop .i < length ms = omega arith in
       rw (at .loop .inv .1 ms n e, c .mask-of .ensures (getD ms (at .loop .i) 0) (set-part (at .loop .i) ms (at .before .before .args .from .now) h e))
-      (copied-more (at .loop .i) ms (replicate fields 0) 0 h (sym n)),
+      (copied-more (at .loop .i) ms (replicate set-fields 0) 0 h (sym n)),
 )
 
 returns : tie.Need-returns Inv-loop μ-loop
 returns c ms n e =
     let at = c .before in
-    let k : at .loop .i ≡ fields = omega arith in
-    rw (at .loop .inv .1 ms n e, k, take-all fields ms (omega arith)) (append-nil ms)
+    let k : at .loop .i ≡ set-fields = omega arith in
+    rw (at .loop .inv .1 ms n e, k, take-all set-fields ms (omega arith)) (append-nil ms)
 
 pub sets-of-spec : {M : Type 1} → statement M
 sets-of-spec =

@@ -1,0 +1,4 @@
+pub mod PairBytes
+pub mod Listing
+pub mod Rechecking
+pub mod Unique
