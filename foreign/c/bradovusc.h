@@ -6,13 +6,15 @@
  * rules stand on a question sheet; the answer is a number, and after a clash a text for each field.
  * A catalogue has up to 32 rules in one buffer. A rule is added only if it clashes with none that is there; it can be withdrawn. One
  * that was kept can be checked again, pair by pair.
+ * A sheet can be written out as a script for string solvers, in SMT-LIB 2.6.
  *
- * The static library libexported.a, for x86-64 Linux, defines four functions: bradovusc_clash, bradovusc_add, bradovusc_withdraw,
- * bradovusc_recheck. They keep nothing from one call to the next, ask for no memory, and touch nothing but what they are lent, so
- * calls in several threads don't meet. Each takes at most about 40 KiB of stack; 37 were measured, in bradovusc_add. All else is in
- * this header: bradovusc_ask, bradovusc_enter, bradovusc_remove and bradovusc_check_again call them with any buffers, bradovusc_text
- * and bradovusc_catalogue_text say a number in words, bradovusc_next walks the texts of a clash, bradovusc_next_pair the pairs that
- * were listed, bradovusc_sign and bradovusc_value go between values and signs.
+ * The static library libexported.a, for x86-64 Linux, defines five functions: bradovusc_clash, bradovusc_script, bradovusc_add,
+ * bradovusc_withdraw, bradovusc_recheck. They keep nothing from one call to the next, ask for no memory, and touch nothing but what
+ * they are lent, so calls in several threads don't meet. Each takes at most about 40 KiB of stack; 37 were measured, in
+ * bradovusc_add. All else is in this header: bradovusc_ask, bradovusc_write_script, bradovusc_enter, bradovusc_remove and
+ * bradovusc_check_again call them with any buffers, bradovusc_text and bradovusc_catalogue_text say a number in words, bradovusc_next
+ * walks the texts of a clash, bradovusc_next_pair the pairs that were listed, bradovusc_sign and bradovusc_value go between values
+ * and signs.
  *
  * The header is C99 and C++11. The rules in full: docs/RULES.md.
  */
@@ -24,9 +26,9 @@
 
 /* The version of this header, of the library and of the Rust package. It rises where one of them, or a rule, changes for callers. */
 #define BRADOVUSC_VERSION_MAJOR 0
-#define BRADOVUSC_VERSION_MINOR 4
+#define BRADOVUSC_VERSION_MINOR 5
 #define BRADOVUSC_VERSION_PATCH 0
-#define BRADOVUSC_VERSION "0.4.0"
+#define BRADOVUSC_VERSION "0.5.0"
 
 #ifdef __cplusplus
 extern "C" {
@@ -39,6 +41,8 @@ extern "C" {
  * neither yes nor no. 11 to 17 say what is wrong with the sheet: the first fault met, whose byte is told as its place.
  *
  * Of a catalogue's call, 0 is success. 11 to 17 say what is wrong with the rule that was to be added, 30 to 35 why it can't be done.
+ *
+ * Of a script, 0 is success, 11 to 17 say what is wrong with the sheet, and 40 that the script doesn't fit.
  */
 enum bradovusc_number {
     /* The rules clash. The answer buffer says what each field holds on a label that both can make; one of the two may have spaces
@@ -71,7 +75,7 @@ enum bradovusc_number {
     /* The rules clash, but a text has more than 65,535 characters, too many for its record. */
     BRADOVUSC_TEXT_TOO_LONG = 21,
 
-    /* Of a catalogue's call: the rule was added, or withdrawn, or the pairs are listed. */
+    /* Of a catalogue's call: the rule was added, or withdrawn, or the pairs are listed. Of a script: it is written. */
     BRADOVUSC_DONE = 0,
     /* The new rule clashes with one that is there, or that is not decided. That rule and the answer of the pair are told. */
     BRADOVUSC_NOT_APART = 30,
@@ -84,7 +88,10 @@ enum bradovusc_number {
     /* The buffer is no catalogue. */
     BRADOVUSC_NO_CATALOGUE = 34,
     /* The list buffer is too short for all the pairs that are to be listed. None is. */
-    BRADOVUSC_LIST_TOO_SHORT = 35
+    BRADOVUSC_LIST_TOO_SHORT = 35,
+
+    /* The output buffer is too short for the script. Not a byte of it is written. */
+    BRADOVUSC_SCRIPT_TOO_SHORT = 40
 };
 
 /* The number in words, 0 as the answer of a sheet or a pair. Never null. */
@@ -128,12 +135,14 @@ static inline const char *bradovusc_text(uint32_t number) {
         return "the buffer is no catalogue";
     case BRADOVUSC_LIST_TOO_SHORT:
         return "the list buffer is too short for the pairs";
+    case BRADOVUSC_SCRIPT_TOO_SHORT:
+        return "the output buffer is too short for the script";
     default:
         return "no number of an answer";
     }
 }
 
-/* The same for what a catalogue's call returned: 0 is "done". */
+/* The same for what a catalogue's call returned, or a script's: 0 is "done". */
 static inline const char *bradovusc_catalogue_text(uint32_t number) {
     return number == BRADOVUSC_DONE ? "done" : bradovusc_text(number);
 }
@@ -266,11 +275,11 @@ static inline int bradovusc_next(struct bradovusc_records *records) {
  * behind them are left as they are.
  */
 enum bradovusc_told {
-    /* situations entered; 0 after 11 to 17 */
+    /* situations entered; 0 after 11 to 17, and of a script */
     BRADOVUSC_COUNT = 0,
     /* after 11 to 17 the offset of the byte at fault in the sheet, as above; otherwise 0 */
     BRADOVUSC_PLACE = 1,
-    /* bytes written to the answer buffer; 0 for all but BRADOVUSC_CLASH */
+    /* bytes written to the answer buffer, or of the script; 0 where the number is not */
     BRADOVUSC_WRITTEN = 2,
     BRADOVUSC_TOLD = 3
 };
@@ -317,6 +326,50 @@ static inline struct bradovusc_answer bradovusc_ask(const uint8_t *sheet, size_t
     given.place = told[BRADOVUSC_PLACE];
     given.written = told[BRADOVUSC_WRITTEN];
     return given;
+}
+
+/*
+ * The script of a sheet, for string solvers as z3 and cvc5: text in SMT-LIB 2.6, in the theory of Unicode strings. It has a string
+ * constant for each field that stands in a side, f0 to f7, and f8 and f9 for the hidden fields; for each of them one membership in a
+ * regular expression, which has the texts that the field may hold; the equation of both sides; and check-sat. It means the sheet's
+ * question: "sat" says that the rules clash, "unsat" that they don't. A line ends with a line feed; no zero byte stands behind the
+ * last. So many bytes are always enough, which is proved.
+ */
+#define BRADOVUSC_SCRIPT_BYTES 140000
+
+/*
+ * Writes the sheet out as a script. What is told has the indices of bradovusc_told: the count is 0, the place is that of a fault, and
+ * written are the bytes of the script. Afterwards
+ *
+ *   number            output buffer
+ *   0                 the script, the rest unchanged
+ *   11 to 17          unchanged
+ *   40                unchanged: the script is longer
+ *
+ * Any bytes and any lengths are taken, 0 included. Each pointer must be that of so many elements, and not null, also where the
+ * length is 0; the three must not overlap.
+ */
+uint32_t bradovusc_script(const uint8_t *sheet, size_t sheet_length, uint8_t *script, size_t script_length, uint64_t *told,
+                          size_t told_length);
+
+/* A script's answer: the number, and what is told beside it. */
+struct bradovusc_scripted {
+    uint32_t number;
+    uint64_t place, written;
+};
+
+/* bradovusc_script with all three numbers at once, and each pointer may be null where its length is 0. This is the one to call. */
+static inline struct bradovusc_scripted bradovusc_write_script(const uint8_t *sheet, size_t sheet_length, uint8_t *script,
+                                                               size_t script_length) {
+    uint8_t no_sheet = 0, no_script = 0;
+    uint64_t told[BRADOVUSC_TOLD] = {0, 0, 0};
+    struct bradovusc_scripted scripted;
+    scripted.number = bradovusc_script(sheet == NULL && sheet_length == 0 ? &no_sheet : sheet, sheet_length,
+                                       script == NULL && script_length == 0 ? &no_script : script, script_length, told,
+                                       BRADOVUSC_TOLD);
+    scripted.place = told[BRADOVUSC_PLACE];
+    scripted.written = told[BRADOVUSC_WRITTEN];
+    return scripted;
 }
 
 /*

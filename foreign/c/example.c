@@ -1,10 +1,11 @@
 /*
- * Two rules: one makes labels of any digits, the other the label 4. Do they clash? Then the same sheet with a wrong byte. Then a
- * catalogue of rules is kept. Then one that was kept since a space at the end made another label is checked again.
+ * Two rules: one makes labels of any digits, the other the label 4. Do they clash? Then the same as a script, for a string solver.
+ * Then the sheet with a wrong byte. Then a catalogue of rules is kept. Then one that was kept since a space at the end made another
+ * label is checked again.
  *
  * The first line of a sheet is number, count and place, and the number in words. After a clash follows a line for each field, its
- * number and its text, and after a fault a line with the byte at its place. Then comes a line for each call of a catalogue, and one
- * for each pair that is listed.
+ * number and its text, and after a fault a line with the byte at its place. The script has a line with its number before it. Last
+ * comes a line for each call of a catalogue, and one for each pair that is listed.
  */
 #include <inttypes.h>
 #include <stdio.h>
@@ -45,6 +46,7 @@ static const uint8_t kept[] = {
 
 static uint8_t work[BRADOVUSC_WORK_BYTES(455)];
 static uint8_t answer[BRADOVUSC_ANSWER_BYTES(455)];
+static uint8_t script[BRADOVUSC_SCRIPT_BYTES];
 static uint8_t catalogue[BRADOVUSC_CATALOGUE_BYTES(BRADOVUSC_RULES)]; /* all zero: no rule is there */
 static uint8_t list[BRADOVUSC_LIST_BYTES(BRADOVUSC_RULES)];
 
@@ -77,6 +79,12 @@ static void ask(void) {
     }
 }
 
+static void write_script(void) {
+    struct bradovusc_scripted scripted = bradovusc_write_script(sheet, sizeof sheet, script, sizeof script);
+    printf("script: %" PRIu32 ", %s\n", scripted.number, bradovusc_catalogue_text(scripted.number));
+    fwrite(script, 1, (size_t)scripted.written, stdout);
+}
+
 static void add(const char *name, const uint8_t *rule, size_t rule_length) {
     struct bradovusc_added added = bradovusc_enter(catalogue, sizeof catalogue, rule, rule_length, work, sizeof work);
     printf("add the %s: %" PRIu32 ", %s", name, added.number, bradovusc_catalogue_text(added.number));
@@ -104,8 +112,10 @@ static void check_again(void) {
 int main(void) {
     sheet[CHARACTER_OF_FIELD_1] = (uint8_t)bradovusc_value('4');
     ask();
+    write_script();
     sheet[HI_OF_FIELD_0] = 43; /* above the last character */
     ask();
+    write_script();
 
     add("latch", latch, sizeof latch);
     add("lever", lever, sizeof lever); /* LT42 would be on two shelves */

@@ -1,6 +1,7 @@
 /*
  * Tries what bradovusc.h itself defines: the texts of the numbers, the signs, the walks over records and over listed pairs, null
- * pointers of length 0, the calls of a catalogue, the version, the lengths of buffers; and the places of faults, as it lists them.
+ * pointers of length 0, the script of a sheet, the calls of a catalogue, the version, the lengths of buffers; and the places of faults,
+ * as it lists them.
  * C99, and C++11 too. Prints what does not hold, and how many checks there were; the exit status is 0 if all hold.
  */
 #include <stdio.h>
@@ -9,11 +10,13 @@
 
 /* What the header defines calls `watched_clash` and the like here, which look at the pointers and call the library. */
 #define bradovusc_clash watched_clash
+#define bradovusc_script watched_script
 #define bradovusc_add watched_add
 #define bradovusc_withdraw watched_withdraw
 #define bradovusc_recheck watched_recheck
 #include "bradovusc.h"
 #undef bradovusc_clash
+#undef bradovusc_script
 #undef bradovusc_add
 #undef bradovusc_withdraw
 #undef bradovusc_recheck
@@ -23,6 +26,8 @@ extern "C" {
 #endif
 uint32_t bradovusc_clash(const uint8_t *sheet, size_t sheet_length, uint8_t *work, size_t work_length, uint8_t *answer,
                          size_t answer_length, uint64_t *told, size_t told_length);
+uint32_t bradovusc_script(const uint8_t *sheet, size_t sheet_length, uint8_t *script, size_t script_length, uint64_t *told,
+                          size_t told_length);
 uint32_t bradovusc_add(uint8_t *catalogue, size_t catalogue_length, const uint8_t *rule, size_t rule_length, uint8_t *work,
                        size_t work_length, uint64_t *told, size_t told_length);
 uint32_t bradovusc_withdraw(uint8_t *catalogue, size_t catalogue_length, size_t number);
@@ -49,6 +54,14 @@ uint32_t watched_clash(const uint8_t *sheet, size_t sheet_length, uint8_t *work,
     check(answer != NULL, "the answer buffer's pointer is not null", (long)answer_length);
     check(told != NULL, "the pointer of what is told is not null", (long)told_length);
     return bradovusc_clash(sheet, sheet_length, work, work_length, answer, answer_length, told, told_length);
+}
+
+uint32_t watched_script(const uint8_t *sheet, size_t sheet_length, uint8_t *script, size_t script_length, uint64_t *told,
+                        size_t told_length) {
+    check(sheet != NULL, "the sheet's pointer is not null", (long)sheet_length);
+    check(script != NULL, "the output buffer's pointer is not null", (long)script_length);
+    check(told != NULL, "the pointer of what is told is not null", (long)told_length);
+    return bradovusc_script(sheet, sheet_length, script, script_length, told, told_length);
 }
 
 uint32_t watched_add(uint8_t *catalogue, size_t catalogue_length, const uint8_t *rule, size_t rule_length, uint8_t *work,
@@ -99,6 +112,7 @@ static const struct {
     {33, "no rule has that number"},
     {34, "the buffer is no catalogue"},
     {35, "the list buffer is too short for the pairs"},
+    {40, "the output buffer is too short for the script"},
 };
 
 static void try_texts(void) {
@@ -114,7 +128,7 @@ static void try_texts(void) {
         expected = number == 0 ? "done" : expected;
         check(strcmp(bradovusc_catalogue_text(number), expected) == 0, "the text of a catalogue's number", (long)number);
     }
-    check(next == 19, "19 numbers have a text", (long)next);
+    check(next == 20, "20 numbers have a text", (long)next);
     check(strcmp(bradovusc_text(UINT32_MAX), none) == 0, "the greatest number has no text", -1);
 }
 
@@ -307,6 +321,105 @@ static void try_places(void) {
     check(is(bradovusc_ask(leaves, sizeof leaves, work, sizeof work, answer, sizeof answer), 16, 0, 66, 0), "the 32nd leaf", 16);
 }
 
+/* ---- the script of a sheet */
+
+static int is_scripted(struct bradovusc_scripted scripted, uint32_t number, uint64_t place, uint64_t written) {
+    return scripted.number == number && scripted.place == place && scripted.written == written;
+}
+
+/* x, and 44 */
+static const uint8_t asked[] = {'L', 'E', 1, 64, 'R', 'I', 2, 4, 4};
+static const char heading[] = "; Do two label rules clash? sat: they do. unsat: they don't.\n"
+                              "; Fields 8 and 9 are the spaces at the end of the left and the right label.\n"
+                              "(set-logic QF_S)\n";
+static const char hidden_and_equation[] = "; field 8\n(declare-const f8 String)\n(assert (str.in_re f8 (re.* (str.to_re \" \"))))\n"
+                                          "; field 9\n(declare-const f9 String)\n(assert (str.in_re f9 (re.* (str.to_re \" \"))))\n"
+                                          "(assert (= (str.++ f0 f8) (str.++ \"44\" f9)))\n(check-sat)\n";
+
+/* puts the text behind the first `at` bytes, and says how many there are then */
+static size_t put(char *bytes, size_t at, const char *text) {
+    memcpy(bytes + at, text, strlen(text));
+    return at + strlen(text);
+}
+
+/* the script of `asked`, whose field 0 is open; its length */
+static size_t expected_script(char *expected) {
+    size_t at = put(expected, 0, heading);
+    int value;
+    at = put(expected, at, "; field 0\n(declare-const f0 String)\n(assert (str.in_re f0 (re.* (re.union");
+    for (value = 0; value < BRADOVUSC_CHARACTERS; value++) {
+        at = put(expected, at, " (str.to_re \"");
+        expected[at++] = (char)sign_of(value);
+        at = put(expected, at, "\")");
+    }
+    at = put(expected, at, "))))\n");
+    return put(expected, at, hidden_and_equation);
+}
+
+static uint8_t script[BRADOVUSC_SCRIPT_BYTES];
+
+static void try_script(void) {
+    static const uint8_t one_more[] = {'L', 'E', 0, 'R', 'I', 0, 0}, wrong[] = {'L', 'E', 2, 10, 72};
+    static char expected[2000];
+    size_t length = expected_script(expected), told_length, i;
+    memset(script, 7, sizeof script);
+
+    check(is_scripted(bradovusc_write_script(asked, sizeof asked, script, length - 1), 40, 0, 0), "a byte too few", 40);
+    check(is_scripted(bradovusc_write_script(asked, sizeof asked, NULL, 0), 40, 0, 0), "no output buffer", 40);
+    check(is_scripted(bradovusc_write_script(NULL, 0, script, sizeof script), 11, 0, 0), "no sheet", 11);
+    check(is_scripted(bradovusc_write_script(NULL, 0, NULL, 0), 11, 0, 0), "nothing at all", 11);
+    check(is_scripted(bradovusc_write_script(one_more, 7, script, sizeof script), 12, 6, 0), "a byte too many", 12);
+    check(is_scripted(bradovusc_write_script(wrong, 5, NULL, 0), 17, 4, 0), "a fault is before 40", 17);
+    check(script[0] == 7 && script[length - 2] == 7 && script[sizeof script - 1] == 7, "no byte changed", 40);
+    check(is_scripted(bradovusc_write_script(asked, sizeof asked, script, length), 0, 0, length), "just enough", (long)length);
+    check(memcmp(script, expected, length) == 0 && script[length] == 7, "the script's bytes, and no more", (long)length);
+    memset(script, 7, sizeof script);
+    check(is_scripted(bradovusc_write_script(asked, sizeof asked, script, sizeof script), 0, 0, length), "more than enough", 0);
+    check(memcmp(script, expected, length) == 0 && script[length] == 7, "the same bytes, and no more", (long)length);
+    for (told_length = 0; told_length <= 4; told_length++) {
+        uint64_t told[] = {7, 7, 7, 7};
+        const uint64_t all_told[] = {0, 0, length, 7};
+        check(bradovusc_script(asked, sizeof asked, script, sizeof script, told, told_length) == 0, "written", (long)told_length);
+        for (i = 0; i < 4; i++) {
+            check(told[i] == (i < told_length ? all_told[i] : 7), "an element of what is told", (long)i);
+        }
+    }
+}
+
+/* Eight patterns of 96 bytes, with as many ranges of all the characters as there is room for, and all eight stand: it fits. */
+static void try_longest_script(void) {
+    static uint8_t sheet[8 * 100 + 2 * 27];
+    uint8_t *at = sheet;
+    struct bradovusc_scripted scripted;
+    int field, i;
+    for (field = 0; field < BRADOVUSC_FIELDS; field++) {
+        *at++ = 'P';
+        *at++ = 'A';
+        *at++ = (uint8_t)field;
+        *at++ = 96;
+        *at++ = 68; /* any number of 24 ranges, with 23 times "or" */
+        memset(at, 67, 23);
+        at += 23;
+        for (i = 0; i < 24; i++) {
+            *at++ = 65;
+            *at++ = 0;
+            *at++ = 42;
+        }
+    }
+    for (i = 0; i < 2; i++) {
+        *at++ = i == 0 ? 'L' : 'R';
+        *at++ = i == 0 ? 'E' : 'I';
+        *at++ = 24;
+        for (field = 0; field < 24; field++) {
+            *at++ = (uint8_t)(64 + field % 8);
+        }
+    }
+    check(at == sheet + sizeof sheet, "the longest sheet", (long)(at - sheet));
+    scripted = bradovusc_write_script(sheet, sizeof sheet, script, sizeof script);
+    check(scripted.number == 0 && scripted.written > 136000, "its script fits", (long)scripted.written);
+    check(scripted.written < sizeof script && script[scripted.written] == 7, "with bytes to spare", (long)scripted.written);
+}
+
 /* ---- the catalogue */
 
 static int is_added(struct bradovusc_added added, uint32_t number, uint64_t count, uint64_t place, uint64_t rule, uint32_t pair) {
@@ -492,6 +605,7 @@ int main(void) {
     check(BRADOVUSC_ANSWER_BYTES(455) == 3680, "an answer buffer for them", 455);
     check(BRADOVUSC_CATALOGUE_BYTES(32) == 13728, "a catalogue of 32 rules", 32);
     check(BRADOVUSC_LIST_BYTES(32) == 2480, "a list of their pairs", 32);
+    check(BRADOVUSC_SCRIPT_BYTES == 140000, "a script", 140000);
     check(BRADOVUSC_LIST_BYTES(2) == 5 && BRADOVUSC_LIST_BYTES(1) == 0 && BRADOVUSC_LIST_BYTES(0) == 0, "of fewer rules", 2);
     try_texts();
     try_signs();
@@ -499,6 +613,8 @@ int main(void) {
     try_pairs();
     try_null();
     try_places();
+    try_script();
+    try_longest_script();
     try_catalogue();
     try_catalogue_of_nothing();
     try_told();

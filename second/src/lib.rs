@@ -14,6 +14,8 @@
 //! no two can make the same label, and `catalogue::recheck` lists the pairs of a
 //! kept one that may; they search by `searched` or by `scan::searched`.
 //!
+//! `smt` reads scripts for other solvers and compares them with their sheets.
+//!
 //! Sentences in quotation marks in the comments are those of the text in which
 //! the rules were first given, or of the requests that changed them;
 //! docs/RULES.md says the same in other words.
@@ -29,6 +31,7 @@ pub mod scan;
 pub mod search;
 pub mod sheet;
 pub mod situation;
+pub mod smt;
 pub mod storeroom;
 pub mod write;
 

@@ -5,6 +5,7 @@ use lib.ListN.{set}
 use Rattle.paper.specs.Outcome.{Outcome}
 use Rattle.paper.specs.Catalogue.{Added}
 use Rattle.paper.specs.Recheck.{Rechecked}
+use Rattle.smt.specs.Scripting.{Scripting}
 
 -- three numbers in the first three elements. `set` past the end changes nothing, so there are as many as there is room for.
 abbrev pub with-numbers : List ℕ → ℕ → ℕ → ℕ → List ℕ
@@ -21,3 +22,7 @@ telling-added told a = set (with-numbers told (a .count) (a .place) (a .rule)) 3
 -- those of checking again
 abbrev pub telling-rechecked : List ℕ → Rechecked → List ℕ
 telling-rechecked told r = set (set told 0 (r .pairs)) 1 (r .written)
+
+-- those of writing a script, which has no count
+abbrev pub telling-scripted : List ℕ → Scripting → List ℕ
+telling-scripted told s = with-numbers told 0 (s .place) (s .written)

@@ -4,7 +4,8 @@ ghost use lib.ListN.{set};
 ghost use Rattle.paper.specs.Outcome.{outcome};
 ghost use Rattle.paper.specs.Catalogue.{adding, withdrawing};
 ghost use Rattle.paper.specs.Recheck.{rechecking};
-ghost use Rattle.exported.specs.Exported.{telling, telling-added, telling-rechecked, with-numbers};
+ghost use Rattle.smt.specs.Scripting.{scripting};
+ghost use Rattle.exported.specs.Exported.{telling, telling-added, telling-rechecked, telling-scripted, with-numbers};
 
 // Can the two rules of the sheet make the same label? Returns document 01's number; count, place and written length go into the first three
 // elements of `told`, as many as there is room for.
@@ -77,6 +78,20 @@ pub extern "C" fn bradovusc_recheck(
     put(told, 0, totals.pairs);
     put(told, 1, totals.written);
     totals.number as u32
+}
+
+// Writes the sheet out as a script for string solvers. Returns request K4's number; count (which is 0), place and written length go into the first
+// three elements of `told`, as many as there is room for.
+#[no_mangle]
+pub extern "C" fn bradovusc_script(sheet: &[u8], script: &mut [u8], told: &mut [u64]) -> u32
+    ensures number { λ r. ⌜ r ≡ scripting (now (sheet .entry)) (now (script .entry)) .number ⌝ }
+    ensures told { λ _. ⌜ now (told .exit) ≡ telling-scripted (now (told .entry)) (scripting (now (sheet .entry)) (now (script .entry))) ⌝ }
+    ensures script { λ _. ⌜ now (script .exit) ≡ scripting (now (sheet .entry)) (now (script .entry)) .script ⌝ }
+{
+    let scripted = scripts::script(sheet, script);
+    let numbers = scripts::in_numbers(scripted);
+    tell(told, 0, numbers.place, numbers.written);
+    numbers.number as u32
 }
 
 // Three numbers into the first three elements.

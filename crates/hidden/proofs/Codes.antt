@@ -1,4 +1,5 @@
 -- What is searched is the question with its hidden fields:
+--   codes-are-tokens : the codes of a side whose tokens have place sets are tokens
 --   side-behind   : a good side with a field behind it is read back from the codes of the side, with the field's code put behind them
 --   fields-behind : what is worked out of a question's own fields, and behind it twice what is worked out of any spaces, is what is worked out of
 --                   the fields of the question with its hidden fields
@@ -27,7 +28,7 @@ code-is-token : (t : Token) → HasSet t → is-token (token-code t) ≡ true
 code-is-token (chr c) h = false-not (neq-eqb c no-token (λ e. omega arith))
 code-is-token (fld f) h = false-not (neq-eqb (token-code (fld f)) no-token (λ e. omega arith))
 
-codes-are-tokens : (side : Side) → ((t : Token) → List·Memᴰ t side → HasSet t) → all is-token (side-code side) ≡ true
+pub codes-are-tokens : (side : Side) → ((t : Token) → List·Memᴰ t side → HasSet t) → all is-token (side-code side) ≡ true
 codes-are-tokens [] h = refl
 codes-are-tokens (t ∷ side) h =
     both-true (code-is-token t (h t (List·Memᴰ·head refl))) (codes-are-tokens side (λ u d. h u (List·Memᴰ·tail d)))

@@ -20,3 +20,7 @@ pub fn print_byte(b: u8) {
 pub fn tell(what: &[u8]) {
     io::write_all(STDERR_FILENO, what);
 }
+
+pub fn tell_number(n: usize) {
+    io::print_decimal(STDERR_FILENO, n as u64);
+}

@@ -12,7 +12,7 @@ use Rattle.inner.specs.Inner.{field-code}
 use Rattle.situations.specs.Children.{strike-codes, put-codes}
 
 -- the tokens of a loop's first turns, and of one turn more
-keep-append : (p : ℕ → Bool) (l m : List ℕ) → keep p (l ++ m) ≡ keep p l ++ keep p m
+pub keep-append : (p : ℕ → Bool) (l m : List ℕ) → keep p (l ++ m) ≡ keep p l ++ keep p m
 keep-append p [] m = refl
 keep-append p (x ∷ l) m = rw (keep-append p l m, append-assoc)
 

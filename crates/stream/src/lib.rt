@@ -1,6 +1,7 @@
 // Answers every case of a stream on standard input and prints what is asked for of each. For programs that try the library on many sheets.
 mod bytes;
 mod case;
+mod script;
 
 use answers::Numbers;
 use lines::WORK;
@@ -19,6 +20,9 @@ pub enum Shown {
     Bytes,
     // the lines that the program `clash` prints
     Lines,
+    // a line: number, place and written length of the sheet's script. Behind number 0 the script, and a line: the number for a buffer of just its
+    // length, the number for one that is a byte shorter, and how many of that one's bytes are changed
+    Scripts,
 }
 
 pub fn answer_all(shown: Shown) {
@@ -57,6 +61,7 @@ fn answer_case(sheet: &[u8], work: &mut [u8], answer: &mut [u8], shown: Shown) {
     match shown {
         Shown::Bytes => show_bytes(sheet, work, answer),
         Shown::Lines => show_lines(sheet, work, answer),
+        Shown::Scripts => script::show_script(sheet),
     }
 }
 

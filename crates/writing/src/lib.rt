@@ -1,5 +1,6 @@
 // The lines of an answer, put into a lent buffer. Each function that puts bytes from a place on hands back the place behind them.
 use answers::Numbers;
+use putting::sign;
 ghost use mathlib.Core.List.{[], _∷_, _++_, map};
 ghost use mathlib.Core.Path.{_≡_};
 ghost use Prim.Native.Nat.{_+_, _*_, _%_, _<_, _≤_, min};
@@ -23,9 +24,6 @@ pub enum Filled {
     Bytes(usize),
     NoRoom,
 }
-
-// The characters by value.
-const SIGNS: [u8; 43] = *b"0123456789ABCDEFGHIJKLMNOPQRSTUVWXYZ-. $/+%";
 
 fn put(out: &mut [u8], at: usize, byte: u8) -> usize
     requires { ⌜ at < length (now out) ⌝ }
@@ -74,14 +72,6 @@ fn first_line(out: &mut [u8], number: usize, count: usize, place: usize) -> usiz
     let behind_number = number_and(out, 0, number, b' ');
     let behind_count = number_and(out, behind_number, count, b' ');
     number_and(out, behind_count, place, b'\n')
-}
-
-// A byte that is no character's value has no sign: 0 stands for it.
-fn sign(value: u8) -> u8
-    ensures { λ r. ⌜ r ≡ sign-of value ⌝ }
-{
-    let at = value as usize;
-    if at < SIGNS.len() { SIGNS[at] } else { 0 }
 }
 
 // "the text as characters"

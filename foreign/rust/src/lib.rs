@@ -35,6 +35,22 @@
 //! assert_eq!(sheet.get(6), Some(&1));
 //! ```
 //!
+//! [`script`] writes a sheet out as a script for string solvers.
+//!
+//! ```
+//! use bradovusc::{script, Scripted, SCRIPT_BYTES};
+//!
+//! // The letter A on the left; any number of A on the right, in field 0.
+//! let sheet = b"PA\x00\x02\x44\x0ALE\x01\x0ARI\x01\x40";
+//! let mut text = vec![0; SCRIPT_BYTES];
+//! let Scripted::Written { bytes } = script(sheet, &mut text) else {
+//!     panic!("the sheet is good, and the buffer is long enough");
+//! };
+//! let text = std::str::from_utf8(&text[..bytes]).unwrap();
+//! assert!(text.contains("(assert (str.in_re f0 (re.* (str.to_re \"A\"))))\n"));
+//! assert!(text.ends_with("(assert (= (str.++ \"A\" f8) (str.++ f0 f9)))\n(check-sat)\n"));
+//! ```
+//!
 //! A catalogue has up to 32 rules in a lent buffer. [`add`] enters a rule only if it clashes with
 //! none that is there; [`withdraw`] takes one out; [`recheck`] checks the pairs of one that was kept
 //! again.
@@ -74,11 +90,13 @@
 //! ```
 
 mod catalogue;
+mod scripts;
 
 pub use catalogue::{
     add, catalogue_bytes, list_bytes, recheck, withdraw, Added, Pair, Pairs, Rechecked, Withdrawn,
     MOST_RULES, PAIR_BYTES, RULE_BYTES, RULE_FIELDS,
 };
+pub use scripts::{script, Scripted, SCRIPT_BYTES};
 
 use std::error::Error;
 use std::fmt::{self, Write};

@@ -2,7 +2,8 @@
 
 use bradovusc::{
     catalogue_bytes, list_bytes, recheck, sign, texts, value, Added, Answer, Fault, Pair,
-    Rechecked, Text, Withdrawn, MOST_RULES, PAIR_BYTES, RULE_BYTES, RULE_FIELDS, SIGNS, VERSION,
+    Rechecked, Scripted, Text, Withdrawn, MOST_RULES, PAIR_BYTES, RULE_BYTES, RULE_FIELDS,
+    SCRIPT_BYTES, SIGNS, VERSION,
 };
 
 const HEADER: &str = include_str!("../../c/bradovusc.h");
@@ -45,7 +46,7 @@ fn header_texts() -> Vec<(u32, &'static str)> {
 #[test]
 fn answers_in_words() {
     let expected = header_texts();
-    assert_eq!(expected.len(), 19);
+    assert_eq!(expected.len(), 20);
     let faults = FAULTS.map(|fault| (fault.number(), fault.to_string()));
     let others = OTHERS.map(|answer| (answer.number(), answer.to_string()));
     let added = [Added::ForeignField, Added::Full, Added::NoCatalogue]
@@ -53,8 +54,9 @@ fn answers_in_words() {
     let not_apart = NOT_APART.to_string().split(':').next().unwrap().to_string();
     let no_rule = (Withdrawn::NoRule.number(), Withdrawn::NoRule.to_string());
     let short = (Rechecked::ListTooShort.number(), Rechecked::ListTooShort.to_string());
-    let others_of_a_catalogue = [(NOT_APART.number(), not_apart), no_rule, short];
-    let mut ours = [&faults[..], &others, &added, &others_of_a_catalogue].concat();
+    let no_script = (Scripted::TooShort.number(), Scripted::TooShort.to_string());
+    let further = [(NOT_APART.number(), not_apart), no_rule, short, no_script];
+    let mut ours = [&faults[..], &others, &added, &further].concat();
     ours.sort();
     assert!(ours.iter().map(|(number, text)| (*number, text.as_str())).eq(expected));
 }
@@ -94,6 +96,20 @@ fn calls_of_a_catalogue_in_words() {
 }
 
 #[test]
+fn scripts_in_words() {
+    for fault in FAULTS {
+        let scripted = Scripted::Refused { fault, place: 13 };
+        assert_eq!(scripted.to_string(), format!("{fault}, at offset 13"));
+        let numbers = (scripted.number(), scripted.place(), scripted.written());
+        assert_eq!(numbers, (fault.number(), 13, 0));
+    }
+    let written = Scripted::Written { bytes: 9 };
+    assert_eq!((written.number(), written.place(), written.written()), (0, 0, 9));
+    assert_eq!(written.to_string(), "done");
+    assert_eq!((Scripted::TooShort.place(), Scripted::TooShort.written()), (0, 0));
+}
+
+#[test]
 fn what_is_decided() {
     assert!(OTHERS.iter().all(|answer| answer.count() == 7));
     assert_eq!(OTHERS.map(Answer::written), [9, 0, 0, 0, 0, 0]);
@@ -130,7 +146,7 @@ fn records_cut_short() {
 }
 
 #[test]
-fn lengths_of_a_catalogue() {
+fn lengths_of_buffers() {
     let defined = |name: &str, number: usize| {
         assert!(HEADER.contains(&format!("#define BRADOVUSC_{name} {number}\n")), "{name}");
     };
@@ -138,6 +154,7 @@ fn lengths_of_a_catalogue() {
     defined("RULE_FIELDS", RULE_FIELDS);
     defined("RULE_BYTES", RULE_BYTES);
     defined("PAIR_BYTES", PAIR_BYTES);
+    defined("SCRIPT_BYTES", SCRIPT_BYTES);
     assert_eq!(catalogue_bytes(MOST_RULES), 13_728);
     assert_eq!([0, 1, 2, 3, MOST_RULES].map(list_bytes), [0, 0, 5, 15, 2_480]);
 }

@@ -6,6 +6,9 @@
 //! - `second --many --lines`: a stream of cases, what `clash` prints for each
 //! - `second --calls [--scan]`: a stream of operations, a line for each
 //! - `second --calls --lines`: a stream of operations, what `catalogue` prints
+//! - `second --scripts STREAM`: what was printed for a stream of cases, scripts
+//!   among it; does each script say its sheet?
+//! - `second --script SHEET`: one script; does it say this sheet?
 
 use std::io::{self, BufWriter, Read, Write};
 use std::process::ExitCode;
@@ -13,6 +16,8 @@ use std::process::ExitCode;
 use second::calls::{self, Calls, Operation};
 use second::cases::{After, Answerer, Case};
 use second::catalogue::{Searcher, HASHING, SCANNING};
+use second::sheet;
+use second::smt::{compare, output, Told};
 
 /// "`clash` reads the first 1,024 bytes of standard input, lends 65,520 bytes
 /// of work (455 situations) and 4,096 of answer."
@@ -31,6 +36,8 @@ fn main() -> ExitCode {
         ["--calls"] => calls(HASHING, calls::After::line),
         ["--calls", "--scan"] => calls(SCANNING, calls::After::line),
         ["--calls", "--lines"] => calls(HASHING, calls::After::numbers),
+        ["--scripts", stream] => scripts(stream),
+        ["--script", sheet] => script(sheet),
         [work, answer] => match (work.parse(), answer.parse()) {
             (Ok(work), Ok(answer)) => one(work, answer),
             _ => return usage(),
@@ -48,6 +55,7 @@ fn main() -> ExitCode {
 
 fn usage() -> ExitCode {
     eprintln!("usage: second | second WORK ANSWER | second --many|--calls [--scan | --lines]");
+    eprintln!("       second --scripts STREAM | second --script SHEET");
     ExitCode::from(2)
 }
 
@@ -96,4 +104,37 @@ fn calls(search: Searcher, shown: fn(&calls::After) -> String) -> io::Result<()>
         rest = behind;
     }
     out.flush()
+}
+
+/// The scripts for a stream of cases.
+fn scripts(stream: &str) -> io::Result<()> {
+    let stream = std::fs::read(stream)?;
+    let mut printed = Vec::new();
+    io::stdin().lock().read_to_end(&mut printed)?;
+    tell(output::check(&stream, &printed).map(|checked| checked.line()))
+}
+
+/// One script.
+fn script(sheet: &str) -> io::Result<()> {
+    let sheet = std::fs::read(sheet)?;
+    let mut script = Vec::new();
+    io::stdin().lock().read_to_end(&mut script)?;
+    let said = match sheet::read(&sheet) {
+        Ok(question) => compare::says(&script, &question),
+        Err(fault) => {
+            Err(format!("the sheet's fault is {}, its place {}", fault.number, fault.place))
+        }
+    };
+    tell(said.map(|()| "the script says its sheet".to_string()))
+}
+
+/// Prints what was found; a difference is a failure.
+fn tell(found: Told<String>) -> io::Result<()> {
+    match found {
+        Ok(line) => writeln!(io::stdout().lock(), "{line}"),
+        Err(line) => {
+            writeln!(io::stdout().lock(), "{line}")?;
+            Err(io::Error::other("a difference"))
+        }
+    }
 }

@@ -1,0 +1,72 @@
+// `script`: reads a question sheet from standard input and writes it out as a script for string solvers. There is no exit status: a refusal
+// or a failure is told on standard error, and nothing is written.
+//
+// The stored sheet: left `K`, field 0, `-4`, field 0, field 2; right `K7`, field 1, `.$`. Field 0 is `LT`, or a digit and any of the values 34 to 38
+// (`YZ-. `); field 2 is empty or `$`; field 1 is open. The pattern of field 4, which stands in neither side, is left out.
+use answers::Fault;
+use lines::read_first;
+use lines::tell;
+use lines::tell_number;
+use scripts::Scripted;
+
+// As `clash` does: it "reads the first 1,024 bytes of standard input".
+const INPUT: usize = 1024;
+
+// No script is longer: `enough`, which `scripts::script` promises.
+const SCRIPT: usize = 140000;
+
+fn main() {
+    let mut input = [0u8; INPUT];
+    let got = read_first(&mut input);
+    let n = got.bytes;
+    if got.read {
+        write_out(&input[0..n]);
+    } else {
+        tell(b"script: standard input can't be read\n");
+    }
+}
+
+fn write_out(sheet: &[u8]) {
+    let mut out = [0u8; SCRIPT];
+    write_in(sheet, &mut out);
+}
+
+fn write_in(sheet: &[u8], out: &mut [u8]) {
+    let scripted = scripts::script(sheet, out);
+    match scripted {
+        Scripted::Written { bytes } => print(&out[0..bytes]),
+        Scripted::Refused { fault, place } => refuse(fault, place),
+        // never: the buffer is as long as the longest script
+        Scripted::TooShort => tell(b"script: 40: the buffer is too short\n"),
+    }
+}
+
+fn print(script: &[u8]) {
+    if !lines::print(script) {
+        tell(b"script: standard output can't be written\n");
+    }
+}
+
+// A line with the fault's number, its words and its place.
+fn refuse(fault: Fault, place: usize) {
+    tell(b"script: ");
+    tell_number(answers::number(fault) as usize);
+    tell(b": ");
+    tell_words(fault);
+    tell(b", at offset ");
+    tell_number(place);
+    tell(b"\n");
+}
+
+// The words of `bradovusc_text`.
+fn tell_words(fault: Fault) {
+    match fault {
+        Fault::CutShort => tell(b"cut short"),
+        Fault::WrongMark => tell(b"a wrong mark, or bytes behind the last side"),
+        Fault::WrongField => tell(b"a wrong field number"),
+        Fault::WrongLength => tell(b"a wrong length"),
+        Fault::NotOnePattern => tell(b"not one pattern"),
+        Fault::TooManyLeaves => tell(b"a pattern with too many leaves"),
+        Fault::WrongToken => tell(b"a wrong token"),
+    }
+}

@@ -1,0 +1,5 @@
+pub mod Holding
+pub mod Listing
+pub mod Whole
+pub mod Answered
+pub mod Unique

@@ -1,0 +1,17 @@
+-- the expression of a pattern, and its texts
+pub mod Tree
+pub mod SameTexts
+-- the script, lexeme by lexeme
+pub mod Lexed
+pub mod LexedScript
+-- what is read from it
+pub mod ReadBack
+pub mod ScriptMeans
+pub mod SameQuestion
+-- how long it is
+pub mod Sayable
+pub mod Length
+-- what is promised of writing one
+pub mod Promised
+-- known scripts: the checker computes them
+pub mod KnownScripts
