@@ -5,8 +5,8 @@ use mathlib.Core.List.{List}
 use native.Mathlib.Omega.{arith}
 use lib.Dec.{lit<}
 use lib.ListN.{set}
-use Rattle.paper.specs.Catalogue as Catalogue
-use Rattle.paper.specs.Recheck as Recheck
+use Rattle.rulebook.specs.Catalogue as Catalogue
+use Rattle.rulebook.specs.Recheck as Recheck
 use Rattle.answers.specs.Faults.{fault-of}
 use Rattle.storeroom.specs.Told.{told-added, told-withdrawn}
 use Rattle.storeroom.specs.declared.Added.{Added}

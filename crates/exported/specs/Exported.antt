@@ -3,8 +3,8 @@ use Prim.Native.Nat.{ℕ}
 use mathlib.Core.List.{List}
 use lib.ListN.{set}
 use Rattle.paper.specs.Outcome.{Outcome}
-use Rattle.paper.specs.Catalogue.{Added}
-use Rattle.paper.specs.Recheck.{Rechecked}
+use Rattle.rulebook.specs.Catalogue.{Added}
+use Rattle.rulebook.specs.Recheck.{Rechecked}
 use Rattle.smt.specs.Scripting.{Scripting}
 
 -- three numbers in the first three elements. `set` past the end changes nothing, so there are as many as there is room for.

@@ -2,8 +2,8 @@
 ghost use mathlib.Core.Path.{_≡_};
 ghost use lib.ListN.{set};
 ghost use Rattle.paper.specs.Outcome.{outcome};
-ghost use Rattle.paper.specs.Catalogue.{adding, withdrawing};
-ghost use Rattle.paper.specs.Recheck.{rechecking};
+ghost use Rattle.rulebook.specs.Catalogue.{adding, withdrawing};
+ghost use Rattle.rulebook.specs.Recheck.{rechecking};
 ghost use Rattle.smt.specs.Scripting.{scripting};
 ghost use Rattle.exported.specs.Exported.{telling, telling-added, telling-rechecked, telling-scripted, with-numbers};
 

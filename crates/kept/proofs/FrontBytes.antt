@@ -10,9 +10,9 @@ use lib.Dec.{leb}
 use Rattle.paper.specs.Numbers.{catalogue-rules}
 use Rattle.paper.specs.Sheet.{Records, faulty, records}
 use Rattle.paper.specs.Rule.{Rule, rule-front, foreign-field}
-use Rattle.paper.specs.Catalogue.{no-catalogue, all-zero, form-within}
+use Rattle.rulebook.specs.Catalogue.{no-catalogue, all-zero, form-within}
 use Rattle.paper.proofs.base.Tests.{by-bool, le-leb, lt-leb, leb-false}
-use Rattle.paper.proofs.catalogue.Local.{rule-bounds}
+use Rattle.rulebook.proofs.Local.{rule-bounds}
 use Rattle.answers.specs.declared.Fault.{Fault}
 use Rattle.answers.specs.declared.Found.the-variants.{NoFault, Refused}
 use Rattle.rules.specs.Read.{rule-of}

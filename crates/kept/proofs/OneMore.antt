@@ -8,7 +8,7 @@ use mathlib.Core.List.{List, [], _∷_, _++_}
 use lib.Dec.{ltb}
 use lib.ListN.{length, getD, length-append}
 use lib.Seq.{take-append-le, take-at}
-use Rattle.paper.specs.Catalogue.{Present, Form, no-catalogue, rules, rule-behind, used}
+use Rattle.rulebook.specs.Catalogue.{Present, Form, no-catalogue, rules, rule-behind, used}
 use Rattle.paper.proofs.base.Tests.{by-bool, lt-ltb, le-ltb, ltb-true, ltb-false}
 use Rattle.kept.specs.Kept.{record-at, bytes-each, record-bytes}
 

@@ -9,10 +9,10 @@ use mathlib.Core.List.{List, []}
 use lib.ListN.{length, drop, length-drop}
 use lib.Seq.{drop-drop}
 use Rattle.paper.specs.Numbers.{catalogue-rules}
-use Rattle.paper.specs.Catalogue.{Present, no-catalogue, rules, rule-behind, all-zero, form-within, form}
-use Rattle.paper.specs.Catalogue as Catalogue
+use Rattle.rulebook.specs.Catalogue.{Present, no-catalogue, rules, rule-behind, all-zero, form-within, form}
+use Rattle.rulebook.specs.Catalogue as Catalogue
 use Rattle.paper.proofs.base.Tests.{le-ltb}
-use Rattle.paper.proofs.catalogue.Local.{rule-bounds}
+use Rattle.rulebook.proofs.Local.{rule-bounds}
 use Rattle.kept.specs.Kept.{record-at, record-bytes, kept-of, front-bytes}
 use Rattle.kept.specs.declared.Kept.{Kept}
 use Rattle.kept.proofs.FrontBytes.{Next, no-front}

@@ -8,10 +8,10 @@ use mathlib.Core.List.{List, [], _∷_}
 use lib.ListN.{length, drop}
 use Rattle.paper.specs.Sheet.{records}
 use Rattle.paper.specs.Rule.{rule-front}
-use Rattle.paper.specs.Catalogue.{Present, rules, form}
-use Rattle.paper.specs.Calls.{present-at, rule-at}
-use Rattle.paper.proofs.catalogue.Form.{offset-of, offset-next, read-at, own-fields, record-inside}
-use Rattle.paper.proofs.catalogue.GoodRule.{GoodRule, rule-good}
+use Rattle.rulebook.specs.Catalogue.{Present, rules, form}
+use Rattle.rulebook.specs.Calls.{present-at, rule-at}
+use Rattle.rulebook.proofs.Form.{offset-of, offset-next, read-at, own-fields, record-inside}
+use Rattle.rulebook.proofs.GoodRule.{GoodRule, rule-good}
 use Rattle.rules.specs.Read.{rule-of}
 use Rattle.rules.specs.declared.Rule.{Rule}
 

@@ -5,7 +5,7 @@ use mathlib.Core.Path.{_≡_, refl, ap}
 use mathlib.Core.Bool.{true, false}
 use mathlib.Core.List.{List}
 use lib.ListN.{length}
-use Rattle.paper.specs.Catalogue.{Present, Form, no-catalogue, rules, used}
+use Rattle.rulebook.specs.Catalogue.{Present, Form, no-catalogue, rules, used}
 use Rattle.kept.specs.Kept.{kept-of, record-at, record-bytes}
 use Rattle.kept.specs.declared.Kept.{Kept}
 

@@ -8,7 +8,7 @@ use lib.ListN.{length, getD, take}
 use Rattle.paper.specs.Numbers.{catalogue-rules}
 use Rattle.paper.specs.Sheet.{Records, faulty, records}
 use Rattle.paper.specs.Rule.{Rule, rule-front, foreign-field}
-use Rattle.paper.specs.Catalogue.{Present, Form, no-catalogue, rules, used}
+use Rattle.rulebook.specs.Catalogue.{Present, Form, no-catalogue, rules, used}
 use Rattle.kept.specs.declared.Kept.{Kept}
 
 -- where the record of the rule with the number i stands, and how many bytes it has; 0 where there is none

@@ -2,7 +2,7 @@
 use answers::Found;
 ghost use mathlib.Core.Path.{_≡_};
 ghost use mathlib.Core.Bool.{false};
-ghost use Rattle.paper.specs.Catalogue.{all-zero, form};
+ghost use Rattle.rulebook.specs.Catalogue.{all-zero, form};
 ghost use Rattle.kept.specs.Kept.{front-bytes, kept-of};
 
 // "a catalogue of up to 32 rules"

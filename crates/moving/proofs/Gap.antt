@@ -9,7 +9,7 @@ use mathlib.Core.Path.{_≡_, refl, sym, ap, _∙_}
 use mathlib.Core.List.{List, [], _∷_, _++_, append-assoc, append-nil}
 use lib.ListN.{length, getD, take, drop, set, replicate, length-append, length-drop, length-replicate}
 use lib.Seq.{take-all, drop-length, getD-drop, paste, paste-zero, paste-suc, drop-paste}
-use Rattle.paper.specs.Catalogue.{without-record}
+use Rattle.rulebook.specs.Catalogue.{without-record}
 
 -- zeros behind the end are what is read there anyway
 zeros-at : (n j : ℕ) → getD {A = ℕ} (replicate n 0) j 0 ≡ 0

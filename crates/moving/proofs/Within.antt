@@ -3,7 +3,7 @@ use Prim.Native.Nat.{ℕ, _+_, _≤_, _<_}
 use mathlib.Core.Path.{_≡_}
 use mathlib.Core.List.{List}
 use lib.ListN.{length}
-use Rattle.paper.specs.Catalogue.{with-record, without-record}
+use Rattle.rulebook.specs.Catalogue.{with-record, without-record}
 use Rattle.paper.proofs.base.Tests.{lt-ltb, le-ltb}
 use Rattle.moving.specs.Moving.{put-at, closed-at}
 

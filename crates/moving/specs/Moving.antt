@@ -4,7 +4,7 @@ use mathlib.Core.Bool.{cond}
 use mathlib.Core.List.{List}
 use lib.Dec.{ltb}
 use lib.ListN.{length}
-use Rattle.paper.specs.Catalogue.{with-record, without-record}
+use Rattle.rulebook.specs.Catalogue.{with-record, without-record}
 
 -- the bytes put from the offset on, if they fit
 unfoldable pub put-at : ℕ → List ℕ → List ℕ → List ℕ

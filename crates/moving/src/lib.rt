@@ -2,7 +2,7 @@
 ghost use mathlib.Core.Path.{_≡_};
 ghost use Prim.Native.Nat.{_+_, _≤_};
 ghost use lib.ListN.{length};
-ghost use Rattle.paper.specs.Catalogue.{with-record, without-record};
+ghost use Rattle.rulebook.specs.Catalogue.{with-record, without-record};
 ghost use Rattle.moving.specs.Moving.{put-at, closed-at};
 
 // Puts the bytes from the offset on, if they fit.

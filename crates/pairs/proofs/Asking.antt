@@ -19,11 +19,11 @@ use Rattle.paper.specs.Question.{Question, held-by, any-spaces, hidden}
 use Rattle.paper.specs.Rule.{Rule, moved-up, pair}
 use Rattle.paper.specs.Outcome.{Outcome, room-of, searched, records, some-text-too-long, cleared, clash, answered, count-of, how-of}
 use Rattle.paper.specs.Outcome as Outcome
-use Rattle.paper.specs.Catalogue.{pair-number, pair-answer, pair-count}
+use Rattle.rulebook.specs.Catalogue.{pair-number, pair-answer, pair-count}
 use Rattle.paper.proofs.base.Tests.{by-bool, le-leb, lt-leb, lt-ltb}
 use Rattle.paper.proofs.base.Lists.{map-append}
 use Rattle.paper.proofs.sheets.Asked.{GoodQuestion}
-use Rattle.paper.proofs.catalogue.GoodRule.{GoodRule, OwnToken, pair-asks}
+use Rattle.rulebook.proofs.GoodRule.{GoodRule, OwnToken, pair-asks}
 use Rattle.places.specs.WorkedOut.{worked-out}
 use Rattle.places.specs.declared.PlaceTables.{PlaceTables}
 use Rattle.inner.specs.Inner.{field-code, no-token, token-code, side-code, tokens, padded}

@@ -6,7 +6,7 @@ use mathlib.Core.List.{List, map}
 use lib.ListN.{length}
 use Rattle.paper.specs.Rule.{Rule}
 use Rattle.paper.specs.Outcome.{room-of}
-use Rattle.paper.proofs.catalogue.GoodRule.{GoodRule}
+use Rattle.rulebook.proofs.GoodRule.{GoodRule}
 use Rattle.inner.specs.Inner.{side-code, padded}
 use Rattle.places.specs.WorkedOut.{worked-out}
 use Rattle.places.specs.declared.PlaceTables.{PlaceTables}

@@ -14,5 +14,5 @@ pub mod plain
 pub mod sheets
 -- what is promised of the whole
 pub mod demands
--- the catalogue, and the sheet that says a question
-pub mod catalogue
+-- a pattern's code, and the sheet that says a question
+pub mod saying

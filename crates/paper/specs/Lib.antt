@@ -20,11 +20,8 @@ pub mod Written
 pub mod Sheet
 pub mod Outcome
 pub mod Rule
-pub mod Catalogue
-pub mod Recheck
 pub mod Saying
 pub mod Printed
 -- what is promised of the whole
 pub mod Buffers
 pub mod Demands
-pub mod Calls

@@ -16,7 +16,7 @@ use Rattle.paper.specs.Saying.{pattern-code}
 use Rattle.paper.proofs.places.Reader.{Reads, runs-out, a-character, empty-text, lo-missing, lo-wrong, hi-missing, hi-wrong, a-range}
 use Rattle.paper.proofs.places.Reader.{first-wrong, second-wrong, both-parts, starred-wrong, starred, no-code, shorter}
 use Rattle.paper.proofs.places.Judged.{both-leaves}
-use Rattle.paper.proofs.catalogue.Code.{read-says}
+use Rattle.paper.proofs.saying.Code.{read-says}
 
 pub fault-within : {s : List ℕ} {left : ℕ} → Reads s (no-pattern left) → left ≤ length s
 fault-within runs-out = omega arith

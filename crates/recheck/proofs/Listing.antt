@@ -10,11 +10,11 @@ use mathlib.Core.List.{List, [], _∷_, _++_, append-assoc, append-nil}
 use lib.ListN.{length, drop, replicate, length-append, length-replicate, drop-of-length-le}
 use Rattle.paper.specs.Rule.{rule-front}
 use Rattle.paper.specs.Outcome.{room-of, cleared}
-use Rattle.paper.specs.Catalogue.{Present, work-behind}
-use Rattle.paper.specs.Calls.{present-at, rule-at}
-use Rattle.paper.specs.Recheck.{listed, listed-with, listed-from, work-after-pairs}
-use Rattle.paper.proofs.catalogue.Form.{offset-of, rules-at-most}
-use Rattle.paper.proofs.catalogue.Rechecked.{list-short, count-in-bytes}
+use Rattle.rulebook.specs.Catalogue.{Present, work-behind}
+use Rattle.rulebook.specs.Calls.{present-at, rule-at}
+use Rattle.rulebook.specs.Recheck.{listed, listed-with, listed-from, work-after-pairs}
+use Rattle.rulebook.proofs.Form.{offset-of, rules-at-most}
+use Rattle.rulebook.proofs.Rechecked.{list-short, count-in-bytes}
 use Rattle.places.specs.declared.PlaceTables.{PlaceTables}
 use Rattle.rules.specs.Read.{rule-of}
 use Rattle.rules.specs.declared.Rule.{Rule}

@@ -5,7 +5,7 @@ use mathlib.Core.Path.{_≡_, refl, sym, _∙_}
 use mathlib.Core.List.{List, []}
 use lib.Dec.{lit<}
 use lib.ListN.{set}
-use Rattle.paper.specs.Recheck.{pair-record}
+use Rattle.rulebook.specs.Recheck.{pair-record}
 use Rattle.paper.proofs.base.Tests.{eq-eqb, neq-eqb}
 use Rattle.pairs.specs.Ask.{number-of, count-of}
 use Rattle.pairs.specs.declared.Pair.{Pair}

@@ -7,10 +7,10 @@ use mathlib.Core.List.{List}
 use lib.ListN.{length, take, drop}
 use lib.Seq.{take-at}
 use Rattle.paper.specs.Outcome.{room-of}
-use Rattle.paper.specs.Catalogue.{no-catalogue, form, with-record}
-use Rattle.paper.specs.Recheck.{pair-bytes, listed-from, not-listed, rechecking}
+use Rattle.rulebook.specs.Catalogue.{no-catalogue, form, with-record}
+use Rattle.rulebook.specs.Recheck.{pair-bytes, listed-from, not-listed, rechecking}
 use Rattle.paper.proofs.base.Tests.{lt-ltb, le-ltb}
-use Rattle.paper.proofs.catalogue.Rechecked.{list-short}
+use Rattle.rulebook.proofs.Rechecked.{list-short}
 use Rattle.moving.specs.Moving.{put-at}
 use Rattle.moving.proofs.Within.{is-put}
 use Rattle.writing.proofs.Putting.{puts-in-front}

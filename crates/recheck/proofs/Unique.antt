@@ -4,8 +4,8 @@ use mathlib.Core.Path.{_≡_, refl, sym, ap, _∙_}
 use mathlib.Core.Bool.{cond}
 use mathlib.Core.List.{List}
 use lib.Dec.{eqb}
-use Rattle.paper.specs.Recheck.{rechecking}
-use Rattle.paper.specs.Recheck as Recheck
+use Rattle.rulebook.specs.Recheck.{rechecking}
+use Rattle.rulebook.specs.Recheck as Recheck
 use Rattle.recheck.specs.Told.{told-rechecked}
 use Rattle.recheck.specs.declared.Rechecked.{Rechecked}
 use Rattle.recheck.specs.declared.Rechecked.the-variants.{Listed, TooShort, NoCatalogue}

@@ -6,10 +6,10 @@ use mathlib.Core.List.{List, [], map}
 use lib.Dec.{eqb}
 use lib.ListN.{length, take, drop}
 use Rattle.paper.specs.Outcome.{room-of}
-use Rattle.paper.specs.Catalogue.{Present, rules, form, used, work-behind}
-use Rattle.paper.specs.Calls.{rule-at}
-use Rattle.paper.specs.Recheck.{pair-record, listed-with, listed-from, work-after-pairs, not-listed}
-use Rattle.paper.specs.Recheck as Recheck
+use Rattle.rulebook.specs.Catalogue.{Present, rules, form, used, work-behind}
+use Rattle.rulebook.specs.Calls.{rule-at}
+use Rattle.rulebook.specs.Recheck.{pair-record, listed-with, listed-from, work-after-pairs, not-listed}
+use Rattle.rulebook.specs.Recheck as Recheck
 use Rattle.inner.specs.Inner.{side-code, padded}
 use Rattle.places.specs.WorkedOut.{worked-out}
 use Rattle.places.specs.declared.PlaceTables.{PlaceTables}

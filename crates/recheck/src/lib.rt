@@ -3,7 +3,7 @@ use pairs::Pair;
 use rules::Rule;
 ghost use mathlib.Core.Path.{_≡_};
 ghost use lib.ListN.{length, replicate};
-ghost use Rattle.paper.specs.Recheck.{rechecking};
+ghost use Rattle.rulebook.specs.Recheck.{rechecking};
 ghost use Rattle.writing.specs.Writing.{Puts};
 ghost use Rattle.recheck.specs.Told.{told-rechecked, bytes-of, Fits, Ready-to-list, With-listed, Standing, longest-list, All-listed};
 

@@ -26,7 +26,7 @@ use Rattle.paper.proofs.base.Lists.{length-from, mem-upto}
 use Rattle.paper.proofs.base.Listed.{getD-map-upto}
 use Rattle.paper.proofs.places.Judged.{range-takes}
 use Rattle.paper.proofs.sheets.Asked.{GoodHeld}
-use Rattle.paper.proofs.catalogue.Saying.{ShortCode, Sayable}
+use Rattle.paper.proofs.saying.Saying.{ShortCode, Sayable}
 use Rattle.smt.specs.Bytes.{bytes}
 use Rattle.smt.specs.Script.{one-character, next-character, choice, expression, expression-of, digit, field-lines}
 use Rattle.smt.specs.Script.{arguments-of, side-term, heading, all-standing, equation, script, longest-script}

@@ -15,8 +15,8 @@ use Rattle.paper.specs.Sheet.{Checked, fault, read, FieldPattern, byte-at, body
 use Rattle.paper.specs.Sheet.{with-pattern, read-patterns, Reading, refused, asked, read-end, right-read, left-read, sides-read, read-sheet}
 use Rattle.paper.proofs.base.Tests.{cond-by}
 use Rattle.paper.proofs.sheets.Asked.{PatternRead, set-by, open-by, Listed, patterns-by, sheet-good}
-use Rattle.paper.proofs.catalogue.Code.{judged-code}
-use Rattle.paper.proofs.catalogue.Saying.{ShortCode, Sayable}
+use Rattle.paper.proofs.saying.Code.{judged-code}
+use Rattle.paper.proofs.saying.Saying.{ShortCode, Sayable}
 
 -- "length byte n 1 to 96"
 abbrev Short : List Held → Type 0

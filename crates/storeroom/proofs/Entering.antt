@@ -8,12 +8,12 @@ use mathlib.Core.List.{List, [], _∷_, map}
 use lib.ListN.{length, getD}
 use Rattle.paper.specs.Sheet.{Fault, fault-number, faulty, records}
 use Rattle.paper.specs.Rule.{Rule, read-rule, foreign-field}
-use Rattle.paper.specs.Catalogue.{Present, no-catalogue, rules, form, used, is-full, not-entered, adding, withdrawing, withdrawn-from}
-use Rattle.paper.specs.Catalogue as Catalogue
-use Rattle.paper.specs.Calls.{present-at}
+use Rattle.rulebook.specs.Catalogue.{Present, no-catalogue, rules, form, used, is-full, not-entered, adding, withdrawing, withdrawn-from}
+use Rattle.rulebook.specs.Catalogue as Catalogue
+use Rattle.rulebook.specs.Calls.{present-at}
 use Rattle.paper.proofs.base.Tests.{lt-ltb}
-use Rattle.paper.proofs.catalogue.Form.{offset-of, rule-fits, record-inside}
-use Rattle.paper.proofs.catalogue.Withdrawing.{leaves}
+use Rattle.rulebook.proofs.Form.{offset-of, rule-fits, record-inside}
+use Rattle.rulebook.proofs.Withdrawing.{leaves}
 use Rattle.kept.specs.Kept.{record-at, record-bytes}
 use Rattle.kept.specs.declared.Kept.{Kept}
 use Rattle.kept.proofs.Told.{Rules}

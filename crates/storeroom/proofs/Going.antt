@@ -9,11 +9,11 @@ use lib.ListN.{length, take, drop, replicate, length-replicate, drop-of-length-l
 use lib.Seq.{take-all}
 use Rattle.paper.specs.Rule.{Rule, rule-front}
 use Rattle.paper.specs.Outcome.{room-of, cleared}
-use Rattle.paper.specs.Catalogue.{Present, pairs-from, work-behind}
-use Rattle.paper.specs.Calls.{rule-at}
+use Rattle.rulebook.specs.Catalogue.{Present, pairs-from, work-behind}
+use Rattle.rulebook.specs.Calls.{rule-at}
 use Rattle.paper.proofs.base.Tests.{eq-eqb, neq-eqb}
-use Rattle.paper.proofs.catalogue.Form.{offset-of}
-use Rattle.paper.proofs.catalogue.GoodRule.{new-good}
+use Rattle.rulebook.proofs.Form.{offset-of}
+use Rattle.rulebook.proofs.GoodRule.{new-good}
 use Rattle.places.specs.declared.PlaceTables.{PlaceTables}
 use Rattle.rules.specs.Read.{rule-of}
 use Rattle.rules.specs.declared.Rule as Code

@@ -5,8 +5,8 @@ use mathlib.Core.Path.{_≡_, refl, sym, ap, _∙_}
 use mathlib.Core.Bool.{cond}
 use mathlib.Core.List.{List}
 use lib.Dec.{eqb}
-use Rattle.paper.specs.Catalogue.{adding, withdrawing}
-use Rattle.paper.specs.Catalogue as Catalogue
+use Rattle.rulebook.specs.Catalogue.{adding, withdrawing}
+use Rattle.rulebook.specs.Catalogue as Catalogue
 use Rattle.answers.specs.declared.Fault.the-variants.{CutShort, WrongMark, WrongField, WrongLength, NotOnePattern, TooManyLeaves, WrongToken}
 use Rattle.answers.proofs.Same.{fault-from}
 use Rattle.pairs.specs.declared.Pair.{Pair}

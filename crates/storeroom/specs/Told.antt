@@ -9,8 +9,8 @@ use Rattle.paper.specs.Numbers.{catalogue-rules}
 use Rattle.paper.specs.Sheet.{fault-number, records}
 use Rattle.paper.specs.Rule.{Rule, read-rule, foreign-field}
 use Rattle.paper.specs.Outcome.{room-of}
-use Rattle.paper.specs.Catalogue.{Present, rules, form, Pairs, all-answered-1, not-answered-1, pairs-from, work-behind, is-full}
-use Rattle.paper.specs.Catalogue as Catalogue
+use Rattle.rulebook.specs.Catalogue.{Present, rules, form, Pairs, all-answered-1, not-answered-1, pairs-from, work-behind, is-full}
+use Rattle.rulebook.specs.Catalogue as Catalogue
 use Rattle.inner.specs.Inner.{side-code, padded}
 use Rattle.places.specs.WorkedOut.{worked-out}
 use Rattle.places.specs.declared.PlaceTables.{PlaceTables}

@@ -6,7 +6,7 @@ use kept::Kept;
 use pairs::Pair;
 use rules::Rule;
 ghost use mathlib.Core.Path.{_≡_};
-ghost use Rattle.paper.specs.Catalogue.{adding, withdrawing};
+ghost use Rattle.rulebook.specs.Catalogue.{adding, withdrawing};
 ghost use Rattle.storeroom.specs.Told.{told-added, told-withdrawn, full-of, Ready-to-ask, Ready, Pairs-asked};
 
 // The answer to a new rule. specs/Told.antt gives each its number, count, place, rule's number and pair's answer.

@@ -10,7 +10,7 @@ use borrow.Author.Needs.{needs}
 use borrow.Author.Tests.{not-true, not-false}
 use borrow.Rule.Slice.PartAt.{part-to-end}
 use lib.ListN.{length, drop}
-use Rattle.paper.specs.Catalogue.{all-zero}
+use Rattle.rulebook.specs.Catalogue.{all-zero}
 use Rattle.kept.specs.Kept.{kept-of, front-bytes}
 use Rattle.kept.proofs.FrontBytes.{Next, some-front}
 use Rattle.kept.proofs.Reached.{Reached, reached-start, reached-none, next-inside, reached-this, reached-other, reached-end}

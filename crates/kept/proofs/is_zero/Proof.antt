@@ -6,7 +6,7 @@ use mathlib.Core.Path.{_≡_}
 use borrow.Author.Needs.{needs}
 use lib.ListN.{length, getD, drop, drop-of-length-le}
 use lib.Seq.{drop-cons}
-use Rattle.paper.specs.Catalogue.{all-zero}
+use Rattle.rulebook.specs.Catalogue.{all-zero}
 use Rattle.paper.proofs.base.Tests.{eq-eqb, neq-eqb}
 use Rattle.kept.proofs.is_zero.Statement.{statement}
 use Rattle.kept.proofs.is_zero.Tie as tie

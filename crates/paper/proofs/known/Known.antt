@@ -111,7 +111,7 @@ known-in-01 =
     answer-row (PA 0 (68 ∷ 65 ∷ 0 ∷ 42 ∷ []) ++ LE (x ∷ A ∷ []) ++ RI (B ∷ x ∷ [])) 600 20 1 2 [] ∷
     -- xx and `AA`, open
     answer-row (LE (x ∷ x ∷ []) ++ RI (A ∷ A ∷ [])) 2000 20 0 12 (VA 0 (A ∷ [])) ∷
-    -- xx and `A`, open, room 20: no label exists, but x takes one space after the other (with room 455 `KnownPrinted` has it: 19)
+    -- xx and `A`, open, room 20: no label exists, but x takes one space after the other (with room 455 the program `known` has it: 19)
     answer-row (LE (x ∷ x ∷ []) ++ RI (A ∷ [])) 2880 20 18 20 [] ∷
     -- `AB`x`B` and x`B`y, open
     answer-row (LE (A ∷ B ∷ x ∷ B ∷ []) ++ RI (x ∷ B ∷ y ∷ [])) 2400 20 0 15 (VA 0 (A ∷ []) ++ VA 1 (A ∷ B ∷ [])) ∷

@@ -9,7 +9,7 @@ use borrow.Author.Needs.{needs}
 use borrow.Rule.Slice.PartAt.{part-to-end}
 use lib.ListN.{length, drop, length-replicate}
 use Rattle.paper.specs.Rule.{rule-front}
-use Rattle.paper.proofs.catalogue.Form.{rules-at-most}
+use Rattle.rulebook.proofs.Form.{rules-at-most}
 use Rattle.rules.specs.Read.{rule-of}
 use Rattle.kept.proofs.Standing.{standing-inside, next-inside}
 use Rattle.recheck.specs.Told.{Ready-to-list}

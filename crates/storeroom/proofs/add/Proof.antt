@@ -4,7 +4,7 @@ use denote.Ref.{now}
 use borrow.Author.Needs.{needs}
 use borrow.Author.Tests.{not-true, not-false}
 use Rattle.paper.specs.Rule.{read-rule}
-use Rattle.paper.specs.Catalogue.{form, is-full}
+use Rattle.rulebook.specs.Catalogue.{form, is-full}
 use Rattle.rules.proofs.Told.{RuleTold, rule-fault, rule-stands}
 use Rattle.kept.proofs.Told.{Rules, no-rules, some-rules}
 use Rattle.storeroom.proofs.Entering.{full-is, adds-to-none, adds-fault, adds-foreign, adds-full}

@@ -3,7 +3,7 @@ use native.Mathlib.Omega.{arith}
 use denote.Ref.{now}
 use borrow.Author.Needs.{needs}
 use borrow.Author.Tests.{not-true, not-false}
-use Rattle.paper.specs.Catalogue.{form}
+use Rattle.rulebook.specs.Catalogue.{form}
 use Rattle.kept.proofs.Told.{Rules, no-rules, some-rules}
 use Rattle.storeroom.proofs.Entering.{takes-from-none, takes-none, takes-one}
 use Rattle.storeroom.proofs.withdraw.Statement.{statement}

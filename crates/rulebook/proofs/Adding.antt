@@ -14,21 +14,21 @@ use mathlib.Core.Bool.{true, false}
 use mathlib.Core.List.{List, [], _∷_, _++_}
 use lib.Dec.{eqb}
 use lib.ListN.{length}
 use Rattle.paper.specs.Lists.{member}
 use Rattle.paper.specs.Places.{PlaceSet}
 use Rattle.paper.specs.Search.{End, found, used-up, no-room, too-long}
 use Rattle.paper.specs.Situation.{Situation, Move}
 use Rattle.paper.specs.Sheet.{Fault, fault-number, Records, faulty, records}
 use Rattle.paper.specs.Rule.{Rule, read-rule, foreign-field, pair}
 use Rattle.paper.specs.Question.{hidden}
 use Rattle.paper.specs.Outcome.{room-of, searched, how-of}
-use Rattle.paper.specs.Catalogue.{Present, Form, no-catalogue, rules, form, used, pair-number, Pairs, all-answered-1, not-answered-1}
-use Rattle.paper.specs.Catalogue.{pair-answer, pair-count, pairs-from, Added, not-entered, work-behind, entered-if, is-full}
-use Rattle.paper.specs.Catalogue.{added-rule, added-to, adding}
-use Rattle.paper.specs.Calls.{rule-at}
+use Rattle.rulebook.specs.Catalogue.{Present, Form, no-catalogue, rules, form, used, pair-number, Pairs, all-answered-1, not-answered-1}
+use Rattle.rulebook.specs.Catalogue.{pair-answer, pair-count, pairs-from, Added, not-entered, work-behind, entered-if, is-full}
+use Rattle.rulebook.specs.Catalogue.{added-rule, added-to, adding}
+use Rattle.rulebook.specs.Calls.{rule-at}
 use Rattle.paper.proofs.base.Tests.{cond-by, eqb-true, eqb-false}
 use Rattle.paper.proofs.sheets.Rows.{fault-range}
-use Rattle.paper.proofs.catalogue.Form.{length-with, rule-fits, form-with}
+use Rattle.rulebook.proofs.Form.{length-with, rule-fits, form-with}
 
 -- A pair's answer is 0, 1, 18 or 19; not 1, it is 0, 18 or 19.
 number-not-1 : (x : End (Situation PlaceSet) Move) → (pair-number x ≡ 1 → ⊥) → member (pair-number x) (0 ∷ 18 ∷ 19 ∷ []) ≡ true

@@ -16,18 +16,18 @@ use mathlib.Core.List.{List, [], _∷_, _++_, append-assoc, append-nil}
 use lib.Dec.{ltb, eqb}
 use lib.ListN.{length, take, drop, replicate, length-append, length-take, length-drop, length-replicate, take-append-drop, drop-of-length-le}
 use lib.Seq.{take-all, take-at, drop-at, drop-drop, take-add, take-append-seam, getD-append-seam, getD-take, drop-append-add, length-take-le}
 use Rattle.paper.specs.Numbers.{catalogue-rules}
 use Rattle.paper.specs.Outcome.{room-of}
-use Rattle.paper.specs.Catalogue.{Present, Form, no-catalogue, rules, all-zero, form, used, pair-answer, with-record, is-full, adding}
-use Rattle.paper.specs.Catalogue.{Withdrawn, without-record, withdrawn-from, withdrawn-of, withdrawing}
-use Rattle.paper.specs.Calls.{behind-last, present-at, rule-at}
+use Rattle.rulebook.specs.Catalogue.{Present, Form, no-catalogue, rules, all-zero, form, used, pair-answer, with-record, is-full, adding}
+use Rattle.rulebook.specs.Catalogue.{Withdrawn, without-record, withdrawn-from, withdrawn-of, withdrawing}
+use Rattle.rulebook.specs.Calls.{behind-last, present-at, rule-at}
 use Rattle.paper.proofs.base.Tests.{by-bool, both-true, both-false, ltb-true, ltb-false, le-ltb, lt-leb}
 use Rattle.paper.proofs.base.Lists.{all-append}
-use Rattle.paper.proofs.catalogue.Local.{rule-bounds, rule-whole, rule-cut}
-use Rattle.paper.proofs.catalogue.Form.{zero-bytes, all-zero-bytes, zero-drop, offset-of, offset-next}
-use Rattle.paper.proofs.catalogue.Form.{used-without, length-without, rules-at-most, used-inside, rest-zero, one-rule-less}
-use Rattle.paper.proofs.catalogue.Form.{read-at, own-fields, record-inside, form-without, rule-fits}
-use Rattle.paper.proofs.catalogue.Adding.{Enters, enters, added-form}
+use Rattle.rulebook.proofs.Local.{rule-bounds, rule-whole, rule-cut}
+use Rattle.rulebook.proofs.Form.{zero-bytes, all-zero-bytes, zero-drop, offset-of, offset-next}
+use Rattle.rulebook.proofs.Form.{used-without, length-without, rules-at-most, used-inside, rest-zero, one-rule-less}
+use Rattle.rulebook.proofs.Form.{read-at, own-fields, record-inside, form-without, rule-fits}
+use Rattle.rulebook.proofs.Adding.{Enters, enters, added-form}
 
 -- The ways that withdrawing goes, by what it tells and leaves.
 module _ (c : List ℕ) (i : ℕ) where

@@ -26,7 +26,7 @@ use Rattle.paper.specs.Sheet.{pattern-record, is-token, token, side-reco
 use Rattle.paper.specs.Sheet.{open-fields, next-is, read-patterns, asked, read-end, left-read, read-sheet}
 use Rattle.paper.specs.Saying.{pattern-code, token-byte, pattern-saying, patterns-saying, side-saying, sheet-saying}
 use Rattle.paper.proofs.sheets.Asked.{InRange, GoodSide, GoodHeld, GoodQuestion}
-use Rattle.paper.proofs.catalogue.Code.{code-judged}
+use Rattle.paper.proofs.saying.Code.{code-judged}
 
 -- "length byte n 1 to 96": the code of what a field may hold fits into a record
 abbrev pub ShortCode : Held → Type 0

@@ -14,19 +14,19 @@ use mathlib.Core.List.{List·Memᴰ, List·Memᴰ·head, List·Memᴰ·tail, Lis
 use lib.Dec.{ltb, eqb}
 use lib.ListN.{length, take, drop, length-append}
 use lib.Seq.{take-append-seam, drop-append-seam}
 use Rattle.paper.specs.Numbers.{situation-bytes, most-room, catalogue-rules}
 use Rattle.paper.specs.Question.{hidden}
 use Rattle.paper.specs.Rule.{Rule, pair}
 use Rattle.paper.specs.Outcome.{room-of}
-use Rattle.paper.specs.Catalogue.{Present, Form, no-catalogue, rules, form, pair-answer, pair-count}
-use Rattle.paper.specs.Calls.{rule-at, Apart}
-use Rattle.paper.specs.Recheck.{pair-bytes, pair-record, listed, listed-with, listed-from, Rechecked, rechecked-of, rechecking}
+use Rattle.rulebook.specs.Catalogue.{Present, Form, no-catalogue, rules, form, pair-answer, pair-count}
+use Rattle.rulebook.specs.Calls.{rule-at, Apart}
+use Rattle.rulebook.specs.Recheck.{pair-bytes, pair-record, listed, listed-with, listed-from, Rechecked, rechecked-of, rechecking}
 use Rattle.paper.proofs.base.Tests.{cond-by, eqb-true, eqb-false, neq-eqb}
 use Rattle.paper.proofs.sheets.QuestionSearched.{count-in-room}
-use Rattle.paper.proofs.catalogue.Form.{rules-at-most}
-use Rattle.paper.proofs.catalogue.GoodRule.{GoodRule, present-good}
-use Rattle.paper.proofs.catalogue.Pair.{pair-apart}
-use Rattle.paper.proofs.catalogue.Apart.{TwoApart, Every, EachApart, each-apart}
+use Rattle.rulebook.proofs.Form.{rules-at-most}
+use Rattle.rulebook.proofs.GoodRule.{GoodRule, present-good}
+use Rattle.rulebook.proofs.Pair.{pair-apart}
+use Rattle.rulebook.proofs.Apart.{TwoApart, Every, EachApart, each-apart}
 
 -- no byte in two lists together, none in either
 none-left : (a b : List ℕ) → length (a ++ b) ≡ 0 → length a ≡ 0

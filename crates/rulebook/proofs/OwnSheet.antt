@@ -7,25 +7,25 @@ use mathlib.Core.Path.{_≡_, refl, sym, ap, _∙_}
 use mathlib.Core.List.{List}
 use lib.Dec.{leb}
 use lib.ListN.{length}
 use Rattle.paper.specs.Places.{PlaceSet}
 use Rattle.paper.specs.Search.{End, found, used-up, no-room, too-long}
 use Rattle.paper.specs.Situation.{Situation, Move}
 use Rattle.paper.specs.Question.{Question, hidden}
 use Rattle.paper.specs.Sheet.{asked, read-sheet}
 use Rattle.paper.specs.Outcome.{outcome-of, outcome}
 use Rattle.paper.specs.Buffers.{Demand1}
 use Rattle.paper.specs.Demands.{number-of, end-of, Demand2, Demand3}
 use Rattle.paper.specs.Rule.{Rule, pair}
-use Rattle.paper.specs.Catalogue.{pair-number, pair-answer, pair-count}
+use Rattle.rulebook.specs.Catalogue.{pair-number, pair-answer, pair-count}
 use Rattle.paper.specs.Saying.{sheet-saying}
-use Rattle.paper.specs.Calls.{without-20, OwnSheet}
+use Rattle.rulebook.specs.Calls.{without-20, OwnSheet}
 use Rattle.paper.proofs.base.Tests.{cond-by}
 use Rattle.paper.proofs.sheets.Rows.{found-records, good-outcome}
 use Rattle.paper.proofs.demands.Demand1.{demand-1}
 use Rattle.paper.proofs.demands.Demand2.{demand-2}
 use Rattle.paper.proofs.demands.Demand3.{demand-3}
-use Rattle.paper.proofs.catalogue.Saying.{reads-back}
-use Rattle.paper.proofs.catalogue.GoodRule.{GoodRule, pair-sayable, pair-asks}
+use Rattle.paper.proofs.saying.Saying.{reads-back}
+use Rattle.rulebook.proofs.GoodRule.{GoodRule, pair-sayable, pair-asks}
 
 -- A pair's answer is the sheet's, where a clash is 0 whether or not its texts fit.
 same-number : (q : Question) (answer : List ℕ) (x : End (Situation PlaceSet) Move) → pair-number x ≡ without-20 (number-of q answer x)

@@ -17,16 +17,16 @@ use mathlib.Core.List.{List, [], _∷_, _++_, append-assoc}
 use lib.Dec.{leb, ltb, eqb}
 use lib.ListN.{length, take, drop, replicate, length-append, length-take, length-drop, length-replicate}
 use lib.Seq.{take-at, drop-at, drop-drop, take-add, length-take-le, take-append-le, drop-append-le}
 use Rattle.paper.specs.Lists.{all}
 use Rattle.paper.specs.Numbers.{catalogue-rules}
 use Rattle.paper.specs.Sheet.{Records, faulty, records}
 use Rattle.paper.specs.Rule.{Rule, rule-front, read-rule, foreign-field}
-use Rattle.paper.specs.Catalogue.{Present, Form, no-catalogue, rules, rule-behind, rule-stands, all-zero, form-within, form, used}
-use Rattle.paper.specs.Catalogue.{is-full, with-record, without-record}
-use Rattle.paper.specs.Calls.{present-at}
+use Rattle.rulebook.specs.Catalogue.{Present, Form, no-catalogue, rules, rule-behind, rule-stands, all-zero, form-within, form, used}
+use Rattle.rulebook.specs.Catalogue.{is-full, with-record, without-record}
+use Rattle.rulebook.specs.Calls.{present-at}
 use Rattle.paper.proofs.base.Tests.{cond-by, and-left, and-right, both-true, eqb-true, leb-false, ltb-false, or-left-false, or-right-false}
 use Rattle.paper.proofs.base.Lists.{cons-eq, all-append}
-use Rattle.paper.proofs.catalogue.Local.{rule-local, rule-bounds, rule-not-zero, rule-whole, rule-in-front}
+use Rattle.rulebook.proofs.Local.{rule-local, rule-bounds, rule-not-zero, rule-whole, rule-in-front}
 
 -- The rules stand one behind the other from the start of the bytes, then zero bytes.
 pub data LaidOut : List ℕ → List Present → Type 0 where

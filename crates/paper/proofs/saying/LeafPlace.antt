@@ -24,9 +24,9 @@ use Rattle.paper.specs.Written.{part, too-many-leaves, judged, judge}
 use Rattle.paper.specs.Saying.{pattern-code}
 use Rattle.paper.proofs.places.Reader.{Operator, Reads, a-character, empty-text, a-range, both-parts, starred, Judges, above-most, judges}
 use Rattle.paper.proofs.places.Judged.{both-leaves, read-takes, starts-length}
-use Rattle.paper.proofs.catalogue.Code.{read-says, code-judged}
-use Rattle.paper.proofs.catalogue.Continued.{Continues, none-continues, first-continues, second-continues, starred-continues}
-use Rattle.paper.proofs.catalogue.Continued.{Parted, parted, parted-behind, parted-at}
+use Rattle.paper.proofs.saying.Code.{read-says, code-judged}
+use Rattle.paper.proofs.saying.Continued.{Continues, none-continues, first-continues, second-continues, starred-continues}
+use Rattle.paper.proofs.saying.Continued.{Parted, parted, parted-behind, parted-at}
 
 -- a character, or a range
 abbrev pub leaf-code : ℕ → Bool

@@ -16,22 +16,22 @@ use mathlib.Core.List.{List, [], _∷_, _++_, List·Memᴰ, List·Memᴰ·not-ni
 use lib.Dec.{ltb}
 use lib.ListN.{length, getD, take, drop, length-append, length-take, length-map}
 use lib.Seq.{getD-set-other}
 use Rattle.paper.specs.Lists.{any}
 use Rattle.paper.specs.Numbers.{characters, fields, rule-fields, sheet-side}
 use Rattle.paper.proofs.base.Tests.{cond-by, true-false, or-left-false, or-right-false, ltb-false, leb-false, eqb-true}
 use Rattle.paper.proofs.base.Lists.{mem-cons-by, any-true, any-false, mem-map}
 use Rattle.paper.specs.Pattern.{Held, any-text, pattern}
 use Rattle.paper.specs.Equation.{Token, chr, fld, Side, is-field, stands-in}
 use Rattle.paper.specs.Sheet.{Checked, fault, read, FieldPattern, byte-at, body, LE, RU, marked, marked-side}
 use Rattle.paper.specs.Sheet.{Records, faulty, records, Fields, open-fields, with-pattern, read-patterns, asked}
 use Rattle.paper.specs.Rule.{Rule, rule-holds, with-side, side-read, rule-front, read-rule, foreign-token, foreign-field, moved-up, pair}
-use Rattle.paper.specs.Catalogue.{Present, rules, form}
+use Rattle.rulebook.specs.Catalogue.{Present, rules, form}
 use Rattle.paper.proofs.sheets.Asked.{InRange, GoodSide, GoodHeld, GoodFields, GoodQuestion, AsksGood, Found, PatternRead, set-by, open-by}
 use Rattle.paper.proofs.sheets.Asked.{fields-with, opens-good, Listed, patterns-by, marked-good}
-use Rattle.paper.proofs.catalogue.Code.{judged-code}
-use Rattle.paper.proofs.catalogue.Saying.{ShortCode, Sayable}
-use Rattle.paper.proofs.catalogue.Local.{rule-whole}
-use Rattle.paper.proofs.catalogue.Form.{LaidOut, zeros, rule, form-stands}
+use Rattle.paper.proofs.saying.Code.{judged-code}
+use Rattle.paper.proofs.saying.Saying.{ShortCode, Sayable}
+use Rattle.rulebook.proofs.Local.{rule-whole}
+use Rattle.rulebook.proofs.Form.{LaidOut, zeros, rule, form-stands}
 
 -- "its own fields, numbered 0 to 3"
 abbrev pub OwnToken : Token → Type 0

@@ -12,23 +12,23 @@ use mathlib.Core.List.{List, [], _∷_, _++_, map, List·Memᴰ}
 use lib.Dec.{ltb, eqb}
 use lib.ListN.{getD, take, List·getD-append}
 use lib.Seq.{getD-take, getD-append-add}
 use Rattle.paper.specs.Numbers.{characters, rule-fields, space}
 use Rattle.paper.specs.Pattern.{any-text, Holds}
 use Rattle.paper.specs.Places.{PlaceSet}
 use Rattle.paper.specs.Search.{Entry, End, found, used-up, no-room, too-long}
 use Rattle.paper.specs.Equation.{Token, chr, fld, Side, is-field, stands-in, Texts, label, without-trailing, Same, Over}
 use Rattle.paper.specs.Situation.{Situation, Move}
 use Rattle.paper.specs.Question.{held-by, Solution, hidden}
 use Rattle.paper.specs.Rule.{Rule, rule-holds, Makes, moved-up, pair}
 use Rattle.paper.specs.Outcome.{searched, how-of}
-use Rattle.paper.specs.Catalogue.{pair-number, pair-answer}
+use Rattle.rulebook.specs.Catalogue.{pair-number, pair-answer}
 use Rattle.paper.proofs.base.Tests.{true-false, or-is-true, left-true, right-true, lt-ltb, le-ltb, eqb-true, eqb-same, eq-eqb}
 use Rattle.paper.proofs.base.Lists.{cons-eq, any-true, mem-any, any-append, mem-map, map-mem}
 use Rattle.paper.proofs.equations.Labels.{label-same}
 use Rattle.paper.proofs.sheets.Asked.{GoodQuestion}
 use Rattle.paper.proofs.sheets.Hidden.{hidden-known, own-solves, with-spaces, hidden-solves}
 use Rattle.paper.proofs.sheets.QuestionSearched.{found-solves, used-up-unsolved}
-use Rattle.paper.proofs.catalogue.GoodRule.{GoodRule, own-field, own-held, pair-sayable}
+use Rattle.rulebook.proofs.GoodRule.{GoodRule, own-field, own-held, pair-sayable}
 
 -- The side moved up.
 moved-field : (side : Side) (f : ℕ) → stands-in f (map moved-up side) ≡ true → (g : ℕ) × (f ≡ rule-fields + g) × (stands-in g side ≡ true)

@@ -68,19 +68,16 @@ longest-pattern f = PA f (replicate 95 68 ++ 0 ∷ [])
 abbrev longest-sheet : List ℕ
 longest-sheet = each longest-pattern (upto 8) ++ LE (replicate 24 10) ++ RI (replicate 24 10)
 
--- sheet S; xx and `A`, open, where x takes one space after the other up to 48 tokens; xy and eight times `A`, open; the longest good sheet,
--- and one byte more. The second and the third take more situations than 4,096 bytes have.
+-- sheet S; xy and eight times `A`, open, which takes more situations than 4,096 bytes have; the longest good sheet, and one byte more
 pub sheets-printed :
     map printed
     (sheet-S ∷
-    (LE (64 ∷ 64 ∷ []) ++ RI (10 ∷ [])) ∷
     (LE (64 ∷ 65 ∷ []) ++ RI (replicate 8 10)) ∷
     longest-sheet ∷
     (longest-sheet ++ 0 ∷ []) ∷
     [])
     ≡ map ascii
     ("0 13 0\n0 4\n1 4\n" ∷
-    "19 137 0\n" ∷
     "0 36 0\n0 \n1 AAAAAAAA\n" ∷
     "0 5 0\n" ∷
     "12 0 854\n" ∷

@@ -5,13 +5,13 @@ use mathlib.Core.Bool.{cond}
 use mathlib.Core.List.{List, [], _∷_}
 use lib.Dec.{eqb}
 use lib.ListN.{length, getD, replicate}
 use Rattle.paper.specs.Numbers.{space}
 use Rattle.paper.specs.Equation.{Same}
 use Rattle.paper.specs.Sheet.{open-fields, asked, read-sheet}
 use Rattle.paper.specs.Outcome.{room-of, outcome}
 use Rattle.paper.specs.Rule.{Rule, Makes, pair}
 use Rattle.paper.specs.Saying.{sheet-saying}
-use Rattle.paper.specs.Catalogue.{Present, rules, form, pair-answer, pair-count, adding, withdrawing}
+use Rattle.rulebook.specs.Catalogue.{Present, rules, form, pair-answer, pair-count, adding, withdrawing}
 
 -- a call: a rule's bytes to add, with a working buffer, or a number to withdraw; any bytes, any numbers
 pub data Call : Type 0 where

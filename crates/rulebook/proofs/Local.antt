@@ -16,17 +16,17 @@ use mathlib.Core.List.{List, [], _∷_, _++_}
 use lib.Dec.{leb, ltb, eqb}
 use lib.ListN.{length, getD, take, drop, length-take}
 use lib.Seq.{take-nil, getD-take, take-append-seam, take-length, take-take}
 use Rattle.paper.specs.Lists.{all}
 use Rattle.paper.specs.Numbers.{fields, pattern-bytes, sheet-side}
 use Rattle.paper.proofs.base.Tests.{cond-by, and-left, ltb-false, le-ltb, eqb-true, left-false, neq-eqb}
 use Rattle.paper.specs.Written.{Judged, judged, judge}
 use Rattle.paper.specs.Written as Written
 use Rattle.paper.specs.Equation.{Side}
 use Rattle.paper.specs.Sheet.{Checked, fault, read, FieldPattern, byte-at, bytes-left, body, Mark, PA, LE, RU, first-letter, marked}
 use Rattle.paper.specs.Sheet.{pattern-judged, pattern-record, is-token, side-record, marked-side, Records, faulty, records, Fields}
 use Rattle.paper.specs.Sheet.{open-fields, next-is, with-pattern, pattern-read, read-patterns}
 use Rattle.paper.specs.Rule.{Rule, with-side, side-read, rule-front, rule-end, read-rule}
-use Rattle.paper.specs.Catalogue.{all-zero}
+use Rattle.rulebook.specs.Catalogue.{all-zero}
 
 -- the part behind the first a, as the end of a front
 take-drop : (a m : ℕ) (l : List ℕ) → take m (drop a l) ≡ drop a (take (a + m) l)

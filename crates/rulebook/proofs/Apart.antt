@@ -9,18 +9,18 @@ use mathlib.Core.Path.{_≡_, sym, subst}
 use mathlib.Core.List.{List, [], _∷_, _++_}
 use lib.Dec.{ltb, eqb}
 use lib.ListN.{length, take, drop}
 use Rattle.paper.specs.Rule.{Makes}
 use Rattle.paper.specs.Outcome.{room-of}
 use Rattle.paper.specs.Numbers.{space}
 use Rattle.paper.specs.Equation.{Same}
-use Rattle.paper.specs.Catalogue.{Present, rules, form, adding, withdrawing}
-use Rattle.paper.specs.Calls.{Call, add, withdraw, after-call, after-calls, empty-catalogue, present-at, rule-at, Apart}
+use Rattle.rulebook.specs.Catalogue.{Present, rules, form, adding, withdrawing}
+use Rattle.rulebook.specs.Calls.{Call, add, withdraw, after-call, after-calls, empty-catalogue, present-at, rule-at, Apart}
 use Rattle.paper.proofs.base.Tests.{by-bool, ltb-true, ltb-false, eqb-true, eqb-false}
-use Rattle.paper.proofs.catalogue.Form.{offset-of, form-empty, read-at, own-fields}
-use Rattle.paper.proofs.catalogue.GoodRule.{rule-good, new-good}
-use Rattle.paper.proofs.catalogue.Pair.{pair-apart}
-use Rattle.paper.proofs.catalogue.Adding.{Enters, entered, refused-same, added-form}
-use Rattle.paper.proofs.catalogue.Withdrawing.{Leaves, withdrawn-exactly, unchanged, withdrawn-form}
+use Rattle.rulebook.proofs.Form.{offset-of, form-empty, read-at, own-fields}
+use Rattle.rulebook.proofs.GoodRule.{rule-good, new-good}
+use Rattle.rulebook.proofs.Pair.{pair-apart}
+use Rattle.rulebook.proofs.Adding.{Enters, entered, refused-same, added-form}
+use Rattle.rulebook.proofs.Withdrawing.{Leaves, withdrawn-exactly, unchanged, withdrawn-form}
 
 -- they make no labels that are the same
 abbrev pub TwoApart : Present → Present → Type 0

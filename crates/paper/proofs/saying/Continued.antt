@@ -25,7 +25,7 @@ use Rattle.paper.specs.Saying.{pattern-code}
 use Rattle.paper.proofs.places.Reader.{Operator, is-then, is-or, Reads, runs-out, lo-missing, lo-wrong, hi-missing, hi-wrong}
 use Rattle.paper.proofs.places.Reader.{first-wrong, second-wrong, starred-wrong, no-code, Judges, at-fault, left-over, judges}
 use Rattle.paper.proofs.places.Judged.{range-takes, both-take, read-takes, within-not-one}
-use Rattle.paper.proofs.catalogue.Code.{read-code, both-code, read-says, code-one}
+use Rattle.paper.proofs.saying.Code.{read-code, both-code, read-says, code-one}
 
 -- the bytes, with others behind them, are the code of a pattern whose leaves take characters
 pub record Continues (u : List ℕ) : Type 0 where

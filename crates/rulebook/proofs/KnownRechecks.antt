@@ -9,19 +9,19 @@ use mathlib.Core.Path.{_≡_, refl}
 use mathlib.Core.Bool.{Bool, true, false, cond}
 use mathlib.Core.List.{List, [], _∷_, _++_, map}
 use lib.ListN.{length, drop, replicate}
 use Rattle.paper.specs.Places.{set-after, may-end}
 use Rattle.paper.specs.Written.{judge}
 use Rattle.paper.specs.Search.{enter, offer, take-next, search}
 use Rattle.paper.specs.Situation.{trimmed, strike, put-before, open-moves, child-by, children, question}
 use Rattle.paper.specs.Way.{search-from}
 use Rattle.paper.specs.Question.{acceptor}
 use Rattle.paper.specs.Sheet.{marked, pattern-record, side-record, marked-side, next-is}
 use Rattle.paper.specs.Outcome.{room-of, searched, count-of, how-of}
 use Rattle.paper.specs.Rule.{rule-front, foreign-field, pair}
-use Rattle.paper.specs.Catalogue.{form, pair-answer, pair-count}
-use Rattle.paper.specs.Recheck.{pair-record, Rechecked, rechecking}
+use Rattle.rulebook.specs.Catalogue.{form, pair-answer, pair-count}
+use Rattle.rulebook.specs.Recheck.{pair-record, Rechecked, rechecking}
 use Rattle.paper.proofs.known.Known.{PA, LE}
-use Rattle.paper.proofs.known.KnownCatalogue.{RU, zeros, rule-A, rule-B, A-spaces, rule-x, many-x, empty-rules}
+use Rattle.rulebook.proofs.KnownCatalogue.{RU, zeros, rule-A, rule-B, A-spaces, rule-x, many-x, empty-rules}
 
 -- a catalogue, the bytes of work and of list lent, and what must come; whether the working buffer is all zero afterwards or unchanged
 record KnownRecheck : Type 0 where

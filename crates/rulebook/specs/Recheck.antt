@@ -5,9 +5,9 @@ use mathlib.Core.Bool.{cond}
 use mathlib.Core.List.{List, [], _∷_, _++_}
 use lib.Dec.{ltb, eqb}
 use lib.ListN.{length, drop}
 use Rattle.paper.specs.Rule.{Rule}
 use Rattle.paper.specs.Outcome.{room-of, cleared}
-use Rattle.paper.specs.Catalogue.{Present, Form, no-catalogue, rules, form, pair-answer, pair-count}
+use Rattle.rulebook.specs.Catalogue.{Present, Form, no-catalogue, rules, form, pair-answer, pair-count}
 
 -- five bytes a pair: the lower number, the higher, the answer, the count in two bytes (low first)
 abbrev pub pair-bytes : ℕ

@@ -1,0 +1,4 @@
+pub mod Code
+pub mod Continued
+pub mod LeafPlace
+pub mod Saying

@@ -1,0 +1,4 @@
+-- The catalogue of request K1 as definitions: adding and withdrawing a rule, checking again (request K3), and what is promised of any calls.
+pub mod Catalogue
+pub mod Recheck
+pub mod Calls
