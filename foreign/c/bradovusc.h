@@ -7,14 +7,17 @@
  * A catalogue has up to 32 rules in one buffer. A rule is added only if it clashes with none that is there; it can be withdrawn. One
  * that was kept can be checked again, pair by pair.
  * A sheet can be written out as a script for string solvers, in SMT-LIB 2.6.
+ * Up to version 0.5 a field without a pattern could be empty. Since 0.6 it holds one character or more. Sheets, rules and catalogues
+ * from before can be carried over: they then mean what they meant.
  *
- * The static library libexported.a, for x86-64 Linux, defines five functions: bradovusc_clash, bradovusc_script, bradovusc_add,
- * bradovusc_withdraw, bradovusc_recheck. They keep nothing from one call to the next, ask for no memory, and touch nothing but what
- * they are lent, so calls in several threads don't meet. Each takes at most about 40 KiB of stack; 37 were measured, in
- * bradovusc_add. All else is in this header: bradovusc_ask, bradovusc_write_script, bradovusc_enter, bradovusc_remove and
- * bradovusc_check_again call them with any buffers, bradovusc_text and bradovusc_catalogue_text say a number in words, bradovusc_next
- * walks the texts of a clash, bradovusc_next_pair the pairs that were listed, bradovusc_sign and bradovusc_value go between values
- * and signs.
+ * The static library libexported.a, for x86-64 Linux, defines eight functions: bradovusc_clash, bradovusc_script, bradovusc_add,
+ * bradovusc_withdraw, bradovusc_recheck, bradovusc_spell_open, bradovusc_spell_open_rule, bradovusc_spell_open_catalogue. They keep
+ * nothing from one call to the next, ask for no memory, and touch nothing but what they are lent, so calls in several threads don't
+ * meet. bradovusc_spell_open_catalogue takes at most about 50 KiB of stack, the others about 40; 46 and 39 were measured. All else is
+ * in this header: bradovusc_ask, bradovusc_write_script, bradovusc_enter, bradovusc_remove, bradovusc_check_again,
+ * bradovusc_carry_sheet, bradovusc_carry_rule and bradovusc_carry_catalogue call them with any buffers, bradovusc_text and
+ * bradovusc_catalogue_text say a number in words, bradovusc_next walks the texts of a clash, bradovusc_next_pair the pairs that were
+ * listed, bradovusc_sign and bradovusc_value go between values and signs.
  *
  * The header is C99 and C++11. The rules in full: docs/RULES.md.
  */
@@ -26,9 +29,9 @@
 
 /* The version of this header, of the library and of the Rust package. It rises where one of them, or a rule, changes for callers. */
 #define BRADOVUSC_VERSION_MAJOR 0
-#define BRADOVUSC_VERSION_MINOR 5
+#define BRADOVUSC_VERSION_MINOR 6
 #define BRADOVUSC_VERSION_PATCH 0
-#define BRADOVUSC_VERSION "0.5.0"
+#define BRADOVUSC_VERSION "0.6.0"
 
 #ifdef __cplusplus
 extern "C" {
@@ -43,6 +46,8 @@ extern "C" {
  * Of a catalogue's call, 0 is success. 11 to 17 say what is wrong with the rule that was to be added, 30 to 35 why it can't be done.
  *
  * Of a script, 0 is success, 11 to 17 say what is wrong with the sheet, and 40 that the script doesn't fit.
+ *
+ * Of carrying over, 0 is success, 11 to 17 say what is wrong with the sheet or the rule, 31, 32, 34 and 41 why it can't be done.
  */
 enum bradovusc_number {
     /* The rules clash. The answer buffer says what each field holds on a label that both can make; one of the two may have spaces
@@ -75,13 +80,14 @@ enum bradovusc_number {
     /* The rules clash, but a text has more than 65,535 characters, too many for its record. */
     BRADOVUSC_TEXT_TOO_LONG = 21,
 
-    /* Of a catalogue's call: the rule was added, or withdrawn, or the pairs are listed. Of a script: it is written. */
+    /* Of a catalogue's call: the rule was added, or withdrawn, or the pairs are listed. Of a script: it is written. Of carrying
+     * over: the sheet, the rule or the catalogue is carried over. */
     BRADOVUSC_DONE = 0,
     /* The new rule clashes with one that is there, or that is not decided. That rule and the answer of the pair are told. */
     BRADOVUSC_NOT_APART = 30,
-    /* The new rule names a field above 3. */
+    /* The rule names a field above 3. */
     BRADOVUSC_FOREIGN_FIELD = 31,
-    /* 32 rules are there, or the new rule's bytes don't fit behind them. */
+    /* 32 rules are there, or the new rule's bytes don't fit behind them. Of carrying over: the rules would no longer fit. */
     BRADOVUSC_FULL = 32,
     /* No rule has the number that was to be withdrawn. */
     BRADOVUSC_NO_RULE = 33,
@@ -91,7 +97,9 @@ enum bradovusc_number {
     BRADOVUSC_LIST_TOO_SHORT = 35,
 
     /* The output buffer is too short for the script. Not a byte of it is written. */
-    BRADOVUSC_SCRIPT_TOO_SHORT = 40
+    BRADOVUSC_SCRIPT_TOO_SHORT = 40,
+    /* The output buffer is too short for the sheet, or the rule, that is carried over. Not a byte of it is written. */
+    BRADOVUSC_OUTPUT_TOO_SHORT = 41
 };
 
 /* The number in words, 0 as the answer of a sheet or a pair. Never null. */
@@ -137,12 +145,14 @@ static inline const char *bradovusc_text(uint32_t number) {
         return "the list buffer is too short for the pairs";
     case BRADOVUSC_SCRIPT_TOO_SHORT:
         return "the output buffer is too short for the script";
+    case BRADOVUSC_OUTPUT_TOO_SHORT:
+        return "the output buffer is too short for the sheet or the rule";
     default:
         return "no number of an answer";
     }
 }
 
-/* The same for what a catalogue's call returned, or a script's: 0 is "done". */
+/* The same for what a catalogue's call returned, or a script's, or carrying over: 0 is "done". */
 static inline const char *bradovusc_catalogue_text(uint32_t number) {
     return number == BRADOVUSC_DONE ? "done" : bradovusc_text(number);
 }
@@ -176,17 +186,19 @@ static inline int bradovusc_value(int sign) {
  *
  * A token is a character, 0 to 42 (the digits, A to Z, then - . space $ / + %), or 64 to 71, field 0 to 7.
  * A pattern is written operator first: 0 to 42 that character; 64 the empty text; 65 lo hi one character from lo to hi;
- * 66 A B first A then B; 67 A B one of the two; 68 A any number of A, none included. A field without a pattern holds any text.
+ * 66 A B first A then B; 67 A B one of the two; 68 A any number of A, none included. A field without a pattern holds any text of one
+ * character or more; one that may be empty too has the pattern 68 65 0 42. A good sheet has at most so many bytes.
  *
  * Labels are compared without the spaces, 38, at their ends; a space elsewhere is a character like the others. So each side is
  * searched as if one hidden field, of any number of spaces, stood at its end: field 8 on the left, field 9 on the right. It is not
  * written, 72 and 73 are no tokens, it does not count among the 24, and it has no text in the answer.
  */
+#define BRADOVUSC_SHEET_BYTES 854
 
 /*
  * The working buffer. A situation of the search takes 144 bytes. Room is counted in whole situations, at most 65,535; bytes beyond
  * that are no use. Where no field stands more than once in the two sides together, (1 + L) * (1 + R) situations are always enough,
- * unless that is above 65,535: L adds, over the left side, one for each character and each field without a pattern, for a field
+ * unless that is above 65,535: L adds, over the left side, one for each character, 2 for each field without a pattern, for a field
  * with a pattern the number of its reachable place sets, and 2 for the hidden field; R does so for the right side. Other questions
  * may need any number. The program `clash` lends 455 situations. The buffer need not be cleared beforehand.
  */
@@ -275,11 +287,11 @@ static inline int bradovusc_next(struct bradovusc_records *records) {
  * behind them are left as they are.
  */
 enum bradovusc_told {
-    /* situations entered; 0 after 11 to 17, and of a script */
+    /* situations entered; 0 after 11 to 17, of a script, and of what is carried over */
     BRADOVUSC_COUNT = 0,
-    /* after 11 to 17 the offset of the byte at fault in the sheet, as above; otherwise 0 */
+    /* after 11 to 17 the offset of the byte at fault, as above; otherwise 0 */
     BRADOVUSC_PLACE = 1,
-    /* bytes written to the answer buffer, or of the script; 0 where the number is not */
+    /* bytes written to the answer buffer, of the script, or of what is carried over; 0 where the number is not */
     BRADOVUSC_WRITTEN = 2,
     BRADOVUSC_TOLD = 3
 };
@@ -383,7 +395,8 @@ static inline struct bradovusc_scripted bradovusc_write_script(const uint8_t *sh
  *
  * A catalogue that began empty and was changed by bradovusc_add and bradovusc_withdraw alone has no two rules that make the same
  * label. Of a buffer filled otherwise these two look only at the form, and not whether its rules clash. Nor do they in one that was
- * kept since an older version: up to 0.3 a space at the end made another label. bradovusc_recheck looks at all of its pairs.
+ * kept since an older version: up to 0.3 a space at the end made another label. bradovusc_recheck looks at all of its pairs. Up to
+ * 0.5 a field without a pattern could be empty: carry such a catalogue over first, as below.
  *
  * A record has at most 429 bytes, so a buffer of that many for each rule is always long enough.
  */
@@ -563,6 +576,95 @@ static inline int bradovusc_next_pair(struct bradovusc_pairs *pairs) {
     pairs->rest = bytes + BRADOVUSC_PAIR_BYTES;
     pairs->rest_length -= BRADOVUSC_PAIR_BYTES;
     return 1;
+}
+
+/*
+ * Carrying over. Up to version 0.5 a field without a pattern held any text, the empty one included. Since 0.6 it holds one character
+ * or more. What relied on the old meaning must have the pattern 68 65 0 42 for each such field. The three functions below put it in,
+ * for each field that stands in a side and has no pattern: eight bytes for each of them. All else stays byte for byte as it was. It
+ * is proved that the new sheet's question has exactly the solutions that the old meaning gave the old sheet, that each rule makes the
+ * labels that it made before, and that what has nothing to add comes out unchanged.
+ *
+ * Carry over what is from before 0.6 once, and a catalogue before any rule is added to it. Nothing in the bytes says for which
+ * version they were written: what was written for 0.6 would get another meaning. A catalogue from before 0.6 that is not carried over
+ * has rules that make fewer labels than before, and a new rule could then make one that is in use. No pair has to be checked again
+ * after it, with two exceptions: a catalogue from before 0.4, and one to which a rule was added by 0.6 first, should be carried over,
+ * then checked again.
+ *
+ * So many bytes are always enough, which is proved: BRADOVUSC_SHEET_BYTES for a sheet, BRADOVUSC_RULE_BYTES for a rule, and
+ * BRADOVUSC_CATALOGUE_BYTES(BRADOVUSC_RULES), 13,728, for a catalogue.
+ */
+
+/*
+ * Writes the sheet, carried over. What is told has the indices of bradovusc_told: the count is 0, the place is that of a fault, and
+ * written are the bytes of the new sheet. Afterwards
+ *
+ *   number            output buffer
+ *   0                 the new sheet, the rest unchanged
+ *   11 to 17          unchanged
+ *   41                unchanged: the new sheet is longer
+ *
+ * Any bytes and any lengths are taken, 0 included. Each pointer must be that of so many elements, and not null, also where the
+ * length is 0; the three must not overlap.
+ */
+uint32_t bradovusc_spell_open(const uint8_t *sheet, size_t sheet_length, uint8_t *out, size_t out_length, uint64_t *told,
+                              size_t told_length);
+
+/*
+ * The same for a rule of a catalogue. After 11 to 17 comes 31, for a field above 3, which has no place; then 41. After each of them
+ * the output buffer is unchanged.
+ */
+uint32_t bradovusc_spell_open_rule(const uint8_t *rule, size_t rule_length, uint8_t *out, size_t out_length, uint64_t *told,
+                                   size_t told_length);
+
+/*
+ * Carries every rule of the catalogue over, in its own buffer. Afterwards
+ *
+ *   number            catalogue
+ *   0                 the new rules, one behind the other, each with its number of before; then zero bytes
+ *   32                unchanged: the new rules are longer than the buffer. Put the catalogue into a longer one, zero bytes behind it
+ *   34                unchanged: it is no catalogue
+ *
+ * The pointer must not be null, also where the length is 0.
+ */
+uint32_t bradovusc_spell_open_catalogue(uint8_t *catalogue, size_t catalogue_length);
+
+/* What carrying a sheet or a rule over answers: the number, and what is told beside it. */
+struct bradovusc_carried {
+    uint32_t number;
+    uint64_t place, written;
+};
+
+/* bradovusc_spell_open with all three numbers at once; each pointer may be null where its length is 0. This is the one to call. */
+static inline struct bradovusc_carried bradovusc_carry_sheet(const uint8_t *sheet, size_t sheet_length, uint8_t *out,
+                                                             size_t out_length) {
+    uint8_t no_sheet = 0, no_out = 0;
+    uint64_t told[BRADOVUSC_TOLD] = {0, 0, 0};
+    struct bradovusc_carried carried;
+    carried.number = bradovusc_spell_open(sheet == NULL && sheet_length == 0 ? &no_sheet : sheet, sheet_length,
+                                          out == NULL && out_length == 0 ? &no_out : out, out_length, told, BRADOVUSC_TOLD);
+    carried.place = told[BRADOVUSC_PLACE];
+    carried.written = told[BRADOVUSC_WRITTEN];
+    return carried;
+}
+
+/* bradovusc_spell_open_rule likewise. This is the one to call. */
+static inline struct bradovusc_carried bradovusc_carry_rule(const uint8_t *rule, size_t rule_length, uint8_t *out,
+                                                            size_t out_length) {
+    uint8_t no_rule = 0, no_out = 0;
+    uint64_t told[BRADOVUSC_TOLD] = {0, 0, 0};
+    struct bradovusc_carried carried;
+    carried.number = bradovusc_spell_open_rule(rule == NULL && rule_length == 0 ? &no_rule : rule, rule_length,
+                                               out == NULL && out_length == 0 ? &no_out : out, out_length, told, BRADOVUSC_TOLD);
+    carried.place = told[BRADOVUSC_PLACE];
+    carried.written = told[BRADOVUSC_WRITTEN];
+    return carried;
+}
+
+/* bradovusc_spell_open_catalogue, and the pointer may be null where the length is 0. This is the one to call. */
+static inline uint32_t bradovusc_carry_catalogue(uint8_t *catalogue, size_t catalogue_length) {
+    uint8_t no_catalogue = 0;
+    return bradovusc_spell_open_catalogue(catalogue == NULL && catalogue_length == 0 ? &no_catalogue : catalogue, catalogue_length);
 }
 
 #ifdef __cplusplus

@@ -8,9 +8,10 @@
  *   CA  length in two bytes, another, that many bytes      the catalogue is now a buffer of the first length: these bytes, then zeros
  *   WO  length in four bytes                               from now on so many bytes of work are lent to each AD and RE
  *   RE  length in two bytes                                check all pairs again, with a list buffer of so many bytes
+ *   SO                                                     carry all rules over
  *
  * The stream ends where it ends, where an operation is cut short, has another mark or asks for more than is allowed. The line of AD,
- * WI or RE is what is told, and every byte of the catalogue: those up to the last that is not zero one by one, the zeros by their
+ * WI, RE or SO is what is told, and every byte of the catalogue: those up to the last that is not zero one by one, the zeros by their
  * number; for RE before it the list buffer likewise; for AD and RE the working buffer too, in a word where it is as it was lent, or
  * all zero, and one by one where it is neither.
  */
@@ -122,6 +123,13 @@ static bool next_recheck(void) {
     return true;
 }
 
+static bool carry(void) {
+    printf("carry %" PRIu32, bradovusc_spell_open_catalogue(catalogue, catalogue_length));
+    print_catalogue();
+    putchar('\n');
+    return true;
+}
+
 static bool next_operation(void) {
     uint8_t mark[2];
     if (!next(mark, 2)) {
@@ -138,6 +146,8 @@ static bool next_operation(void) {
         return next_work();
     case 256 * 'R' + 'E':
         return next_recheck();
+    case 256 * 'S' + 'O':
+        return carry();
     default:
         return false;
     }

@@ -1,14 +1,15 @@
 /*
  * Two rules: one makes labels of any digits, the other the label 4. Do they clash? Then the same as a script, for a string solver.
  * Then the sheet with a wrong byte. Then a catalogue of rules is kept. Then one that was kept since a space at the end made another
- * label is checked again.
+ * label is checked again. Then a sheet and a catalogue are carried over, from the time when a field without a pattern could be empty.
  *
  * The first line of a sheet is number, count and place, and the number in words. After a clash follows a line for each field, its
- * number and its text, and after a fault a line with the byte at its place. The script has a line with its number before it. Last
- * comes a line for each call of a catalogue, and one for each pair that is listed.
+ * number and its text, and after a fault a line with the byte at its place. The script has a line with its number before it. Then
+ * comes a line for each call of a catalogue, and one for each pair that is listed. Last come the lines of what is carried over.
  */
 #include <inttypes.h>
 #include <stdio.h>
+#include <string.h>
 
 #include "bradovusc.h"
 
@@ -44,11 +45,21 @@ static const uint8_t kept[] = {
     'R', 'U', 'L', 'E', 3, 21, 29, 5      /* L, T, 5 */
 };
 
+/* From before 0.6: is a label of LT, a finish and S also LTS? The finish, field 0, has no pattern. */
+static const uint8_t old_sheet[] = {
+    'L', 'E', 4, 21, 29, 64, 28, /* left side: L, T, field 0, S */
+    'R', 'I', 3, 21, 29, 28      /* right side: L, T, S */
+};
+/* The same two as rules of a catalogue. */
+static const uint8_t finished[] = {'R', 'U', 'L', 'E', 4, 21, 29, 64, 28}, plain[] = {'R', 'U', 'L', 'E', 3, 21, 29, 28};
+
 static uint8_t work[BRADOVUSC_WORK_BYTES(455)];
 static uint8_t answer[BRADOVUSC_ANSWER_BYTES(455)];
 static uint8_t script[BRADOVUSC_SCRIPT_BYTES];
 static uint8_t catalogue[BRADOVUSC_CATALOGUE_BYTES(BRADOVUSC_RULES)]; /* all zero: no rule is there */
 static uint8_t list[BRADOVUSC_LIST_BYTES(BRADOVUSC_RULES)];
+static uint8_t new_sheet[BRADOVUSC_SHEET_BYTES];
+static uint8_t old_catalogue[BRADOVUSC_CATALOGUE_BYTES(BRADOVUSC_RULES)];
 
 static void print_texts(uint64_t written) {
     struct bradovusc_records texts = bradovusc_records_in(answer, (size_t)written);
@@ -85,14 +96,16 @@ static void write_script(void) {
     fwrite(script, 1, (size_t)scripted.written, stdout);
 }
 
-static void add(const char *name, const uint8_t *rule, size_t rule_length) {
-    struct bradovusc_added added = bradovusc_enter(catalogue, sizeof catalogue, rule, rule_length, work, sizeof work);
+static void add_to(uint8_t *rules, const char *name, const uint8_t *rule, size_t rule_length) {
+    struct bradovusc_added added = bradovusc_enter(rules, sizeof catalogue, rule, rule_length, work, sizeof work);
     printf("add the %s: %" PRIu32 ", %s", name, added.number, bradovusc_catalogue_text(added.number));
     if (added.number == BRADOVUSC_NOT_APART) {
         printf(": rule %" PRIu64 ", %s", added.rule, bradovusc_text(added.pair));
     }
     putchar('\n');
 }
+
+static void add(const char *name, const uint8_t *rule, size_t rule_length) { add_to(catalogue, name, rule, rule_length); }
 
 static void withdraw(size_t number) {
     uint32_t withdrawn = bradovusc_remove(catalogue, sizeof catalogue, number);
@@ -107,6 +120,27 @@ static void check_again(void) {
     while (bradovusc_next_pair(&pairs)) {
         printf("rule %" PRIu64 " and rule %" PRIu64 ": %s\n", pairs.lower, pairs.higher, bradovusc_text(pairs.answer));
     }
+}
+
+static void print_meaning(const char *when, const uint8_t *bytes, size_t length) {
+    struct bradovusc_answer given = bradovusc_ask(bytes, length, work, sizeof work, answer, sizeof answer);
+    printf("%s: %s\n", when, bradovusc_text(given.number));
+}
+
+static void carry_sheet(void) {
+    struct bradovusc_carried carried = bradovusc_carry_sheet(old_sheet, sizeof old_sheet, new_sheet, sizeof new_sheet);
+    printf("carry the sheet over: %" PRIu32 ", %s: %zu bytes, then %" PRIu64 "\n", carried.number,
+           bradovusc_catalogue_text(carried.number), sizeof old_sheet, carried.written);
+    print_meaning("as it was", old_sheet, sizeof old_sheet);
+    print_meaning("carried over", new_sheet, (size_t)carried.written);
+}
+
+static void carry_catalogue(void) {
+    uint32_t carried;
+    memcpy(old_catalogue, finished, sizeof finished);
+    carried = bradovusc_carry_catalogue(old_catalogue, sizeof old_catalogue);
+    printf("carry the catalogue over: %" PRIu32 ", %s\n", carried, bradovusc_catalogue_text(carried));
+    add_to(old_catalogue, "plain one", plain, sizeof plain); /* refused, as before 0.6 */
 }
 
 int main(void) {
@@ -124,5 +158,8 @@ int main(void) {
     add("latch", latch, sizeof latch);
 
     check_again();
+
+    carry_sheet();
+    carry_catalogue();
     return 0;
 }

@@ -1,7 +1,7 @@
 /*
  * Tries what bradovusc.h itself defines: the texts of the numbers, the signs, the walks over records and over listed pairs, null
- * pointers of length 0, the script of a sheet, the calls of a catalogue, the version, the lengths of buffers; and the places of faults,
- * as it lists them.
+ * pointers of length 0, the script of a sheet, the calls of a catalogue, what is carried over, the version, the lengths of buffers; and
+ * the places of faults, as it lists them.
  * C99, and C++11 too. Prints what does not hold, and how many checks there were; the exit status is 0 if all hold.
  */
 #include <stdio.h>
@@ -14,12 +14,18 @@
 #define bradovusc_add watched_add
 #define bradovusc_withdraw watched_withdraw
 #define bradovusc_recheck watched_recheck
+#define bradovusc_spell_open watched_spell_open
+#define bradovusc_spell_open_rule watched_spell_open_rule
+#define bradovusc_spell_open_catalogue watched_spell_open_catalogue
 #include "bradovusc.h"
 #undef bradovusc_clash
 #undef bradovusc_script
 #undef bradovusc_add
 #undef bradovusc_withdraw
 #undef bradovusc_recheck
+#undef bradovusc_spell_open
+#undef bradovusc_spell_open_rule
+#undef bradovusc_spell_open_catalogue
 
 #ifdef __cplusplus
 extern "C" {
@@ -33,6 +39,11 @@ uint32_t bradovusc_add(uint8_t *catalogue, size_t catalogue_length, const uint8_
 uint32_t bradovusc_withdraw(uint8_t *catalogue, size_t catalogue_length, size_t number);
 uint32_t bradovusc_recheck(const uint8_t *catalogue, size_t catalogue_length, uint8_t *work, size_t work_length, uint8_t *list,
                            size_t list_length, uint64_t *told, size_t told_length);
+uint32_t bradovusc_spell_open(const uint8_t *sheet, size_t sheet_length, uint8_t *out, size_t out_length, uint64_t *told,
+                              size_t told_length);
+uint32_t bradovusc_spell_open_rule(const uint8_t *rule, size_t rule_length, uint8_t *out, size_t out_length, uint64_t *told,
+                                   size_t told_length);
+uint32_t bradovusc_spell_open_catalogue(uint8_t *catalogue, size_t catalogue_length);
 #ifdef __cplusplus
 }
 #endif
@@ -87,6 +98,27 @@ uint32_t watched_recheck(const uint8_t *catalogue, size_t catalogue_length, uint
     return bradovusc_recheck(catalogue, catalogue_length, work, work_length, list, list_length, told, told_length);
 }
 
+uint32_t watched_spell_open(const uint8_t *sheet, size_t sheet_length, uint8_t *out, size_t out_length, uint64_t *told,
+                            size_t told_length) {
+    check(sheet != NULL, "the sheet's pointer is not null", (long)sheet_length);
+    check(out != NULL, "the output buffer's pointer is not null", (long)out_length);
+    check(told != NULL, "the pointer of what is told is not null", (long)told_length);
+    return bradovusc_spell_open(sheet, sheet_length, out, out_length, told, told_length);
+}
+
+uint32_t watched_spell_open_rule(const uint8_t *rule, size_t rule_length, uint8_t *out, size_t out_length, uint64_t *told,
+                                 size_t told_length) {
+    check(rule != NULL, "the rule's pointer is not null", (long)rule_length);
+    check(out != NULL, "the output buffer's pointer is not null", (long)out_length);
+    check(told != NULL, "the pointer of what is told is not null", (long)told_length);
+    return bradovusc_spell_open_rule(rule, rule_length, out, out_length, told, told_length);
+}
+
+uint32_t watched_spell_open_catalogue(uint8_t *catalogue, size_t catalogue_length) {
+    check(catalogue != NULL, "the catalogue's pointer is not null", (long)catalogue_length);
+    return bradovusc_spell_open_catalogue(catalogue, catalogue_length);
+}
+
 /* ---- the texts of the numbers */
 
 static const struct {
@@ -113,6 +145,7 @@ static const struct {
     {34, "the buffer is no catalogue"},
     {35, "the list buffer is too short for the pairs"},
     {40, "the output buffer is too short for the script"},
+    {41, "the output buffer is too short for the sheet or the rule"},
 };
 
 static void try_texts(void) {
@@ -128,7 +161,7 @@ static void try_texts(void) {
         expected = number == 0 ? "done" : expected;
         check(strcmp(bradovusc_catalogue_text(number), expected) == 0, "the text of a catalogue's number", (long)number);
     }
-    check(next == 20, "20 numbers have a text", (long)next);
+    check(next == 21, "21 numbers have a text", (long)next);
     check(strcmp(bradovusc_text(UINT32_MAX), none) == 0, "the greatest number has no text", -1);
 }
 
@@ -342,16 +375,25 @@ static size_t put(char *bytes, size_t at, const char *text) {
     return at + strlen(text);
 }
 
-/* the script of `asked`, whose field 0 is open; its length */
+/* one of the 43 characters */
+static size_t put_any(char *bytes, size_t at) {
+    int value;
+    at = put(bytes, at, "(re.union");
+    for (value = 0; value < BRADOVUSC_CHARACTERS; value++) {
+        at = put(bytes, at, " (str.to_re \"");
+        bytes[at++] = (char)sign_of(value);
+        at = put(bytes, at, "\")");
+    }
+    return put(bytes, at, ")");
+}
+
+/* the script of `asked`, whose field 0 has no pattern: one character, then any number of them; its length */
 static size_t expected_script(char *expected) {
     size_t at = put(expected, 0, heading);
-    int value;
-    at = put(expected, at, "; field 0\n(declare-const f0 String)\n(assert (str.in_re f0 (re.* (re.union");
-    for (value = 0; value < BRADOVUSC_CHARACTERS; value++) {
-        at = put(expected, at, " (str.to_re \"");
-        expected[at++] = (char)sign_of(value);
-        at = put(expected, at, "\")");
-    }
+    at = put(expected, at, "; field 0\n(declare-const f0 String)\n(assert (str.in_re f0 (re.++ ");
+    at = put_any(expected, at);
+    at = put(expected, at, " (re.* ");
+    at = put_any(expected, at);
     at = put(expected, at, "))))\n");
     return put(expected, at, hidden_and_equation);
 }
@@ -360,7 +402,7 @@ static uint8_t script[BRADOVUSC_SCRIPT_BYTES];
 
 static void try_script(void) {
     static const uint8_t one_more[] = {'L', 'E', 0, 'R', 'I', 0, 0}, wrong[] = {'L', 'E', 2, 10, 72};
-    static char expected[2000];
+    static char expected[4000];
     size_t length = expected_script(expected), told_length, i;
     memset(script, 7, sizeof script);
 
@@ -459,7 +501,7 @@ static void try_catalogue(void) {
     check(bradovusc_remove(catalogue, length, (size_t)-1) == 33, "nor one with the greatest number", 33);
     check(bradovusc_remove(catalogue, length, 0) == 0, "the first rule withdrawn", 0);
     check(memcmp(catalogue, rule_b, 6) == 0 && all_zero(catalogue + 6, 7), "the gap is closed", 0);
-    check(is_added(bradovusc_enter(catalogue, length, rule_x, 6, work, sizeof work), 30, 11, 0, 0, 0), "a clash", 30);
+    check(is_added(bradovusc_enter(catalogue, length, rule_x, 6, work, sizeof work), 30, 10, 0, 0, 0), "a clash", 30);
     check(is_added(bradovusc_enter(catalogue, length, rule_x, 6, work, 144), 30, 1, 0, 0, 18), "room for one situation", 18);
     check(memcmp(catalogue, rule_b, 6) == 0 && all_zero(catalogue + 6, 7), "no byte changed", 30);
     catalogue[length - 1] = 1;
@@ -597,6 +639,118 @@ static void try_longest_rules(void) {
     check(bradovusc_enter(catalogue, sizeof catalogue, rule, sizeof rule, work, sizeof work).number == 0, "its room used again", 31);
 }
 
+/* ---- carrying over */
+
+static int is_carried(struct bradovusc_carried carried, uint32_t number, uint64_t place, uint64_t written) {
+    return carried.number == number && carried.place == place && carried.written == written;
+}
+
+/* x B y, and z; x and z have no pattern, y is A, and so is field 2, which doesn't stand; z is field 7 */
+static const uint8_t old_sheet[] = {'P', 'A', 1, 1, 10, 'P', 'A', 2, 1, 10, 'L', 'E', 3, 64, 11, 65, 'R', 'I', 1, 71};
+static const uint8_t new_sheet[] = {'P', 'A', 0, 4, 68, 65, 0, 42, 'P', 'A', 1, 1, 10, 'P', 'A', 2, 1, 10,
+                                    'P', 'A', 7, 4, 68, 65, 0, 42, 'L', 'E', 3, 64, 11, 65, 'R', 'I', 1, 71};
+/* the rules x B y and A, likewise; y is field 3 */
+static const uint8_t old_rule[] = {'R', 'U', 'P', 'A', 2, 1, 10, 'L', 'E', 3, 64, 11, 67};
+static const uint8_t new_rule[] = {'R', 'U', 'P', 'A', 0, 4, 68, 65, 0, 42, 'P', 'A', 2, 1,  10, 'P',
+                                   'A', 3, 4, 68, 65, 0, 42, 'L', 'E', 3, 64, 11, 67};
+static uint8_t out[BRADOVUSC_SHEET_BYTES + 1];
+
+static void try_carry_sheet(void) {
+    static const uint8_t one_more[] = {'L', 'E', 0, 'R', 'I', 0, 0}, wrong[] = {'L', 'E', 2, 10, 72};
+    size_t length = sizeof new_sheet;
+    memset(out, 7, sizeof out);
+
+    check(is_carried(bradovusc_carry_sheet(old_sheet, sizeof old_sheet, out, length - 1), 41, 0, 0), "a byte too few", 41);
+    check(is_carried(bradovusc_carry_sheet(old_sheet, sizeof old_sheet, NULL, 0), 41, 0, 0), "no output buffer", 41);
+    check(is_carried(bradovusc_carry_sheet(NULL, 0, out, sizeof out), 11, 0, 0), "no sheet", 11);
+    check(is_carried(bradovusc_carry_sheet(NULL, 0, NULL, 0), 11, 0, 0), "nothing at all", 11);
+    check(is_carried(bradovusc_carry_sheet(one_more, 7, out, sizeof out), 12, 6, 0), "a byte too many", 12);
+    check(is_carried(bradovusc_carry_sheet(wrong, 5, NULL, 0), 17, 4, 0), "a fault is before 41", 17);
+    check(is_carried(bradovusc_carry_sheet(old_rule, sizeof old_rule, out, sizeof out), 12, 0, 0), "a rule is no sheet", 12);
+    check(out[0] == 7 && out[length - 2] == 7 && out[sizeof out - 1] == 7, "no byte changed", 41);
+    check(is_carried(bradovusc_carry_sheet(old_sheet, sizeof old_sheet, out, length), 0, 0, length), "just enough", (long)length);
+    check(memcmp(out, new_sheet, length) == 0 && out[length] == 7, "the new sheet's bytes, and no more", (long)length);
+    memset(out, 7, sizeof out);
+    check(is_carried(bradovusc_carry_sheet(new_sheet, length, out, sizeof out), 0, 0, length), "nothing to add", (long)length);
+    check(memcmp(out, new_sheet, length) == 0 && out[length] == 7, "the same bytes, and no more", (long)length);
+}
+
+static void try_carry_rule(void) {
+    static const uint8_t foreign_field[] = {'R', 'U', 'L', 'E', 1, 68}, no_token[] = {'R', 'U', 'L', 'E', 2, 68, 72};
+    size_t length = sizeof new_rule;
+    memset(out, 7, sizeof out);
+
+    check(is_carried(bradovusc_carry_rule(old_rule, sizeof old_rule, out, length - 1), 41, 0, 0), "a byte too few", 41);
+    check(is_carried(bradovusc_carry_rule(old_rule, sizeof old_rule, NULL, 0), 41, 0, 0), "no output buffer", 41);
+    check(is_carried(bradovusc_carry_rule(NULL, 0, out, sizeof out), 11, 0, 0), "no rule", 11);
+    check(is_carried(bradovusc_carry_rule(NULL, 0, NULL, 0), 11, 0, 0), "nothing at all", 11);
+    check(is_carried(bradovusc_carry_rule(no_token, 7, out, sizeof out), 17, 6, 0), "a fault is before 31", 17);
+    check(is_carried(bradovusc_carry_rule(foreign_field, 6, NULL, 0), 31, 0, 0), "31 is before 41", 31);
+    check(is_carried(bradovusc_carry_rule(old_sheet, sizeof old_sheet, out, sizeof out), 12, 0, 0), "a sheet is no rule", 12);
+    check(out[0] == 7 && out[length - 2] == 7 && out[sizeof out - 1] == 7, "no byte changed", 41);
+    check(is_carried(bradovusc_carry_rule(old_rule, sizeof old_rule, out, length), 0, 0, length), "just enough", (long)length);
+    check(memcmp(out, new_rule, length) == 0 && out[length] == 7, "the new rule's bytes, and no more", (long)length);
+    memset(out, 7, sizeof out);
+    check(is_carried(bradovusc_carry_rule(new_rule, length, out, sizeof out), 0, 0, length), "nothing to add", (long)length);
+    check(memcmp(out, new_rule, length) == 0 && out[length] == 7, "the same bytes, and no more", (long)length);
+}
+
+/* sheet and rule told in so many elements */
+static void try_carried_told(void) {
+    size_t told_length, i;
+    for (told_length = 0; told_length <= 4; told_length++) {
+        uint64_t told[] = {7, 7, 7, 7}, told_of_rule[] = {7, 7, 7, 7};
+        const uint64_t expected[] = {0, 0, sizeof new_sheet, 7}, expected_of_rule[] = {0, 0, sizeof new_rule, 7};
+        check(bradovusc_spell_open(old_sheet, sizeof old_sheet, out, sizeof out, told, told_length) == 0, "written", 0);
+        check(bradovusc_spell_open_rule(old_rule, sizeof old_rule, out, sizeof out, told_of_rule, told_length) == 0, "written", 1);
+        for (i = 0; i < 4; i++) {
+            check(told[i] == (i < told_length ? expected[i] : 7), "an element of what is told", (long)i);
+            check(told_of_rule[i] == (i < told_length ? expected_of_rule[i] : 7), "an element told of a rule", (long)i);
+        }
+    }
+}
+
+static void try_carry_catalogue(void) {
+    static uint8_t catalogue[sizeof new_rule + 6 + 3], before[sizeof catalogue];
+    size_t length = sizeof new_rule + 6;
+    memcpy(catalogue, old_rule, sizeof old_rule);
+    memcpy(catalogue + sizeof old_rule, rule_a, 6);
+    memcpy(before, catalogue, sizeof catalogue);
+
+    check(bradovusc_carry_catalogue(catalogue, length - 1) == 32, "a byte too few", 32);
+    check(bradovusc_carry_catalogue(catalogue, sizeof old_rule + 6) == 32, "no byte behind the rules", 32);
+    check(bradovusc_carry_catalogue(catalogue, sizeof old_rule - 1) == 34, "no catalogue", 34);
+    check(memcmp(catalogue, before, sizeof catalogue) == 0, "no byte changed", 32);
+    check(bradovusc_carry_catalogue(catalogue, length) == 0, "just enough", (long)length);
+    check(memcmp(catalogue, new_rule, sizeof new_rule) == 0, "the first rule", 0);
+    check(memcmp(catalogue + sizeof new_rule, rule_a, 6) == 0 && all_zero(catalogue + length, 3), "the second, and no more", 1);
+    memcpy(before, catalogue, sizeof catalogue);
+    check(bradovusc_carry_catalogue(catalogue, sizeof catalogue) == 0, "nothing to add", 0);
+    check(memcmp(catalogue, before, sizeof catalogue) == 0, "the same bytes", 0);
+    check(bradovusc_carry_catalogue(NULL, 0) == 0, "no byte, no rule", 0);
+}
+
+/* What rules of four tokens, each a field of its own, become: a field without a pattern takes 8 bytes more. */
+static void try_carry_many(void) {
+    static const uint8_t rule[] = {'R', 'U', 'L', 'E', 4, 64, 65, 66, 67};
+    static uint8_t catalogue[BRADOVUSC_RULES * (9 + 4 * 8)];
+    size_t i, field;
+    for (i = 0; i < BRADOVUSC_RULES; i++) {
+        memcpy(catalogue + 9 * i, rule, 9);
+    }
+    check(bradovusc_carry_catalogue(catalogue, sizeof catalogue - 1) == 32, "a byte too few", 32);
+    check(memcmp(catalogue, rule, 9) == 0 && memcmp(catalogue + 9 * 31, rule, 9) == 0, "no byte changed", 32);
+    check(bradovusc_carry_catalogue(catalogue, sizeof catalogue) == 0, "just enough", 0);
+    for (i = 0; i < BRADOVUSC_RULES; i++) {
+        const uint8_t *at = catalogue + 41 * i;
+        check(memcmp(at, rule, 2) == 0 && memcmp(at + 34, rule + 2, 7) == 0, "mark and side", (long)i);
+        for (field = 0; field < BRADOVUSC_RULE_FIELDS; field++) {
+            const uint8_t record[] = {'P', 'A', (uint8_t)field, 4, 68, 65, 0, 42};
+            check(memcmp(at + 2 + 8 * field, record, 8) == 0, "a pattern", (long)field);
+        }
+    }
+}
+
 int main(void) {
     char version[64];
     snprintf(version, sizeof version, "%d.%d.%d", BRADOVUSC_VERSION_MAJOR, BRADOVUSC_VERSION_MINOR, BRADOVUSC_VERSION_PATCH);
@@ -606,6 +760,8 @@ int main(void) {
     check(BRADOVUSC_CATALOGUE_BYTES(32) == 13728, "a catalogue of 32 rules", 32);
     check(BRADOVUSC_LIST_BYTES(32) == 2480, "a list of their pairs", 32);
     check(BRADOVUSC_SCRIPT_BYTES == 140000, "a script", 140000);
+    check(BRADOVUSC_SHEET_BYTES == BRADOVUSC_FIELDS * (4 + 96) + 2 * (3 + 24), "a sheet", 854);
+    check(BRADOVUSC_RULE_BYTES == 2 + BRADOVUSC_RULE_FIELDS * (4 + 96) + (3 + 24), "a rule", 429);
     check(BRADOVUSC_LIST_BYTES(2) == 5 && BRADOVUSC_LIST_BYTES(1) == 0 && BRADOVUSC_LIST_BYTES(0) == 0, "of fewer rules", 2);
     try_texts();
     try_signs();
@@ -622,6 +778,11 @@ int main(void) {
     try_rechecked_told();
     try_longest_list();
     try_longest_rules();
+    try_carry_sheet();
+    try_carry_rule();
+    try_carried_told();
+    try_carry_catalogue();
+    try_carry_many();
     printf("%u checks, %u failed\n", checks, failed);
     return failed == 0 ? EXIT_SUCCESS : EXIT_FAILURE;
 }

@@ -9,10 +9,12 @@
 //! | `CA` | length b in two bytes, length n in two bytes, n bytes | from now on the catalogue is a buffer of b bytes that begins with these n, the rest zeros |
 //! | `WO` | length in four bytes | from now on so many bytes of work are lent to each `AD` and `RE` |
 //! | `RE` | length in two bytes | check the pairs again, with a list buffer of so many bytes |
+//! | `SO` | | carry the catalogue over: the old meaning of fields without a pattern is written out |
 
 use crate::cases::{push_each, push_work, WORK_FILL};
 use crate::catalogue::{add, recheck, withdraw};
 use crate::catalogue::{Added, Pair, Rechecked, Searcher, DONE, PAIR_BYTES};
+use crate::spell_open;
 
 /// The catalogue's length at the start, and the greatest.
 pub const MOST_CATALOGUE: usize = 8_192;
@@ -33,6 +35,7 @@ pub enum Operation {
     Catalogue { length: usize, front: Vec<u8> },
     Work(usize),
     Recheck(usize),
+    Carry,
 }
 
 impl Operation {
@@ -68,6 +71,7 @@ impl Operation {
                 let (length, rest) = number(rest, 2)?;
                 (length <= MOST_LIST).then_some((Operation::Recheck(length), rest))
             }
+            b"SO" => Some((Operation::Carry, rest)),
             _ => None,
         }
     }
@@ -98,6 +102,7 @@ impl Operation {
                 stream.extend_from_slice(b"RE");
                 stream.extend_from_slice(&(*length as u16).to_le_bytes());
             }
+            Operation::Carry => stream.extend_from_slice(b"SO"),
         }
     }
 }
@@ -127,6 +132,7 @@ pub enum Call {
     Add { told: Added, work: Vec<u8> },
     Withdraw { number: u8 },
     Recheck { told: Rechecked, list: Vec<u8>, work: Vec<u8> },
+    Carry { number: u8 },
 }
 
 impl Calls {
@@ -163,6 +169,7 @@ impl Calls {
                 let told = recheck(&self.catalogue, &mut work, &mut list, self.search);
                 Call::Recheck { told, list, work }
             }
+            Operation::Carry => Call::Carry { number: spell_open::catalogue(&mut self.catalogue) },
         };
         Some(After { call, catalogue: self.catalogue.clone() })
     }
@@ -195,6 +202,7 @@ impl After {
             Call::Recheck { told: Rechecked { number, pairs, written }, .. } => {
                 format!("recheck {number} {pairs} {written}")
             }
+            Call::Carry { number } => format!("carry {number}"),
         }
     }
 
@@ -207,7 +215,7 @@ impl After {
         push_buffer(&mut line, "catalogue", &self.catalogue);
         match &self.call {
             Call::Add { work, .. } | Call::Recheck { work, .. } => push_work(&mut line, work),
-            Call::Withdraw { .. } => {}
+            Call::Withdraw { .. } | Call::Carry { .. } => {}
         }
         line
     }

@@ -4,6 +4,8 @@
 //! answer buffer, two bytes length of the sheet (all low byte first), and the
 //! sheet.
 
+use crate::catalogue::RULE;
+use crate::spell_open::{rule_into, sheet_into, Spelt};
 use crate::Outcome;
 
 /// The bytes with which the buffers are filled before each case.
@@ -40,6 +42,18 @@ impl Case {
         After { outcome, answer, work }
     }
 
+    /// Carries the sheet over into a buffer of the answer buffer's length, or
+    /// the rule where the bytes begin with its mark: number, place and written
+    /// length, then every byte of the buffer.
+    pub fn spelt(&self) -> String {
+        let mut output = vec![ANSWER_FILL; self.answer as usize];
+        let spell = if self.sheet.starts_with(RULE) { rule_into } else { sheet_into };
+        let Spelt { number, place, written } = spell(&self.sheet, &mut output);
+        let mut line = format!("{number} {place} {written}");
+        push_answer(&mut line, &output, written);
+        line
+    }
+
     /// Writes the case behind the stream. A sheet has at most 65,535 bytes.
     pub fn write(&self, stream: &mut Vec<u8>) {
         stream.extend_from_slice(&self.work.to_le_bytes());
@@ -67,18 +81,7 @@ impl After {
     pub fn line(&self) -> String {
         let Outcome { number, count, place, written } = self.outcome;
         let mut line = format!("{number} {count} {place} {written}");
-        match self.answer.split_at_checked(written) {
-            Some((records, rest)) => {
-                line += ", written";
-                push_each(&mut line, records);
-                line += ", rest";
-                push_lent(&mut line, rest, ANSWER_FILL);
-            }
-            None => {
-                line += ", more than the answer buffer";
-                push_each(&mut line, &self.answer);
-            }
-        }
+        push_answer(&mut line, &self.answer, written);
         push_work(&mut line, &self.work);
         line
     }
@@ -86,6 +89,22 @@ impl After {
     /// What the program `clash` prints.
     pub fn lines(&self) -> String {
         crate::lines(&self.outcome, &self.answer)
+    }
+}
+
+/// What the answer buffer holds.
+fn push_answer(line: &mut String, answer: &[u8], written: usize) {
+    match answer.split_at_checked(written) {
+        Some((records, rest)) => {
+            *line += ", written";
+            push_each(line, records);
+            *line += ", rest";
+            push_lent(line, rest, ANSWER_FILL);
+        }
+        None => {
+            *line += ", more than the answer buffer";
+            push_each(line, answer);
+        }
     }
 }
 

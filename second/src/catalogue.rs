@@ -44,6 +44,20 @@ impl Rule {
         Ok(rule)
     }
 
+    /// A whole rule and no field above 3: "the rule's own 11 to 17, then 31 for
+    /// a field above 3", which has no place.
+    pub fn read_own(bytes: &[u8]) -> Result<Rule, Fault> {
+        let rule = Rule::read(bytes)?;
+        if rule.names_a_field_above_3() {
+            return Err(Fault { number: FIELD_ABOVE_3, place: 0 });
+        }
+        Ok(rule)
+    }
+
+    pub fn side(&self) -> &[Token] {
+        &self.side
+    }
+
     /// "the mark `RU`, the `PA` records of its own fields, ..., and one `LE`"
     fn record(cursor: &mut Cursor) -> Result<Rule, Fault> {
         cursor.mark(RULE)?;
@@ -138,15 +152,11 @@ pub fn add(catalogue: &mut [u8], rule: &[u8], work: &mut [u8], search: Searcher)
     let Some(present) = read(catalogue) else {
         return Added::of(NOT_OF_THIS_FORM);
     };
-    // "... then the rule's own 11 to 17, ..."
-    let new = match Rule::read(rule) {
+    // "... then the rule's own 11 to 17, then 31 for a field above 3, ..."
+    let new = match Rule::read_own(rule) {
         Ok(new) => new,
         Err(Fault { number, place }) => return Added { place, ..Added::of(number) },
     };
-    // "... then 31 for a field above 3, ..."
-    if new.names_a_field_above_3() {
-        return Added::of(FIELD_ABOVE_3);
-    }
     // "... then 32 if 32 rules stand or the record's bytes don't fit, ..."
     let place = present.last().map_or(0, |last| last.bytes.end);
     if present.len() == MOST_RULES || rule.len() > catalogue.len() - place {

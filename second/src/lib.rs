@@ -10,6 +10,10 @@
 //! dropped": `sheet::Question` has a hidden field of spaces at the end of each
 //! side, and the search knows nothing else of it.
 //!
+//! "A field without a pattern shall now hold one character or more.":
+//! `pattern::Allowed` has its two place sets, and `spell_open` writes the old
+//! meaning out, by which it held the empty text too.
+//!
 //! `catalogue::add` and `catalogue::withdraw` keep a catalogue of rules of which
 //! no two can make the same label, and `catalogue::recheck` lists the pairs of a
 //! kept one that may; they search by `searched` or by `scan::searched`.
@@ -32,6 +36,7 @@ pub mod search;
 pub mod sheet;
 pub mod situation;
 pub mod smt;
+pub mod spell_open;
 pub mod storeroom;
 pub mod write;
 

@@ -1,11 +1,12 @@
 //! Makes cases from a seed: good sheets of all kinds, damaged sheets, rooms
 //! and answer buffers near their bounds. `spaces` makes the ends of labels,
-//! `calls` operations on a catalogue with the same parts, `damages` the faults
-//! of both.
+//! `calls` operations on a catalogue with the same parts, `spelt` sheets and
+//! rules to carry over, `damages` the faults of them all.
 
 pub mod calls;
 mod damages;
 mod spaces;
+pub mod spelt;
 
 use std::ops::Range;
 
@@ -13,7 +14,7 @@ use self::damages::{damaged, random_bytes};
 use crate::cases::Case;
 use crate::pattern::{CHARACTERS, SPACE};
 use crate::sheet::{FIELDS, LEFT, PATTERN, RIGHT};
-use crate::{ANSWER_BUFFER_TOO_SHORT, CLASH, SITUATION_BYTES};
+use crate::{spell_open, ANSWER_BUFFER_TOO_SHORT, CLASH, SITUATION_BYTES};
 
 /// A small deterministic generator (xorshift with a multiplication).
 pub struct Dice(u64);
@@ -159,6 +160,12 @@ fn with_any_buffers(dice: &mut Dice, sheet: Vec<u8>) -> Case {
     Case { work: work_length(dice, room), answer: any_answer_length(dice), sheet }
 }
 
+/// The length of the sheet with the old meaning of its fields without a pattern
+/// written out; 0 for a sheet with a fault.
+fn spelt_length(sheet: &[u8]) -> usize {
+    spell_open::sheet(sheet).map_or(0, |spelt| spelt.len())
+}
+
 /// Buffers for a good sheet: often exactly what is needed, or one less.
 fn with_chosen_buffers(dice: &mut Dice, sheet: Vec<u8>) -> Case {
     let mut room = any_room(dice);
@@ -170,10 +177,11 @@ fn with_chosen_buffers(dice: &mut Dice, sheet: Vec<u8>) -> Case {
     if dice.one_in(3) {
         room = found.count.saturating_sub(dice.below(2));
     }
-    let answer = match dice.below(4) {
+    let answer = match dice.below(5) {
         0 if found.number == CLASH => found.written as u32,
         1 if found.number == CLASH => found.written.saturating_sub(1) as u32,
         2 if found.number == ANSWER_BUFFER_TOO_SHORT => 4096,
+        3 => spelt_length(&sheet).saturating_sub(dice.below(2)) as u32,
         _ => any_answer_length(dice),
     };
     Case { work: work_length(dice, room), answer, sheet }
@@ -204,10 +212,11 @@ fn some_fields(dice: &mut Dice, below: u8) -> Vec<u8> {
 
 /// Two sides with these fields, often with something at their ends.
 fn sides(dice: &mut Dice, alphabet: &[u8], fields: &[u8]) -> Sides {
-    let (mut left, mut right, texts) = match dice.below(10) {
+    let (mut left, mut right, texts) = match dice.below(11) {
         0 | 1 => plain(dice, alphabet, fields),
         2..=4 => mixed(dice, alphabet, fields),
         5..=8 => planted(dice, alphabet, fields),
+        9 => struck_to_nothing(dice, alphabet, fields),
         _ => many_times(dice, alphabet, fields),
     };
     // Often a field comes to the front, so that there is something to search.
@@ -307,8 +316,9 @@ fn mixed(dice: &mut Dice, alphabet: &[u8], fields: &[u8]) -> Sides {
     (left, right, Vec::new())
 }
 
-/// Both sides made from one label, so that there is a clash; one of them now and
-/// then without the spaces at the label's end.
+/// Both sides made from one label, so that there is a clash, unless a field that
+/// gets no pattern has the empty text; one of them now and then without the
+/// spaces at the label's end.
 fn planted(dice: &mut Dice, alphabet: &[u8], fields: &[u8]) -> Sides {
     let texts: Vec<(u8, Vec<u8>)> = fields
         .iter()
@@ -367,6 +377,20 @@ fn planted(dice: &mut Dice, alphabet: &[u8], fields: &[u8]) -> Sides {
         std::mem::swap(&mut left, &mut right);
     }
     (left, right, texts)
+}
+
+/// A label, and the same one with fields in it that stand for nothing: no field
+/// without a pattern can, but at the end it may be a space.
+fn struck_to_nothing(dice: &mut Dice, alphabet: &[u8], fields: &[u8]) -> Sides {
+    let label: Vec<u8> = (0..dice.between(1, 6)).map(|_| dice.pick(alphabet)).collect();
+    let mut sides = [label.clone(), label];
+    for &field in fields {
+        let at = dice.below(sides[0].len() + 1);
+        sides[0].insert(at, 64 + field);
+    }
+    dice.shuffle(&mut sides);
+    let [left, right] = sides;
+    (left, right, fields.iter().map(|&field| (field, Vec::new())).collect())
 }
 
 /// One field standing many times on a side.

@@ -9,11 +9,15 @@ pub const CHARACTERS: u8 = 43;
 /// "38 space"
 pub const SPACE: u8 = 38;
 
-/// A set of places: bit 0 is the start, bit k the k-th leaf of the pattern.
+/// A set of places: bit 0 is the start, bit k the k-th leaf of the pattern. A
+/// field without a pattern has one place beside the start: bit 1, after a
+/// character.
 pub type PlaceSet = u32;
 
 /// The place set that "at first ... holds only the start".
 pub const ONLY_START: PlaceSet = 1;
+/// The other of the "two reachable place sets" of a field without a pattern.
+pub const AFTER_A_CHARACTER: PlaceSet = 2;
 
 /// A pattern as a tree.
 #[derive(Clone, Debug, PartialEq, Eq)]
@@ -200,7 +204,9 @@ fn members(set: PlaceSet) -> impl Iterator<Item = usize> {
 /// What a field may stand for.
 #[derive(Clone, Debug)]
 pub enum Allowed {
-    /// "A field without `PA` is open: any text, the empty one included."
+    /// "A field without a pattern shall now hold one character or more. It then
+    /// has two reachable place sets": the start, at which it may not end, and
+    /// after a character, where it may.
     Open,
     /// A field with a pattern.
     Pattern(Box<Places>),
@@ -208,11 +214,12 @@ pub enum Allowed {
 
 impl Allowed {
     /// "After a character c it holds each leaf that may follow some place of
-    /// the set and that takes c." "An open field has one place set that never
-    /// changes ..."
+    /// the set and that takes c." A field without a pattern takes every
+    /// character from both its sets.
     pub fn after(&self, set: PlaceSet, character: u8) -> PlaceSet {
         match self {
-            Allowed::Open => set,
+            Allowed::Open if set == 0 => 0,
+            Allowed::Open => AFTER_A_CHARACTER,
             Allowed::Pattern(places) => {
                 let following = members(set).fold(0, |all, place| all | places.follow[place]);
                 following & places.takes[usize::from(character)]
@@ -220,11 +227,10 @@ impl Allowed {
         }
     }
 
-    /// "The set may end if some place in it may be the last one of a text ..."
-    /// "... and may always end."
+    /// "The set may end if some place in it may be the last one of a text".
     pub fn may_end(&self, set: PlaceSet) -> bool {
         match self {
-            Allowed::Open => true,
+            Allowed::Open => set & AFTER_A_CHARACTER != 0,
             Allowed::Pattern(places) => set & places.last != 0,
         }
     }

@@ -40,7 +40,7 @@ pub fn cases() -> Vec<Case> {
         plain(sheet(&[], &[field(0), A], &[B, field(1), field(0)])),
         case(0, ANSWER, sheet(&[], &[field(0), A], &[B, field(0)])),
         // a side above 48 tokens
-        case(4, ANSWER, sheet(&[], &[field(0); 24], &[A, A])),
+        case(3, ANSWER, sheet(&[], &[field(0); 24], &[A, A])),
         // an answer buffer too short by one byte, and one just long enough
         case(ROOM, 11, sheet(&[], &[field(0), field(1)], &[A, B])),
         case(ROOM, 12, sheet(&[], &[field(0), field(1)], &[A, B])),

@@ -18,7 +18,7 @@ pub const LEFT: &[u8; 2] = b"LE";
 pub const RIGHT: &[u8; 2] = b"RI";
 
 /// Mark, field byte and length byte.
-const PATTERN_HEAD: usize = 4;
+pub const PATTERN_HEAD: usize = 4;
 /// The field byte's offset from the mark.
 const FIELD_BYTE: usize = 2;
 const PATTERN_LENGTHS: RangeInclusive<u8> = 1..=96;

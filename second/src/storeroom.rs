@@ -14,9 +14,10 @@
 //! | key safe | `KS`, any digits, `-`, the same digits again | `KS12-12` |
 //! | strike plate | `SP`, any digits | `SP3` |
 //! | battery | `BT 9V` | `BT 9V` |
-//! | box of a pair | `BX`, any text twice, a hand | `BXABABL` |
+//! | box of a pair | `BX`, any text but the empty one twice, a hand | `BXABABL` |
 //! | strip of tags | `TG`, any digits 22 times | `TG7777777777777777777777` |
 //! | lever | `LV`, any letters and digits | `LV42BR` |
+//! | parcel | `PK`, any text but the empty one, `X`; once the empty one too | `PK7X` |
 //!
 //! A label is the same with spaces at its end: scanners drop them.
 //!
@@ -24,7 +25,8 @@
 
 use crate::calls::{Operation, WORK};
 use crate::cases::Case;
-use crate::write::{choice, many, row, rule, sheet, text, tokens};
+use crate::spell_open::OLD_MEANING;
+use crate::write::{choice, many, patterns, row, rule, sheet, text, tokens};
 use crate::SITUATION_BYTES;
 
 /// An operation, what it is, and the line that it prints, or the lines, if any.
@@ -35,7 +37,7 @@ pub struct Row {
 }
 
 pub fn rows() -> Vec<Row> {
-    let rows = [entered(), refused(), withdrawn(), rechecked(), other_buffers()];
+    let rows = [entered(), refused(), withdrawn(), rechecked(), other_buffers(), carried_over()];
     rows.into_iter().flatten().collect()
 }
 
@@ -93,7 +95,7 @@ fn battery() -> Vec<u8> {
     rule(&[], &tokens("BT 9V"))
 }
 
-/// The text is open.
+/// The text has no pattern.
 fn box_of_a_pair(made: &str) -> Vec<u8> {
     rule(&[], &tokens(made))
 }
@@ -258,6 +260,36 @@ fn other_buffers() -> Vec<Row> {
     ]
 }
 
+/// Catalogues kept from when a field without a pattern could be empty.
+fn carried_over() -> Vec<Row> {
+    let parcels = [shelf_mark("PKX"), shelf_mark("PKaX"), strike_plate()];
+    let kept = parcels.concat();
+    let needed = kept.len() + added_record();
+    let mut damaged = shelf_mark("PKaX");
+    damaged[0] = b'U';
+    vec![
+        carry("no bytes, and nothing to carry over", "carry 0"),
+        catalogue("a parcel `PKX`, parcels `PK`, any text, `X`", needed, kept.clone()),
+        recheck("no text is empty now", 0, "recheck 0 0 0"),
+        carry("the empty text is written out", "carry 0"),
+        recheck("`PKX` is a parcel of both", 5, "recheck 0 1 5\npair 0 1 0 10"),
+        carry("again, and nothing is added", "carry 0"),
+        recheck("as before", 5, "recheck 0 1 5\npair 0 1 0 10"),
+        withdraw("the parcel `PKX` goes", 0, "withdraw 0"),
+        add("its mark is a parcel's already", shelf_mark("PKX"), "add 30 10 0 0 0"),
+        catalogue("the same, a byte too short", needed - 1, kept),
+        carry("32: they no longer fit", "carry 32"),
+        recheck("nothing is changed", 0, "recheck 0 0 0"),
+        catalogue("parcels with another mark", 64, damaged),
+        carry("34: no catalogue to carry over", "carry 34"),
+    ]
+}
+
+/// The bytes that a field without a pattern gets.
+fn added_record() -> usize {
+    patterns(&[(A, OLD_MEANING.to_vec())]).len()
+}
+
 // ------------------------------------------------------- a full catalogue
 
 /// A rule's patterns by field, and its side.
@@ -316,6 +348,10 @@ fn withdraw(what: &'static str, number: u8, line: &'static str) -> Row {
 
 fn recheck(what: &'static str, length: usize, lines: &'static str) -> Row {
     Row { what, operation: Operation::Recheck(length), line: Some(lines) }
+}
+
+fn carry(what: &'static str, line: &'static str) -> Row {
+    Row { what, operation: Operation::Carry, line: Some(line) }
 }
 
 fn catalogue(what: &'static str, length: usize, front: Vec<u8>) -> Row {

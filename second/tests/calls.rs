@@ -34,6 +34,7 @@ fn all_answers_come_up() {
         match call {
             Call::Add { told: Added { number, pair, .. }, .. } => see(("add", number, pair)),
             Call::Withdraw { number } => see(("withdraw", number, 0)),
+            Call::Carry { number } => see(("carry", number, 0)),
             Call::Recheck { told, list, .. } => {
                 see(("recheck", told.number, u8::from(told.pairs > 0)));
                 list[..told.written].chunks_exact(5).for_each(|pair| see(("pair", pair[2], 0)));
@@ -45,7 +46,9 @@ fn all_answers_come_up() {
     let withdrawals = [0, 33, 34].map(|number| ("withdraw", number, 0));
     let rechecks = [("recheck", 0, 0), ("recheck", 0, 1), ("recheck", 35, 0)];
     let listed = [0, 18, 19].map(|answer| ("pair", answer, 0));
-    for answer in adds.into_iter().chain(pairs).chain(withdrawals).chain(rechecks).chain(listed) {
+    let carried = [0, 32, 34].map(|number| ("carry", number, 0));
+    let others = rechecks.into_iter().chain(listed).chain(carried);
+    for answer in adds.into_iter().chain(pairs).chain(withdrawals).chain(others) {
         let times = seen.remove(&answer).unwrap_or(0);
         assert!(times >= 20, "{answer:?}: {times}");
     }
@@ -290,8 +293,14 @@ fn no_label_is_made_by_two_rules_of_a_catalogue_that_began_empty() {
             // The same rules may come in another buffer.
             began_empty = front.is_empty() || began_empty && calls.catalogue.starts_with(front);
         }
+        let before = calls.catalogue.clone();
         let entered = match calls.run(&operation) {
             Some(After { call: Call::Add { told, .. }, .. }) => told.number == 0,
+            // Rules that hold more texts than before may clash.
+            Some(After { call: Call::Carry { .. }, catalogue }) => {
+                began_empty &= catalogue == before;
+                false
+            }
             _ => false,
         };
         if !(entered && began_empty) {

@@ -115,10 +115,10 @@ fn a_clash_is_refused() {
     // both sides empty, count 5; the rule `B` before it gives 1
     refused_by_pair(&[rule(&[]), rule(&[B])], &rule(&[]), 5, pair(0, 0, 5));
     refused_by_pair(&[rule(&[B]), rule(&[])], &rule(&[]), 5, pair(1, 0, 5));
-    // x and `A`, count 11
-    refused_by_pair(&[rule(&[X])], &rule(&[A]), 11, pair(0, 0, 11));
+    // x and `A`, count 10
+    refused_by_pair(&[rule(&[X])], &rule(&[A]), 10, pair(0, 0, 10));
     // x and 24 times `A`: two more for each `A`
-    refused_by_pair(&[rule(&[X])], &rule(&[A; 24]), 57, pair(0, 0, 57));
+    refused_by_pair(&[rule(&[X])], &rule(&[A; 24]), 56, pair(0, 0, 56));
 }
 
 #[test]
@@ -135,12 +135,12 @@ fn rules_that_differ_in_spaces_at_their_ends() {
 
 #[test]
 fn the_first_pair_that_is_not_1_is_told() {
-    // Rules 1 and 2 both make `A`; so does rule 3.
+    // Rules 1 and 2 both make `A`, rules 2 and 3 both `AA`.
     let rules = [rule(&[B]), rule(&[A]), rule(&[X]), rule(&[X, X])];
     refused_by_pair(&rules, &rule(&[A]), 455, pair(1, 0, 5));
-    refused_by_pair(&rules, &rule(&[A, A]), 455, pair(2, 0, 13));
-    // Bh|yk, Bh|k, h|yk, |yk, h|k, h'|yk, |k, h|, h'|k', h'|k, |
-    refused_by_pair(&rules[..2], &rule(&[X]), 455, pair(0, 0, 11));
+    refused_by_pair(&rules, &rule(&[A, A]), 455, pair(2, 0, 12));
+    // Bh|yk, h|y'k, |y'k, h|k, h'|y'k, |k, h|, h'|k', h'|k, |
+    refused_by_pair(&rules[..2], &rule(&[X]), 455, pair(0, 0, 10));
     // A pair given up ends it too, though a later one has a clash.
     refused_by_pair(&[rule(&[X, X]), rule(&[A])], &rule(&[A]), 1, pair(0, 18, 1));
 }
@@ -148,13 +148,13 @@ fn the_first_pair_that_is_not_1_is_told() {
 #[test]
 fn the_new_rules_fields_are_others() {
     // As one sheet xA and Bx have no clash; as rules they have: BA. Entered:
-    // xAh|Byk, xAh|yk, Ah|yk, xAh|k, Ah|k, h|yk, xAh|, xAh|k', |yk, h|k, h'|yk,
-    // Ah|k', |k, h|, h'|k', h'|k, |.
-    refused_by_pair(&[rule(&[X, A])], &rule(&[B, X]), 455, pair(0, 0, 17));
-    refused_by_pair(&[rule(&[X, A])], &rule(&[B, X]), 17, pair(0, 0, 17));
-    refused_by_pair(&[rule(&[X, A])], &rule(&[B, X]), 16, pair(0, 18, 16));
+    // xAh|Byk, x'Ah|yk, Ah|yk, x'Ah|y'k, h|y'k, Ah|y'k, x'Ah|k, |y'k, h|k,
+    // h'|y'k, Ah|k, x'Ah|, x'Ah|k', |k, h|, h'|k', h'|k, Ah|k', |.
+    refused_by_pair(&[rule(&[X, A])], &rule(&[B, X]), 455, pair(0, 0, 19));
+    refused_by_pair(&[rule(&[X, A])], &rule(&[B, X]), 19, pair(0, 0, 19));
+    refused_by_pair(&[rule(&[X, A])], &rule(&[B, X]), 18, pair(0, 18, 18));
     // Field 3 becomes 7.
-    refused_by_pair(&[rule(&[X + 3, A])], &rule(&[B, X + 3]), 17, pair(0, 0, 17));
+    refused_by_pair(&[rule(&[X + 3, A])], &rule(&[B, X + 3]), 19, pair(0, 0, 19));
 }
 
 #[test]
@@ -167,12 +167,33 @@ fn each_rule_keeps_its_own_patterns() {
     // xh|yk, x'h|y'k, h|y'k, x'h|k, |y'k, h|k, x'h|, |k, h|, h'|k', |
     refused_by_pair(std::slice::from_ref(&digit), &four, 11, pair(0, 0, 11));
     refused_by_pair(&[four], &digit, 11, pair(0, 0, 11));
-    // An open field is not held to the other's pattern: xh|yk, xh|k, x'h|yk,
-    // xh|, h|yk, x'h|k, |yk, h|k, h'|yk, x'h|, |k, h|, h'|k', h'|k, |.
-    refused_by_pair(&[digit], &rule(&[X]), 15, pair(0, 0, 15));
+    // A field without a pattern is not held to the other's: xh|yk, x'h|y'k,
+    // h|y'k, x'h|k, |y'k, h|k, h'|y'k, x'h|, |k, h|, h'|k', h'|k, |.
+    refused_by_pair(&[digit], &rule(&[X]), 13, pair(0, 0, 13));
     // A pattern of a field that stands nowhere is ignored.
     let ignored = with(b"PA\x01\x01\x04", &[X]);
-    refused_by_pair(&[letter], &ignored, 15, pair(0, 0, 15));
+    refused_by_pair(&[letter], &ignored, 13, pair(0, 0, 13));
+}
+
+/// "A field without a pattern shall now hold one character or more."
+#[test]
+fn a_field_without_a_pattern() {
+    // `A`x`B` and `AB`: xBh|Bk, x'Bh|k, Bh|k, x'Bh|, x'Bh|k', Bh|k'
+    let between = rule(&[A, X, B]);
+    enters(std::slice::from_ref(&between), &rule(&[A, B]), 6);
+    refused_by_pair(std::slice::from_ref(&between), &rule(&[A, B]), 5, pair(0, 18, 5));
+    // and `AAB`: xBh|ABk, x'Bh|Bk, h|k, x'Bh|k, |k, h|, h'|k', Bh|k, x'Bh|,
+    // x'Bh|k', |
+    refused_by_pair(&[between], &rule(&[A, A, B]), 11, pair(0, 0, 11));
+    // With the old meaning written out it may be empty: xBh|Bk, h|k, x'Bh|k,
+    // |k, h|, h'|k', Bh|k, x'Bh|, x'Bh|k', |
+    let spelt = with(b"PA\x00\x04\x44\x41\x00\x2a", &[A, X, B]);
+    refused_by_pair(&[spelt], &rule(&[A, B]), 10, pair(0, 0, 10));
+    // At the end it may be one space: xh|k, xh|, x'h|k', h|k', x'h|, |k', h|,
+    // h'|k', |
+    refused_by_pair(&[rule(&[A, X])], &rule(&[A]), 9, pair(0, 0, 9));
+    lists(&[rule(&[A, X]), rule(&[A])], 9, &[[0, 1, 0, 9, 0]]);
+    lists(&[rule(&[A, X, B]), rule(&[A, B])], 6, &[]);
 }
 
 #[test]
@@ -196,10 +217,10 @@ fn a_working_buffer_of_no_bytes() {
 
 #[test]
 fn a_side_above_48_tokens() {
-    refused_by_pair(&[rule(&[X; 24])], &rule(&[A, A]), 4, pair(0, 19, 4));
-    // AAh|y..k, AAh|k, Ah|y(Ay)..k, h|A..k, then 68 tokens
+    refused_by_pair(&[rule(&[X; 24])], &rule(&[A, A]), 3, pair(0, 19, 3));
+    // AAh|y..k, Ah|y'(Ay')..k, h|A..k, then 68 tokens
     let many_times = rule(&[&[A][..], &[X; 23]].concat());
-    refused_by_pair(&[rule(&[B]), rule(&[A, A, A])], &many_times, 4, pair(1, 19, 4));
+    refused_by_pair(&[rule(&[B]), rule(&[A, A, A])], &many_times, 3, pair(1, 19, 3));
 }
 
 // ------------------------------------------------------- 11 to 17, then 31
@@ -558,13 +579,13 @@ fn pairs_that_clash_are_listed() {
     lists(&[rule(&[]), rule(&[])], 5, &[[0, 1, 0, 5, 0]]);
     lists(&[rule(&[A]), rule(&[A, SPACE])], 6, &[[0, 1, 0, 6, 0]]);
     // x and 24 times `A`
-    lists(&[rule(&[X]), rule(&[A; 24])], 57, &[[0, 1, 0, 57, 0]]);
+    lists(&[rule(&[X]), rule(&[A; 24])], 56, &[[0, 1, 0, 56, 0]]);
     // By lower, then higher number; `B` clashes with none of them.
     let rules = [rule(&[A, SPACE]), rule(&[B]), rule(&[A]), rule(&[A; 2]), rule(&[A, SPACE])];
     lists(&rules, 455, &[[0, 2, 0, 6, 0], [0, 4, 0, 5, 0], [2, 4, 0, 6, 0]]);
     lists(&rules[1..], 455, &[[1, 3, 0, 6, 0]]);
     // Each rule has fields of its own: xA and Bx make BA.
-    lists(&[rule(&[X, A]), rule(&[B, X])], 17, &[[0, 1, 0, 17, 0]]);
+    lists(&[rule(&[X, A]), rule(&[B, X])], 19, &[[0, 1, 0, 19, 0]]);
 }
 
 #[test]
@@ -596,7 +617,7 @@ fn pairs_given_up_are_listed() {
     let runs_on = [rule(&[X, X, A]), rule(&[X, X, B])];
     lists(&runs_on, 455, &[[0, 1, 18, 0xc7, 1]]);
     lists(&runs_on, 256, &[[0, 1, 18, 0, 1]]);
-    lists(&[rule(&[X; 24]), rule(&[A, A])], 4, &[[0, 1, 19, 4, 0]]);
+    lists(&[rule(&[X; 24]), rule(&[A, A])], 3, &[[0, 1, 19, 3, 0]]);
 }
 
 #[test]

@@ -65,18 +65,28 @@ fn a_and_b() {
 
 #[test]
 fn x_and_a() {
-    // xh|Ak, h|Ak, xh|k, h|k, xh|, xh|k', |k, h|, h'|k', h|k', |
+    // xh|Ak, x'h|k, h|k, x'h|, x'h|k', |k, h|, h'|k', h|k', |
     let records = [b"VA", &[0, 1, 0, A][..]].concat();
-    check_at_least_room(&sheet(&[X], &[A]), 0, 11, &records);
-    check(&sheet(&[X], &[A]), 11, 6, (0, 11, 0), &records);
-    check(&sheet(&[X], &[A]), 11, 5, (20, 11, 0), &[]);
+    check_at_least_room(&sheet(&[X], &[A]), 0, 10, &records);
+    check(&sheet(&[X], &[A]), 10, 6, (0, 10, 0), &records);
+    check(&sheet(&[X], &[A]), 10, 5, (20, 10, 0), &[]);
     check(&sheet(&[X], &[A]), 2, 6, (18, 2, 0), &[]);
 }
 
 #[test]
+fn x_and_the_empty_side() {
+    // x is one space: xh|k, xh|, x'h|k', h|k', x'h|, |k', h|, h'|k', |
+    check_at_least_room(&sheet(&[X], &[]), 0, 9, &record(&[SPACE]));
+    let printed = run(&sheet(&[X], &[]), 455, 4096);
+    assert_eq!(lines(&printed.outcome, &printed.answer), "0 9 0\n0  \n");
+    // h|xk, |xk, h'|x'k, |x'k, h'|k, |k, h'|, h'|k', |
+    check_at_least_room(&sheet(&[], &[X]), 0, 9, &record(&[SPACE]));
+}
+
+#[test]
 fn xa_and_bx() {
-    // xAh|Bxk comes back after `B`.
-    check(&sheet(&[X, A], &[B, X]), 455, 4096, (1, 1, 0), &[]);
+    // xAh|Bxk, x'Ah|Bx'k, which comes back after `B`
+    check_at_least_room(&sheet(&[X, A], &[B, X]), 1, 2, &[]);
 }
 
 #[test]
@@ -99,28 +109,28 @@ fn xa_and_bx_without_room() {
 
 #[test]
 fn xx_and_aa() {
-    // xxh|AAk, h|AAk, xAxh|Ak, h|k, xAAxh|k, |k, h|, h'|k', AAh|k, xAAxh|,
-    // xAA_xh|k', |
+    // xxh|AAk, x'Ax'h|Ak, h|k, x'AAx'h|k, |k, h|, h'|k', AAh|k, x'AAx'h|,
+    // x'AA_x'h|k', |
     let records = [b"VA", &[0, 1, 0, A][..]].concat();
-    check_at_least_room(&sheet(&[X, X], &[A, A]), 0, 12, &records);
+    check_at_least_room(&sheet(&[X, X], &[A, A]), 0, 11, &records);
 }
 
 #[test]
 fn xx_and_a() {
-    // xxh|Ak, h|Ak, then xAxh|k. From there each space makes three: A_..h|k',
-    // xA_..xh| and xA_..xh|k', until the last has more than 48 tokens: x, A,
-    // 44 spaces, x and h are 48. So 3, two more without a space, and three for
-    // each of 44 spaces.
-    check(&sheet(&[X, X], &[A]), 455, 4096, (19, 137, 0), &[]);
-    check(&sheet(&[X, X], &[A]), 137, 4096, (19, 137, 0), &[]);
-    check(&sheet(&[X, X], &[A]), 136, 4096, (18, 136, 0), &[]);
+    // xxh|Ak, x'Ax'h|k, Ah|k, x'Ax'h|. From there each space makes three:
+    // x'A_..x'h|k', A_..h|k' and x'A_..x'h|, until the first has more than 48
+    // tokens: x, A, 44 spaces, x and h are 48. So 4, and three for each of 44
+    // spaces.
+    check(&sheet(&[X, X], &[A]), 455, 4096, (19, 136, 0), &[]);
+    check(&sheet(&[X, X], &[A]), 136, 4096, (19, 136, 0), &[]);
+    check(&sheet(&[X, X], &[A]), 135, 4096, (18, 135, 0), &[]);
 }
 
 #[test]
 fn abxb_and_xby() {
     let records = [b"VA", &[0, 1, 0, A][..], b"VA", &[1, 2, 0, A, B]].concat();
-    // ABxBh|xByk, BAxBh|xByk, ABh|yk, ABh|k, Bh|yk, Bh|k, h|yk, |yk, h|k,
-    // h'|yk, |k, h|, h'|k', h'|k, |
+    // ABxBh|xByk, BAx'Bh|x'Byk, ABh|yk, ABx'Bh|x'Byk, Bh|y'k, Bh|k, h|y'k,
+    // |y'k, h|k, h'|y'k, |k, h|, h'|k', h'|k, |
     check_at_least_room(&sheet(&[A, B, X, B], &[X, B, Y]), 0, 15, &records);
 }
 
@@ -131,11 +141,45 @@ fn xa_and_byx_runs_on() {
 
 #[test]
 fn twenty_four_times_x_and_aa() {
-    // x..h|AAk, h|AAk, x(Ax)..h|Ak of 48 tokens, A..h|k, then 71 tokens
-    check(&sheet(&[X; 24], &[A, A]), 455, 4096, (19, 4, 0), &[]);
-    check(&sheet(&[X; 24], &[A, A]), 4, 4096, (19, 4, 0), &[]);
-    check(&sheet(&[X; 24], &[A, A]), 3, 4096, (18, 3, 0), &[]);
+    // x..h|AAk, x'(Ax')..h|Ak of 48 tokens, A..h|k, then 71 tokens
+    check(&sheet(&[X; 24], &[A, A]), 455, 4096, (19, 3, 0), &[]);
+    check(&sheet(&[X; 24], &[A, A]), 3, 4096, (19, 3, 0), &[]);
     check(&sheet(&[X; 24], &[A, A]), 2, 4096, (18, 2, 0), &[]);
+}
+
+/// "No storeroom means an open field to be struck to nothing."
+#[test]
+fn fields_without_a_pattern_alone() {
+    // xh|xk, x'h|x'k, h|k, |k, h|, h'|k', |
+    check_at_least_room(&sheet(&[X], &[X]), 0, 7, &record(&[0]));
+    // xAh|xBk, x'Ah|x'Bk
+    check_at_least_room(&sheet(&[X, A], &[X, B]), 1, 2, &[]);
+    // xh|yk, x'h|y'k, h|y'k, x'h|k, |y'k, h|k, h'|y'k, x'h|, x'h|k', |k, h|,
+    // h'|k', h'|k, h|k', |
+    let zeros = [b"VA", &[0, 1, 0, 0][..], b"VA", &[1, 1, 0, 0]].concat();
+    check_at_least_room(&sheet(&[X], &[Y]), 0, 15, &zeros);
+    // yxh|ABk, y'xh|Bk, xh|Bk, y'xh|k, x'h|k, xh|k, y'xh|, y'xh|k', h|k, x'h|,
+    // x'h|k', xh|, xh|k', |k, h|, h'|k', h|k', |
+    let b_and_a = [b"VA", &[0, 1, 0, B][..], b"VA", &[1, 1, 0, A]].concat();
+    check_at_least_room(&sheet(&[Y, X], &[A, B]), 0, 18, &b_and_a);
+    // Each of 43 characters has children for each of 43.
+    check(&sheet(&[X, Y], &[Y, X]), 455, 4096, (18, 455, 0), &[]);
+}
+
+#[test]
+fn a_field_without_a_pattern_holds_a_character_or_more() {
+    // A label of n characters is made by n fields, and not by one more, but for
+    // spaces: B at the end lets none stand there.
+    for length in 1..=7 {
+        let fields: Vec<u8> = (X..X + length).collect();
+        let made = |characters: u8| {
+            let label = [vec![A; usize::from(characters)], vec![B]].concat();
+            run(&sheet(&[&fields[..], &[B]].concat(), &label), 455, 4096).outcome.number
+        };
+        assert_eq!(made(length), 0);
+        assert_eq!(made(length + 1), 0);
+        assert_eq!(made(length - 1), 1);
+    }
 }
 
 #[test]
@@ -171,8 +215,8 @@ fn characters_as_printed() {
     let all: Vec<u8> = (19..43).collect();
     let After { outcome, answer, .. } = run(&sheet(&[X, Y], &all), 455, 4096);
     let printed = lines(&outcome, &answer);
-    // x is struck first, so y is the whole label.
-    assert_eq!(printed, format!("0 {} 0\n0 \n1 JKLMNOPQRSTUVWXYZ-. $/+%\n", outcome.count));
+    // x is struck as soon as it may be, so y is the rest of the label.
+    assert_eq!(printed, format!("0 {} 0\n0 J\n1 KLMNOPQRSTUVWXYZ-. $/+%\n", outcome.count));
 }
 
 // ----------------------------------------------------------- trailing spaces
@@ -235,11 +279,11 @@ fn other_spaces_count() {
 
 #[test]
 fn x_and_a_label() {
-    // For each `A` two: xh|A..k and h|A..k; then as for x and `A` the nine from
-    // xh|k to the finish.
+    // xh|A..k, then for each `A` two: x'h|A..k and h|A..k with one less; then as
+    // for x and `A` the seven from x'h| to the finish.
     for length in 1..=24 {
         let label = vec![A; length];
-        check_at_least_room(&sheet(&[X], &label), 0, 2 * length + 9, &record(&label));
+        check_at_least_room(&sheet(&[X], &label), 0, 2 * length + 8, &record(&label));
     }
 }
 
@@ -286,8 +330,8 @@ fn the_limit_of_24_does_not_count_the_hidden_field() {
 
 #[test]
 fn the_limit_of_48_counts_the_hidden_field() {
-    // x 16 times, B, AAA: x..Bh|AAAk, x(Ax)..Bh|AAk of 33 tokens, A..Bh|k,
-    // x(AAx)..Bh|Ak of 48, A..Bh|k, then 63.
+    // x 16 times, B, AAA: x..Bh|AAAk, x'(Ax')..Bh|AAk of 33 tokens, A..Bh|k,
+    // x'(AAx')..Bh|Ak of 48, A..Bh|k, then 63.
     let left = [vec![X; 16], vec![B]].concat();
     check(&sheet(&left, &[A; 3]), 455, 0, (19, 5, 0), &[]);
     check(&sheet(&[A; 3], &left), 455, 0, (19, 5, 0), &[]);

@@ -93,7 +93,8 @@ fn same(one: &[u8], other: &[u8]) -> bool {
 fn is_clash(rules: &Rules, texts: &Texts) -> bool {
     let taken = texts.iter().all(|(field, text)| match rules.patterns.get(field) {
         Some(pattern) => takes(pattern, text),
-        None => true,
+        // "A field without a pattern shall now hold one character or more."
+        None => !text.is_empty(),
     });
     taken && same(&label(&rules.left, texts), &label(&rules.right, texts))
 }
@@ -374,7 +375,7 @@ fn other_questions_are_answered_as_their_short_texts_say() {
             let many = [&[68], &body[..]].concat();
             let spaces = vec![68, SPACE];
             match chance.below(6) {
-                // An open field.
+                // A field without a pattern.
                 0 | 1 => {}
                 2 => patterns.push((field, [&[66], &body[..], &spaces].concat())),
                 3 => patterns.push((field, [&[66], &many[..], &spaces].concat())),
@@ -406,14 +407,76 @@ fn other_questions_are_answered_as_their_short_texts_say() {
     assert!(given_up < 900, "{seen:?}");
 }
 
+// ------------------------------------------------- a field without a pattern
+
+/// "It then has two reachable place sets".
+#[test]
+fn a_field_without_a_pattern_has_two_place_sets() {
+    let (start, after) = (1, 2);
+    assert_eq!(start, ONLY_START);
+    assert!(!Allowed::Open.may_end(start) && Allowed::Open.may_end(after));
+    for value in 0..43 {
+        assert_eq!(Allowed::Open.after(start, value), after);
+        assert_eq!(Allowed::Open.after(after, value), after);
+        // Nothing follows where there is no place.
+        assert_eq!(Allowed::Open.after(0, value), 0);
+    }
+    assert!(!Allowed::Open.may_end(0));
+}
+
+/// The sheet with this pattern for each field that stands and has none.
+fn with_pattern(bytes: &[u8], body: &[u8]) -> Vec<u8> {
+    let Rules { left, right, standing, .. } = rules(bytes);
+    let mut bodies: BTreeMap<u8, Vec<u8>> =
+        standing.into_iter().map(|field| (field, body.to_vec())).collect();
+    let mut rest = bytes;
+    while rest.starts_with(b"PA") {
+        let end = 4 + usize::from(rest[3]);
+        bodies.insert(rest[2], rest[4..end].to_vec());
+        rest = &rest[end..];
+    }
+    sheet(&bodies.into_iter().collect::<Vec<_>>(), &left, &right)
+}
+
+/// A pattern of one character and then any has three place sets, and the same
+/// texts.
+#[test]
+fn no_pattern_is_answered_as_one_character_and_then_any() {
+    let one_then_any = [66, 65, 0, 42, 68, 65, 0, 42];
+    let mut seen = BTreeMap::new();
+    let mut more = 0;
+    for case in cases(9, 6000) {
+        if second::sheet::read(&case.sheet).is_err() {
+            continue;
+        }
+        let without = Case { work: 65_520, answer: 4096, ..case.clone() };
+        let with = Case { sheet: with_pattern(&case.sheet, &one_then_any), ..without.clone() };
+        if with == without {
+            continue;
+        }
+        let [without, with] = [without, with].map(|case| case.run(second::answer).outcome);
+        // With more place sets there are more situations.
+        assert!(without.count <= with.count || with.number >= 18, "{case:?}");
+        more += usize::from(without.count < with.count);
+        if without.number < 18 && with.number < 18 {
+            assert_eq!(without.number, with.number, "{case:?}");
+        }
+        *seen.entry((without.number, with.number)).or_insert(0) += 1;
+    }
+    for kind in [(0, 0), (1, 1)] {
+        assert!(seen.get(&kind).is_some_and(|&times| times > 150), "{kind:?}: {seen:?}");
+    }
+    assert!(more > 150, "{more}");
+}
+
 // ------------------------------------------------------------ the third demand
 
 /// "A reachable place set is one that some text leads to and that isn't empty;
 /// the first one counts."
 fn reachable(pattern: Option<&Pattern>) -> usize {
     let Some(pattern) = pattern else {
-        // "An open field has one place set that never changes".
-        return 1;
+        // "demand 3 counts two for it"
+        return 2;
     };
     let allowed = Allowed::Pattern(Box::new(Places::of(pattern)));
     let mut sets = BTreeSet::from([ONLY_START]);
@@ -441,6 +504,8 @@ fn where_no_field_stands_twice_the_count_keeps_the_bound() {
     let sheet_s = sheet(&[(0, vec![68, 65, 0, 9]), (1, vec![4])], &[64], &[65]);
     assert_eq!(bound(&rules(&sheet_s)), 25);
     assert_eq!(bound(&rules(&sheet(&[], &[], &[]))), 9);
+    // x and `A`, open
+    assert_eq!(bound(&rules(&sheet(&[], &[64], &[A]))), (1 + 2 + 2) * (1 + 1 + 2));
     let mut compared = 0;
     for case in cases(8, 6000) {
         let outcome = Case { work: 65_520, ..case.clone() }.run(second::answer).outcome;

@@ -19,7 +19,7 @@ fn refused(sheet: &[u8], script: &str, words: &str) {
     }
 }
 
-/// Field 0 is digits, field 1 is open, here a and b; `LT`a`-` and b.
+/// Field 0 is digits, field 1 has no pattern, here a and b; `LT`a`-` and b.
 fn latches() -> Vec<u8> {
     sheet(&[(0, many(vec![65, 0, 9]))], &tokens("LTa-"), &tokens("b"))
 }
@@ -31,7 +31,7 @@ const LATCHES: &str = r#"(set-logic QF_S)
 (declare-const f9 String)
 (assert (= (str.++ "LT" f0 "-" f8) (str.++ f1 f9)))
 (assert (str.in_re f0 (re.* (re.range "0" "9"))))
-(assert (str.in_re f1 (re.* (re.union (re.range "0" "9") (re.range "A" "Z") (re.range "-" "/")
+(assert (str.in_re f1 (re.+ (re.union (re.range "0" "9") (re.range "A" "Z") (re.range "-" "/")
   (str.to_re " ") (re.range "$" "%") (str.to_re "+")))))
 (assert (str.in_re f8 (re.* (str.to_re " "))))
 (assert (str.in_re f9 (re.* (str.to_re " "))))
@@ -396,27 +396,45 @@ const ANY: &str = "(re.union (re.range \"0\" \"9\") (re.range \"A\" \"Z\") (re.r
 /// "An open field must be held to the 43 characters."
 #[test]
 fn an_open_field_is_held_to_the_43() {
-    assert_eq!(membership(None, &format!("(re.* {ANY})")), Ok(()));
-    too_few(None, &format!("(re.+ {ANY})"), "\"\"");
-    too_few(None, &format!("(re.opt {ANY})"), "\"$$\"");
-    too_many(None, &format!("(re.* (re.union {ANY} (re.range \"a\" \"z\")))"), "\"a\"");
-    too_many(None, &format!("(re.* (re.union {ANY} (str.to_re \"*\")))"), "\"*\"");
-    too_many(None, &format!("(re.* (re.union {ANY} (str.to_re \"\"\"\")))"), "\"\"\"\"");
-    too_many(None, &format!("(re.* (re.union {ANY} (str.to_re \"\\u{{0}}\")))"), "\"\\u{0}\"");
-    too_many(None, &format!("(re.* (re.union {ANY} (str.to_re \"\\u2FFF\")))"), "\"\\u{2FFF}\"");
-    too_many(None, &format!("(re.++ (re.* {ANY}) (re.opt (str.to_re \"Aa\")))"), "\"Aa\"");
-    too_many(None, "re.all", "\"!\"");
-    too_few(None, "(re.* (re.range \"0\" \"9\"))", "\"$\"");
+    assert_eq!(membership(None, &format!("(re.+ {ANY})")), Ok(()));
+    assert_eq!(membership(None, &format!("(re.++ {ANY} (re.* {ANY}))")), Ok(()));
+    assert_eq!(membership(None, &format!("(re.++ (re.* {ANY}) {ANY})")), Ok(()));
+    assert_eq!(membership(None, &format!("(re.+ (re.+ {ANY}))")), Ok(()));
+    too_few(None, ANY, "\"$$\"");
+    too_few(None, &format!("(re.++ {ANY} {ANY} (re.* {ANY}))"), "\"$\"");
+    too_few(None, "re.none", "\"$\"");
+    too_many(None, &format!("(re.+ (re.union {ANY} (re.range \"a\" \"z\")))"), "\"a\"");
+    too_many(None, &format!("(re.+ (re.union {ANY} (str.to_re \"*\")))"), "\"*\"");
+    too_many(None, &format!("(re.+ (re.union {ANY} (str.to_re \"\"\"\")))"), "\"\"\"\"");
+    too_many(None, &format!("(re.+ (re.union {ANY} (str.to_re \"\\u{{0}}\")))"), "\"\\u{0}\"");
+    too_many(None, &format!("(re.+ (re.union {ANY} (str.to_re \"\\u2FFF\")))"), "\"\\u{2FFF}\"");
+    too_many(None, &format!("(re.++ (re.+ {ANY}) (re.opt (str.to_re \"Aa\")))"), "\"$Aa\"");
+    too_many(None, &format!("(re.union (re.+ {ANY}) (str.to_re \"Aa\"))"), "\"Aa\"");
+    too_few(None, "(re.+ (re.range \"0\" \"9\"))", "\"$\"");
     for sign in "0123456789ABCDEFGHIJKLMNOPQRSTUVWXYZ-. $/+%".chars() {
         let others: String = "0123456789ABCDEFGHIJKLMNOPQRSTUVWXYZ-. $/+%"
             .chars()
             .filter(|&other| other != sign)
             .map(|other| format!("(str.to_re \"{other}\")"))
             .collect();
-        too_few(None, &format!("(re.* (re.union {others}))"), &format!("\"{sign}\""));
+        too_few(None, &format!("(re.+ (re.union {others}))"), &format!("\"{sign}\""));
         let all = format!("{others}(str.to_re \"{sign}\")");
-        assert_eq!(membership(None, &format!("(re.* (re.union {all}))")), Ok(()));
+        assert_eq!(membership(None, &format!("(re.+ (re.union {all}))")), Ok(()));
     }
+}
+
+/// "A field without a pattern shall now hold one character or more."
+#[test]
+fn a_field_without_a_pattern_is_not_empty() {
+    for with_the_empty_text in ["(re.* ANY)", "(re.opt ANY)", "(re.opt (re.+ ANY))", "re.all"] {
+        too_many(None, &with_the_empty_text.replace("ANY", ANY), "\"\"");
+    }
+    too_many(None, "(str.to_re \"\")", "\"\"");
+    let spelt = || Some(vec![68, 65, 0, 42]);
+    assert_eq!(membership(spelt(), &format!("(re.* {ANY})")), Ok(()));
+    too_few(spelt(), &format!("(re.+ {ANY})"), "\"\"");
+    let one_or_more = Some(vec![66, 65, 0, 42, 68, 65, 0, 42]);
+    assert_eq!(membership(one_or_more, &format!("(re.+ {ANY})")), Ok(()));
 }
 
 #[test]

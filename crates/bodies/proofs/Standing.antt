@@ -1,7 +1,7 @@
 -- Where a field's pattern stands, and what the field may hold.
 --   patterns-stand : of the records from an offset on, whatever the fields held before them
 --   open-stand     : read-patterns (suc (length s)) s at open-fields ≡ records gs next → the same of gs, with every field open before them
---   sheet-stands   : read-sheet s ≡ asked q → Stands s any-text (found s 0 f) (held-by q f)
+--   sheet-stands   : read-sheet s ≡ asked q → Stands s some-text (found s 0 f) (held-by q f)
 --   stands-none    : Stands s before b h → b .end ≡ 0 → h ≡ before
 --   stands-one     : Stands s before b h → 0 < b .end → PatternAt s b h
 -- Where none stands, the field holds what it held. Where one stands, its bytes are judged to be the field's pattern, and are at most 96.
@@ -15,7 +15,7 @@ use lib.Dec.{leb, ltb, eqb}
 use lib.ListN.{length, getD, length-set, length-replicate}
 use lib.Seq.{getD-set-same, getD-set-other}
 use Rattle.paper.specs.Numbers.{fields, pattern-bytes}
-use Rattle.paper.specs.Pattern.{Pattern, Held, any-text, pattern}
+use Rattle.paper.specs.Pattern.{Pattern, Held, some-text, pattern}
 use Rattle.paper.specs.Written.{Judged, judged, judge}
 use Rattle.paper.specs.Written as Written
 use Rattle.paper.specs.Equation.{Side}
@@ -91,7 +91,7 @@ record-reads s at least =
 module _ (f : ℕ) (h : Held) where
   record Stays (fs : Fields) : Type 0 where
     below : f < fs .above
-    holds : getD (fs .held) f any-text ≡ h
+    holds : getD (fs .held) f some-text ≡ h
 
   one-stays : (s : List ℕ) (at : ℕ) (fs : Fields) (fp : FieldPattern) → Stays fs → PatternRead s at (fs .above) fp → Stays (with-pattern fs fp)
   one-stays s at fs fp g k =
@@ -99,7 +99,7 @@ module _ (f : ℕ) (h : Held) where
       let rises = k .rises in
       record {
         below = omega arith;
-        holds = getD-set-other (fs .held) (fp .field) f (pattern (fp .its)) any-text (λ (e : f ≡ fp .field). omega arith) ∙ g .holds;
+        holds = getD-set-other (fs .held) (fp .field) f (pattern (fp .its)) some-text (λ (e : f ≡ fp .field). omega arith) ∙ g .holds;
       }
 
   all-stays : (n : ℕ) (s : List ℕ) (at : ℕ) (fs : Fields) → Stays fs → Listed Stays (read-patterns n s at fs)
@@ -109,7 +109,7 @@ module _ (f : ℕ) (h : Held) where
 module _ (s : List ℕ) (f : ℕ) where
   -- what the field may hold behind them, by where its pattern stands
   abbrev pub StandsIn : Fields → Body → Fields → Type 0
-  StandsIn fs b gs = Stands s (getD (fs .held) f any-text) b (getD (gs .held) f any-text)
+  StandsIn fs b gs = Stands s (getD (fs .held) f some-text) b (getD (gs .held) f some-text)
 
   -- the field's own record: no further one is of it
   here : (at least : ℕ) (fs : Fields) (fp : FieldPattern) (x : Records Fields) → PatternRead s at least fp → Listed (Stays f (pattern (fp .its))) x
@@ -119,7 +119,7 @@ module _ (s : List ℕ) (f : ℕ) where
       let n = byte-at s (at + 3) in
       let b : Body = record { start = at + 4; end = at + (4 + n) } in
       let z : (at + (4 + n)) - (at + 4) ≡ n = omega arith in
-      subst (Stands s (getD (fs .held) f any-text) b) (sym (k .holds))
+      subst (Stands s (getD (fs .held) f some-text) b) (sym (k .holds))
       (its-pattern b (fp .its) (omega arith) (rw z (w .its-bytes)) (rw z (w .short)))
 
   -- a record of another field
@@ -127,8 +127,8 @@ module _ (s : List ℕ) (f : ℕ) where
       → Listed (StandsIn (with-pattern fs fp) b) x → Listed (StandsIn fs b) x
   other fs fp b (faulty x place) e k = tt
   other fs fp b (records gs end) e k =
-      subst (λ (h : Held). Stands s h b (getD (gs .held) f any-text))
-      (getD-set-other (fs .held) (fp .field) f (pattern (fp .its)) any-text e) k
+      subst (λ (h : Held). Stands s h b (getD (gs .held) f some-text))
+      (getD-set-other (fs .held) (fp .field) f (pattern (fp .its)) some-text e) k
 
   -- a pattern's record, then what comes behind it
   behind : (n at : ℕ) (fs : Fields) (x : Checked FieldPattern) → length (fs .held) ≡ fields → Reads s at (fs .above) x
@@ -148,7 +148,7 @@ module _ (s : List ℕ) (f : ℕ) where
       here at (fs .above) fs fp (read-patterns n s next more) (w .its)
       (all-stays f (pattern (fp .its)) n s next more (record {
         below = omega arith;
-        holds = rw (← same) (getD-set-same (fs .held) (fp .field) (pattern (fp .its)) any-text (omega arith));
+        holds = rw (← same) (getD-set-same (fs .held) (fp .field) (pattern (fp .its)) some-text (omega arith));
       })))
       (λ e. other fs fp (found-from n s (at + (4 + byte-at s (at + 3))) f) (read-patterns n s next more)
       (λ (i : f ≡ fp .field). eqb-false (byte-at s (at + 2)) f e (sym (i ∙ w .field)))
@@ -165,18 +165,18 @@ patterns-stand (suc n) s at f fs l =
 
 -- where every field was open before them
 abbrev StandsOpen : List ℕ → ℕ → ℕ → List Held → Type 0
-StandsOpen s at f held = Stands s any-text (found s at f) (getD held f any-text)
+StandsOpen s at f held = Stands s some-text (found s at f) (getD held f some-text)
 
 open-listed : (s : List ℕ) (at f : ℕ)
     → Listed (λ (gs : Fields). StandsOpen s at f (gs .held)) (read-patterns (suc (length s)) s at open-fields)
 open-listed s at f =
     subst
-    (λ (h : Held). Listed (λ (gs : Fields). Stands s h (found s at f) (getD (gs .held) f any-text)) (read-patterns (suc (length s)) s at open-fields))
-    (open-by (λ (h : Held). h ≡ any-text) refl fields f)
-    (patterns-stand (suc (length s)) s at f open-fields (length-replicate fields any-text))
+    (λ (h : Held). Listed (λ (gs : Fields). Stands s h (found s at f) (getD (gs .held) f some-text)) (read-patterns (suc (length s)) s at open-fields))
+    (open-by (λ (h : Held). h ≡ some-text) refl fields f)
+    (patterns-stand (suc (length s)) s at f open-fields (length-replicate fields some-text))
 
 pub open-stand : (s : List ℕ) (at f : ℕ) {gs : Fields} {next : ℕ} → read-patterns (suc (length s)) s at open-fields ≡ records gs next
-    → Stands s any-text (found s at f) (getD (gs .held) f any-text)
+    → Stands s some-text (found s at f) (getD (gs .held) f some-text)
 open-stand s at f e = subst (Listed (λ (gs : Fields). StandsOpen s at f (gs .held))) e (open-listed s at f)
 
 -- Sheets: the sides change nothing of what the fields may hold.
@@ -201,7 +201,7 @@ module _ (P : List Held → Type 0) where
   sides-ask s (faulty x at) h = tt
   sides-ask s (records fs at) h = left-asks s (fs .held) (marked-side LE s at) h
 
-pub sheet-stands : (s : List ℕ) (q : Question) (f : ℕ) → read-sheet s ≡ asked q → Stands s any-text (found s 0 f) (held-by q f)
+pub sheet-stands : (s : List ℕ) (q : Question) (f : ℕ) → read-sheet s ≡ asked q → Stands s some-text (found s 0 f) (held-by q f)
 unfolding read-sheet
 sheet-stands s q f e =
     let P = StandsOpen s 0 f in

@@ -1,5 +1,5 @@
-// `catalogue`: does the operations on standard input to a catalogue, and prints a line for each rule that is added or withdrawn, and for each
-// pair that checking again lists. There is no exit status: a failure is told on standard error.
+// `catalogue`: does the operations on standard input to a catalogue, and prints a line for each rule that is added or withdrawn, for each pair
+// that checking again lists, and for each time that the rules are carried over. There is no exit status: a failure is told on standard error.
 //
 // The stored operations are those of a storeroom, as the second program's `calls --storeroom` writes them, and the stored lines are those of
 // its `second --calls --lines`. In front stands the number of the line; `CA` and `WO` print none. A rule is entered where no answer is named.
@@ -12,7 +12,7 @@
 //  6  AD  the key safe is rule 5: `KS`, any digits, `-`, the same digits again
 //  7  AD  the strike plate is rule 6: `SP`, any digits
 //  8  AD  the battery is rule 7: `BT 9V`
-//  9  AD  the box of a left-hand pair is rule 8: `BX`, any text twice, `L`
+//  9  AD  the box of a left-hand pair is rule 8: `BX`, any text but the empty one twice, `L`
 // 10  AD  the strip of tags is rule 9: `TG`, any digits 22 times
 // 11  AD  30: a lever of `LT` and any letters and digits can be marked as mortice latches are
 // 12  AD  the lever with a mark of its own, `LV`, is rule 10
@@ -77,6 +77,20 @@
 // 75  AD  32: nothing fits
 // 76  WI  33: no rule
 // 77  RE  no pair
+// 78  SO  no bytes, and nothing to carry over
+//     CA  kept from when a text could be empty: a parcel `PKX`, parcels `PK`, any text, `X`, the strike plate; just long enough
+// 79  RE  no text is empty now
+// 80  SO  the empty text is written out
+// 81  RE  `PKX` is a parcel of both, to line 82
+// 83  SO  again, and nothing is added
+// 84  RE  as before, to line 85
+// 86  WI  the parcel `PKX` goes
+// 87  AD  30: its mark is a parcel's already
+//     CA  the same, a byte too short
+// 88  SO  32: they no longer fit
+// 89  RE  nothing is changed
+//     CA  parcels with another mark
+// 90  SO  34: no catalogue to carry over
 use lines::tell;
 use operations::How;
 use operations::Shown;

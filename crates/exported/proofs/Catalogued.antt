@@ -19,7 +19,8 @@ use Rattle.recheck.specs.declared.Rechecked.the-variants as Rechecked-as
 use Rattle.numbered.specs.Numbered.{as-numbers, number-of-withdrawn, as-totals}
 use Rattle.numbered.specs.declared.Numbers.{Numbers}
 use Rattle.numbered.specs.declared.Totals.{Totals}
-use Rattle.exported.specs.Exported.{with-numbers, telling-added, telling-rechecked}
+use Rattle.telling.specs.Numbered.{with-numbers}
+use Rattle.exported.specs.Exported.{telling-added, telling-rechecked}
 use Rattle.exported.proofs.Telling.{fault-below}
 
 -- 34 is the last of request K1's numbers

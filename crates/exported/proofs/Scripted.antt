@@ -10,7 +10,8 @@ use Rattle.answers.specs.declared.Numbers.{Numbers}
 use Rattle.scripts.specs.Told.{scripted-numbers, told-scripted}
 use Rattle.scripts.specs.declared.Scripted.{Scripted}
 use Rattle.scripts.specs.declared.Scripted.the-variants.{Written, Refused, TooShort}
-use Rattle.exported.specs.Exported.{with-numbers, telling-scripted}
+use Rattle.telling.specs.Numbered.{with-numbers}
+use Rattle.exported.specs.Exported.{telling-scripted}
 use Rattle.exported.proofs.Telling.{fault-below}
 
 -- 40 is the last of request K4's numbers

@@ -6,10 +6,7 @@ use Rattle.paper.specs.Outcome.{Outcome}
 use Rattle.rulebook.specs.Catalogue.{Added}
 use Rattle.rulebook.specs.Recheck.{Rechecked}
 use Rattle.smt.specs.Scripting.{Scripting}
-
--- three numbers in the first three elements. `set` past the end changes nothing, so there are as many as there is room for.
-abbrev pub with-numbers : List ℕ → ℕ → ℕ → ℕ → List ℕ
-with-numbers told count place third = set (set (set told 0 count) 1 place) 2 third
+use Rattle.telling.specs.Numbered.{with-numbers}
 
 -- those of an outcome
 abbrev pub telling : List ℕ → Outcome → List ℕ

@@ -1,11 +1,14 @@
 // The library for other languages: functions on slices and numbers.
+use telling::put;
+use telling::tell;
 ghost use mathlib.Core.Path.{_≡_};
-ghost use lib.ListN.{set};
 ghost use Rattle.paper.specs.Outcome.{outcome};
 ghost use Rattle.rulebook.specs.Catalogue.{adding, withdrawing};
 ghost use Rattle.rulebook.specs.Recheck.{rechecking};
 ghost use Rattle.smt.specs.Scripting.{scripting};
-ghost use Rattle.exported.specs.Exported.{telling, telling-added, telling-rechecked, telling-scripted, with-numbers};
+ghost use Rattle.opened.specs.Spelling.{spelling, rule-spelling, carrying-over};
+ghost use Rattle.carried.specs.Carried.{telling-spelt};
+ghost use Rattle.exported.specs.Exported.{telling, telling-added, telling-rechecked, telling-scripted};
 
 // Can the two rules of the sheet make the same label? Returns document 01's number; count, place and written length go into the first three
 // elements of `told`, as many as there is room for.
@@ -94,20 +97,32 @@ pub extern "C" fn bradovusc_script(sheet: &[u8], script: &mut [u8], told: &mut [
     numbers.number as u32
 }
 
-// Three numbers into the first three elements.
-fn tell(told: &mut [u64], count: usize, place: usize, third: usize)
-    ensures { λ _. ⌜ now (told .exit) ≡ with-numbers (now (told .entry)) count place third ⌝ }
+// Writes the sheet with 68 65 0 42 for every standing field without a pattern. Returns request K5's number; count (which is 0), place and written
+// length go into the first three elements of `told`, as many as there is room for.
+#[no_mangle]
+pub extern "C" fn bradovusc_spell_open(sheet: &[u8], out: &mut [u8], told: &mut [u64]) -> u32
+    ensures number { λ r. ⌜ r ≡ spelling (now (sheet .entry)) (now (out .entry)) .number ⌝ }
+    ensures told { λ _. ⌜ now (told .exit) ≡ telling-spelt (now (told .entry)) (spelling (now (sheet .entry)) (now (out .entry))) ⌝ }
+    ensures out { λ _. ⌜ now (out .exit) ≡ spelling (now (sheet .entry)) (now (out .entry)) .out ⌝ }
 {
-    put(told, 0, count);
-    put(told, 1, place);
-    put(told, 2, third);
+    carried::sheet(sheet, out, told)
 }
 
-// A number into the element at i, where there is one.
-fn put(told: &mut [u64], i: usize, number: usize)
-    ensures { λ _. ⌜ now (told .exit) ≡ set (now (told .entry)) i number ⌝ }
+// Writes the rule of a catalogue likewise.
+#[no_mangle]
+pub extern "C" fn bradovusc_spell_open_rule(rule: &[u8], out: &mut [u8], told: &mut [u64]) -> u32
+    ensures number { λ r. ⌜ r ≡ rule-spelling (now (rule .entry)) (now (out .entry)) .number ⌝ }
+    ensures told { λ _. ⌜ now (told .exit) ≡ telling-spelt (now (told .entry)) (rule-spelling (now (rule .entry)) (now (out .entry))) ⌝ }
+    ensures out { λ _. ⌜ now (out .exit) ≡ rule-spelling (now (rule .entry)) (now (out .entry)) .out ⌝ }
 {
-    if i < told.len() {
-        told[i] = number as u64;
-    }
+    carried::rule(rule, out, told)
+}
+
+// Carries every rule of the catalogue over, in its own buffer. Returns request K5's number.
+#[no_mangle]
+pub extern "C" fn bradovusc_spell_open_catalogue(catalogue: &mut [u8]) -> u32
+    ensures number { λ r. ⌜ r ≡ carrying-over (now (catalogue .entry)) .number ⌝ }
+    ensures catalogue { λ _. ⌜ now (catalogue .exit) ≡ carrying-over (now (catalogue .entry)) .catalogue ⌝ }
+{
+    carried::catalogue(catalogue)
 }

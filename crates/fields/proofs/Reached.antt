@@ -9,7 +9,7 @@ use mathlib.Core.List.{List, [], _∷_, map}
 use lib.Dec.{ltb}
 use lib.ListN.{length, set, replicate, length-set}
 use Rattle.paper.specs.Numbers.{fields}
-use Rattle.paper.specs.Pattern.{Held, any-text, pattern}
+use Rattle.paper.specs.Pattern.{Held, some-text, pattern}
 use Rattle.paper.specs.Sheet.{Fault, fault, bytes-left, Mark, PA, next-is, pattern-record, Records, faulty, Fields, open-fields, read-patterns}
 use Rattle.paper.proofs.base.Tests.{by-bool, true-false, ltb-false}
 use Rattle.places.specs.WorkedOut.{worked-out}
@@ -37,10 +37,10 @@ map-set f [] i x = refl
 map-set f (y ∷ l) zero x = refl
 map-set f (y ∷ l) (suc i) x = ap (λ (m : List _). f y ∷ m) (map-set f l i x)
 
-pub reached-start : (s : List ℕ) (from : ℕ) (works : List PlaceTables) → works ≡ replicate fields (worked-out any-text) → Reached s from from 0 works
+pub reached-start : (s : List ℕ) (from : ℕ) (works : List PlaceTables) → works ≡ replicate fields (worked-out some-text) → Reached s from from 0 works
 reached-start s from works e =
     record {
-      held = replicate fields any-text;
+      held = replicate fields some-text;
       turns = length s;
       enough = omega arith;
       reads = refl;

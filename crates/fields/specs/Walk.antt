@@ -4,7 +4,7 @@ use mathlib.Core.Path.{_≡_}
 use mathlib.Core.List.{List, map}
 use lib.ListN.{length, replicate}
 use Rattle.paper.specs.Numbers.{fields}
-use Rattle.paper.specs.Pattern.{Pattern, any-text, pattern}
+use Rattle.paper.specs.Pattern.{Pattern, some-text, pattern}
 use Rattle.paper.specs.Sheet.{fault, read, pattern-record, Records, faulty, records}
 use Rattle.paper.specs.Sheet as Sheet
 use Rattle.places.specs.WorkedOut.{worked-out}
@@ -16,7 +16,7 @@ use Rattle.fields.specs.declared.PatternRecord.{PatternRecord}
 
 -- "A field without `PA` is open": all fields are where a record is at fault.
 abbrev pub fields-of : Records Sheet.Fields → Fields
-fields-of (faulty x at) = record { found = Refused (as-fault x); next = record { at = at }; above = 0; tables = replicate fields (worked-out any-text) }
+fields-of (faulty x at) = record { found = Refused (as-fault x); next = record { at = at }; above = 0; tables = replicate fields (worked-out some-text) }
 fields-of (records fs at) = record { found = NoFault; next = record { at = at }; above = fs .above; tables = map worked-out (fs .held) }
 
 -- a pattern's record is read, and reading goes on behind it

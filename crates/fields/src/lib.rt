@@ -12,7 +12,7 @@ ghost use Prim.Native.Nat.{suc, _+_, _≤_};
 ghost use lib.Dec.{leb, ltb, eqb};
 ghost use lib.ListN.{length, replicate};
 ghost use Rattle.paper.specs.Numbers.{fields, pattern-bytes};
-ghost use Rattle.paper.specs.Pattern.{any-text};
+ghost use Rattle.paper.specs.Pattern.{some-text};
 ghost use Rattle.paper.specs.Sheet.{PA, next-is, faulty, open-fields, read-patterns};
 ghost use Rattle.places.specs.WorkedOut.{worked-out};
 ghost use Rattle.answers.specs.Faults.{fault-of};
@@ -35,7 +35,7 @@ pub struct Fields {
 
 // "A field without `PA` is open": before the first record every field is.
 fn all_open() -> [PlaceTables; SHEET_FIELDS]
-    ensures { λ r. ⌜ r ≡ replicate fields (worked-out any-text) ⌝ }
+    ensures { λ r. ⌜ r ≡ replicate fields (worked-out some-text) ⌝ }
 {
     let open = places::open_tables();
     [open; SHEET_FIELDS]

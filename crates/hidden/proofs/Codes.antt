@@ -1,5 +1,6 @@
 -- What is searched is the question with its hidden fields:
 --   codes-are-tokens : the codes of a side whose tokens have place sets are tokens
+--   side-back     : a good side is read back from its codes
 --   side-behind   : a good side with a field behind it is read back from the codes of the side, with the field's code put behind them
 --   fields-behind : what is worked out of a question's own fields, and behind it twice what is worked out of any spaces, is what is worked out of
 --                   the fields of the question with its hidden fields
@@ -33,10 +34,10 @@ codes-are-tokens [] h = refl
 codes-are-tokens (t ∷ side) h =
     both-true (code-is-token t (h t (List·Memᴰ·head refl))) (codes-are-tokens side (λ u d. h u (List·Memᴰ·tail d)))
 
-module _ (side : Side) (g : GoodSide side) (f : ℕ) (h : f < set-fields) where
-  own-back : tokens (padded (side-code side)) ≡ side-code side
-  own-back = tokens-padded (side-code side) (codes-are-tokens side (λ t d. in-range-has-set t (g .tokens t d)))
+pub side-back : (side : Side) → GoodSide side → tokens (padded (side-code side)) ≡ side-code side
+side-back side g = tokens-padded (side-code side) (codes-are-tokens side (λ t d. in-range-has-set t (g .tokens t d)))
 
+module _ (side : Side) (g : GoodSide side) (f : ℕ) (h : f < set-fields) where
   with-code : side-code side ++ ((field-code + f) ∷ []) ≡ side-code (side ++ (fld f ∷ []))
   with-code = sym (map-append token-code side (fld f ∷ []))
 
@@ -44,7 +45,7 @@ module _ (side : Side) (g : GoodSide side) (f : ℕ) (h : f < set-fields) where
   side-behind =
       let long : length (side-code side ++ ((field-code + f) ∷ [])) < longest-side =
       omega (arith, length-append (side-code side) ((field-code + f) ∷ []), length-map side token-code, g .short) in
-      ap (λ (l : List ℕ). tokens (padded (take longest-side (l ++ ((field-code + f) ∷ []))))) own-back
+      ap (λ (l : List ℕ). tokens (padded (take longest-side (l ++ ((field-code + f) ∷ []))))) (side-back side g)
       ∙ ap (λ (l : List ℕ). tokens (padded l)) (take-all longest-side (side-code side ++ ((field-code + f) ∷ [])) (omega arith) ∙ with-code)
       ∙ tokens-padded (side-code (side ++ (fld f ∷ []))) (codes-are-tokens (side ++ (fld f ∷ [])) (has-sets-with side f g h))
 

@@ -1,6 +1,7 @@
 -- What reading a catalogue hands on: whether it is of its form, how many rules stand, how many bytes their records have, and where the
 -- record of the rule with a given number stands.
 use Prim.Native.Nat.{ℕ}
+use mathlib.Core.Path.{_≡_}
 use mathlib.Core.Bool.{true, false, cond}
 use mathlib.Core.List.{List, map}
 use lib.Dec.{leb, ltb}
@@ -8,7 +9,7 @@ use lib.ListN.{length, getD, take}
 use Rattle.paper.specs.Numbers.{catalogue-rules}
 use Rattle.paper.specs.Sheet.{Records, faulty, records}
 use Rattle.paper.specs.Rule.{Rule, rule-front, foreign-field}
-use Rattle.rulebook.specs.Catalogue.{Present, Form, no-catalogue, rules, used}
+use Rattle.rulebook.specs.Catalogue.{Present, Form, no-catalogue, rules, form, used}
 use Rattle.kept.specs.declared.Kept.{Kept}
 
 -- where the record of the rule with the number i stands, and how many bytes it has; 0 where there is none
@@ -32,3 +33,9 @@ stands-in (records r next) = cond (foreign-field r) 0 next
 
 abbrev pub front-bytes : ℕ → List ℕ → ℕ
 front-bytes n s = cond (leb catalogue-rules n) 0 (stands-in (rule-front s))
+
+-- the catalogue is of its form, and so many rules stand in it
+pub record Of-form (catalogue : List ℕ) (count : ℕ) : Type 0 where
+  pub rules-present : List Present
+  pub of-form : form catalogue ≡ rules rules-present
+  pub counted : count ≡ length rules-present

@@ -16,6 +16,8 @@ const WORK: usize = b'W' as usize + 256 * (b'O' as usize);
 
 const RECHECK: usize = b'R' as usize + 256 * (b'E' as usize);
 
+const CARRY: usize = b'S' as usize + 256 * (b'O' as usize);
+
 // The mark of the next operation.
 pub enum Mark {
     // `AD`
@@ -28,6 +30,8 @@ pub enum Mark {
     Work,
     // `RE`
     Recheck,
+    // `SO`
+    Carry,
     // none of these
     None(How),
 }
@@ -62,6 +66,7 @@ fn mark_of(letters: usize) -> Mark {
         CATALOGUE => Mark::Catalogue,
         WORK => Mark::Work,
         RECHECK => Mark::Recheck,
+        CARRY => Mark::Carry,
         _ => Mark::None(How::Stopped),
     }
 }

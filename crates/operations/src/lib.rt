@@ -1,5 +1,5 @@
-// Does the operations on standard input, one after the other, to a catalogue, and prints lines for each addition, withdrawal and
-// recheck. For programs that try a catalogue.
+// Does the operations on standard input, one after the other, to a catalogue, and prints lines for each addition, withdrawal,
+// recheck and carrying over. For programs that try a catalogue.
 mod input;
 mod output;
 
@@ -12,6 +12,7 @@ use lines::WORK;
 use lines::WORK_FILL;
 use lines::fill;
 use output::print_added;
+use output::print_carried;
 use output::print_rechecked;
 use output::print_withdrawn;
 ghost use Prim.Native.Nat.{_≤_};
@@ -130,6 +131,7 @@ fn run_next(
             ),
             state,
         ),
+        Mark::Carry => with(carry(&mut catalogue[0..catalogue_len], shown), state),
         Mark::None(how) => with(how, state),
     }
 }
@@ -171,6 +173,12 @@ fn list_pairs(catalogue: &[u8], work: &mut [u8], list: &mut [u8], shown: Shown) 
     fill(list, LIST_FILL);
     let told = numbered::rechecked(recheck::recheck(catalogue, work, list));
     print_rechecked(told, list, catalogue, work, shown)
+}
+
+// `SO`
+fn carry(catalogue: &mut [u8], shown: Shown) -> How {
+    let told = spell_open::number(spell_open::catalogue(catalogue));
+    print_carried(told, catalogue, shown)
 }
 
 // `CA`: the catalogue's length and that of its front in two bytes each, the front. The rest are zeros.

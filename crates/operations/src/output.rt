@@ -37,7 +37,15 @@ fn print_numbers(told: Numbers) {
 }
 
 pub fn print_withdrawn(number: usize, catalogue: &[u8], shown: Shown) -> How {
-    print(b"withdraw ");
+    print_changed(b"withdraw ", number, catalogue, shown)
+}
+
+pub fn print_carried(number: usize, catalogue: &[u8], shown: Shown) -> How {
+    print_changed(b"carry ", number, catalogue, shown)
+}
+
+fn print_changed(call: &[u8], number: usize, catalogue: &[u8], shown: Shown) -> How {
+    print(call);
     print_number(number);
     if has_bytes(shown) {
         print_buffer(b", catalogue", catalogue);

@@ -2,3 +2,4 @@ pub mod Code
 pub mod Continued
 pub mod LeafPlace
 pub mod Saying
+pub mod Sayable

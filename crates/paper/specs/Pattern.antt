@@ -1,10 +1,11 @@
 -- Patterns as trees and their language, by the usual rules of regular expressions (document 01, "The question sheet").
 -- A text is a list of characters, a character its value.
-use Prim.Native.Nat.{ℕ}
+use Prim.Native.Nat.{ℕ, _<_}
 use mathlib.Core.Path.{_≡_}
 use mathlib.Core.Bool.{Bool, true, _&&_}
 use mathlib.Core.List.{List, [], _∷_, _++_}
 use lib.Dec.{leb, eqb}
+use lib.ListN.{length}
 
 -- "that character (a leaf)"; "one character with lo ≤ value ≤ hi (a leaf)"
 pub data Leaf : Type 0 where
@@ -36,12 +37,12 @@ pub data Fits : Pattern → List ℕ → Type 0 where
   none : {a : Pattern} → Fits (many a) []
   more : {a : Pattern} {u v w : List ℕ} → w ≡ u ++ v → Fits a u → Fits (many a) v → Fits (many a) w
 
--- What a field may hold: "A field without `PA` is open: any text, the empty one included."
+-- What a field may hold: "A field without a pattern shall now hold one character or more" (request K5).
 pub data Held : Type 0 where
-  any-text : Held
+  some-text : Held
   pattern : Pattern → Held
 
 -- the texts that a field may hold
 abbrev pub Holds : Held → List ℕ → Type 0
-Holds any-text w = Unit {0}
+Holds some-text w = 0 < length w
 Holds (pattern p) w = Fits p w

@@ -8,7 +8,7 @@ use mathlib.Core.Bool.{Bool, true, false, _&&_, _||_, not}
 use mathlib.Core.List.{List, [], _∷_, map}
 use lib.Dec.{eqb}
 use Rattle.paper.specs.Lists.{from, upto, any, keep, each, only, same-by}
-use Rattle.paper.specs.Pattern.{takes, Pattern, leaf, empty, then, either, many, Held, any-text, pattern}
+use Rattle.paper.specs.Pattern.{takes, Pattern, leaf, empty, then, either, many, Held, some-text, pattern}
 use Rattle.paper.specs.Search.{Child, child, Entry, search, entries}
 
 -- the number of leaves
@@ -65,9 +65,10 @@ abbrev pub follows : Pattern → ℕ → ℕ → Bool
 follows p zero q = may-be-first p 1 q
 follows p (suc i) q = may-follow p 1 (suc i) q
 
--- Of an open field every place may be the last one.
+-- Of an open field the start may not be the last one: it holds one character or more (request K5).
 abbrev pub ends-at : Held → ℕ → Bool
-ends-at any-text i = true
+ends-at some-text zero = false
+ends-at some-text (suc i) = true
 ends-at (pattern p) zero = takes-empty p
 ends-at (pattern p) (suc i) = may-be-last p 1 (suc i)
 
@@ -83,13 +84,15 @@ leaf-places p = from 1 (leaves p)
 abbrev pub first-set : PlaceSet
 first-set = 0 ∷ []
 
--- "After a character c it holds each leaf that may follow some place of the set and that takes c." Of an open field it never changes.
+-- "After a character c it holds each leaf that may follow some place of the set and that takes c." An open field has one place besides
+-- its start, which takes every character.
 unfoldable pub set-after : Held → PlaceSet → ℕ → PlaceSet
-set-after any-text s c = s
+set-after some-text [] c = []
+set-after some-text (i ∷ s) c = 1 ∷ []
 set-after (pattern p) s c =
     keep (λ (q : ℕ). leaf-takes p 1 q c && any (λ (i : ℕ). follows p i q) s) (leaf-places p)
 
--- "The set may end if some place in it may be the last one of a text". An open field's one set is not empty: it may always end.
+-- "The set may end if some place in it may be the last one of a text". An open field's may end after a character.
 unfoldable pub may-end : Held → PlaceSet → Bool
 may-end h s = any (λ (i : ℕ). ends-at h i) s
 
@@ -113,7 +116,7 @@ sets-after characters h s =
     each (λ (c : ℕ). only (not (is-empty (set-after h s c))) (child c (set-after h s c))) (upto characters)
 
 abbrev pub all-sets : Held → ℕ
-all-sets any-text = 1
+all-sets some-text = 2
 all-sets (pattern p) = suc (2 ^ leaves p)
 
 unfoldable pub reachable-sets : ℕ → Held → List PlaceSet

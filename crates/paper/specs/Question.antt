@@ -7,7 +7,7 @@ use mathlib.Core.List.{List, [], _∷_, _++_, map}
 use lib.ListN.{getD}
 use Rattle.paper.specs.Lists.{upto}
 use Rattle.paper.specs.Numbers.{characters, fields, hidden-left, hidden-right, set-fields, space}
-use Rattle.paper.specs.Pattern.{char, leaf, many, Held, any-text, pattern, Holds}
+use Rattle.paper.specs.Pattern.{char, leaf, many, Held, some-text, pattern, Holds}
 use Rattle.paper.specs.Places as Places
 use Rattle.paper.specs.Equation.{fld, Side, stands-in, Texts, label, Same, Over, Solves}
 use Rattle.paper.specs.Situation.{Acceptor}
@@ -20,7 +20,7 @@ pub record Question : Type 0 where
 
 -- what the field may hold
 abbrev pub held-by : Question → ℕ → Held
-held-by q f = getD (q .held) f any-text
+held-by q f = getD (q .held) f some-text
 
 -- The meaning of a question: the texts that solve it. They are over the characters, each is one that its field may hold, and they make both sides
 -- the same label, which is "equal after trailing spaces are dropped".

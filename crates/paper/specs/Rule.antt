@@ -7,7 +7,7 @@ use lib.Dec.{leb, ltb}
 use lib.ListN.{length, getD, take}
 use Rattle.paper.specs.Lists.{any}
 use Rattle.paper.specs.Numbers.{characters, rule-fields}
-use Rattle.paper.specs.Pattern.{Held, any-text, Holds}
+use Rattle.paper.specs.Pattern.{Held, some-text, Holds}
 use Rattle.paper.specs.Equation.{Token, chr, fld, Side, stands-in, Texts, label, Over}
 use Rattle.paper.specs.Question.{Question}
 use Rattle.paper.specs.Sheet.{Checked, fault, read, cut-short, wrong-mark, LE, RU, marked, marked-side, Records, faulty, records, Fields, open-fields, read-patterns}
@@ -19,7 +19,7 @@ pub record Rule : Type 0 where
 
 -- what the field may hold
 abbrev pub rule-holds : Rule → ℕ → Held
-rule-holds r f = getD (r .fields .held) f any-text
+rule-holds r f = getD (r .fields .held) f some-text
 
 -- "A rule makes a label": texts for its fields, each fitting its pattern, put into its side.
 pub record Makes (r : Rule) (l : List ℕ) : Type 0 where

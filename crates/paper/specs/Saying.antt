@@ -3,7 +3,7 @@ use Prim.Native.Nat.{ℕ, suc, _+_}
 use mathlib.Core.List.{List, [], _∷_, _++_, map}
 use lib.ListN.{length}
 use Rattle.paper.specs.Numbers.{field-token, empty-code, range-code, then-code, or-code, many-code}
-use Rattle.paper.specs.Pattern.{char, range, Pattern, leaf, empty, then, either, many, Held, any-text, pattern}
+use Rattle.paper.specs.Pattern.{char, range, Pattern, leaf, empty, then, either, many, Held, some-text, pattern}
 use Rattle.paper.specs.Equation.{Token, chr, fld, Side}
 use Rattle.paper.specs.Question.{Question}
 use Rattle.paper.specs.Sheet.{Mark, PA, LE, RI, first-letter, second-letter}
@@ -26,7 +26,7 @@ mark-bytes m = first-letter m ∷ second-letter m ∷ []
 
 -- `PA`: "field byte 0 to 7, length byte n 1 to 96, n bytes"; "A field without `PA` is open"
 abbrev pub pattern-saying : ℕ → Held → List ℕ
-pattern-saying f any-text = []
+pattern-saying f some-text = []
 pattern-saying f (pattern p) = mark-bytes PA ++ f ∷ length (pattern-code p) ∷ pattern-code p
 
 -- the patterns of the fields from f on

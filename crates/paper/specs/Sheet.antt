@@ -7,7 +7,7 @@ use lib.Dec.{leb, ltb, eqb}
 use lib.ListN.{length, getD, take, drop, set, replicate}
 use Rattle.paper.specs.Lists.{all, leading}
 use Rattle.paper.specs.Numbers.{characters, fields, field-token, pattern-bytes, sheet-side}
-use Rattle.paper.specs.Pattern.{Pattern, Held, any-text, pattern}
+use Rattle.paper.specs.Pattern.{Pattern, Held, some-text, pattern}
 use Rattle.paper.specs.Written.{Judged, judged, judge}
 use Rattle.paper.specs.Written as Written
 use Rattle.paper.specs.Equation.{Token, chr, fld, Side}
@@ -131,7 +131,7 @@ pub record Fields : Type 0 where
 
 -- "A field without `PA` is open": before the first record every field is.
 abbrev pub open-fields : Fields
-open-fields = record { held = replicate fields any-text; above = 0 }
+open-fields = record { held = replicate fields some-text; above = 0 }
 
 abbrev pub with-pattern : Fields → FieldPattern → Fields
 with-pattern fs fp = record { held = set (fs .held) (fp .field) (pattern (fp .its)); above = suc (fp .field) }

@@ -3,7 +3,7 @@
 use Prim.Native.Nat.{ℕ, _<_}
 use mathlib.Core.Path.{_≡_}
 use mathlib.Core.Bool.{true}
-use Rattle.paper.specs.Pattern.{Leaf, takes, Pattern, leaf, empty, then, either, many, Held, any-text, pattern}
+use Rattle.paper.specs.Pattern.{Leaf, takes, Pattern, leaf, empty, then, either, many, Held, some-text, pattern}
 
 pub record LeafTakes (n : ℕ) (l : Leaf) : Type 0 where
   pub some : ℕ
@@ -17,7 +17,7 @@ leaves-take n (then a b) = leaves-take n a × leaves-take n b
 leaves-take n (either a b) = leaves-take n a × leaves-take n b
 leaves-take n (many a) = leaves-take n a
 
--- of an open field any text is read
+-- an open field takes every character, and there is one
 abbrev pub held-takes : ℕ → Held → Type 0
-held-takes n any-text = Unit {0}
+held-takes n some-text = 0 < n
 held-takes n (pattern p) = leaves-take n p

@@ -7,16 +7,16 @@ use lib.ListN.{length, getD, length-map, List·getD-map}
 use lib.Seq.{ext-getD}
 use Rattle.paper.specs.Lists.{upto}
 use Rattle.paper.specs.Numbers.{fields}
-use Rattle.paper.specs.Pattern.{Held, any-text}
+use Rattle.paper.specs.Pattern.{Held, some-text}
 use Rattle.paper.proofs.base.Lists.{length-from}
 use Rattle.paper.proofs.base.Listed.{getD-map-upto}
 use Rattle.places.specs.WorkedOut.{worked-out}
 
-pub by-number : (held : List Held) → length held ≡ fields → map worked-out held ≡ map (λ (f : ℕ). worked-out (getD held f any-text)) (upto fields)
+pub by-number : (held : List Held) → length held ≡ fields → map worked-out held ≡ map (λ (f : ℕ). worked-out (getD held f some-text)) (upto fields)
 by-number held e =
-    ext-getD (worked-out any-text) (map worked-out held) (map (λ (f : ℕ). worked-out (getD held f any-text)) (upto fields))
-    (length-map held worked-out ∙ e ∙ sym (length-map (upto fields) (λ (f : ℕ). worked-out (getD held f any-text)) ∙ length-from 0 fields))
+    ext-getD (worked-out some-text) (map worked-out held) (map (λ (f : ℕ). worked-out (getD held f some-text)) (upto fields))
+    (length-map held worked-out ∙ e ∙ sym (length-map (upto fields) (λ (f : ℕ). worked-out (getD held f some-text)) ∙ length-from 0 fields))
     (λ i l.
     let h : i < fields = omega (arith, length-map held worked-out, e) in
-    List·getD-map worked-out held i any-text
-    ∙ sym (getD-map-upto (λ (f : ℕ). worked-out (getD held f any-text)) (worked-out any-text) fields i h))
+    List·getD-map worked-out held i some-text
+    ∙ sym (getD-map-upto (λ (f : ℕ). worked-out (getD held f some-text)) (worked-out some-text) fields i h))

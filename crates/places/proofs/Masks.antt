@@ -8,7 +8,7 @@
 use Prim.Native.Nat.{ℕ, zero, suc, _+_, _^_, _≤_, _<_, zero-le}
 use native.Mathlib.Omega.{arith}
 use mathlib.Core.Path.{_≡_, refl, sym, ap, ap₂, _∙_}
-use mathlib.Core.Bool.{Bool, true, false, not, _&&_, _||_, and-comm, and-true, Bool·not-not}
+use mathlib.Core.Bool.{Bool, true, false, not, _&&_, _||_, and-comm, and-true, or-false, Bool·not-not}
 use mathlib.Core.List.{List, [], _∷_, _++_, List·Memᴰ, List·Memᴰ·head, List·Memᴰ·tail, List·Memᴰ·not-nil, List·Memᴰ·eq-of-singleton}
 use lib.Dec.{eqb}
 use lib.Bits.{bitAnd}
@@ -16,7 +16,7 @@ use lib.ListN.{getD}
 use lib.Pow.{pow-pos}
 use Rattle.paper.specs.Lists.{from, upto, any, only, keep, member}
 use Rattle.paper.specs.Numbers.{most-leaves, characters}
-use Rattle.paper.specs.Pattern.{Held, any-text, pattern}
+use Rattle.paper.specs.Pattern.{Held, some-text, pattern}
 use Rattle.paper.specs.Places.{leaves, leaf-takes, follows, ends-at, PlaceSet, leaf-places, first-set, set-after, may-end, is-empty}
 use Rattle.paper.proofs.base.Listed.{any-same, keep-same, keep-none}
 use Rattle.paper.proofs.base.Tests.{by-bool, same-tests, and-left, and-right, both-true, eqb-true, eqb-false, neq-eqb, eqb-symmetric}
@@ -73,7 +73,7 @@ pub record Masked (s : PlaceSet) : Type 0 where
 
 -- not too many leaves
 abbrev pub Few : Held → Type 0
-Few any-text = Unit {0}
+Few some-text = Unit {0}
 Few (pattern p) = leaves p ≤ most-leaves
 
 pub masked-first : Masked first-set
@@ -88,7 +88,12 @@ masked-none = record { rising = none; below = λ q d. absurd (List·Memᴰ·not-
 
 pub masked-after : (h : Held) (s : PlaceSet) (c : ℕ) → Few h → Masked s → Masked (set-after h s c)
 unfolding set-after
-masked-after any-text s c f m = m
+masked-after some-text [] c f m = masked-none
+masked-after some-text (i ∷ s) c f m =
+    record {
+      rising = rising-after some-text (i ∷ s) c (m .rising);
+      below = λ (q : ℕ) (d : List·Memᴰ q (1 ∷ [])). let e = List·Memᴰ·eq-of-singleton d in omega arith;
+    }
 masked-after (pattern p) s c f m =
     record { rising = rising-after (pattern p) s c (m .rising); below = λ q d. let l = leaf-after p s c q d in omega arith }
 
@@ -148,11 +153,16 @@ followers-is h s m =
     ∙ in-mask-of (λ (q : ℕ). comes-next h i q) q lq))
     ∙ any-member (λ (i : ℕ). comes-next h i q) places s (m .below))
 
+one-for-all : (b : Bool) (s : PlaceSet) → b || any (λ (j : ℕ). b) s ≡ b
+one-for-all true s = refl
+one-for-all false [] = refl
+one-for-all false (i ∷ s) = one-for-all false s
+
 -- what stands in the set after a character
 member-after : (h : Held) (s : PlaceSet) (c q : ℕ) → any (λ (i : ℕ). comes-next h i q) s && takes-at h q c ≡ member q (set-after h s c)
 unfolding set-after
-member-after any-text s c q =
-    and-true (any (λ (i : ℕ). eqb i q) s) ∙ any-same (λ (i : ℕ). eqb i q) (λ (i : ℕ). eqb q i) s (λ i d. eqb-symmetric i q)
+member-after some-text [] c q = refl
+member-after some-text (i ∷ s) c q = and-true (eqb q 1 || any (λ (j : ℕ). eqb q 1) s) ∙ one-for-all (eqb q 1) s ∙ sym (or-false (eqb q 1))
 member-after (pattern p) s c q =
     let next = any (λ (i : ℕ). follows p i q) s in
     let takes = leaf-takes p 1 q c in

@@ -10,7 +10,7 @@ use lib.Dec.{eqb}
 use lib.ListN.{getD}
 use Rattle.paper.specs.Lists.{upto, any, keep}
 use Rattle.paper.specs.Numbers.{characters, most-leaves}
-use Rattle.paper.specs.Pattern.{Held, any-text, pattern}
+use Rattle.paper.specs.Pattern.{Held, some-text, pattern}
 use Rattle.paper.specs.Places.{leaf-takes, follows, ends-at, PlaceSet}
 
 -- "31 leaves and the start make 32 places"
@@ -38,14 +38,14 @@ table f n = map f (upto n)
 abbrev pub masks : (ℕ → ℕ → Bool) → ℕ → List ℕ
 masks t n = table (λ (i : ℕ). mask-of (λ (q : ℕ). t i q)) n
 
--- May the place q come next after the place i? The set of an open field never changes: after i comes i.
+-- May the place q come next after the place i? Of an open field the place behind its start comes after every place (request K5).
 abbrev pub comes-next : Held → ℕ → ℕ → Bool
-comes-next any-text i q = eqb i q
+comes-next some-text i q = eqb q 1
 comes-next (pattern p) i q = follows p i q
 
 -- Does the place q take the character c? Of an open field every place does.
 abbrev pub takes-at : Held → ℕ → ℕ → Bool
-takes-at any-text q c = true
+takes-at some-text q c = true
 takes-at (pattern p) q c = leaf-takes p 1 q c
 
 -- "For every field and every place, the set of places that may follow is worked out once from the pattern."

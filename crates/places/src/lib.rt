@@ -3,8 +3,8 @@ ghost use mathlib.Core.Path.{_≡_};
 ghost use mathlib.Core.Bool.{cond};
 ghost use Prim.Native.Nat.{ℕ};
 ghost use lib.Dec.{eqb};
-ghost use Rattle.paper.specs.Pattern.{any-text};
-ghost use Rattle.places.specs.Masks.{places, mask-of, in-mask, table, followers-of};
+ghost use Rattle.paper.specs.Pattern.{some-text};
+ghost use Rattle.places.specs.Masks.{mask-of, in-mask, followers-of};
 ghost use Rattle.places.specs.WorkedOut.{worked-out};
 
 // "31 leaves and the start make 32 places".
@@ -13,8 +13,12 @@ pub const PLACES: usize = 32;
 // "Code 39, by value": 0 to 42.
 pub const CHARACTERS: usize = 43;
 
-// Every place.
+// Every place; every place but the start; and the place behind the start of an open field.
 const ALL: u32 = 0xFFFF_FFFF;
+
+const NOT_THE_START: u32 = 0xFFFF_FFFE;
+
+const BEHIND_START: u32 = 2;
 
 // What is worked out once of a pattern.
 pub struct PlaceTables {
@@ -56,27 +60,14 @@ pub fn followers(follow: [u32; PLACES], set: u32) -> u32
     r
 }
 
-// "An open field has one place set that never changes and may always end."
+// "A field without a pattern shall now hold one character or more. It then has two reachable place sets": its start, which may not be the last
+// one, and one place behind it, which follows both.
 pub fn open_tables() -> PlaceTables
-    ensures { λ r. ⌜ r ≡ worked-out any-text ⌝ }
+    ensures { λ r. ⌜ r ≡ worked-out some-text ⌝ }
 {
-    let follow = stay();
     PlaceTables {
-        follow,
+        follow: [BEHIND_START; PLACES],
         taking: [ALL; CHARACTERS],
-        last: ALL,
+        last: NOT_THE_START,
     }
-}
-
-// Every place is followed by itself alone.
-fn stay() -> [u32; PLACES]
-    ensures { λ r. ⌜ r ≡ table (λ (i : ℕ). mask-of (λ (q : ℕ). eqb i q)) places ⌝ }
-{
-    let mut follow = [0; PLACES];
-    let mut p = 0;
-    while p < PLACES {
-        follow[p] = place(p);
-        p += 1;
-    }
-    follow
 }

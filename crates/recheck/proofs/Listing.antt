@@ -25,7 +25,8 @@ use Rattle.pairs.proofs.Asking.{Pair-told}
 use Rattle.pairs.proofs.InRoom.{same-room, told-in-room}
 use Rattle.writing.specs.Writing.{Puts}
 use Rattle.writing.proofs.Putting.{puts-none, puts-then}
-use Rattle.recheck.specs.Told.{bytes-of, Fits, Standing, list-with, Ready-to-list, With-listed, longest-list, All-listed}
+use Rattle.recheck.specs.Told.{bytes-of, Fits, list-with, Ready-to-list, With-listed, longest-list, All-listed}
+use Rattle.kept.specs.Kept.{Of-form}
 
 -- The working buffer: cleared once, it stays so.
 behind-cleared : (l : List Present) (work : List ℕ) → work-behind l (cleared work) ≡ cleared work
@@ -136,7 +137,7 @@ pub record Listing-all (l : List Present) (lent work before bytes : List ℕ) (a
   pub puts : Puts before bytes 0 end done
   pub behind : work-after-pairs (drop i l) work ≡ work-after-pairs l lent
 
-module _ {catalogue : List ℕ} {count : ℕ} (x : Standing catalogue count) where
+module _ {catalogue : List ℕ} {count : ℕ} (x : Of-form catalogue count) where
   abbrev all-rules : List Present
   all-rules = x .rules-present
 

@@ -14,14 +14,15 @@ use Rattle.rulebook.proofs.Rechecked.{list-short}
 use Rattle.moving.specs.Moving.{put-at}
 use Rattle.moving.proofs.Within.{is-put}
 use Rattle.writing.proofs.Putting.{puts-in-front}
-use Rattle.recheck.specs.Told.{told-rechecked, Standing, longest-list, All-listed}
+use Rattle.recheck.specs.Told.{told-rechecked, longest-list, All-listed}
+use Rattle.kept.specs.Kept.{Of-form}
 use Rattle.recheck.specs.declared.Rechecked.the-variants.{Listed}
 
 pub rechecks-none : (catalogue work list : List ℕ) → form catalogue ≡ no-catalogue → not-listed 34 list work ≡ rechecking catalogue work list
 unfolding rechecking
 rechecks-none catalogue work list e = rw e
 
-module _ {catalogue : List ℕ} {count : ℕ} (x : Standing catalogue count) {work after before bytes : List ℕ} {n : ℕ}
+module _ {catalogue : List ℕ} {count : ℕ} (x : Of-form catalogue count) {work after before bytes : List ℕ} {n : ℕ}
     (a : All-listed (x .rules-present) work after before bytes n) where
   abbrev all : List ℕ
   all = listed-from 0 (x .rules-present) (room-of work)

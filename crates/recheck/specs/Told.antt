@@ -6,10 +6,11 @@ use mathlib.Core.List.{List, [], map}
 use lib.Dec.{eqb}
 use lib.ListN.{length, take, drop}
 use Rattle.paper.specs.Outcome.{room-of}
-use Rattle.rulebook.specs.Catalogue.{Present, rules, form, used, work-behind}
+use Rattle.rulebook.specs.Catalogue.{Present, used, work-behind}
 use Rattle.rulebook.specs.Calls.{rule-at}
 use Rattle.rulebook.specs.Recheck.{pair-record, listed-with, listed-from, work-after-pairs, not-listed}
 use Rattle.rulebook.specs.Recheck as Recheck
+use Rattle.kept.specs.Kept.{Of-form}
 use Rattle.inner.specs.Inner.{side-code, padded}
 use Rattle.places.specs.WorkedOut.{worked-out}
 use Rattle.places.specs.declared.PlaceTables.{PlaceTables}
@@ -36,12 +37,6 @@ pub record Fits (bytes : List ℕ) (n lower higher : ℕ) (p : Pair) : Type 0 wh
   pub two-bytes : count-of p < 65536
   pub room : n + length (bytes-of lower higher p) ≤ length bytes
 
--- the catalogue is of its form, and so many rules stand in it
-pub record Standing (catalogue : List ℕ) (count : ℕ) : Type 0 where
-  pub rules-present : List Present
-  pub of-form : form catalogue ≡ rules rules-present
-  pub counted : count ≡ length rules-present
-
 -- the list of a rule's pairs with those behind it
 abbrev pub list-with : List Present → ℕ → List ℕ → List ℕ
 list-with l lower work = listed-with lower (rule-at l lower) (suc lower) (drop (suc lower) l) (room-of work)
@@ -50,7 +45,7 @@ list-with l lower work = listed-with lower (rule-at l lower) (suc lower) (drop (
 -- and the list fits behind the first n bytes
 pub record Ready-to-list (catalogue : List ℕ) (count lower : ℕ) (side : List ℕ) (fields : List PlaceTables) (from : ℕ) (work bytes : List ℕ)
     (n : ℕ) : Type 0 where
-  pub standing : Standing catalogue count
+  pub standing : Of-form catalogue count
   pub there : lower < count
   pub side-is : side ≡ padded (side-code (rule-at (standing .rules-present) lower .side))
   pub fields-are : fields ≡ map worked-out (rule-at (standing .rules-present) lower .fields .held)

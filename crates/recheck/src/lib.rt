@@ -5,7 +5,8 @@ ghost use mathlib.Core.Path.{_≡_};
 ghost use lib.ListN.{length, replicate};
 ghost use Rattle.rulebook.specs.Recheck.{rechecking};
 ghost use Rattle.writing.specs.Writing.{Puts};
-ghost use Rattle.recheck.specs.Told.{told-rechecked, bytes-of, Fits, Ready-to-list, With-listed, Standing, longest-list, All-listed};
+ghost use Rattle.recheck.specs.Told.{told-rechecked, bytes-of, Fits, Ready-to-list, With-listed, longest-list, All-listed};
+ghost use Rattle.kept.specs.Kept.{Of-form};
 
 // The lower number, the higher, the answer, the count in two bytes.
 pub const PAIR_BYTES: usize = 5;
@@ -51,9 +52,9 @@ fn no_bytes() -> [u8; LONGEST_LIST]
 
 // Puts every pair of the rules that is not answered 1 in front of the bytes, and tells how many bytes that makes.
 fn list_all(catalogue: &[u8], count: usize, work: &mut [u8], bytes: &mut [u8]) -> usize
-    requires catalogue { ⌜ Standing (now catalogue) count ⌝ }
+    requires catalogue { ⌜ Of-form (now catalogue) count ⌝ }
     requires bytes { ⌜ length (now bytes) ≡ longest-list ⌝ }
-    ensures { λ r. ⌜ ((x : Standing (now (catalogue .entry)) count) → All-listed (x .rules-present) (now (work .entry)) (now (work .exit)) (now (bytes .entry)) (now (bytes .exit)) r) ⌝ }
+    ensures { λ r. ⌜ ((x : Of-form (now (catalogue .entry)) count) → All-listed (x .rules-present) (now (work .entry)) (now (work .exit)) (now (bytes .entry)) (now (bytes .exit)) r) ⌝ }
 {
     let mut at = 0;
     let mut i = 0;

@@ -20,7 +20,7 @@ use Rattle.paper.specs.Lists.{any}
 use Rattle.paper.specs.Numbers.{characters, fields, rule-fields, sheet-side}
 use Rattle.paper.proofs.base.Tests.{cond-by, true-false, or-left-false, or-right-false, ltb-false, leb-false, eqb-true}
 use Rattle.paper.proofs.base.Lists.{mem-cons-by, any-true, any-false, mem-map}
-use Rattle.paper.specs.Pattern.{Held, any-text, pattern}
+use Rattle.paper.specs.Pattern.{Held, some-text, pattern}
 use Rattle.paper.specs.Equation.{Token, chr, fld, Side, is-field, stands-in}
 use Rattle.paper.specs.Sheet.{Checked, fault, read, FieldPattern, byte-at, body, LE, RU, marked, marked-side}
 use Rattle.paper.specs.Sheet.{Records, faulty, records, Fields, open-fields, with-pattern, read-patterns, asked}
@@ -43,13 +43,13 @@ pub record GoodRule (r : Rule) : Type 0 where
   pub short : length (r .side) ≤ sheet-side
   pub held : GoodFields (r .fields .held)
   pub codes : (f : ℕ) → ShortCode (rule-holds r f)
-  pub not-own : (f : ℕ) → rule-fields ≤ f → rule-holds r f ≡ any-text
+  pub not-own : (f : ℕ) → rule-fields ≤ f → rule-holds r f ≡ some-text
 
 -- The patterns' records: besides what a good question has, each code is short, and above the last pattern's field every field is open.
 record GoodPatterns (fs : Fields) : Type 0 where
   held : GoodFields (fs .held)
-  codes : (f : ℕ) → ShortCode (getD (fs .held) f any-text)
-  above : (f : ℕ) → fs .above ≤ f → getD (fs .held) f any-text ≡ any-text
+  codes : (f : ℕ) → ShortCode (getD (fs .held) f some-text)
+  above : (f : ℕ) → fs .above ≤ f → getD (fs .held) f some-text ≡ some-text
 
 short-code : (s : List ℕ) (at least : ℕ) (fp : FieldPattern) → PatternRead s at least fp → ShortCode (pattern (fp .its))
 short-code s at least fp h =
@@ -64,12 +64,12 @@ one-pattern s at fs fp h g =
       codes = set-by ShortCode (fs .held) (fp .field) (pattern (fp .its)) (short-code s at (fs .above) fp g) (h .codes);
       above = λ f k.
           let rises = g .rises in
-          getD-set-other (fs .held) (fp .field) f (pattern (fp .its)) any-text (λ (e : f ≡ fp .field). omega arith) ∙ h .above f (omega arith);
+          getD-set-other (fs .held) (fp .field) f (pattern (fp .its)) some-text (λ (e : f ≡ fp .field). omega arith) ∙ h .above f (omega arith);
     }
 
 no-pattern-yet : GoodPatterns open-fields
 no-pattern-yet =
-    record { held = opens-good; codes = open-by ShortCode tt fields; above = λ f k. open-by (λ (x : Held). x ≡ any-text) refl fields f }
+    record { held = opens-good; codes = open-by ShortCode tt fields; above = λ f k. open-by (λ (x : Held). x ≡ some-text) refl fields f }
 
 -- A rule that was read, whatever fields it names.
 record RuleRead (r : Rule) : Type 0 where
@@ -136,7 +136,7 @@ own-field r good f e =
     below (fld g) k h = rw (eqb-true f g k) h
 
 -- Pairs.
-own-in-range : (t : Token) → OwnToken t → InRange t
+pub own-in-range : (t : Token) → OwnToken t → InRange t
 own-in-range (chr c) h = h
 own-in-range (fld f) h = omega arith
 
@@ -146,13 +146,13 @@ moved-in-range (fld f) h = omega arith
 
 -- what is so of all that the fields may hold, where the first fields are taken, and where others are put behind them
 module _ (P : Held → Type 0) where
-  take-by : P any-text → (n : ℕ) (held : List Held) → ((f : ℕ) → P (getD held f any-text)) → (f : ℕ) → P (getD (take n held) f any-text)
+  take-by : P some-text → (n : ℕ) (held : List Held) → ((f : ℕ) → P (getD held f some-text)) → (f : ℕ) → P (getD (take n held) f some-text)
   take-by g zero held h f = g
   take-by g (suc n) [] h f = g
   take-by g (suc n) (x ∷ held) h zero = h zero
   take-by g (suc n) (x ∷ held) h (suc f) = take-by g n held (λ k. h (suc k)) f
 
-  append-by : (l m : List Held) → ((f : ℕ) → P (getD l f any-text)) → ((f : ℕ) → P (getD m f any-text)) → (f : ℕ) → P (getD (l ++ m) f any-text)
+  append-by : (l m : List Held) → ((f : ℕ) → P (getD l f some-text)) → ((f : ℕ) → P (getD m f some-text)) → (f : ℕ) → P (getD (l ++ m) f some-text)
   append-by [] m h k f = k f
   append-by (x ∷ l) m h k zero = h zero
   append-by (x ∷ l) m h k (suc f) = append-by l m (λ i. h (suc i)) k f
@@ -161,8 +161,8 @@ pub own-held : (r : Rule) → GoodRule r → length (take rule-fields (r .fields
 own-held r good = rw (length-take rule-fields (r .fields .held), good .held .each-field)
 
 module _ (r s : Rule) (good-r : GoodRule r) (good-s : GoodRule s) where
-  pair-held : (P : Held → Type 0) → P any-text → ((f : ℕ) → P (rule-holds r f)) → ((f : ℕ) → P (rule-holds s f))
-      → (f : ℕ) → P (getD (pair r s .held) f any-text)
+  pair-held : (P : Held → Type 0) → P some-text → ((f : ℕ) → P (rule-holds r f)) → ((f : ℕ) → P (rule-holds s f))
+      → (f : ℕ) → P (getD (pair r s .held) f some-text)
   unfolding pair
   pair-held P g h k =
       append-by P (take rule-fields (r .fields .held)) (take rule-fields (s .fields .held))

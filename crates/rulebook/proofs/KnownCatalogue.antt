@@ -2,7 +2,7 @@
 -- checker computes them. Each row fixes all that a call tells and leaves: the numbers, the catalogue, and for an addition the working buffer.
 --
 -- The working buffer is lent full of another byte. The bytes of each catalogue are written out, its zeros too. A pair's count is that of the
--- search with the hidden fields (request K3).
+-- search with the hidden fields (request K3), and a field without a pattern holds one character or more (request K5).
 use Prim.Native.Nat.{ℕ, _+_}
 use mathlib.Core.Path.{_≡_, refl}
 use mathlib.Core.Bool.{Bool, true, false, cond}
@@ -89,6 +89,13 @@ A-spaces n = RU (LE (10 ∷ replicate n 38))
 abbrev pub rule-x : List ℕ
 rule-x = 82 ∷ 85 ∷ 76 ∷ 69 ∷ 1 ∷ 64 ∷ []
 
+-- x`A`, open, and with the old meaning written out
+abbrev pub x-A : List ℕ
+x-A = RU (LE (64 ∷ 10 ∷ []))
+
+abbrev pub x-A-written-out : List ℕ
+x-A-written-out = RU (PA 0 (68 ∷ 65 ∷ 0 ∷ 42 ∷ []) ++ LE (64 ∷ 10 ∷ []))
+
 abbrev digits : List ℕ
 digits = RU (PA 0 (68 ∷ 65 ∷ 0 ∷ 9 ∷ []) ++ LE (64 ∷ []))
 
@@ -127,6 +134,8 @@ entered-rules =
     entered-row (rule-A ++ zeros 8) (RU (LE (10 ∷ 38 ∷ 11 ∷ []))) 300 (rule-A ++ RU (LE (10 ∷ 38 ∷ 11 ∷ []))) true ∷
     -- `A` behind any digits
     entered-row (digits ++ zeros 7) rule-A 864 (digits ++ rule-A ++ zeros 1) true ∷
+    -- `A` behind x`A`, open: x is not struck to nothing
+    entered-row (x-A ++ zeros 6) rule-A 1000 (x-A ++ rule-A) true ∷
     -- the same field of both rules is not one field: x is `A` in the one and `B` in the other, for field 0 and for field 3
     entered-row (one-character 0 10 ++ zeros 11) (one-character 0 11) 864 (one-character 0 10 ++ one-character 0 11) true ∷
     entered-row (one-character 3 10 ++ zeros 11) (one-character 3 11) 864 (one-character 3 10 ++ one-character 3 11) true ∷
@@ -135,24 +144,24 @@ entered-rules =
 -- "30 for a pair not answered 1"
 abbrev clashing-rules : List KnownAddition
 clashing-rules =
-    -- x and `A`, either way round: eleven situations
-    clash-row (rule-x ++ zeros 6) rule-A 1600 0 0 11 ∷
-    clash-row (rule-A ++ zeros 6) rule-x 1600 0 0 11 ∷
-    -- a byte less than eleven situations lent, one situation, none
-    clash-row (rule-x ++ zeros 6) rule-A 1583 0 18 10 ∷
+    -- x and `A`, either way round: ten situations
+    clash-row (rule-x ++ zeros 6) rule-A 1600 0 0 10 ∷
+    clash-row (rule-A ++ zeros 6) rule-x 1600 0 0 10 ∷
+    -- a byte less than ten situations lent, one situation, none
+    clash-row (rule-x ++ zeros 6) rule-A 1439 0 18 9 ∷
     clash-row (rule-x ++ zeros 6) rule-A 144 0 18 1 ∷
     clash-row (rule-x ++ zeros 6) rule-A 143 0 18 0 ∷
     -- 24 times x and `AA`: 48 tokens are passed
-    clash-row (many-x ++ zeros 10) (RU (LE (10 ∷ 10 ∷ []))) 576 0 19 4 ∷
+    clash-row (many-x ++ zeros 10) (RU (LE (10 ∷ 10 ∷ []))) 432 0 19 3 ∷
     -- any digits and the digit 4, as sheet S
     clash-row (digits ++ zeros 20) the-4 2000 0 0 13 ∷
     -- x`AAA` and x`AA`: the present rule is the left side, whose front is struck first
-    clash-row (RU (LE (64 ∷ 10 ∷ 10 ∷ 10 ∷ [])) ++ zeros 10) (RU (LE (64 ∷ 10 ∷ 10 ∷ []))) 3000 0 0 19 ∷
-    clash-row (RU (LE (64 ∷ 10 ∷ 10 ∷ [])) ++ zeros 10) (RU (LE (64 ∷ 10 ∷ 10 ∷ 10 ∷ []))) 3000 0 0 20 ∷
+    clash-row (RU (LE (64 ∷ 10 ∷ 10 ∷ 10 ∷ [])) ++ zeros 10) (RU (LE (64 ∷ 10 ∷ 10 ∷ []))) 3200 0 0 20 ∷
+    clash-row (RU (LE (64 ∷ 10 ∷ 10 ∷ [])) ++ zeros 10) (RU (LE (64 ∷ 10 ∷ 10 ∷ 10 ∷ []))) 3200 0 0 21 ∷
     -- `B` again: the pair with `A` is answered 1, that with `B` is not
     clash-row (rule-A ++ rule-B ++ zeros 6) rule-B 864 1 0 5 ∷
     -- x: the pairs with both are not answered 1, and the first is told
-    clash-row (rule-A ++ rule-B ++ zeros 6) rule-x 1600 0 0 11 ∷
+    clash-row (rule-A ++ rule-B ++ zeros 6) rule-x 1600 0 0 10 ∷
     -- the same field of both rules: x is `A` in both
     clash-row (one-character 3 10 ++ zeros 11) (one-character 3 10) 1600 0 0 11 ∷
     -- rules that differ only in spaces at the end: on the right, on the left, on both; a byte less than six situations lent
@@ -162,6 +171,9 @@ clashing-rules =
     clash-row (rule-A ++ zeros 7) (A-spaces 1) 863 0 18 5 ∷
     -- a rule that makes spaces alone, and one without a token
     clash-row (RU (LE (38 ∷ 38 ∷ [])) ++ zeros 5) (RU (LE [])) 1200 0 0 7 ∷
+    -- a rule without a token, and x, which is one space; x`A` and `A`, x written out
+    clash-row (RU (LE []) ++ zeros 6) rule-x 1400 0 0 9 ∷
+    clash-row (x-A-written-out ++ zeros 6) rule-A 1600 0 0 10 ∷
     []
 
 -- the refusals before any pair: "34 .., then the rule's own 11 to 17, then 31 .., then 32"

@@ -21,7 +21,7 @@ use Rattle.paper.specs.Rule.{rule-front, foreign-field, pair}
 use Rattle.rulebook.specs.Catalogue.{form, pair-answer, pair-count}
 use Rattle.rulebook.specs.Recheck.{pair-record, Rechecked, rechecking}
 use Rattle.paper.proofs.known.Known.{PA, LE}
-use Rattle.rulebook.proofs.KnownCatalogue.{RU, zeros, rule-A, rule-B, A-spaces, rule-x, many-x, empty-rules}
+use Rattle.rulebook.proofs.KnownCatalogue.{RU, zeros, rule-A, rule-B, A-spaces, rule-x, x-A, x-A-written-out, many-x, empty-rules}
 
 -- a catalogue, the bytes of work and of list lent, and what must come; whether the working buffer is all zero afterwards or unchanged
 record KnownRecheck : Type 0 where
@@ -108,16 +108,19 @@ known-rechecks =
     listed-row kept-rules 863 8 1 (0 ∷ 1 ∷ 18 ∷ 5 ∷ 0 ∷ []) ∷
     listed-row kept-rules 0 8 1 (0 ∷ 1 ∷ 18 ∷ 0 ∷ 0 ∷ []) ∷
     -- 24 times x and `AA`: 48 tokens are passed
-    listed-row (many-x ++ rule-AA) 600 8 1 (0 ∷ 1 ∷ 19 ∷ 4 ∷ 0 ∷ []) ∷
+    listed-row (many-x ++ rule-AA) 500 8 1 (0 ∷ 1 ∷ 19 ∷ 3 ∷ 0 ∷ []) ∷
     -- x`AAA` and x`AA`: the lower rule is the left side, whose front is struck first
-    listed-row (x-AAA ++ x-AA) 3000 8 1 (0 ∷ 1 ∷ 0 ∷ 19 ∷ 0 ∷ []) ∷
-    listed-row (x-AA ++ x-AAA) 3000 8 1 (0 ∷ 1 ∷ 0 ∷ 20 ∷ 0 ∷ []) ∷
+    listed-row (x-AAA ++ x-AA) 3200 8 1 (0 ∷ 1 ∷ 0 ∷ 20 ∷ 0 ∷ []) ∷
+    listed-row (x-AA ++ x-AAA) 3200 8 1 (0 ∷ 1 ∷ 0 ∷ 21 ∷ 0 ∷ []) ∷
     -- the first and the last of three; the last two
     listed-row (rule-A ++ rule-B ++ A-spaces 1) 900 8 1 (0 ∷ 2 ∷ 0 ∷ 6 ∷ 0 ∷ []) ∷
     listed-row (rule-B ++ rule-A ++ A-spaces 1) 900 8 1 (1 ∷ 2 ∷ 0 ∷ 6 ∷ 0 ∷ []) ∷
+    -- x`A` and `A`: apart where x is open, listed where the old meaning is written out
+    listed-row (x-A ++ rule-A) 1000 8 0 [] ∷
+    listed-row (x-A-written-out ++ rule-A) 1600 8 1 (0 ∷ 1 ∷ 0 ∷ 10 ∷ 0 ∷ []) ∷
     -- all of three: `A`, x, `A` with a space
     listed-row (rule-A ++ rule-x ++ A-spaces 1) 2200 20 3
-    (0 ∷ 1 ∷ 0 ∷ 11 ∷ 0 ∷ 0 ∷ 2 ∷ 0 ∷ 6 ∷ 0 ∷ 1 ∷ 2 ∷ 0 ∷ 15 ∷ 0 ∷ []) ∷
+    (0 ∷ 1 ∷ 0 ∷ 10 ∷ 0 ∷ 0 ∷ 2 ∷ 0 ∷ 6 ∷ 0 ∷ 1 ∷ 2 ∷ 0 ∷ 14 ∷ 0 ∷ []) ∷
     -- `A` with no space, with one and with two, in six situations: the pair of the first and the last has no room, the one behind it has
     listed-row (rule-A ++ A-spaces 1 ++ A-spaces 2) 900 15 3
     (0 ∷ 1 ∷ 0 ∷ 6 ∷ 0 ∷ 0 ∷ 2 ∷ 18 ∷ 6 ∷ 0 ∷ 1 ∷ 2 ∷ 0 ∷ 6 ∷ 0 ∷ []) ∷

@@ -13,7 +13,7 @@ use lib.Dec.{ltb, eqb}
 use lib.ListN.{getD, take, List·getD-append}
 use lib.Seq.{getD-take, getD-append-add}
 use Rattle.paper.specs.Numbers.{characters, rule-fields, space}
-use Rattle.paper.specs.Pattern.{any-text, Holds}
+use Rattle.paper.specs.Pattern.{some-text, Holds}
 use Rattle.paper.specs.Places.{PlaceSet}
 use Rattle.paper.specs.Search.{Entry, End, found, used-up, no-room, too-long}
 use Rattle.paper.specs.Equation.{Token, chr, fld, Side, is-field, stands-in, Texts, label, without-trailing, Same, Over}
@@ -85,16 +85,16 @@ module _ (r s : Rule) (g : GoodRule r) (h : GoodRule s) where
   held-present : (f : ℕ) → f < rule-fields → held-by (pair r s) f ≡ rule-holds r f
   unfolding pair
   held-present f k =
-      List·getD-append (take rule-fields (r .fields .held)) (take rule-fields (s .fields .held)) any-text f (omega (arith, own-held r g))
-      ∙ getD-take rule-fields (r .fields .held) f any-text k
+      List·getD-append (take rule-fields (r .fields .held)) (take rule-fields (s .fields .held)) some-text f (omega (arith, own-held r g))
+      ∙ getD-take rule-fields (r .fields .held) f some-text k
 
   held-new : (f : ℕ) → f < rule-fields → held-by (pair r s) (rule-fields + f) ≡ rule-holds s f
   unfolding pair
   held-new f k =
       let a = take rule-fields (r .fields .held) in
       let b = take rule-fields (s .fields .held) in
-      ap (λ (n : ℕ). getD (a ++ b) (n + f) any-text) (sym (own-held r g)) ∙ getD-append-add a b f any-text
-      ∙ getD-take rule-fields (s .fields .held) f any-text k
+      ap (λ (n : ℕ). getD (a ++ b) (n + f) some-text) (sym (own-held r g)) ∙ getD-append-add a b f some-text
+      ∙ getD-take rule-fields (s .fields .held) f some-text k
 
   -- A field that stands in the sides of the pair is a field of the one rule or, moved up, of the other.
   by-rule : (P : ℕ → Type 0)

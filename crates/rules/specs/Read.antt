@@ -6,7 +6,7 @@ use mathlib.Core.List.{[], map}
 use lib.Dec.{leb, eqb}
 use lib.ListN.{replicate}
 use Rattle.paper.specs.Numbers.{fields, rule-fields}
-use Rattle.paper.specs.Pattern.{any-text}
+use Rattle.paper.specs.Pattern.{some-text}
 use Rattle.paper.specs.Rule.{foreign-field}
 use Rattle.paper.specs.Rule as Paper
 use Rattle.paper.specs.Sheet.{Records, faulty, records}
@@ -28,7 +28,7 @@ rule-of (faulty x at) =
       bytes = 0;
       foreign = false;
       side = padded [];
-      fields = replicate fields (worked-out any-text);
+      fields = replicate fields (worked-out some-text);
     }
 rule-of (records r next) =
     record {

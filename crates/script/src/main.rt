@@ -3,10 +3,9 @@
 //
 // The stored sheet: left `K`, field 0, `-4`, field 0, field 2; right `K7`, field 1, `.$`. Field 0 is `LT`, or a digit and any of the values 34 to 38
 // (`YZ-. `); field 2 is empty or `$`; field 1 is open. The pattern of field 4, which stands in neither side, is left out.
-use answers::Fault;
+use failures::refuse;
 use lines::read_first;
 use lines::tell;
-use lines::tell_number;
 use scripts::Scripted;
 
 // As `clash` does: it "reads the first 1,024 bytes of standard input".
@@ -35,7 +34,7 @@ fn write_in(sheet: &[u8], out: &mut [u8]) {
     let scripted = scripts::script(sheet, out);
     match scripted {
         Scripted::Written { bytes } => print(&out[0..bytes]),
-        Scripted::Refused { fault, place } => refuse(fault, place),
+        Scripted::Refused { fault, place } => refuse(b"script", fault, place),
         // never: the buffer is as long as the longest script
         Scripted::TooShort => tell(b"script: 40: the buffer is too short\n"),
     }
@@ -44,29 +43,5 @@ fn write_in(sheet: &[u8], out: &mut [u8]) {
 fn print(script: &[u8]) {
     if !lines::print(script) {
         tell(b"script: standard output can't be written\n");
-    }
-}
-
-// A line with the fault's number, its words and its place.
-fn refuse(fault: Fault, place: usize) {
-    tell(b"script: ");
-    tell_number(answers::number(fault) as usize);
-    tell(b": ");
-    tell_words(fault);
-    tell(b", at offset ");
-    tell_number(place);
-    tell(b"\n");
-}
-
-// The words of `bradovusc_text`.
-fn tell_words(fault: Fault) {
-    match fault {
-        Fault::CutShort => tell(b"cut short"),
-        Fault::WrongMark => tell(b"a wrong mark, or bytes behind the last side"),
-        Fault::WrongField => tell(b"a wrong field number"),
-        Fault::WrongLength => tell(b"a wrong length"),
-        Fault::NotOnePattern => tell(b"not one pattern"),
-        Fault::TooManyLeaves => tell(b"a pattern with too many leaves"),
-        Fault::WrongToken => tell(b"a wrong token"),
     }
 }

@@ -9,7 +9,7 @@ use mathlib.Core.Path.{_≡_, sym, subst}
 use mathlib.Core.List.{List, [], _∷_}
 use lib.ListN.{take, drop}
 use Rattle.paper.specs.Numbers.{fields, set-fields}
-use Rattle.paper.specs.Pattern.{any-text}
+use Rattle.paper.specs.Pattern.{some-text}
 use Rattle.paper.specs.Question.{Question, held-by, hidden}
 use Rattle.paper.specs.Sheet.{asked, read-sheet}
 use Rattle.smt.specs.Script.{expression-of}
@@ -26,10 +26,10 @@ module _ (q : Question) where
   spelt-spaces f h k = rw (held-hidden q f h k)
 
   module _ (sheet : List ℕ) (asks : read-sheet sheet ≡ asked q) (f : ℕ) (h : f < fields) (b : Body) (e : b ≡ found sheet 0 f) where
-    stands : Stands sheet any-text b (held-by q f)
-    stands = subst (λ (x : Body). Stands sheet any-text x (held-by q f)) (sym e) (sheet-stands sheet q f asks)
+    stands : Stands sheet some-text b (held-by q f)
+    stands = subst (λ (x : Body). Stands sheet some-text x (held-by q f)) (sym e) (sheet-stands sheet q f asks)
 
-    pub spelt-open : b .end ≡ 0 → expression-of (held-by (hidden q) f) ≡ spelt (68 ∷ 65 ∷ 0 ∷ 42 ∷ [])
+    pub spelt-open : b .end ≡ 0 → expression-of (held-by (hidden q) f) ≡ spelt (66 ∷ 65 ∷ 0 ∷ 42 ∷ 68 ∷ 65 ∷ 0 ∷ 42 ∷ [])
     unfolding spelt
     spelt-open z = rw (held-own q f h, stands-none stands z)
 

@@ -5,37 +5,26 @@
 use Prim.Native.Nat.{ℕ, _+_, _<_}
 use native.Mathlib.Omega.{arith}
 use mathlib.Core.Path.{_≡_, refl, sym, ap, ap₂, _∙_}
-use mathlib.Core.Bool.{Bool, true, false, cond, not}
 use mathlib.Core.List.{List, _++_, List·Memᴰ}
-use lib.Dec.{eqb}
-use lib.ListN.{getD}
-use Rattle.paper.specs.Lists.{upto, member, keep}
+use Rattle.paper.specs.Lists.{upto}
 use Rattle.paper.specs.Numbers.{hidden-left, hidden-right, set-fields}
-use Rattle.paper.specs.Equation.{Side, stands-in}
+use Rattle.paper.specs.Equation.{stands-in}
 use Rattle.paper.specs.Question.{Question, hidden}
 use Rattle.paper.specs.Sheet.{asked, read-sheet}
 use Rattle.paper.proofs.base.Lists.{mem-upto, map-append}
-use Rattle.paper.proofs.base.Listed.{keep-same, getD-map-upto}
-use Rattle.paper.proofs.sheets.Asked.{GoodSide, GoodQuestion, sheet-good}
-use Rattle.paper.proofs.sheets.Hidden.{Searchable, in-range-has-set, hidden-searchable}
+use Rattle.paper.proofs.base.Listed.{keep-same}
+use Rattle.paper.proofs.sheets.Asked.{GoodQuestion, sheet-good}
+use Rattle.paper.proofs.sheets.Hidden.{hidden-searchable}
 use Rattle.smt.specs.Script.{all-standing, equation}
 use Rattle.inner.specs.Inner.{field-code, token-code, side-code, tokens, padded}
-use Rattle.inner.proofs.Tokens.{tokens-padded}
-use Rattle.trimming.specs.Trimming.{first-mask, first-masks}
+use Rattle.trimming.specs.Trimming.{first-masks}
 use Rattle.situations.proofs.CodedSides.{known-side}
-use Rattle.situations.proofs.CodedQuestion.{stands-coded, known-append}
+use Rattle.situations.proofs.CodedQuestion.{marked-stands, known-append}
 use Rattle.hidden.specs.Behind.{side-with}
-use Rattle.hidden.proofs.Codes.{codes-are-tokens, side-behind}
+use Rattle.hidden.proofs.Codes.{side-back, side-behind}
 use Rattle.equations.specs.Arguments.{equation-spelt}
 use Rattle.scripts.specs.Told.{marked, marked-fields}
 use Rattle.equations.proofs.Sides.{equation-alike}
-
-one-or-none : (b : Bool) → not (eqb (cond b 1 0) 0) ≡ b
-one-or-none true = refl
-one-or-none false = refl
-
-side-back : (side : Side) → GoodSide side → tokens (padded (side-code side)) ≡ side-code side
-side-back side g = tokens-padded (side-code side) (codes-are-tokens side (λ t d. in-range-has-set t (g .tokens t d)))
 
 module _ (sheet : List ℕ) (q : Question) (asks : read-sheet sheet ≡ asked q) where
   good : GoodQuestion q
@@ -44,19 +33,16 @@ module _ (sheet : List ℕ) (q : Question) (asks : read-sheet sheet ≡ asked q)
   abbrev codes : List ℕ
   codes = side-code (hidden q .left) ++ side-code (hidden q .right)
 
-  stands-alike : (f : ℕ) → member (field-code + f) codes ≡ stands-in f (hidden q .left ++ hidden q .right)
-  stands-alike f =
-      let can = hidden-searchable q good in
-      ap (member (field-code + f)) (sym (map-append token-code (hidden q .left) (hidden q .right)))
-      ∙ stands-coded f (hidden q .left ++ hidden q .right)
-      (known-append (hidden q .left) (hidden q .right) (known-side (hidden q .left) (can .left)) (known-side (hidden q .right) (can .right)))
-
   marked-alike : marked-fields (first-masks codes) ≡ all-standing (hidden q)
-  unfolding first-mask first-masks all-standing
+  unfolding all-standing
   marked-alike =
-      keep-same (marked (first-masks codes)) (λ (f : ℕ). stands-in f (hidden q .left ++ hidden q .right)) (upto set-fields)
-      (λ f d. ap (λ (m : ℕ). not (eqb m 0)) (getD-map-upto (first-mask codes) 0 set-fields f (mem-upto set-fields d))
-      ∙ one-or-none (member (field-code + f) codes) ∙ stands-alike f)
+      let can = hidden-searchable q good in
+      let sides = hidden q .left ++ hidden q .right in
+      let known =
+      known-append (hidden q .left) (hidden q .right) (known-side (hidden q .left) (can .left)) (known-side (hidden q .right) (can .right)) in
+      ap (λ (l : List ℕ). marked-fields (first-masks l)) (sym (map-append token-code (hidden q .left) (hidden q .right)))
+      ∙ keep-same (marked (first-masks (side-code sides))) (λ (f : ℕ). stands-in f sides) (upto set-fields)
+      (λ f d. marked-stands sides known f (mem-upto set-fields d))
 
   module _ (left right : List ℕ) (l : left ≡ padded (side-code (q .left))) (r : right ≡ padded (side-code (q .right))) where
     pub all-marked : (all-left all-right sets : List ℕ)

@@ -11,8 +11,8 @@ ghost use Rattle.paper.specs.Sheet.{asked, read-sheet};
 ghost use Rattle.smt.specs.Script.{expression-of, field-lines, digit};
 ghost use Rattle.putting.specs.Counted.{Counted};
 
-// "68 A: A any number of times", of one character from 0 to 42: what an open field may hold
-const ANY_CHARACTERS: [u8; 4] = [68, 65, 0, 42];
+// "66 A B: A then B": one character from 0 to 42, then any number of them: what an open field may hold
+const SOME_CHARACTERS: [u8; 8] = [66, 65, 0, 42, 68, 65, 0, 42];
 
 // and of the space: what a hidden field may hold
 const ANY_SPACES: [u8; 2] = [68, 38];
@@ -30,8 +30,8 @@ fn held(out: &mut [u8], at: usize, sheet: &[u8], f: usize) -> usize
     let start = body.start;
     let end = body.end;
     if end == 0 {
-        let code = ANY_CHARACTERS;
-        return terms::expression(out, at, &code[0..4]);
+        let code = SOME_CHARACTERS;
+        return terms::expression(out, at, &code[0..8]);
     }
     terms::expression(out, at, &sheet[start..end])
 }

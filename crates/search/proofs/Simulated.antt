@@ -13,7 +13,7 @@ use mathlib.Core.List.{List, [], _∷_, _++_, map, reverse, List·Memᴰ}
 use lib.ListN.{length, getD, length-append, List·getD-map}
 use lib.Seq.{getD-at}
 use Rattle.paper.specs.Numbers.{set-fields, longest-side}
-use Rattle.paper.specs.Pattern.{Held, any-text, pattern}
+use Rattle.paper.specs.Pattern.{Held, some-text, pattern}
 use Rattle.paper.specs.Places.{PlaceSet}
 use Rattle.paper.specs.Search.{Entry, End, found, used-up, no-room, too-long, search, entries}
 use Rattle.paper.specs.Leads.{Leads}
@@ -69,7 +69,7 @@ no-moves [] e = refl
 no-moves (m ∷ way) e = absurd (let z : _≡_ {A = ℕ} 0 1 = cc in omega arith)
 
 few-leaves : (h : Held) → GoodHeld h → Few h
-few-leaves any-text g = tt
+few-leaves some-text g = tt
 few-leaves (pattern p) g = g .1
 
 module _ (q : Question) (good : Searchable q) where

@@ -5,7 +5,7 @@ use mathlib.Core.List.{List, [], map}
 use lib.ListN.{replicate}
 use Rattle.paper.specs.Lists.{upto}
 use Rattle.paper.specs.Numbers.{fields}
-use Rattle.paper.specs.Pattern.{any-text}
+use Rattle.paper.specs.Pattern.{some-text}
 use Rattle.paper.specs.Question.{held-by}
 use Rattle.paper.specs.Sheet.{Reading, refused, asked}
 use Rattle.places.specs.WorkedOut.{worked-out}
@@ -17,7 +17,7 @@ use Rattle.sheets.specs.declared.Sheet.{Sheet}
 
 -- what is worked out of each field's pattern; "A field without `PA` is open": those of a refused sheet are
 abbrev pub field-tables : Reading → List PlaceTables
-field-tables (refused x at) = replicate fields (worked-out any-text)
+field-tables (refused x at) = replicate fields (worked-out some-text)
 field-tables (asked q) = map (λ (f : ℕ). worked-out (held-by q f)) (upto fields)
 
 -- what reading a sheet hands on

@@ -1,11 +1,14 @@
 -- The trimmed question by inner codes: the codes of the sides without their equal characters in front, the mask 1 for every field that
 -- stands in them.
+--   marked-stands   : the fields that have a first place set are those that stand
 --   question-agrees : situation-code (question (acceptor q) l r) ≡ question-coded (side-code l) (side-code r), of known tokens
 -- Follows from the laws of sides by their codes.
-use Prim.Native.Nat.{ℕ, _+_}
+use Prim.Native.Nat.{ℕ, _+_, _<_}
 use mathlib.Core.Path.{_≡_, refl, sym, ap, ap₂, _∙_}
-use mathlib.Core.Bool.{Bool, true, false, cond, _||_}
+use mathlib.Core.Bool.{Bool, true, false, cond, _||_, not}
 use mathlib.Core.List.{List, [], _∷_, _++_, map, map-map}
+use lib.Dec.{eqb}
+use lib.ListN.{getD}
 use Rattle.paper.specs.Lists.{upto, member}
 use Rattle.paper.specs.Numbers.{set-fields}
 use Rattle.paper.specs.Places.{first-set}
@@ -14,6 +17,7 @@ use Rattle.paper.specs.Situation.{trimmed, question}
 use Rattle.paper.specs.Question.{Question, acceptor}
 use Rattle.paper.proofs.base.Tests.{eqb-symmetric}
 use Rattle.paper.proofs.base.Lists.{cons-eq, map-append}
+use Rattle.paper.proofs.base.Listed.{getD-map-upto}
 use Rattle.places.specs.Masks.{mask}
 use Rattle.inner.specs.Inner.{field-code, token-code, side-code}
 use Rattle.trimming.specs.Trimming.{first-mask, first-masks, question-coded}
@@ -29,6 +33,17 @@ stands-coded f (t ∷ side) h =
 pub known-append : (l r : Side) → Known-side l → Known-side r → Known-side (l ++ r)
 known-append [] r h k = k
 known-append (t ∷ l) r h k = (h .0, known-append l r (h .1) k)
+
+-- a field that stands has a first place set, and no other has one
+one-or-none : (b : Bool) → not (eqb (cond b 1 0) 0) ≡ b
+one-or-none true = refl
+one-or-none false = refl
+
+pub marked-stands : (side : Side) → Known-side side → (f : ℕ) → f < set-fields → not (eqb (getD (first-masks (side-code side)) f 0) 0) ≡ stands-in f side
+unfolding first-masks first-mask
+marked-stands side h f k =
+    ap (λ (m : ℕ). not (eqb m 0)) (getD-map-upto (first-mask (side-code side)) 0 set-fields f k)
+    ∙ one-or-none (member (field-code + f) (side-code side)) ∙ stands-coded f side h
 
 map-same : {A B : Type 0} (f g : A → B) → ((x : A) → f x ≡ g x) → (l : List A) → map f l ≡ map g l
 map-same f g h [] = refl

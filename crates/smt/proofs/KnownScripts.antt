@@ -4,7 +4,7 @@ use Prim.Native.Nat.{ℕ}
 use mathlib.Core.Path.{_≡_, refl}
 use mathlib.Core.List.{List, [], _∷_, _++_, map}
 use lib.ListN.{replicate}
-use Rattle.paper.specs.Pattern.{char, range, leaf, empty, then, either, many, any-text, pattern}
+use Rattle.paper.specs.Pattern.{char, range, leaf, empty, then, either, many, some-text, pattern}
 use Rattle.paper.specs.Equation.{chr, fld}
 use Rattle.paper.specs.Question.{Question}
 use Rattle.smt.specs.Language.{to-re, concat, union, star}
@@ -22,7 +22,7 @@ latch =
       right = fld 0 ∷ chr 4 ∷ [];
       held =
           pattern (many (either (leaf (char 0)) (either (then (leaf (range 35 36)) empty) (leaf (range 37 37)))))
-          ∷ any-text ∷ [];
+          ∷ some-text ∷ [];
     }
 
 script-of-latch : script latch
@@ -61,7 +61,7 @@ blank =
     record {
       left = [];
       right = fld 2 ∷ chr 38 ∷ chr 35 ∷ [];
-      held = pattern empty ∷ any-text ∷ any-text ∷ [];
+      held = pattern empty ∷ some-text ∷ some-text ∷ [];
     }
 
 script-of-blank : script blank
@@ -69,7 +69,7 @@ script-of-blank : script blank
     ++ bytes "; Fields 8 and 9 are the spaces at the end of the left and the right label.\n"
     ++ bytes "(set-logic QF_S)\n"
     ++ bytes "; field 2\n(declare-const f2 String)\n"
-    ++ bytes "(assert (str.in_re f2 (re.* (re.union"
+    ++ bytes "(assert (str.in_re f2 (re.++ (re.union"
     ++ bytes " (str.to_re \"0\") (str.to_re \"1\") (str.to_re \"2\") (str.to_re \"3\") (str.to_re \"4\")"
     ++ bytes " (str.to_re \"5\") (str.to_re \"6\") (str.to_re \"7\") (str.to_re \"8\") (str.to_re \"9\")"
     ++ bytes " (str.to_re \"A\") (str.to_re \"B\") (str.to_re \"C\") (str.to_re \"D\") (str.to_re \"E\")"
@@ -79,7 +79,17 @@ script-of-blank : script blank
     ++ bytes " (str.to_re \"U\") (str.to_re \"V\") (str.to_re \"W\") (str.to_re \"X\") (str.to_re \"Y\")"
     ++ bytes " (str.to_re \"Z\") (str.to_re \"-\") (str.to_re \".\") (str.to_re \" \") (str.to_re \"$\")"
     ++ bytes " (str.to_re \"/\") (str.to_re \"+\") (str.to_re \"%\")"
-    ++ bytes "))))\n"
+    ++ bytes ") (re.* (re.union"
+    ++ bytes " (str.to_re \"0\") (str.to_re \"1\") (str.to_re \"2\") (str.to_re \"3\") (str.to_re \"4\")"
+    ++ bytes " (str.to_re \"5\") (str.to_re \"6\") (str.to_re \"7\") (str.to_re \"8\") (str.to_re \"9\")"
+    ++ bytes " (str.to_re \"A\") (str.to_re \"B\") (str.to_re \"C\") (str.to_re \"D\") (str.to_re \"E\")"
+    ++ bytes " (str.to_re \"F\") (str.to_re \"G\") (str.to_re \"H\") (str.to_re \"I\") (str.to_re \"J\")"
+    ++ bytes " (str.to_re \"K\") (str.to_re \"L\") (str.to_re \"M\") (str.to_re \"N\") (str.to_re \"O\")"
+    ++ bytes " (str.to_re \"P\") (str.to_re \"Q\") (str.to_re \"R\") (str.to_re \"S\") (str.to_re \"T\")"
+    ++ bytes " (str.to_re \"U\") (str.to_re \"V\") (str.to_re \"W\") (str.to_re \"X\") (str.to_re \"Y\")"
+    ++ bytes " (str.to_re \"Z\") (str.to_re \"-\") (str.to_re \".\") (str.to_re \" \") (str.to_re \"$\")"
+    ++ bytes " (str.to_re \"/\") (str.to_re \"+\") (str.to_re \"%\")"
+    ++ bytes ")))))\n"
     ++ bytes "; field 8\n(declare-const f8 String)\n(assert (str.in_re f8 (re.* (str.to_re \" \"))))\n"
     ++ bytes "; field 9\n(declare-const f9 String)\n(assert (str.in_re f9 (re.* (str.to_re \" \"))))\n"
     ++ bytes "(assert (= f8 (str.++ f2 \" Z\" f9)))\n(check-sat)\n"
@@ -145,7 +155,7 @@ none-read = refl
 abbrev empty-sides : List ℕ
 empty-sides = 76 ∷ 69 ∷ 0 ∷ 82 ∷ 73 ∷ 0 ∷ []
 
-exact-room : scripting empty-sides (replicate 351 0) ≡ scripting-told 0 0 351 (script (record { left = []; right = []; held = replicate 8 any-text }))
+exact-room : scripting empty-sides (replicate 351 0) ≡ scripting-told 0 0 351 (script (record { left = []; right = []; held = replicate 8 some-text }))
 unfolding one-character choice field-lines all-standing equation script scripting read-sheet read-end marked-side side-record next-is marked
 exact-room = refl
 

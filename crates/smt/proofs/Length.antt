@@ -14,7 +14,7 @@ use lib.ListN.{length, length-append, length-map, List·getD-append}
 use Rattle.paper.specs.Lists.{from, upto, keep, each}
 use Rattle.paper.specs.Numbers.{characters, fields, hidden-left, hidden-right, set-fields}
 use Rattle.paper.specs.Numbers as Numbers
-use Rattle.paper.specs.Pattern.{char, range, Pattern, leaf, empty, then, either, many, Held, any-text, pattern}
+use Rattle.paper.specs.Pattern.{char, range, Pattern, leaf, empty, then, either, many, Held, some-text, pattern}
 use Rattle.paper.specs.Taken.{LeafTakes, leaves-take}
 use Rattle.paper.specs.Equation.{chr, fld, Side, stands-in}
 use Rattle.paper.specs.Question.{Question, held-by, any-spaces, hidden}
@@ -28,9 +28,9 @@ use Rattle.paper.proofs.places.Judged.{range-takes}
 use Rattle.paper.proofs.sheets.Asked.{GoodHeld}
 use Rattle.paper.proofs.saying.Saying.{ShortCode, Sayable}
 use Rattle.smt.specs.Bytes.{bytes}
-use Rattle.smt.specs.Script.{one-character, next-character, choice, expression, expression-of, digit, field-lines}
+use Rattle.smt.specs.Script.{one-character, next-character, choice, expression, some-characters, expression-of, digit, field-lines}
 use Rattle.smt.specs.Script.{arguments-of, side-term, heading, all-standing, equation, script, longest-script}
-use Rattle.smt.proofs.Sayable.{sheet-sayable}
+use Rattle.paper.proofs.saying.Sayable.{sheet-sayable}
 
 -- A character, a range.
 character-length : (c : ℕ) → length (one-character c) ≡ 15
@@ -78,9 +78,9 @@ expression-length (many a) h = omega (arith, length-append (expression a) (bytes
 
 -- What a field may hold, and its lines.
 held-length : (h : Held) → GoodHeld h → ShortCode h → length (expression-of h) ≤ 17205
-held-length any-text good short =
+held-length some-text good short =
     let all-of = range-takes 0 (characters - 1) (omega arith) (omega arith) in
-    omega (arith, length-append (choice 0 (characters - 1)) (bytes ")"), choice-length 0 (characters - 1) all-of)
+    omega (arith, expression-length some-characters (all-of, all-of))
 held-length (pattern p) good short = omega (arith, expression-length p (good .0))
 
 lines-length : (f : ℕ) (h : Held) → length (field-lines f h) ≡ 61 + length (expression-of h)
@@ -97,9 +97,9 @@ most f = cond (ltb f fields) 17266 83
 module _ (q : Question) where
   pub held-own : (f : ℕ) → f < fields → held-by (hidden q) f ≡ held-by q f
   held-own f h =
-      List·getD-append (map (held-by q) (upto fields)) (any-spaces ∷ any-spaces ∷ []) any-text f
+      List·getD-append (map (held-by q) (upto fields)) (any-spaces ∷ any-spaces ∷ []) some-text f
       (rw (length-map (upto fields) (held-by q)) h)
-      ∙ getD-map-upto (held-by q) any-text fields f h
+      ∙ getD-map-upto (held-by q) some-text fields f h
 
   pub held-hidden : (f : ℕ) → fields ≤ f → f < set-fields → held-by (hidden q) f ≡ any-spaces
   held-hidden f h k =

@@ -11,13 +11,13 @@ use mathlib.Core.List.{List, [], _∷_, _++_, append-assoc}
 use lib.Dec.{eqb}
 use lib.ListN.{getD}
 use Rattle.paper.specs.Lists.{from, all, each}
-use Rattle.paper.specs.Pattern.{char, range, Pattern, leaf, empty, then, either, many, Held, any-text, pattern}
+use Rattle.paper.specs.Pattern.{char, range, Pattern, leaf, empty, then, either, many, Held, some-text, pattern}
 use Rattle.paper.specs.Printed.{signs, sign, space}
 use Rattle.paper.proofs.base.Tests.{and-left, and-right, not-is-true, le-leb, lt-leb}
 use Rattle.paper.proofs.base.Lists.{cons-eq}
 use Rattle.smt.specs.Bytes.{bytes}
 use Rattle.smt.specs.Lexemes.{Lexeme, opening, closing, word, text, between, lexemes}
-use Rattle.smt.specs.Script.{one-character, next-character, choice, expression, any-characters, expression-of}
+use Rattle.smt.specs.Script.{one-character, next-character, choice, expression, some-characters, expression-of}
 
 -- The signs: none is a quotation mark or a backslash.
 abbrev plain-sign : ℕ → Bool
@@ -114,9 +114,9 @@ pattern-lexed (many a) s =
     cons-eq refl (cons-eq refl (ap (lexemes between) (append-assoc (expression a) (bytes ")") s) ∙ pattern-lexed a (bytes ")" ++ s)))
 
 abbrev pub before-held : Held → List Lexeme → List Lexeme
-before-held any-text rest = before any-characters rest
+before-held some-text rest = before some-characters rest
 before-held (pattern p) rest = before p rest
 
 pub held-lexed : (h : Held) (s : List ℕ) → lexemes between (expression-of h ++ s) ≡ before-held h (lexemes between s)
-held-lexed any-text s = pattern-lexed any-characters s
+held-lexed some-text s = pattern-lexed some-characters s
 held-lexed (pattern p) s = pattern-lexed p s

@@ -9,7 +9,6 @@ pub mod ReadBack
 pub mod ScriptMeans
 pub mod SameQuestion
 -- how long it is
-pub mod Sayable
 pub mod Length
 -- what is promised of writing one
 pub mod Promised

@@ -12,7 +12,7 @@ use mathlib.Core.Bool.{Bool, true, false}
 use mathlib.Core.List.{List, [], _∷_, _++_, map, append-assoc, append-nil}
 use lib.ListN.{length}
 use Rattle.paper.specs.Lists.{from, each}
-use Rattle.paper.specs.Pattern.{char, range, Pattern, leaf, empty, then, either, many, Held, any-text, pattern}
+use Rattle.paper.specs.Pattern.{char, range, Pattern, leaf, empty, then, either, many, Held, some-text, pattern}
 use Rattle.paper.specs.Equation.{Token, chr, fld, Side}
 use Rattle.paper.specs.Printed.{sign}
 use Rattle.paper.proofs.base.Lists.{cons-eq, map-append}
@@ -21,7 +21,7 @@ use Rattle.smt.specs.Bytes.{bytes}
 use Rattle.smt.specs.Lexemes.{Lexeme, closing}
 use Rattle.smt.specs.Reader.{Item, code-point, constant, Understood, understood, further, arguments, read-expression}
 use Rattle.smt.specs.Reader.{read-item, further-items, joined, read-term}
-use Rattle.smt.specs.Script.{name, any-characters}
+use Rattle.smt.specs.Script.{name, some-characters}
 use Rattle.smt.specs.Means.{said}
 use Rattle.smt.proofs.Tree.{alone, unions, tree, tree-of}
 use Rattle.smt.proofs.Lexed.{before-character, before-characters, before-range, before, before-held}
@@ -111,12 +111,12 @@ expression-read (many a) zero rest h = absurd (omega arith)
 expression-read (many a) (suc n) rest h = rw (expression-read a n (closing ∷ rest) (omega arith))
 
 pub held-longer : (h : Held) (rest : List Lexeme) → length rest ≤ length (before-held h rest)
-held-longer any-text rest = longer any-characters rest
+held-longer some-text rest = longer some-characters rest
 held-longer (pattern p) rest = longer p rest
 
 pub held-read : (h : Held) (n : ℕ) (rest : List Lexeme) → length (before-held h rest) ≤ n
     → read-expression n (before-held h rest) ≡ understood (tree-of h) rest
-held-read any-text n rest k = expression-read any-characters n rest k
+held-read some-text n rest k = expression-read some-characters n rest k
 held-read (pattern p) n rest k = expression-read p n rest k
 
 -- Terms: the literals and constants of a side.

@@ -3,16 +3,17 @@
 --   matches-fits : leaves-take characters p → Matches (tree p) v → v is the signs of a text that fits p
 --   same-texts   : GoodHeld h → SameTexts (tree-of h) h
 -- Follows by induction on the pattern, and on how often a part comes; a range by the members of the list of its characters.
-use Prim.Native.Nat.{ℕ, suc, _-_, _≤_}
+use Prim.Native.Nat.{ℕ, suc, _-_, _≤_, _<_}
 use native.Mathlib.Omega.{arith}
 use mathlib.Core.Path.{_≡_, refl, sym, ap, ap₂, _∙_}
 use mathlib.Core.Logic.{_⊎_, inl, inr, ⊎-elim, ⊎-map}
 use mathlib.Core.Bool.{true, false}
 use mathlib.Core.List.{List, [], _∷_, _++_, map, List·Memᴰ, List·Memᴰ·head, List·Memᴰ·tail}
 use lib.Dec.{leb, eqb}
+use lib.ListN.{length}
 use Rattle.paper.specs.Lists.{from}
 use Rattle.paper.specs.Numbers.{characters}
-use Rattle.paper.specs.Pattern.{char, range, takes, Pattern, leaf, empty, then, either, many, Held, any-text, pattern}
+use Rattle.paper.specs.Pattern.{char, range, takes, Pattern, leaf, empty, then, either, many, Held, some-text, pattern}
 use Rattle.paper.specs.Pattern.{Fits, one, nothing, both, first, second, none, more}
 use Rattle.paper.specs.Taken.{LeafTakes, leaves-take}
 use Rattle.paper.specs.Equation.{Over}
@@ -23,7 +24,7 @@ use Rattle.paper.proofs.places.NotStuck.{fits-over}
 use Rattle.paper.proofs.places.Judged.{range-takes}
 use Rattle.paper.proofs.sheets.Asked.{GoodHeld}
 use Rattle.smt.specs.Language.{Expression, to-re, union, star, Matches, itself, one-then-other, of-first, of-second, no-time, once-more}
-use Rattle.smt.specs.Script.{any-characters}
+use Rattle.smt.specs.Script.{one-character-of-all, some-characters}
 use Rattle.smt.specs.Means.{SameTexts}
 use Rattle.smt.proofs.Tree.{alone, unions, tree, tree-of}
 
@@ -121,18 +122,28 @@ fitting-over : (p : Pattern) → leaves-take characters p → (v : List ℕ) →
     → (w : List ℕ) × (v ≡ map sign w) × Over characters w × Fits p w
 fitting-over p k v m = let (w, e, f) = matches-fits p k m in (w, e, fits-over characters p k f, f)
 
-any-fits : (w : List ℕ) → Over characters w → Fits any-characters w
+any-fits : (w : List ℕ) → Over characters w → Fits (many one-character-of-all) w
 any-fits [] h = none
 any-fits (c ∷ w) h =
     let low = h c (List·Memᴰ·head refl) in
     let taken = range-takes-it 0 (characters - 1) c (omega arith) (omega arith) in
     more {u = c ∷ []} {v = w} refl (one taken) (any-fits w (λ a d. h a (List·Memᴰ·tail d)))
 
+-- one character or more
+some-fits : (w : List ℕ) → Over characters w → 0 < length w → Fits some-characters w
+some-fits [] h k = absurd (omega arith)
+some-fits (c ∷ w) h k =
+    let below = h c (List·Memᴰ·head refl) in
+    both {u = c ∷ []} {v = w} refl (one (range-takes-it 0 (characters - 1) c (omega arith) (omega arith))) (any-fits w (λ a d. h a (List·Memᴰ·tail d)))
+
+fits-some : {w : List ℕ} → Fits some-characters w → 0 < length w
+fits-some (both e (one t) m) = omega (arith, ap length e)
+
 pub same-texts : (h : Held) → GoodHeld h → SameTexts (tree-of h) h
-same-texts any-text k =
+same-texts some-text k =
     let all-of = range-takes 0 (characters - 1) (omega arith) (omega arith) in
     record {
-      every = λ w over _. fits-matches (any-fits w over);
-      no-other = λ v m. let (w, e, over, f) = fitting-over any-characters all-of v m in (w, e, over, tt);
+      every = λ w over some. fits-matches (some-fits w over some);
+      no-other = λ v m. let (w, e, over, f) = fitting-over some-characters (all-of, all-of) v m in (w, e, over, fits-some f);
     }
 same-texts (pattern p) k = record { every = λ w _ f. fits-matches f; no-other = fitting-over p (k .0) }

@@ -2,10 +2,10 @@
 use Prim.Native.Nat.{ℕ, suc, _-_}
 use mathlib.Core.List.{List, [], _∷_}
 use Rattle.paper.specs.Lists.{from}
-use Rattle.paper.specs.Pattern.{char, range, Pattern, leaf, empty, then, either, many, Held, any-text, pattern}
+use Rattle.paper.specs.Pattern.{char, range, Pattern, leaf, empty, then, either, many, Held, some-text, pattern}
 use Rattle.paper.specs.Printed.{sign}
 use Rattle.smt.specs.Language.{Expression, to-re, concat, union, star}
-use Rattle.smt.specs.Script.{any-characters}
+use Rattle.smt.specs.Script.{some-characters}
 
 -- one character
 abbrev pub alone : ℕ → Expression
@@ -25,5 +25,5 @@ tree (either a b) = union (tree a) (tree b)
 tree (many a) = star (tree a)
 
 abbrev pub tree-of : Held → Expression
-tree-of any-text = tree any-characters
+tree-of some-text = tree some-characters
 tree-of (pattern p) = tree p

@@ -6,7 +6,7 @@ use mathlib.Core.List.{List, [], _∷_, _++_}
 use lib.Dec.{leb}
 use Rattle.paper.specs.Lists.{from, upto, keep, each}
 use Rattle.paper.specs.Numbers.{characters, hidden-left, hidden-right, set-fields}
-use Rattle.paper.specs.Pattern.{char, range, Pattern, leaf, empty, then, either, many, Held, any-text, pattern}
+use Rattle.paper.specs.Pattern.{char, range, Pattern, leaf, empty, then, either, many, Held, some-text, pattern}
 use Rattle.paper.specs.Equation.{chr, fld, Side, stands-in}
 use Rattle.paper.specs.Question.{Question, held-by, hidden}
 use Rattle.paper.specs.Printed.{sign, space}
@@ -32,8 +32,8 @@ choice lo hi =
 abbrev pub two : List ℕ → List ℕ → List ℕ → List ℕ
 two op a b = op ++ a ++ (space ∷ b) ++ bytes ")"
 
-abbrev pub one-or-more : List ℕ → List ℕ
-one-or-more a = bytes "(re.* " ++ a ++ bytes ")"
+abbrev pub any-number : List ℕ → List ℕ
+any-number a = bytes "(re.* " ++ a ++ bytes ")"
 
 -- the expression of a pattern
 abbrev pub expression : Pattern → List ℕ
@@ -42,14 +42,17 @@ expression (leaf (range lo hi)) = choice lo hi
 expression empty = bytes "(str.to_re \"\")"
 expression (then a b) = two (bytes "(re.++ ") (expression a) (expression b)
 expression (either a b) = two (bytes "(re.union ") (expression a) (expression b)
-expression (many a) = one-or-more (expression a)
+expression (many a) = any-number (expression a)
 
--- "An open field must be held to the 43 characters."
-abbrev pub any-characters : Pattern
-any-characters = many (leaf (range 0 (characters - 1)))
+-- "An open field must be held to the 43 characters": one of them or more (request K5)
+abbrev pub one-character-of-all : Pattern
+one-character-of-all = leaf (range 0 (characters - 1))
+
+abbrev pub some-characters : Pattern
+some-characters = then one-character-of-all (many one-character-of-all)
 
 abbrev pub expression-of : Held → List ℕ
-expression-of any-text = expression any-characters
+expression-of some-text = expression some-characters
 expression-of (pattern p) = expression p
 
 -- the constant of a field: f0, f1, ..

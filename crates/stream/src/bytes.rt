@@ -6,6 +6,12 @@ use lines::print_lent;
 use lines::print_work;
 
 pub fn print_bytes(work: &[u8], answer: &[u8], written: usize) {
+    print_answer_bytes(answer, written);
+    print_work(work);
+}
+
+// Those of the answer buffer.
+pub fn print_answer_bytes(answer: &[u8], written: usize) {
     if written <= answer.len() {
         print(b", written");
         print_each(&answer[0..written]);
@@ -15,5 +21,4 @@ pub fn print_bytes(work: &[u8], answer: &[u8], written: usize) {
         print(b", more than the answer buffer");
         print_each(answer);
     }
-    print_work(work);
 }

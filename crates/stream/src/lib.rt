@@ -2,6 +2,7 @@
 mod bytes;
 mod case;
 mod script;
+mod spelt;
 
 use answers::Numbers;
 use lines::WORK;
@@ -23,6 +24,8 @@ pub enum Shown {
     // a line: number, place and written length of the sheet's script. Behind number 0 the script, and a line: the number for a buffer of just its
     // length, the number for one that is a byte shorter, and how many of that one's bytes are changed
     Scripts,
+    // a line: number, place and written length of the sheet carried over into the answer buffer, and every byte of that
+    Spelt,
 }
 
 pub fn answer_all(shown: Shown) {
@@ -62,6 +65,7 @@ fn answer_case(sheet: &[u8], work: &mut [u8], answer: &mut [u8], shown: Shown) {
         Shown::Bytes => show_bytes(sheet, work, answer),
         Shown::Lines => show_lines(sheet, work, answer),
         Shown::Scripts => script::show_script(sheet),
+        Shown::Spelt => spelt::show_spelt(sheet, answer),
     }
 }
 

@@ -8,7 +8,7 @@ use lib.Dec.{leb, ltb, eqb}
 use lib.ListN.{length, getD}
 use Rattle.paper.specs.Numbers.{empty-code, range-code, then-code, or-code, many-code}
 use Rattle.smt.specs.Bytes.{bytes}
-use Rattle.smt.specs.Script.{one-character, choice, two, one-or-more}
+use Rattle.smt.specs.Script.{one-character, choice, two, any-number}
 use Rattle.putting.specs.Counted.{Counted}
 use Rattle.terms.specs.declared.Spelt.{Spelt}
 
@@ -36,7 +36,7 @@ spelt-at (suc n) s i =
     let a = spelt-at n s (i + 1) in
     let b = spelt-at n s (a .next) in
     cond (leb (length s) i) (spelling [] i)
-    (cond (eqb (getD s i 0) many-code) (spelling (one-or-more (a .put)) (a .next))
+    (cond (eqb (getD s i 0) many-code) (spelling (any-number (a .put)) (a .next))
     (cond (eqb (getD s i 0) then-code) (spelling (two (bytes "(re.++ ") (a .put) (b .put)) (b .next))
     (cond (eqb (getD s i 0) or-code) (spelling (two (bytes "(re.union ") (a .put) (b .put)) (b .next))
     (single-spelling s i))))

@@ -68,17 +68,22 @@ longest-pattern f = PA f (replicate 95 68 ++ 0 ∷ [])
 abbrev longest-sheet : List ℕ
 longest-sheet = each longest-pattern (upto 8) ++ LE (replicate 24 10) ++ RI (replicate 24 10)
 
--- sheet S; xy and eight times `A`, open, which takes more situations than 4,096 bytes have; the longest good sheet, and one byte more
+-- sheet S; xy and eight times `A`, open, which takes more situations than 4,096 bytes have; x and nothing, where x is one space, and where x has
+-- the pattern 68 65 0 42 and is empty; the longest good sheet, and one byte more
 pub sheets-printed :
     map printed
     (sheet-S ∷
     (LE (64 ∷ 65 ∷ []) ++ RI (replicate 8 10)) ∷
+    (LE (64 ∷ []) ++ RI []) ∷
+    (PA 0 (68 ∷ 65 ∷ 0 ∷ 42 ∷ []) ++ LE (64 ∷ []) ++ RI []) ∷
     longest-sheet ∷
     (longest-sheet ++ 0 ∷ []) ∷
     [])
     ≡ map ascii
     ("0 13 0\n0 4\n1 4\n" ∷
-    "0 36 0\n0 \n1 AAAAAAAA\n" ∷
+    "0 42 0\n0 A\n1 AAAAAAA\n" ∷
+    "0 9 0\n0  \n" ∷
+    "0 10 0\n0 \n" ∷
     "0 5 0\n" ∷
     "12 0 854\n" ∷
     [])

@@ -204,7 +204,9 @@ impl FusedIterator for Pairs<'_> {}
 /// A catalogue is rules one behind the other from the first byte on, and zeros behind them. One
 /// that began as zeros and was changed by [`add`] and [`withdraw`] alone has no two rules that make
 /// the same label. Of one that was filled otherwise, or kept since a version before 0.4, for which a
-/// space at the end made another label, [`recheck`] says which rules do.
+/// space at the end made another label, [`recheck`] says which rules do. One that was kept since a
+/// version before 0.6, for which a field without a pattern could be empty, should first be carried
+/// over by [`spell_open_catalogue`](crate::spell_open_catalogue).
 pub fn add(catalogue: &mut [u8], rule: &[u8], work: &mut [u8]) -> Added {
     let mut told = [0; 4];
     // SAFETY: each pointer and length are those of one slice. No two of the slices overlap, since

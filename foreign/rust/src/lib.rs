@@ -1,10 +1,10 @@
 //! Can two part-label rules make the same label?
 //!
-//! A rule is fixed Code 39 characters with fields between them; a field may have a pattern. Two
-//! rules clash when one label can be read by both. Spaces at the end of a label are dropped before
-//! it is read, so `LT4` and `LT4` with a space are the same label; a space elsewhere is a character
-//! like the others. The two rules stand on a question sheet; [`clash`] answers it in memory that the
-//! caller lends.
+//! A rule is fixed Code 39 characters with fields between them; a field may have a pattern, and one
+//! without a pattern holds any text of one character or more. Two rules clash when one label can be
+//! read by both. Spaces at the end of a label are dropped before it is read, so `LT4` and `LT4` with
+//! a space are the same label; a space elsewhere is a character like the others. The two rules stand
+//! on a question sheet; [`clash`] answers it in memory that the caller lends.
 //!
 //! ```
 //! use bradovusc::{answer_bytes, clash, texts, SITUATION_BYTES};
@@ -88,10 +88,34 @@
 //! assert_eq!(pairs[0].answer.clashes(), Some(true));
 //! assert_eq!(pairs[0].to_string(), "rule 0 and rule 1: clash");
 //! ```
+//!
+//! Up to version 0.5 a field without a pattern could be empty too. [`spell_open`] carries a sheet
+//! from before 0.6 over, [`spell_open_rule`] a rule and [`spell_open_catalogue`] a whole catalogue:
+//! they then mean what they meant.
+//!
+//! ```
+//! use bradovusc::{clash, spell_open, SpeltOpen, SHEET_BYTES, SITUATION_BYTES};
+//!
+//! // Field 0, without a pattern, then 4; and the digit 4. They clash if field 0 may be empty.
+//! let old = b"LE\x02\x40\x04RI\x01\x04";
+//! let mut new = [0; SHEET_BYTES];
+//! let SpeltOpen::Written { bytes } = spell_open(old, &mut new) else {
+//!     panic!("the sheet is good, and the buffer is long enough");
+//! };
+//! assert_eq!(&new[..bytes], b"PA\x00\x04\x44\x41\x00\x2ALE\x02\x40\x04RI\x01\x04");
+//! let mut work = [0; 455 * SITUATION_BYTES];
+//! let mut answer = [0; 5];
+//! assert_eq!(clash(old, &mut work, &mut answer).clashes(), Some(false));
+//! assert_eq!(clash(&new[..bytes], &mut work, &mut answer).clashes(), Some(true));
+//! ```
 
+mod carrying;
 mod catalogue;
 mod scripts;
 
+pub use carrying::{
+    spell_open, spell_open_catalogue, spell_open_rule, CarriedOver, SpeltOpen, SHEET_BYTES,
+};
 pub use catalogue::{
     add, catalogue_bytes, list_bytes, recheck, withdraw, Added, Pair, Pairs, Rechecked, Withdrawn,
     MOST_RULES, PAIR_BYTES, RULE_BYTES, RULE_FIELDS,

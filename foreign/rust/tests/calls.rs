@@ -3,7 +3,7 @@
 
 use std::collections::BTreeSet;
 
-use bradovusc::{add, recheck, withdraw, Added, Pair, Rechecked, PAIR_BYTES};
+use bradovusc::{add, recheck, spell_open_catalogue, withdraw, Added, Pair, Rechecked, PAIR_BYTES};
 use second::calls::{After, Call, Calls, Operation, LIST_FILL, MOST_CATALOGUE, WORK};
 use second::cases::WORK_FILL;
 use second::catalogue::HASHING;
@@ -48,6 +48,10 @@ impl Library {
                 let (told, pairs) = listed(recheck(&self.catalogue, &mut work, &mut list));
                 assert_eq!(list[..told.written], pairs, "the pairs, read from their bytes");
                 Call::Recheck { told, list, work }
+            }
+            Operation::Carry => {
+                let carried = spell_open_catalogue(&mut self.catalogue);
+                Call::Carry { number: carried.number() as u8 }
             }
         };
         Some(After { call, catalogue: self.catalogue.clone() })
@@ -110,6 +114,7 @@ fn generated_calls() {
                 seen.extend(answers.map(|answer| ("listed", 0, answer)));
                 ("recheck", told.number, 0)
             }
+            Call::Carry { number } => ("carry", number, 0),
         };
         seen.insert(answered);
     }
@@ -118,8 +123,10 @@ fn generated_calls() {
     let withdrawals = [0, 33, 34].map(|number| ("withdraw", number, 0));
     let rechecks = [0, 34, 35].map(|number| ("recheck", number, 0));
     let listed = [0, 18, 19].map(|answer| ("listed", 0, answer));
+    let carried = [0, 32, 34].map(|number| ("carry", number, 0));
     let additions = alone.into_iter().chain(pairs);
-    assert_eq!(seen, additions.chain(withdrawals).chain(rechecks).chain(listed).collect());
+    let expected = additions.chain(withdrawals).chain(rechecks).chain(listed).chain(carried);
+    assert_eq!(seen, expected.collect());
 }
 
 #[test]

@@ -90,11 +90,11 @@ fn a_clash() {
     assert_eq!(not_apart(&[rule(&[])], &rule(&[]), 5), (0, clash(5)));
     assert_eq!(not_apart(&[rule(&[A]), rule(&[B])], &rule(&[B]), 5), (1, clash(5)));
     // x and `A`
-    assert_eq!(not_apart(&[rule(&[X])], &rule(&[A]), 11), (0, clash(11)));
+    assert_eq!(not_apart(&[rule(&[X])], &rule(&[A]), 10), (0, clash(10)));
     // The first of several, though a later one has a clash too.
     let rules = [rule(&[B]), rule(&[A]), rule(&[X])];
     assert_eq!(not_apart(&rules, &rule(&[A]), 5), (1, clash(5)));
-    assert_eq!(not_apart(&rules, &rule(&[B, B]), 13), (2, clash(13)));
+    assert_eq!(not_apart(&rules, &rule(&[B, B]), 12), (2, clash(12)));
 }
 
 #[test]
@@ -109,7 +109,7 @@ fn spaces_at_the_end() {
 #[test]
 fn a_rules_fields_are_its_own() {
     // As a sheet xA and Bx have no clash; here x is another field in each: BA.
-    assert_eq!(not_apart(&[rule(&[X, A])], &rule(&[B, X]), 17), (0, clash(17)));
+    assert_eq!(not_apart(&[rule(&[X, A])], &rule(&[B, X]), 19), (0, clash(19)));
     // Any digits, and the digit 4: sheet S of the rules.
     let digits = with(b"PA\x00\x04\x44\x41\x00\x09", &[X]);
     let four = with(b"PA\x00\x01\x04", &[X]);
@@ -122,8 +122,8 @@ fn a_rules_fields_are_its_own() {
 #[test]
 fn the_present_rule_is_the_left_one() {
     let (two, three) = (rule(&[X, A, A]), rule(&[X, A, A, A]));
-    assert_eq!(not_apart(std::slice::from_ref(&three), &two, 20), (0, clash(19)));
-    assert_eq!(not_apart(&[two], &three, 20), (0, clash(20)));
+    assert_eq!(not_apart(std::slice::from_ref(&three), &two, 21), (0, clash(20)));
+    assert_eq!(not_apart(&[two], &three, 21), (0, clash(21)));
 }
 
 #[test]
@@ -132,10 +132,10 @@ fn not_decided() {
     assert_eq!(not_apart(&present, &rule(&[A]), 2), (0, Answer::NoRoom { count: 2 }));
     assert_eq!(not_apart(&present, &rule(&[A]), 0), (0, Answer::NoRoom { count: 0 }));
     let long = [rule(&[B]), rule(&[X; 24])];
-    assert_eq!(not_apart(&long, &rule(&[A, A]), 4), (1, Answer::SideTooLong { count: 4 }));
+    assert_eq!(not_apart(&long, &rule(&[A, A]), 3), (1, Answer::SideTooLong { count: 3 }));
     // xx and `A` make no label that is the same, but x can take one space after the other.
     let twice = [rule(&[X, X])];
-    assert_eq!(not_apart(&twice, &rule(&[A]), 455), (0, Answer::SideTooLong { count: 137 }));
+    assert_eq!(not_apart(&twice, &rule(&[A]), 455), (0, Answer::SideTooLong { count: 136 }));
 }
 
 #[test]
@@ -303,17 +303,18 @@ fn listed() {
     assert_eq!(rechecked(&three, room + 9, 15, true), (0, pairs.to_vec()));
     assert_eq!(rechecked(&three, room + 9, 14, true), (35, vec![]));
     let long = [rule(&[X; 24]), rule(&[A, A])].concat();
-    let too_long = Answer::SideTooLong { count: 4 };
+    let too_long = Answer::SideTooLong { count: 3 };
     assert_eq!(rechecked(&long, 600, 8, true), (0, vec![pair(0, 1, too_long)]));
 }
 
 #[test]
 fn the_lower_rule_is_the_left_one() {
     let (two, three) = (rule(&[X, A, A]), rule(&[X, A, A, A]));
+    let room = 21 * SITUATION_BYTES;
     let both = [&three[..], &two].concat();
-    assert_eq!(rechecked(&both, 3000, 8, true), (0, vec![pair(0, 1, clash(19))]));
+    assert_eq!(rechecked(&both, room, 8, true), (0, vec![pair(0, 1, clash(20))]));
     let both = [two, three].concat();
-    assert_eq!(rechecked(&both, 3000, 8, true), (0, vec![pair(0, 1, clash(20))]));
+    assert_eq!(rechecked(&both, room, 8, true), (0, vec![pair(0, 1, clash(21))]));
 }
 
 #[test]

@@ -55,10 +55,19 @@ fn no_fields() {
 
 #[test]
 fn one_field() {
-    assert_eq!(as_usual(&sheet(&[X], &[A])), holds(11, 6, &["A"]));
-    assert_eq!(as_usual(&sheet(&[X, A], &[B, X])), plain(Answer::NoClash { count: 1 }));
-    assert_eq!(as_usual(&sheet(&[X, X], &[A, A])), holds(12, 6, &["A"]));
-    assert_eq!(as_usual(&sheet(&[X, X], &[A])), plain(Answer::SideTooLong { count: 137 }));
+    assert_eq!(as_usual(&sheet(&[X], &[A])), holds(10, 6, &["A"]));
+    assert_eq!(as_usual(&sheet(&[X, A], &[B, X])), plain(Answer::NoClash { count: 2 }));
+    assert_eq!(as_usual(&sheet(&[X, X], &[A, A])), holds(11, 6, &["A"]));
+    assert_eq!(as_usual(&sheet(&[X, X], &[A])), plain(Answer::SideTooLong { count: 136 }));
+}
+
+/// A field without a pattern is never empty: beside the empty side it is a space.
+#[test]
+fn one_character_or_more() {
+    assert_eq!(as_usual(&sheet(&[X], &[])), holds(9, 6, &[" "]));
+    assert_eq!(as_usual(&sheet(&[X, A], &[A])).0.clashes(), Some(false));
+    let may_be_empty = [b"PA\x00\x04\x44\x41\x00\x2A", &sheet(&[X, A], &[A])[..]].concat();
+    assert_eq!(as_usual(&may_be_empty), holds(10, 5, &[""]));
 }
 
 #[test]
@@ -88,7 +97,7 @@ fn spaces() {
     let in_front = sheet(&[SPACE, A], &[A]);
     assert_eq!(as_usual(&in_front), plain(Answer::NoClash { count: 1 }));
     // x leaves the space where it can, and has it where its pattern asks for it.
-    assert_eq!(as_usual(&sheet(&[X], &[A, SPACE])), holds(15, 6, &["A"]));
+    assert_eq!(as_usual(&sheet(&[X], &[A, SPACE])), holds(14, 6, &["A"]));
     let with_space = [b"PA\x00\x03\x42\x0A\x26", &sheet(&[X], &[A])[..]].concat();
     assert_eq!(as_usual(&with_space), holds(10, 7, &["A "]));
 }
@@ -98,8 +107,8 @@ fn giving_up() {
     let long = sheet(&[X; 24], &[A, A]);
     let answer = answered(&long, 2 * SITUATION_BYTES, 4096);
     assert_eq!(answer, plain(Answer::NoRoom { count: 2 }));
-    let answer = answered(&long, 4 * SITUATION_BYTES, 4096);
-    assert_eq!(answer, plain(Answer::SideTooLong { count: 4 }));
+    let answer = answered(&long, 3 * SITUATION_BYTES, 4096);
+    assert_eq!(answer, plain(Answer::SideTooLong { count: 3 }));
     for no_room in [0, 1, SITUATION_BYTES - 1] {
         let answer = answered(&sheet(&[X, A], &[B, X]), no_room, 4096);
         assert_eq!(answer, plain(Answer::NoRoom { count: 0 }));
@@ -203,7 +212,7 @@ fn sheet_s_in_bytes() {
 fn texts_as_characters() {
     let all: Vec<u8> = (19..43).collect();
     let (_, texts) = as_usual(&sheet(&[X, Y], &all));
-    // x is struck first, so y is the whole label.
+    // x is struck as soon as it has a character, so y is the rest of the label.
     let texts: Vec<&str> = texts.iter().map(|(_, text)| text.as_str()).collect();
-    assert_eq!(texts, ["", "JKLMNOPQRSTUVWXYZ-. $/+%"]);
+    assert_eq!(texts, ["J", "KLMNOPQRSTUVWXYZ-. $/+%"]);
 }

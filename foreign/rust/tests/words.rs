@@ -1,9 +1,9 @@
 //! Numbers in words, signs, texts of records cut short, the version: as the C header has them.
 
 use bradovusc::{
-    catalogue_bytes, list_bytes, recheck, sign, texts, value, Added, Answer, Fault, Pair,
-    Rechecked, Scripted, Text, Withdrawn, MOST_RULES, PAIR_BYTES, RULE_BYTES, RULE_FIELDS,
-    SCRIPT_BYTES, SIGNS, VERSION,
+    catalogue_bytes, list_bytes, recheck, sign, texts, value, Added, Answer, CarriedOver, Fault,
+    Pair, Rechecked, Scripted, SpeltOpen, Text, Withdrawn, MOST_RULES, PAIR_BYTES, RULE_BYTES,
+    RULE_FIELDS, SCRIPT_BYTES, SHEET_BYTES, SIGNS, VERSION,
 };
 
 const HEADER: &str = include_str!("../../c/bradovusc.h");
@@ -46,7 +46,7 @@ fn header_texts() -> Vec<(u32, &'static str)> {
 #[test]
 fn answers_in_words() {
     let expected = header_texts();
-    assert_eq!(expected.len(), 20);
+    assert_eq!(expected.len(), 21);
     let faults = FAULTS.map(|fault| (fault.number(), fault.to_string()));
     let others = OTHERS.map(|answer| (answer.number(), answer.to_string()));
     let added = [Added::ForeignField, Added::Full, Added::NoCatalogue]
@@ -55,7 +55,8 @@ fn answers_in_words() {
     let no_rule = (Withdrawn::NoRule.number(), Withdrawn::NoRule.to_string());
     let short = (Rechecked::ListTooShort.number(), Rechecked::ListTooShort.to_string());
     let no_script = (Scripted::TooShort.number(), Scripted::TooShort.to_string());
-    let further = [(NOT_APART.number(), not_apart), no_rule, short, no_script];
+    let no_sheet = (SpeltOpen::TooShort.number(), SpeltOpen::TooShort.to_string());
+    let further = [(NOT_APART.number(), not_apart), no_rule, short, no_script, no_sheet];
     let mut ours = [&faults[..], &others, &added, &further].concat();
     ours.sort();
     assert!(ours.iter().map(|(number, text)| (*number, text.as_str())).eq(expected));
@@ -110,6 +111,32 @@ fn scripts_in_words() {
 }
 
 #[test]
+fn carrying_over_in_words() {
+    for fault in FAULTS {
+        let spelt = SpeltOpen::Refused { fault, place: 13 };
+        assert_eq!(spelt.to_string(), format!("{fault}, at offset 13"));
+        assert_eq!((spelt.number(), spelt.place(), spelt.written()), (fault.number(), 13, 0));
+    }
+    let written = SpeltOpen::Written { bytes: 9 };
+    assert_eq!((written.number(), written.place(), written.written()), (0, 0, 9));
+    for refused in [SpeltOpen::ForeignField, SpeltOpen::TooShort] {
+        assert_eq!((refused.place(), refused.written()), (0, 0));
+    }
+    let foreign = SpeltOpen::ForeignField;
+    let (full, no_catalogue) = (CarriedOver::Full, CarriedOver::NoCatalogue);
+    assert_eq!(
+        [foreign.number(), full.number(), no_catalogue.number()],
+        [Added::ForeignField, Added::Full, Added::NoCatalogue].map(Added::number)
+    );
+    assert_eq!(foreign.to_string(), Added::ForeignField.to_string());
+    assert_eq!(full.to_string(), Added::Full.to_string());
+    assert_eq!(no_catalogue.to_string(), Added::NoCatalogue.to_string());
+    let done = CarriedOver::Done;
+    assert_eq!((done.number(), done.to_string()), (0, written.to_string()));
+    assert_eq!(written.to_string(), "done");
+}
+
+#[test]
 fn what_is_decided() {
     assert!(OTHERS.iter().all(|answer| answer.count() == 7));
     assert_eq!(OTHERS.map(Answer::written), [9, 0, 0, 0, 0, 0]);
@@ -155,6 +182,7 @@ fn lengths_of_buffers() {
     defined("RULE_BYTES", RULE_BYTES);
     defined("PAIR_BYTES", PAIR_BYTES);
     defined("SCRIPT_BYTES", SCRIPT_BYTES);
+    defined("SHEET_BYTES", SHEET_BYTES);
     assert_eq!(catalogue_bytes(MOST_RULES), 13_728);
     assert_eq!([0, 1, 2, 3, MOST_RULES].map(list_bytes), [0, 0, 5, 15, 2_480]);
 }

@@ -1,7 +1,7 @@
 //! `calls`: writes a stream of operations on a catalogue to standard output.
 //!
-//! - `calls SEED NUMBER`: so many `AD`, `WI` and `RE` together, made from the
-//!   seed
+//! - `calls SEED NUMBER`: so many `AD`, `WI`, `RE` and `SO` together, made from
+//!   the seed
 //! - `calls --storeroom`: a catalogue of latches and keypads
 //! - `calls --full`: 32 rules added, none of which clash
 

@@ -9,15 +9,23 @@
 //! - `second --scripts STREAM`: what was printed for a stream of cases, scripts
 //!   among it; does each script say its sheet?
 //! - `second --script SHEET`: one script; does it say this sheet?
+//! - `second --spell-open`: an old sheet with the old meaning of its fields
+//!   without a pattern written out; a refusal's number and place on standard
+//!   error
+//! - `second --spell-open-rule`: the same of a catalogue's rule
+//! - `second --spelt`: a stream of cases, a line for each: what
+//!   `--spell-open-rule` writes where it begins with `RU`, and `--spell-open`
+//!   where not, into a buffer of the answer buffer's length
 
 use std::io::{self, BufWriter, Read, Write};
 use std::process::ExitCode;
 
 use second::calls::{self, Calls, Operation};
-use second::cases::{After, Answerer, Case};
+use second::cases::{Answerer, Case};
 use second::catalogue::{Searcher, HASHING, SCANNING};
-use second::sheet;
+use second::fault::Fault;
 use second::smt::{compare, output, Told};
+use second::{sheet, spell_open};
 
 /// "`clash` reads the first 1,024 bytes of standard input, lends 65,520 bytes
 /// of work (455 situations) and 4,096 of answer."
@@ -30,9 +38,12 @@ fn main() -> ExitCode {
     let arguments: Vec<&str> = arguments.iter().map(String::as_str).collect();
     let done = match arguments[..] {
         [] => one(WORK_BYTES, ANSWER_BYTES),
-        ["--many"] => many(second::answer, a_line),
-        ["--many", "--scan"] => many(second::scan::answer, a_line),
-        ["--many", "--lines"] => many(second::answer, After::lines),
+        ["--many"] => many(a_line(second::answer)),
+        ["--many", "--scan"] => many(a_line(second::scan::answer)),
+        ["--many", "--lines"] => many(|case| case.run(second::answer).lines()),
+        ["--spelt"] => many(|case| case.spelt() + "\n"),
+        ["--spell-open"] => return spelt(spell_open::sheet),
+        ["--spell-open-rule"] => return spelt(spell_open::rule),
         ["--calls"] => calls(HASHING, calls::After::line),
         ["--calls", "--scan"] => calls(SCANNING, calls::After::line),
         ["--calls", "--lines"] => calls(HASHING, calls::After::numbers),
@@ -44,6 +55,10 @@ fn main() -> ExitCode {
         },
         _ => return usage(),
     };
+    status(done)
+}
+
+fn status(done: io::Result<()>) -> ExitCode {
     match done {
         Ok(()) => ExitCode::SUCCESS,
         Err(error) => {
@@ -56,25 +71,45 @@ fn main() -> ExitCode {
 fn usage() -> ExitCode {
     eprintln!("usage: second | second WORK ANSWER | second --many|--calls [--scan | --lines]");
     eprintln!("       second --scripts STREAM | second --script SHEET");
+    eprintln!("       second --spell-open | second --spell-open-rule | second --spelt");
     ExitCode::from(2)
+}
+
+/// The first bytes of standard input.
+fn read_one() -> io::Result<Vec<u8>> {
+    let mut bytes = Vec::new();
+    io::stdin().lock().take(SHEET_BYTES).read_to_end(&mut bytes)?;
+    Ok(bytes)
 }
 
 /// One sheet.
 fn one(work_length: usize, answer_length: usize) -> io::Result<()> {
-    let mut sheet = Vec::new();
-    io::stdin().lock().take(SHEET_BYTES).read_to_end(&mut sheet)?;
+    let sheet = read_one()?;
     let mut work = vec![0; work_length];
     let mut answer = vec![0; answer_length];
     let outcome = second::answer(&sheet, &mut work, &mut answer);
     io::stdout().lock().write_all(second::lines(&outcome, &answer).as_bytes())
 }
 
-fn a_line(after: &After) -> String {
-    after.line() + "\n"
+/// One sheet or rule with the old meaning written out. None has more bytes than
+/// are read.
+fn spelt(spell: fn(&[u8]) -> Result<Vec<u8>, Fault>) -> ExitCode {
+    match read_one().map(|bytes| spell(&bytes)) {
+        Ok(Ok(spelt)) => status(io::stdout().lock().write_all(&spelt)),
+        Ok(Err(Fault { number, place })) => {
+            eprintln!("{number} {place}");
+            ExitCode::FAILURE
+        }
+        Err(error) => status(Err(error)),
+    }
+}
+
+fn a_line(answerer: Answerer) -> impl Fn(&Case) -> String {
+    move |case| case.run(answerer).line() + "\n"
 }
 
 /// A stream of cases.
-fn many(answerer: Answerer, shown: fn(&After) -> String) -> io::Result<()> {
+fn many(shown: impl Fn(&Case) -> String) -> io::Result<()> {
     let mut stream = Vec::new();
     io::stdin().lock().read_to_end(&mut stream)?;
     let mut out = BufWriter::new(io::stdout().lock());
@@ -84,7 +119,7 @@ fn many(answerer: Answerer, shown: fn(&After) -> String) -> io::Result<()> {
             out.flush()?;
             return Err(io::Error::other("the stream stops inside a case"));
         };
-        out.write_all(shown(&case.run(answerer)).as_bytes())?;
+        out.write_all(shown(&case).as_bytes())?;
         rest = behind;
     }
     out.flush()

@@ -1,6 +1,8 @@
 //! `sheets`: writes a stream of cases to standard output.
 //!
 //! - `sheets SEED NUMBER`: so many cases made from the seed
+//! - `sheets --spelt SEED NUMBER`: so many sheets and rules to carry over, made
+//!   from the seed
 //! - `sheets --long ROOM`: a few whose search fills room for so many situations
 //! - `sheets --long ROOM N`: the sheet alone of the N-th of these
 //! - `sheets --printed`: those whose lines tell wrong printers apart
@@ -11,7 +13,7 @@ use std::io::{self, Write};
 use std::process::ExitCode;
 
 use second::cases::Case;
-use second::make::{case, long, Dice};
+use second::make::{case, long, spelt, Dice};
 use second::{printed, storeroom, MOST_ROOM};
 
 fn main() -> ExitCode {
@@ -31,12 +33,13 @@ fn main() -> ExitCode {
         ["--printed"] => printed::cases(),
         ["--pairs"] => storeroom::full_pairs(),
         ["--printed", number] => return put_one(&printed::cases(), number),
-        [seed, number] => match (seed.parse(), number.parse::<usize>()) {
-            (Ok(seed), Ok(number)) => {
-                let mut dice = Dice::new(seed);
-                (0..number).map(|_| case(&mut dice)).collect()
-            }
-            _ => return usage(),
+        ["--spelt", seed, number] => match made(seed, number, spelt::case) {
+            Some(cases) => cases,
+            None => return usage(),
+        },
+        [seed, number] => match made(seed, number, case) {
+            Some(cases) => cases,
+            None => return usage(),
         },
         _ => return usage(),
     };
@@ -45,6 +48,13 @@ fn main() -> ExitCode {
         case.write(&mut stream);
     }
     put(&stream)
+}
+
+/// So many cases from a seed.
+fn made(seed: &str, number: &str, case: fn(&mut Dice) -> Case) -> Option<Vec<Case>> {
+    let (seed, number) = (seed.parse().ok()?, number.parse::<usize>().ok()?);
+    let mut dice = Dice::new(seed);
+    Some((0..number).map(|_| case(&mut dice)).collect())
 }
 
 /// The long cases for a room.
@@ -72,7 +82,7 @@ fn put(bytes: &[u8]) -> ExitCode {
 }
 
 fn usage() -> ExitCode {
-    eprintln!("usage: sheets SEED NUMBER | sheets --long ROOM [N] | sheets --printed [N] | sheets --pairs");
+    eprintln!("usage: sheets [--spelt] SEED NUMBER | sheets --long ROOM [N] | sheets --printed [N] | sheets --pairs");
     eprintln!("ROOM is at most 65535");
     ExitCode::from(2)
 }

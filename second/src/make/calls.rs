@@ -1,6 +1,7 @@
 //! Makes operations on a catalogue from a seed: rules that clash and rules that
 //! do not, damaged rules, catalogues that are full, short or damaged or hold
-//! rules that clash, rooms of all sizes, list buffers near their bounds.
+//! rules that clash, rooms of all sizes, list buffers near their bounds,
+//! catalogues that still fit once they are carried over and those that do not.
 
 use super::{alphabet, damaged, patterns, random_bytes, sides, some_fields, spaces, write_out};
 use super::{big_pattern, Dice, Record, Sides, MOST_SIDE};
@@ -8,9 +9,10 @@ use crate::calls::{After, Call, Calls, Operation, MOST_CATALOGUE, MOST_LIST, MOS
 use crate::catalogue::{read, HASHING, MOST_RULES, PAIR_BYTES, RULE, RULE_FIELDS};
 use crate::pattern::{CHARACTERS, SPACE};
 use crate::sheet::{FIELDS, LEFT, PATTERN};
+use crate::spell_open;
 use crate::write::{self, choice, many, row, tokens};
 
-/// A stream of so many `AD`, `WI` and `RE` together, and an end.
+/// A stream of so many `AD`, `WI`, `RE` and `SO` together, and an end.
 pub fn stream(dice: &mut Dice, number: usize) -> Vec<u8> {
     let mut stream = Vec::new();
     for operation in operations(dice, number) {
@@ -22,7 +24,7 @@ pub fn stream(dice: &mut Dice, number: usize) -> Vec<u8> {
 
 /// What stands behind the operations: nothing, an operation cut short, another
 /// mark, or more than is allowed; where a good `WI` follows it is not done.
-const ENDS: [&[u8]; 16] = [
+const ENDS: [&[u8]; 18] = [
     b"",
     b"A",
     b"AD\x05\x00RULE",
@@ -39,9 +41,12 @@ const ENDS: [&[u8]; 16] = [
     b"WO\x00\x00\x00\x01WI\x00",
     b"RE\x01\x0aWI\x00",
     b"RE\xff\xffWI\x00",
+    b"S",
+    b"OSWI\x00",
 ];
 
-/// So many `AD`, `WI` and `RE` together, with the `CA` and `WO` between them.
+/// So many `AD`, `WI`, `RE` and `SO` together, with the `CA` and `WO` between
+/// them.
 pub fn operations(dice: &mut Dice, number: usize) -> Vec<Operation> {
     let mut maker = Maker::new(dice);
     while maker.told < number {
@@ -67,7 +72,7 @@ enum Style {
 struct Maker<'a> {
     dice: &'a mut Dice,
     made: Vec<Operation>,
-    /// How many of them are `AD`, `WI` or `RE`.
+    /// How many of them are `AD`, `WI`, `RE` or `SO`.
     told: usize,
     calls: Calls,
     style: Style,
@@ -77,6 +82,8 @@ struct Maker<'a> {
     soon: Vec<Vec<u8>>,
     /// The next operation is `RE`.
     recheck: bool,
+    /// The next operation is `SO`.
+    carry: bool,
 }
 
 impl Maker<'_> {
@@ -86,7 +93,8 @@ impl Maker<'_> {
         let calls = Calls::new(HASHING);
         let style = Style::Storeroom(PREFIXES.to_vec());
         let (made, soon) = (Vec::new(), Vec::new());
-        Maker { dice, made, told: 0, calls, style, left: 12, soon, recheck: false }
+        let (recheck, carry) = (false, false);
+        Maker { dice, made, told: 0, calls, style, left: 12, soon, recheck, carry }
     }
 
     fn make(&mut self, operation: Operation) {
@@ -99,7 +107,7 @@ impl Maker<'_> {
         self.made.push(operation);
     }
 
-    /// One `AD`, `WI` or `RE`, and what is lent to it.
+    /// One `AD`, `WI`, `RE` or `SO`, and what is lent to it.
     fn next(&mut self) {
         if self.left == 0 {
             self.other_catalogue();
@@ -109,10 +117,12 @@ impl Maker<'_> {
             self.other_work();
         }
         let operation = match self.dice.below(20) {
+            _ if self.carry => self.carry(),
             _ if self.recheck => self.recheck(),
             0..=3 => self.withdrawal(),
             4 => self.just_long_enough(),
             5 => self.recheck(),
+            6 if self.dice.one_in(4) => self.carry(),
             _ => Operation::Add(self.any_rule()),
         };
         self.make(operation);
@@ -136,6 +146,62 @@ impl Maker<'_> {
             _ => self.dice.pick(&[3, 100, 1_000, MOST_LIST - 1, MOST_LIST]),
         };
         Operation::Recheck(length.min(MOST_LIST))
+    }
+
+    /// The catalogue carried over, now and then twice, and often checked again.
+    fn carry(&mut self) -> Operation {
+        self.carry = self.dice.one_in(5);
+        self.recheck = self.recheck || self.dice.one_in(3);
+        Operation::Carry
+    }
+
+    /// Rules that have no or few patterns left, and a buffer around the length
+    /// that they need once they are carried over.
+    fn for_carrying_over(&mut self) -> Operation {
+        let number = match self.dice.below(6) {
+            0 => self.dice.between(MOST_RULES - 1, MOST_RULES),
+            _ => self.dice.between(1, 5),
+        };
+        if number > 5 {
+            self.style = Style::Labels;
+        }
+        let mut rules = self.rules(number);
+        for rule in &mut rules {
+            *rule = self.with_fewer_patterns(rule);
+        }
+        let front = rules.concat();
+        let spelt = rules.iter().map(|rule| spell_open::rule(rule).map_or(0, |new| new.len()));
+        let needed: usize = spelt.sum();
+        let length = match self.dice.below(8) {
+            0 | 1 => needed,
+            2 | 3 => needed - 1,
+            4 => front.len(),
+            5 => needed.saturating_sub(8),
+            _ => needed + self.dice.between(1, 60),
+        };
+        Operation::Catalogue { length: length.clamp(front.len(), MOST_CATALOGUE), front }
+    }
+
+    /// A good rule with some of its patterns left out; one that has no field
+    /// gets one at its end, often.
+    fn with_fewer_patterns(&mut self, rule: &[u8]) -> Vec<u8> {
+        let mut kept = RULE.to_vec();
+        let mut rest = &rule[RULE.len()..];
+        let keep = self.dice.pick(&[2, 3, 20]);
+        while rest.starts_with(PATTERN) {
+            let (record, behind) = rest.split_at(4 + usize::from(rest[3]));
+            if self.dice.one_in(keep) {
+                kept.extend_from_slice(record);
+            }
+            rest = behind;
+        }
+        let mut tokens = rest[3..].to_vec();
+        if tokens.iter().all(|&token| token < write::field(0)) && !self.dice.one_in(3) {
+            tokens.truncate(MOST_SIDE - 1);
+            tokens.push(write::field(self.dice.below(RULE_FIELDS) as u8));
+        }
+        kept.extend(write_out(&[Record::side(LEFT, tokens)]));
+        kept
     }
 
     /// The bytes of the rules in the catalogue, if it is of the form.
@@ -190,6 +256,7 @@ impl Maker<'_> {
     fn other_catalogue(&mut self) {
         self.left = self.dice.between(4, 24);
         self.soon.clear();
+        self.carry = false;
         self.style = match self.dice.below(8) {
             0..=3 => {
                 let prefixes = self.dice.between(1, 4);
@@ -198,7 +265,7 @@ impl Maker<'_> {
             4..=6 => Style::Small(alphabet(self.dice)),
             _ => Style::Labels,
         };
-        let operation = match self.dice.below(15) {
+        let operation = match self.dice.below(17) {
             0..=5 => Operation::Catalogue { length: self.any_length(), front: Vec::new() },
             6..=8 => {
                 let rules = if self.dice.one_in(30) { 20 } else { self.dice.between(1, 5) };
@@ -206,16 +273,26 @@ impl Maker<'_> {
                 self.recheck = self.dice.one_in(4);
                 self.with_zeros(front)
             }
-            9 => self.full(),
+            9 => {
+                self.carry = self.dice.one_in(4);
+                self.full()
+            }
             10 | 11 => {
                 self.left = self.dice.between(1, 5);
                 let front = self.damaged_catalogue();
+                self.carry = self.dice.one_in(4);
                 self.with_zeros(front)
+            }
+            12..=14 => {
+                self.left = self.dice.between(2, 6);
+                self.carry = true;
+                self.for_carrying_over()
             }
             _ => {
                 self.left = self.dice.between(1, 5);
                 let front = self.clashing_rules().concat();
                 self.recheck = true;
+                self.carry = self.dice.one_in(4);
                 self.with_zeros(front)
             }
         };
@@ -375,7 +452,7 @@ impl Maker<'_> {
     }
 
     /// A rule that stands, or one with other spaces at its end, or its side
-    /// alone, all fields open.
+    /// alone, no field with a pattern.
     fn like_a_present_one(&mut self) -> Vec<u8> {
         let present = self.present();
         if present.is_empty() {
@@ -433,14 +510,17 @@ impl Maker<'_> {
             return rule;
         }
         if self.dice.one_in(10) {
-            // A pattern of 31 leaves, or of more, in place of one or before all.
+            // A pattern of 31 leaves, or of more, in place of one, before all or
+            // behind them.
             let big = big_pattern(self.dice, &[0, 10]);
             let at = self.dice.below(records.len());
             match records[at].field {
                 Some(field) => records[at] = Record::pattern(field, big),
                 None => {
-                    records.retain(|record| record.field != Some(0));
-                    records.insert(0, Record::pattern(0, big));
+                    let field = self.dice.pick(&[0, RULE_FIELDS as u8 - 1]);
+                    records.retain(|record| record.field != Some(field));
+                    let at = if field == 0 { 0 } else { records.len() - 1 };
+                    records.insert(at, Record::pattern(field, big));
                 }
             }
             return rule_of(&records);
@@ -529,7 +609,7 @@ fn strip(dice: &mut Dice, alphabet: &[u8]) -> Sides {
 }
 
 /// A prefix, then digits, sizes, finishes or hands, now and then one of them
-/// twice or any text.
+/// twice or any text but the empty one.
 fn as_in_a_storeroom(dice: &mut Dice, prefixes: &[&str]) -> Vec<Record> {
     let mut fields: Vec<u8> = (0..RULE_FIELDS as u8).collect();
     if dice.one_in(3) {
@@ -559,7 +639,7 @@ fn as_in_a_storeroom(dice: &mut Dice, prefixes: &[&str]) -> Vec<Record> {
     patterns
 }
 
-/// None for an open field.
+/// None for a field without a pattern.
 fn storeroom_pattern(dice: &mut Dice) -> Option<Vec<u8>> {
     let digit = || vec![65, 0, 9];
     let mut some = |texts: &[&str], most: usize| {

@@ -79,7 +79,7 @@ struct Walk<'a> {
 impl Walk<'_> {
     fn differs(&self, at: usize) -> bool {
         let Standing { states, places } = &self.reached[at].standing;
-        self.machine.may_end(states) != may_end(self.allowed, *places)
+        self.machine.may_end(states) != self.allowed.may_end(*places)
     }
 
     /// The text that led there, and who takes it.
@@ -114,11 +114,6 @@ impl Walk<'_> {
         }
         first..self.reached.len()
     }
-}
-
-/// An empty place set is no way to read the text, for an open field too.
-fn may_end(allowed: &Allowed, places: PlaceSet) -> bool {
-    places != 0 && allowed.may_end(places)
 }
 
 /// Nothing outside the 43 characters stands in a field.

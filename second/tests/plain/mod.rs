@@ -65,7 +65,7 @@ pub fn script(sheet: &[u8], layout: Layout) -> String {
     for field in &fields {
         let regular = match patterns.get(field) {
             Some(pattern) => regular(pattern, layout),
-            None => format!("(re.* {})", leaf(0, 42, layout)),
+            None => format!("(re.+ {})", leaf(0, 42, layout)),
         };
         terms.push(format!("(str.in_re f{field} {regular})"));
     }

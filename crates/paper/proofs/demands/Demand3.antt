@@ -8,7 +8,7 @@ use mathlib.Core.Path.{_≡_, refl, subst}
 use mathlib.Core.Bool.{true}
 use mathlib.Core.List.{List, [], _∷_}
 use Rattle.paper.specs.Numbers.{characters, longest-side}
-use Rattle.paper.specs.Pattern.{range, char, leaf, many, any-text, pattern}
+use Rattle.paper.specs.Pattern.{range, char, leaf, many, some-text, pattern}
 use Rattle.paper.specs.Places.{PlaceSet, set-after, reachable-sets}
 use Rattle.paper.specs.Written.{judge}
 use Rattle.paper.specs.Search.{no-room, too-long, enter, offer, take-next, search}
@@ -80,7 +80,7 @@ question-S =
     record {
       left = fld 0 ∷ [];
       right = fld 1 ∷ [];
-      held = pattern (many (leaf (range 0 9))) ∷ pattern (leaf (char 4)) ∷ any-text ∷ any-text ∷ any-text ∷ any-text ∷ any-text ∷ any-text ∷ [];
+      held = pattern (many (leaf (range 0 9))) ∷ pattern (leaf (char 4)) ∷ some-text ∷ some-text ∷ some-text ∷ some-text ∷ some-text ∷ some-text ∷ [];
     }
 
 pub sheet-S-asks : Good (read-sheet sheet-S) question-S

@@ -1,6 +1,6 @@
 -- Known sheets through the whole-outcome definition: those marked * in document 01, and one for each way to go wrong by one. One proof over
 -- one list; the checker computes it. Each row fixes the whole outcome: number, count, place, bytes written, both buffers afterwards. The counts
--- are those of the search with the hidden fields (request K3).
+-- are those of the search with the hidden fields (request K3), and a field without a pattern holds one character or more (request K5).
 --
 -- The buffers are lent full of other bytes. Where 01 says nothing else it lends 455 situations; a row here lends a few more than are entered,
 -- since a larger room gives the same (`Searched.larger-room`), and most working buffers have bytes behind the last whole situation.
@@ -96,6 +96,10 @@ sheet-S =
 abbrev answer-S : List ℕ
 answer-S = 86 ∷ 65 ∷ 0 ∷ 1 ∷ 0 ∷ 4 ∷ 86 ∷ 65 ∷ 1 ∷ 1 ∷ 0 ∷ 4 ∷ []
 
+-- the old meaning of a field without a pattern, written out: any number of characters
+abbrev written-out : List ℕ
+written-out = 68 ∷ 65 ∷ 0 ∷ 42 ∷ []
+
 -- those of 01's table but one, which needs all its 455 situations
 abbrev known-in-01 : List Known
 known-in-01 =
@@ -104,20 +108,20 @@ known-in-01 =
     -- `A` and `B`
     answer-row (LE (A ∷ []) ++ RI (B ∷ [])) 300 20 1 1 [] ∷
     -- x and `A`, open
-    answer-row (LE (x ∷ []) ++ RI (A ∷ [])) 1800 20 0 11 (VA 0 (A ∷ [])) ∷
+    answer-row (LE (x ∷ []) ++ RI (A ∷ [])) 1800 20 0 10 (VA 0 (A ∷ [])) ∷
     -- xA and Bx, open
-    answer-row (LE (x ∷ A ∷ []) ++ RI (B ∷ x ∷ [])) 300 20 1 1 [] ∷
+    answer-row (LE (x ∷ A ∷ []) ++ RI (B ∷ x ∷ [])) 600 20 1 2 [] ∷
     -- the same, x with pattern 68 65 0 42
-    answer-row (PA 0 (68 ∷ 65 ∷ 0 ∷ 42 ∷ []) ++ LE (x ∷ A ∷ []) ++ RI (B ∷ x ∷ [])) 600 20 1 2 [] ∷
+    answer-row (PA 0 written-out ++ LE (x ∷ A ∷ []) ++ RI (B ∷ x ∷ [])) 600 20 1 2 [] ∷
     -- xx and `AA`, open
-    answer-row (LE (x ∷ x ∷ []) ++ RI (A ∷ A ∷ [])) 2000 20 0 12 (VA 0 (A ∷ [])) ∷
+    answer-row (LE (x ∷ x ∷ []) ++ RI (A ∷ A ∷ [])) 2000 20 0 11 (VA 0 (A ∷ [])) ∷
     -- xx and `A`, open, room 20: no label exists, but x takes one space after the other (with room 455 the program `known` has it: 19)
     answer-row (LE (x ∷ x ∷ []) ++ RI (A ∷ [])) 2880 20 18 20 [] ∷
     -- `AB`x`B` and x`B`y, open
     answer-row (LE (A ∷ B ∷ x ∷ B ∷ []) ++ RI (x ∷ B ∷ y ∷ [])) 2400 20 0 15 (VA 0 (A ∷ []) ++ VA 1 (A ∷ B ∷ [])) ∷
-    -- 24 times x and `AA`, open, room 2, then 4
+    -- 24 times x and `AA`, open, room 2, then 3
     answer-row (LE (replicate 24 x) ++ RI (A ∷ A ∷ [])) 288 20 18 2 [] ∷
-    answer-row (LE (replicate 24 x) ++ RI (A ∷ A ∷ [])) 576 20 19 4 [] ∷
+    answer-row (LE (replicate 24 x) ++ RI (A ∷ A ∷ [])) 432 20 19 3 [] ∷
     -- xA and Bx, open, no room
     answer-row (LE (x ∷ A ∷ []) ++ RI (B ∷ x ∷ [])) 0 20 18 0 [] ∷
     -- sheet S
@@ -150,15 +154,15 @@ known-rooms =
     -- `A` and `B` in one situation, to the byte: it is taken, and none waits
     answer-row (LE (A ∷ []) ++ RI (B ∷ [])) 144 20 1 1 [] ∷
     -- xA and Bx, x with pattern 68 65 0 42, in two situations, to the byte: the child of the second is entered already
-    answer-row (PA 0 (68 ∷ 65 ∷ 0 ∷ 42 ∷ []) ++ LE (x ∷ A ∷ []) ++ RI (B ∷ x ∷ [])) 288 20 1 2 [] ∷
+    answer-row (PA 0 written-out ++ LE (x ∷ A ∷ []) ++ RI (B ∷ x ∷ [])) 288 20 1 2 [] ∷
     -- both sides empty, no answer buffer
     answer-row (LE [] ++ RI []) 750 0 0 5 [] ∷
     -- sheet S, an answer buffer of 12 bytes
     answer-row sheet-S 2000 12 0 13 answer-S ∷
     -- sheet S, an answer buffer of 13 bytes
     answer-row sheet-S 2000 13 0 13 answer-S ∷
-    -- 24 times x and `AA`, open, four situations and a rest
-    answer-row (LE (replicate 24 x) ++ RI (A ∷ A ∷ [])) 600 20 19 4 [] ∷
+    -- 24 times x and `AA`, open, three situations and a rest
+    answer-row (LE (replicate 24 x) ++ RI (A ∷ A ∷ [])) 500 20 19 3 [] ∷
     []
 
 -- any number of `A`
@@ -169,13 +173,13 @@ As = 68 ∷ A ∷ []
 abbrev known-searches : List Known
 known-searches =
     -- `B` and xy, open: what was entered first is taken first
-    answer-row (LE (B ∷ []) ++ RI (x ∷ y ∷ [])) 2400 20 0 15 (VA 0 [] ++ VA 1 (B ∷ [])) ∷
+    answer-row (LE (B ∷ []) ++ RI (x ∷ y ∷ [])) 2400 20 0 14 (VA 0 (B ∷ []) ++ VA 1 (space ∷ [])) ∷
     -- x`AAA` and y`AA`, open: the left front is struck first
-    answer-row (LE (x ∷ A ∷ A ∷ A ∷ []) ++ RI (y ∷ A ∷ A ∷ [])) 2900 20 0 19 (VA 0 [] ++ VA 1 (A ∷ [])) ∷
+    answer-row (LE (x ∷ A ∷ A ∷ A ∷ []) ++ RI (y ∷ A ∷ A ∷ [])) 3100 20 0 20 (VA 0 (0 ∷ []) ++ VA 1 (0 ∷ A ∷ [])) ∷
     -- x one digit, x and y: the lowest character is put first
-    answer-row (PA 0 (65 ∷ 0 ∷ 9 ∷ []) ++ LE (x ∷ []) ++ RI (y ∷ [])) 2400 20 0 15 (VA 0 (0 ∷ []) ++ VA 1 (0 ∷ [])) ∷
+    answer-row (PA 0 (65 ∷ 0 ∷ 9 ∷ []) ++ LE (x ∷ []) ++ RI (y ∷ [])) 2200 20 0 13 (VA 0 (0 ∷ []) ++ VA 1 (0 ∷ [])) ∷
     -- x and x, open, then with the pattern `A`: equal fields in front are not dropped, and c is put once
-    answer-row (LE (x ∷ []) ++ RI (x ∷ [])) 1000 20 0 6 (VA 0 []) ∷
+    answer-row (LE (x ∷ []) ++ RI (x ∷ [])) 1200 20 0 7 (VA 0 (0 ∷ [])) ∷
     answer-row (PA 0 (A ∷ []) ++ LE (x ∷ []) ++ RI (x ∷ [])) 1100 20 0 7 (VA 0 (A ∷ [])) ∷
     -- x any number of `A`, x and xy`B`: the set of a field that is gone is not kept
     answer-row (PA 0 As ++ LE (x ∷ []) ++ RI (x ∷ y ∷ B ∷ [])) 1100 20 1 7 [] ∷
@@ -192,6 +196,37 @@ known-searches =
     answer-row (PA 0 As ++ LE (A ∷ A ∷ []) ++ RI (replicate 16 x ++ B ∷ [])) 1000 20 1 6 [] ∷
     -- `AA` and 16 times x, `BB`: a right side of 49 tokens
     answer-row (PA 0 As ++ LE (A ∷ A ∷ []) ++ RI (replicate 16 x ++ B ∷ B ∷ [])) 1000 20 19 3 [] ∷
+    []
+
+-- "A field without a pattern shall now hold one character or more."
+abbrev known-open-fields : List Known
+known-open-fields =
+    -- x and the empty side, either way round: x is one space
+    answer-row (LE (x ∷ []) ++ RI []) 1500 20 0 9 (VA 0 (space ∷ [])) ∷
+    answer-row (LE [] ++ RI (x ∷ [])) 1500 20 0 9 (VA 0 (space ∷ [])) ∷
+    -- x`A` and `A`, either way round: no label is both, for x may not be struck at its start
+    answer-row (LE (x ∷ A ∷ []) ++ RI (A ∷ [])) 1100 20 1 6 [] ∷
+    answer-row (LE (A ∷ []) ++ RI (x ∷ A ∷ [])) 1100 20 1 6 [] ∷
+    -- x`A` and `A`x: x is not nothing
+    answer-row (LE (x ∷ A ∷ []) ++ RI (A ∷ x ∷ [])) 1200 20 0 7 (VA 0 (A ∷ [])) ∷
+    -- "Sheets .. that relied on the old meaning must carry 68 65 0 42 written out": x is struck to nothing
+    answer-row (PA 0 written-out ++ LE (x ∷ []) ++ RI []) 1600 20 0 10 (VA 0 []) ∷
+    answer-row (PA 0 written-out ++ LE (x ∷ A ∷ []) ++ RI (A ∷ [])) 1600 20 0 10 (VA 0 []) ∷
+    -- `B` and xy, both written out: the one that is met first is struck first
+    answer-row (PA 0 written-out ++ PA 1 written-out ++ LE (B ∷ []) ++ RI (x ∷ y ∷ [])) 2900 20 0 18 (VA 0 [] ++ VA 1 (B ∷ [])) ∷
+    -- x`B` and `AB`, x`B` and `AAB`: one character, and more than one
+    answer-row (LE (x ∷ B ∷ []) ++ RI (A ∷ B ∷ [])) 1800 20 0 11 (VA 0 (A ∷ [])) ∷
+    answer-row (LE (x ∷ B ∷ []) ++ RI (A ∷ A ∷ B ∷ [])) 1900 20 0 12 (VA 0 (A ∷ A ∷ [])) ∷
+    -- xy`B` and `AB`, then `AAB`: each of two fields takes a character
+    answer-row (LE (x ∷ y ∷ B ∷ []) ++ RI (A ∷ B ∷ [])) 2300 20 1 14 [] ∷
+    answer-row (LE (x ∷ y ∷ B ∷ []) ++ RI (A ∷ A ∷ B ∷ [])) 3200 20 0 21 (VA 0 (A ∷ []) ++ VA 1 (A ∷ [])) ∷
+    -- "two reachable place sets": x`A` and x`B` enter two situations; by a pattern with the same texts and three sets they enter three
+    answer-row (LE (x ∷ A ∷ []) ++ RI (x ∷ B ∷ [])) 600 20 1 2 [] ∷
+    answer-row (PA 0 (66 ∷ 65 ∷ 0 ∷ 42 ∷ written-out) ++ LE (x ∷ A ∷ []) ++ RI (x ∷ B ∷ [])) 600 20 1 3 [] ∷
+    -- the first and the last character are taken; field 7 is open too, and so is a field beside one with a pattern
+    answer-row (LE (x ∷ []) ++ RI (0 ∷ 42 ∷ [])) 1900 20 0 12 (VA 0 (0 ∷ 42 ∷ [])) ∷
+    answer-row (LE (71 ∷ []) ++ RI (A ∷ [])) 1600 20 0 10 (VA 7 (A ∷ [])) ∷
+    answer-row (PA 0 (A ∷ []) ++ LE (x ∷ y ∷ []) ++ RI (A ∷ B ∷ [])) 1900 20 0 12 (VA 0 (A ∷ []) ++ VA 1 (B ∷ [])) ∷
     []
 
 -- `LT4` and so many spaces
@@ -234,8 +269,8 @@ known-spaces =
     answer-row (LE (A ∷ 37 ∷ []) ++ RI (A ∷ [])) 600 20 1 1 [] ∷
     answer-row (LE (A ∷ []) ++ RI (A ∷ 39 ∷ [])) 600 20 1 1 [] ∷
     -- x and `A` with a space, open, either way round: x could take the space and leaves it
-    answer-row (LE (x ∷ []) ++ RI (A ∷ space ∷ [])) 2300 20 0 15 (VA 0 (A ∷ [])) ∷
-    answer-row (LE (A ∷ space ∷ []) ++ RI (x ∷ [])) 2300 20 0 15 (VA 0 (A ∷ [])) ∷
+    answer-row (LE (x ∷ []) ++ RI (A ∷ space ∷ [])) 2300 20 0 14 (VA 0 (A ∷ [])) ∷
+    answer-row (LE (A ∷ space ∷ []) ++ RI (x ∷ [])) 2300 20 0 14 (VA 0 (A ∷ [])) ∷
     -- x any number of spaces, `A`x and `A` with a space
     answer-row (PA 0 (68 ∷ space ∷ []) ++ LE (A ∷ x ∷ []) ++ RI (A ∷ space ∷ [])) 2000 20 0 13 (VA 0 []) ∷
     -- x `A` and a space, x and `A`, either way round: x can't leave the space
@@ -424,7 +459,7 @@ known-records =
     []
 
 abbrev known-sheets : List Known
-known-sheets = known-in-01 ++ known-rooms ++ known-searches ++ known-spaces ++ known-patterns ++ known-records
+known-sheets = known-in-01 ++ known-rooms ++ known-searches ++ known-open-fields ++ known-spaces ++ known-patterns ++ known-records
 
 pub known-sheets-met : map got known-sheets ≡ map wanted known-sheets
 unfolding set-after may-end judge enter offer take-next search trimmed strike put-before open-moves child-by children question search-from texts-of acceptor marked pattern-record side-record read-end marked-side next-is read-sheet outcome room-of searched standing value-record records some-text-too-long clash count-of how-of

@@ -56,10 +56,15 @@ known-bounds =
     (LE [] ++ RI [], 9) ∷
     -- `A` and `AB`
     (LE (10 ∷ []) ++ RI (10 ∷ 11 ∷ []), 20) ∷
-    -- x and `AA`, open
-    (LE (64 ∷ []) ++ RI (10 ∷ 10 ∷ []), 20) ∷
+    -- "demand 3 counts two for it": x and `AA`, open; xy and z, open
+    (LE (64 ∷ []) ++ RI (10 ∷ 10 ∷ []), 25) ∷
+    (LE (64 ∷ 65 ∷ []) ++ RI (66 ∷ []), 35) ∷
+    -- x and nothing, open; with 68 65 0 42; with the texts of an open field, by a pattern of three sets
+    (LE (64 ∷ []) ++ RI [], 15) ∷
+    (PA 0 (68 ∷ 65 ∷ 0 ∷ 42 ∷ []) ++ LE (64 ∷ []) ++ RI [], 15) ∷
+    (PA 0 (66 ∷ 65 ∷ 0 ∷ 42 ∷ 68 ∷ 65 ∷ 0 ∷ 42 ∷ []) ++ LE (64 ∷ []) ++ RI [], 18) ∷
     -- `A`x and y`B`z, x the empty text, y `A` then `B`
-    (PA 0 (64 ∷ []) ++ PA 1 (66 ∷ 10 ∷ 11 ∷ []) ++ LE (10 ∷ 64 ∷ []) ++ RI (65 ∷ 11 ∷ 66 ∷ []), 40) ∷
+    (PA 0 (64 ∷ []) ++ PA 1 (66 ∷ 10 ∷ 11 ∷ []) ++ LE (10 ∷ 64 ∷ []) ++ RI (65 ∷ 11 ∷ 66 ∷ []), 45) ∷
     -- x`A` and nothing, x `A` then `B` then `A`
     (PA 0 (66 ∷ 66 ∷ 10 ∷ 11 ∷ 10 ∷ []) ++ LE (64 ∷ 10 ∷ []) ++ RI [], 24) ∷
     -- nothing and x, x one or two of `A` and `B`

@@ -2,17 +2,18 @@
 -- a further text, over the characters, leads to a set that may end.
 --   not-stuck : held-takes n h → is-empty (set-along h first-set w) ≡ false
 --     → (v : List ℕ) × Over n v × (may-end h (set-along h first-set (w ++ v)) ≡ true)
--- By induction on the pattern: a text may come after every leaf of a part (`after-leaf`), and some text fits it (`some-text`).
+-- By induction on the pattern: a text may come after every leaf of a part (`after-leaf`), and some text fits it (`fitting-text`).
 use Prim.Native.Nat.{ℕ, zero, suc, _+_, _≤_, _<_}
 use native.Mathlib.Omega.{arith}
 use mathlib.Core.Path.{_≡_, refl}
 use mathlib.Core.Bool.{true, false}
 use mathlib.Core.List.{List, [], _∷_, _++_, List·Memᴰ, List·Memᴰ·head, List·Memᴰ·not-nil}
 use lib.Dec.{eqb}
+use lib.ListN.{length-append}
 use Rattle.paper.proofs.base.Tests.{true-false, and-right, eq-eqb}
 use Rattle.paper.proofs.base.Lists.{mem-cons-by}
 use Rattle.paper.specs.Equation.{Over}
-use Rattle.paper.specs.Pattern.{takes, Pattern, leaf, empty, then, either, many, Held, any-text, pattern, Fits, one, nothing, both, first, none}
+use Rattle.paper.specs.Pattern.{takes, Pattern, leaf, empty, then, either, many, Held, some-text, pattern, Fits, one, nothing, both, first, none}
 use Rattle.paper.specs.Places.{leaves, leaf-takes, PlaceSet, first-set, may-end, is-empty, set-along}
 use Rattle.paper.specs.Taken.{leaves-take, held-takes}
 use Rattle.paper.proofs.places.Parts.{Within, one-part, takes-parts}
@@ -45,15 +46,15 @@ pub fits-over : (n : ℕ) (p : Pattern) {w : List ℕ} → leaves-take n p → F
 fits-over n p k f = start-over n p 0 k (fits-start f 0)
 
 -- some text fits
-some-text : (n : ℕ) (p : Pattern) → leaves-take n p → (v : List ℕ) × Fits p v
-some-text n (leaf l) k = (k .some ∷ [], one (k .taken))
-some-text n empty k = ([], nothing)
-some-text n (then a b) k =
-    let u = some-text n a (k .0) in
-    let v = some-text n b (k .1) in
+fitting-text : (n : ℕ) (p : Pattern) → leaves-take n p → (v : List ℕ) × Fits p v
+fitting-text n (leaf l) k = (k .some ∷ [], one (k .taken))
+fitting-text n empty k = ([], nothing)
+fitting-text n (then a b) k =
+    let u = fitting-text n a (k .0) in
+    let v = fitting-text n b (k .1) in
     (u .0 ++ v .0, both refl (u .1) (v .1))
-some-text n (either a b) k = let u = some-text n a (k .0) in (u .0, first (u .1))
-some-text n (many a) k = ([], none)
+fitting-text n (either a b) k = let u = fitting-text n a (k .0) in (u .0, first (u .1))
+fitting-text n (many a) k = ([], none)
 
 -- some text may come after each leaf
 after-leaf : (n : ℕ) (p : Pattern) (o i : ℕ) → leaves-take n p → Within o (leaves p) i → (v : List ℕ) × After p o i v
@@ -63,7 +64,7 @@ after-leaf n (then a b) o i k h =
     one-part o (leaves a) (leaves b) i
     (λ m.
     let u = after-leaf n a o i (k .0) m in
-    let v = some-text n b (k .1) in
+    let v = fitting-text n b (k .1) in
     (u .0 ++ v .0, after-then a b o (u .1) (fits-start (v .1) (o + leaves a))))
     (λ m. let v = after-leaf n b (o + leaves a) i (k .1) m in (v .0, second-then a b o (v .1)))
     h
@@ -80,7 +81,7 @@ after-leaf n (many a) o i k h =
 after-place : (n : ℕ) (p : Pattern) (i : ℕ) → leaves-take n p → i ≤ leaves p
     → (v : List ℕ) × Over n v × FromPlace p i v
 after-place n p zero k h =
-    let u = some-text n p k in
+    let u = fitting-text n p k in
     (u .0, fits-over n p k (u .1), fits-start (u .1) 1)
 after-place n p (suc i) k h =
     let u = after-leaf n p 1 (suc i) k (omega arith) in
@@ -97,8 +98,8 @@ set-ends n p (i ∷ s) k h e =
 
 pub not-stuck : (n : ℕ) (h : Held) (w : List ℕ) → held-takes n h → is-empty (set-along h first-set w) ≡ false
     → (v : List ℕ) × Over n v × (may-end h (set-along h first-set (w ++ v)) ≡ true)
-not-stuck n any-text w k e =
-    ([], λ c d. absurd (List·Memᴰ·not-nil d), all-held any-text (w ++ []) tt)
+not-stuck n some-text w k e =
+    (0 ∷ [], mem-cons-by (λ (x : ℕ). x < n) k (λ c d. absurd (List·Memᴰ·not-nil d)), all-held some-text (w ++ (0 ∷ [])) (omega (arith, length-append w (0 ∷ []))))
 not-stuck n (pattern p) w k e =
     let u = set-ends n p (set-along (pattern p) first-set w) k (places-reached p w) e in
     (u .0, u .1, rw (along-append (pattern p) first-set w (u .0)) (u .2))

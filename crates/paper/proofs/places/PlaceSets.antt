@@ -7,7 +7,7 @@ use mathlib.Core.List.{List, [], _∷_, _++_, List·Memᴰ, List·Memᴰ·head, 
 use lib.Dec.{eqb}
 use Rattle.paper.proofs.base.Tests.{true-false, eqb-true, eqb-same}
 use Rattle.paper.proofs.base.Lists.{same-by-equal, same-by-same}
-use Rattle.paper.specs.Pattern.{Held, any-text, pattern}
+use Rattle.paper.specs.Pattern.{Held, some-text, pattern}
 use Rattle.paper.specs.Places.{PlaceSet, set-after, may-end, is-empty, same-set, set-along}
 use Rattle.paper.proofs.places.PlacesDecide.{mem-after}
 
@@ -23,7 +23,8 @@ empty-ends h (i ∷ s) e = absurd (true-false e refl)
 
 pub empty-after : (h : Held) (s : PlaceSet) (c : ℕ) → is-empty s ≡ true → is-empty (set-after h s c) ≡ true
 unfolding set-after
-empty-after any-text s c e = e
+empty-after some-text [] c e = refl
+empty-after some-text (i ∷ s) c e = absurd (true-false e refl)
 empty-after (pattern p) [] c e =
     no-place-empty (set-after (pattern p) [] c) (λ q d. List·Memᴰ·not-nil (mem-after p [] c q d .in-set))
 empty-after (pattern p) (i ∷ s) c e = absurd (true-false e refl)

@@ -8,9 +8,9 @@ use mathlib.Core.Path.{_≡_, refl}
 use mathlib.Core.Bool.{true, _&&_}
 use mathlib.Core.List.{List, [], _∷_, List·Memᴰ, List·Memᴰ·head, List·Memᴰ·eq-of-singleton}
 use Rattle.paper.specs.Lists.{any}
-use Rattle.paper.proofs.base.Tests.{and-left, and-right, both-true}
+use Rattle.paper.proofs.base.Tests.{true-false, and-left, and-right, both-true}
 use Rattle.paper.proofs.base.Lists.{any-true, mem-any, mem-keep, keep-mem, from-mem}
-use Rattle.paper.specs.Pattern.{Pattern, Held, any-text, pattern, Holds}
+use Rattle.paper.specs.Pattern.{Pattern, Held, some-text, pattern, Holds}
 use Rattle.paper.specs.Places.{leaves, leaf-takes, follows, ends-at, PlaceSet, leaf-places, first-set, set-after, may-end, set-along}
 use Rattle.paper.proofs.places.Parts.{takes-within}
 use Rattle.paper.proofs.places.After.{After, ends, goes, FromStart, at-once, begins, start-fits, fits-start}
@@ -97,19 +97,22 @@ from-set p (c ∷ w) s i d r =
     (after-mem p s c q (record { from-place = i; in-set = d; follow = n .1; take = n .2 }))
     (leaf-from p q w (takes-within p 1 q c (n .2) .low) (n .3))
 
--- an open field's set never changes
-pub open-along : (s : PlaceSet) (w : List ℕ) → set-along any-text s w ≡ s
+-- after a character an open field's set never changes
+pub open-along : (w : List ℕ) → set-along some-text (1 ∷ []) w ≡ 1 ∷ []
 unfolding set-after
-open-along s [] = refl
-open-along s (c ∷ w) = open-along s w
+open-along [] = refl
+open-along (c ∷ w) = open-along w
 
 pub only-held : (h : Held) (w : List ℕ) → may-end h (set-along h first-set w) ≡ true → Holds h w
-only-held any-text w e = tt
+unfolding may-end
+only-held some-text [] e = absurd (true-false e refl)
+only-held some-text (c ∷ w) e = omega arith
 only-held (pattern p) w e =
     let r = set-from p w first-set e in
     start-fits p 1 w (rw (List·Memᴰ·eq-of-singleton (r .1)) at (r .2))
 
 pub all-held : (h : Held) (w : List ℕ) → Holds h w → may-end h (set-along h first-set w) ≡ true
-unfolding may-end
-all-held any-text w t = rw (open-along first-set w)
+unfolding may-end set-after
+all-held some-text [] t = absurd (omega arith)
+all-held some-text (c ∷ w) t = rw (open-along w)
 all-held (pattern p) w f = from-set p w first-set 0 (List·Memᴰ·head refl) (fits-start f 1)

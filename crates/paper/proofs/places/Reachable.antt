@@ -19,7 +19,7 @@ use Rattle.paper.specs.Search.{Child, long, child, Entry, used-up, State
 use Rattle.paper.specs.Leads.{start}
 use Rattle.paper.proofs.search.Searched.{entries-different, every-entry, used-up-closed, used-up-reaches, bound-used-up}
 use Rattle.paper.specs.Equation.{Over}
-use Rattle.paper.specs.Pattern.{Held, any-text, pattern}
+use Rattle.paper.specs.Pattern.{Held, some-text, pattern}
 use Rattle.paper.specs.Places.{leaves, PlaceSet, leaf-places, first-set, set-after, is-empty, same-set, set-along, sets-after, all-sets, reachable-sets}
 use Rattle.paper.specs.Reachable.{Reachable}
 use Rattle.paper.proofs.places.PlaceSets.{same-equal, equal-same, empty-along, along-append}
@@ -48,22 +48,24 @@ keep-part f (x ∷ l) = only-part (f x) x l (keep-part f l)
 
 -- The sets that there can be: the first set, and of a pattern the parts of the list of leaves.
 bound : Held → List PlaceSet
-bound any-text = first-set ∷ []
+bound some-text = first-set ∷ (1 ∷ []) ∷ []
 bound (pattern p) = first-set ∷ parts (leaf-places p)
 
 length-bound : (h : Held) → length (bound h) ≤ all-sets h
 unfolding bound
-length-bound any-text = omega arith
+length-bound some-text = omega arith
 length-bound (pattern p) = rw (length-parts (leaf-places p), length-from 1 (leaves p)) (omega arith)
 
 first-in : (h : Held) → List·Memᴰ first-set (bound h)
 unfolding bound
-first-in any-text = List·Memᴰ·head refl
+first-in some-text = List·Memᴰ·head refl
 first-in (pattern p) = List·Memᴰ·head refl
 
 after-in : (h : Held) (s : PlaceSet) (c : ℕ) → List·Memᴰ s (bound h) → List·Memᴰ (set-after h s c) (bound h)
 unfolding bound set-after
-after-in any-text s c d = d
+after-in some-text s c (List·Memᴰ·head e) = rw e (List·Memᴰ·tail (List·Memᴰ·head refl))
+after-in some-text s c (List·Memᴰ·tail (List·Memᴰ·head e)) = rw e (List·Memᴰ·tail (List·Memᴰ·head refl))
+after-in some-text s c (List·Memᴰ·tail (List·Memᴰ·tail d)) = absurd (List·Memᴰ·not-nil d)
 after-in (pattern p) s c d = List·Memᴰ·tail (keep-part _ (leaf-places p))
 
 -- The children of a set: the sets after the characters, where they are not empty.

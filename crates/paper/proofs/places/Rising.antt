@@ -7,7 +7,7 @@ use mathlib.Core.Bool.{Bool, true, false}
 use mathlib.Core.List.{List, [], _∷_, _++_, List·Memᴰ, List·Memᴰ·not-nil, List·Memᴰ·eq-of-singleton}
 use Rattle.paper.specs.Lists.{from, only, keep}
 use Rattle.paper.proofs.base.Lists.{mem-keep, mem-from}
-use Rattle.paper.specs.Pattern.{Pattern, Held, any-text, pattern}
+use Rattle.paper.specs.Pattern.{Pattern, Held, some-text, pattern}
 use Rattle.paper.specs.Places.{leaves, PlaceSet, first-set, set-after, set-along}
 use Rattle.paper.proofs.places.Parts.{takes-within}
 use Rattle.paper.proofs.places.PlacesDecide.{mem-after}
@@ -34,7 +34,8 @@ rising-first = more (λ q d. absurd (List·Memᴰ·not-nil d)) none
 
 pub rising-after : (h : Held) (s : PlaceSet) (c : ℕ) → Rising s → Rising (set-after h s c)
 unfolding set-after
-rising-after any-text s c r = r
+rising-after some-text [] c r = none
+rising-after some-text (i ∷ s) c r = more (λ q d. absurd (List·Memᴰ·not-nil d)) none
 rising-after (pattern p) s c r = rising-keep _ (rising-from 1 (leaves p))
 
 -- after a character every place is a leaf

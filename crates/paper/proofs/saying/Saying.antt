@@ -1,7 +1,7 @@
 -- Reading the sheet that says a question gives the question back.
 --   reads-back : Sayable q → read-sheet (sheet-saying q) ≡ asked q
 -- A question can be said if it is good (`Asked`) and the code of each pattern fits into a record: its tokens are characters and fields, a side has
--- at most 24 of them, there is a pattern or any text for each field, and a pattern has leaves that take characters alone, at most 31 of them, and a
+-- at most 24 of them, there is a pattern or none for each field, and a pattern has leaves that take characters alone, at most 31 of them, and a
 -- code of at most 96 bytes.
 -- Follows from the checks on the records, test by test, and from the laws of a pattern's code. What is left at an offset is all that a check there
 -- sees, so each law begins with `drop at s ≡ ..`.
@@ -18,7 +18,7 @@ use Rattle.paper.specs.Lists.{all}
 use Rattle.paper.specs.Numbers.{characters, fields, field-token, pattern-bytes, sheet-side}
 use Rattle.paper.proofs.base.Tests.{cond-by, both-true, le-leb, lt-leb, le-ltb, lt-ltb, neq-eqb, eqb-same}
 use Rattle.paper.proofs.base.Lists.{cons-eq}
-use Rattle.paper.specs.Pattern.{Pattern, leaf, char, range, empty, then, either, many, Held, any-text, pattern}
+use Rattle.paper.specs.Pattern.{Pattern, leaf, char, range, empty, then, either, many, Held, some-text, pattern}
 use Rattle.paper.specs.Equation.{Token, chr, fld, Side}
 use Rattle.paper.specs.Question.{Question}
 use Rattle.paper.specs.Sheet.{read, byte-at, bytes-left, body, Mark, PA, LE, RI, first-letter, second-letter, marked}
@@ -30,23 +30,23 @@ use Rattle.paper.proofs.saying.Code.{code-judged}
 
 -- "length byte n 1 to 96": the code of what a field may hold fits into a record
 abbrev pub ShortCode : Held → Type 0
-ShortCode any-text = Unit {0}
+ShortCode some-text = Unit {0}
 ShortCode (pattern p) = length (pattern-code p) ≤ pattern-bytes
 
 -- a question that a sheet can say
 pub record Sayable (q : Question) : Type 0 where
   pub good : GoodQuestion q
-  pub codes : (f : ℕ) → ShortCode (getD (q .held) f any-text)
+  pub codes : (f : ℕ) → ShortCode (getD (q .held) f some-text)
 
 -- What is left at an offset.
 module _ (s : List ℕ) (at : ℕ) (t : List ℕ) (e : drop at s ≡ t) where
-  left-there : bytes-left s at ≡ length t
+  pub left-there : bytes-left s at ≡ length t
   left-there = sym (length-drop at s) ∙ ap length e
 
-  byte-there : (i : ℕ) → byte-at s (at + i) ≡ byte-at t i
+  pub byte-there : (i : ℕ) → byte-at s (at + i) ≡ byte-at t i
   byte-there i = sym (getD-drop at s i 0) ∙ ap (λ (l : List ℕ). getD l i 0) e
 
-  behind-there : (i : ℕ) → drop (at + i) s ≡ drop i t
+  pub behind-there : (i : ℕ) → drop (at + i) s ≡ drop i t
   behind-there i = sym (drop-drop i at s) ∙ ap (drop i) e
 
   body-there : (i n : ℕ) → body s (at + i) n ≡ body t i n
@@ -67,7 +67,7 @@ code-bytes (either a b) = omega arith
 code-bytes (many a) = omega arith
 
 module _ (s : List ℕ) (at f : ℕ) (p : Pattern) (rest : List ℕ) (e : drop at s ≡ pattern-saying f (pattern p) ++ rest) where
-  record-next : next-is PA s at ≡ true
+  pub record-next : next-is PA s at ≡ true
   unfolding next-is marked
   record-next =
       let t = pattern-saying f (pattern p) ++ rest in
@@ -96,33 +96,33 @@ module _ (s : List ℕ) (at f : ℕ) (p : Pattern) (rest : List ℕ) (e : drop a
         code-judged p (good .0) (good .1),
       )
 
-  record-behind : drop (at + (4 + length (pattern-code p))) s ≡ rest
+  pub record-behind : drop (at + (4 + length (pattern-code p))) s ≡ rest
   record-behind =
       behind-there s at (pattern-saying f (pattern p) ++ rest) e (4 + length (pattern-code p))
       ∙ sym (drop-drop (length (pattern-code p)) 4 (pattern-saying f (pattern p) ++ rest)) ∙ drop-append-seam (pattern-code p) rest
 
 -- What comes next is no pattern.
-none-next : (s : List ℕ) (at : ℕ) (rest : List ℕ) → drop at s ≡ rest → marked PA rest 0 ≡ false → next-is PA s at ≡ false
+pub none-next : (s : List ℕ) (at : ℕ) (rest : List ℕ) → drop at s ≡ rest → marked PA rest 0 ≡ false → next-is PA s at ≡ false
 unfolding next-is
 none-next s at rest e u = cond-by (λ (b : Bool). b ≡ false) (ltb (bytes-left s at) 2) (λ _. refl) (λ _. mark-there s at rest e PA ∙ u)
 
 -- What reading the patterns' records gives: what each field may hold, up to the bytes behind them.
-record Said (s : List ℕ) (held : List Held) (rest : List ℕ) (x : Records Fields) : Type 0 where
-  last : ℕ
-  next : ℕ
-  reads : x ≡ records (record { held = held; above = last }) next
-  behind : drop next s ≡ rest
+pub record Said (s : List ℕ) (held : List Held) (rest : List ℕ) (x : Records Fields) : Type 0 where
+  pub last : ℕ
+  pub next : ℕ
+  pub reads : x ≡ records (record { held = held; above = last }) next
+  pub behind : drop next s ≡ rest
 
 -- the patterns of some fields are done, the others are left
-abbrev partly : List Held → List Held → ℕ → Fields
-partly done left above = record { held = done ++ replicate (length left) any-text; above = above }
+abbrev pub partly : List Held → List Held → ℕ → Fields
+partly done left above = record { held = done ++ replicate (length left) some-text; above = above }
 
 -- an open field has no record
 open-done : (done left : List Held) (n : ℕ) (s : List ℕ) (at above : ℕ) (rest : List ℕ)
-    → Said s (done ++ (any-text ∷ []) ++ left) rest (read-patterns n s at (partly (done ++ (any-text ∷ [])) left above))
-    → Said s (done ++ any-text ∷ left) rest (read-patterns n s at (partly done (any-text ∷ left) above))
+    → Said s (done ++ (some-text ∷ []) ++ left) rest (read-patterns n s at (partly (done ++ (some-text ∷ [])) left above))
+    → Said s (done ++ some-text ∷ left) rest (read-patterns n s at (partly done (some-text ∷ left) above))
 open-done done left n s at above rest h =
-    rw (append-snoc done any-text left, append-snoc done any-text (replicate (length left) any-text)) at h
+    rw (append-snoc done some-text left, append-snoc done some-text (replicate (length left) some-text)) at h
 
 -- a pattern's record is read
 module _ (done left : List Held) (p : Pattern) (s : List ℕ) (at f : ℕ) (behind : List ℕ) (e : drop at s ≡ pattern-saying f (pattern p) ++ behind) where
@@ -133,23 +133,23 @@ module _ (done left : List Held) (p : Pattern) (s : List ℕ) (at f : ℕ) (behi
       → Said s (done ++ (pattern p ∷ []) ++ left) rest (with-it n)
       → Said s (done ++ pattern p ∷ left) rest (read-patterns (suc n) s at (partly done (pattern p ∷ left) above))
   pattern-done n above rest d known rises good short h =
-      let others = replicate (length left) any-text in
-      rw (record-next s at f p behind e, record-said s at f p behind e above known rises good short, set-at done any-text others (pattern p) f d)
+      let others = replicate (length left) some-text in
+      rw (record-next s at f p behind e, record-said s at f p behind e above known rises good short, set-at done some-text others (pattern p) f d)
       (rw (append-snoc done (pattern p) left, append-snoc done (pattern p) others) at h)
 
 -- The patterns of the fields from f on are read behind those done.
-patterns-said : (left done : List Held) (n : ℕ) (s : List ℕ) (at f above : ℕ) (rest : List ℕ)
+pub patterns-said : (left done : List Held) (n : ℕ) (s : List ℕ) (at f above : ℕ) (rest : List ℕ)
     → drop at s ≡ patterns-saying f left ++ rest → marked PA rest 0 ≡ false → length (patterns-saying f left) < n
     → length done ≡ f → f + length left ≡ fields → above ≤ f
-    → ((i : ℕ) → GoodHeld (getD left i any-text)) → ((i : ℕ) → ShortCode (getD left i any-text))
+    → ((i : ℕ) → GoodHeld (getD left i some-text)) → ((i : ℕ) → ShortCode (getD left i some-text))
     → Said s (done ++ left) rest (read-patterns n s at (partly done left above))
 patterns-said [] done zero s at f above rest e u k d l r good short = absurd (omega arith)
 patterns-said [] done (suc n) s at f above rest e u k d l r good short =
     record { last = above; next = at; reads = rw (none-next s at rest e u); behind = e }
-patterns-said (any-text ∷ left) done n s at f above rest e u k d l r good short =
-    let more = length-append done (any-text ∷ []) in
+patterns-said (some-text ∷ left) done n s at f above rest e u k d l r good short =
+    let more = length-append done (some-text ∷ []) in
     open-done done left n s at above rest
-    (patterns-said left (done ++ (any-text ∷ [])) n s at (suc f) above rest e u k (omega arith) (omega arith) (omega arith)
+    (patterns-said left (done ++ (some-text ∷ [])) n s at (suc f) above rest e u k (omega arith) (omega arith) (omega arith)
     (λ i. good (suc i)) (λ i. short (suc i)))
 patterns-said (pattern p ∷ left) done zero s at f above rest e u k d l r good short = absurd (omega arith)
 patterns-said (pattern p ∷ left) done (suc n) s at f above rest e u k d l r good short =
@@ -201,14 +201,14 @@ module _ (m : Mark) (s : List ℕ) (at : ℕ) (side : Side) (rest : List ℕ) (e
         bytes-say side (good .tokens),
       )
 
-  side-said : GoodSide side → marked-side m s at ≡ read side (at + (3 + length side))
+  pub side-said : GoodSide side → marked-side m s at ≡ read side (at + (3 + length side))
   unfolding marked-side marked
   side-said good =
       let t = side-saying m side ++ rest in
       rw (left-there s at t e, mark-there s at t e m, le-ltb (length t) 2 (omega arith), eqb-same (first-letter m), eqb-same (second-letter m))
       (record-side good)
 
-  side-behind : drop (at + (3 + length side)) s ≡ rest
+  pub side-behind : drop (at + (3 + length side)) s ≡ rest
   side-behind =
       behind-there s at (side-saying m side ++ rest) e (3 + length side)
       ∙ sym (drop-drop (length side) 3 (side-saying m side ++ rest)) ∙ drop-at (map token-byte side) rest (length side) (length-map side token-byte)
@@ -229,7 +229,7 @@ sides-said s at q good e =
     rw (side-said LE s at left (side-saying RI right) e (good .left), side-said RI s next right [] after-left (good .right))
     (end-said s (next + (3 + length right)) q (side-behind RI s next right [] after-left))
 
-not-marked : (side : Side) (rest : List ℕ) → marked PA (side-saying LE side ++ rest) 0 ≡ false
+pub not-marked : (side : Side) (rest : List ℕ) → marked PA (side-saying LE side ++ rest) 0 ≡ false
 unfolding marked
 not-marked side rest = refl
 

@@ -3,7 +3,7 @@
 --   patterns-by      : what each pattern's record keeps, all of them keep, one behind the other
 --   fields-known     : a field that stands in the sides of a good question is one of the fields
 --   fields-have-sets : and a situation has a place set for it
--- The tokens are 01's characters and fields, a side has at most 24 of them, there is a pattern or any text for each field, and a pattern has at
+-- The tokens are 01's characters and fields, a side has at most 24 of them, there is a pattern or none for each field, and a pattern has at
 -- most 31 leaves, of which each takes some character and nothing but characters.
 -- Follows from the checks on the records, test by test, and from the laws of judged patterns.
 use Prim.Native.Nat.{ℕ, zero, suc, _+_, _≤_, _<_}
@@ -18,7 +18,7 @@ use Rattle.paper.specs.Lists.{all}
 use Rattle.paper.specs.Numbers.{characters, fields, set-fields, field-token, pattern-bytes, most-leaves, sheet-side}
 use Rattle.paper.proofs.base.Tests.{cond-by, true-false, and-right, or-is-true, or-right-false, ltb-true, ltb-false, eqb-true}
 use Rattle.paper.proofs.base.Lists.{all-true, any-true, any-append, mem-map}
-use Rattle.paper.specs.Pattern.{Held, any-text, pattern}
+use Rattle.paper.specs.Pattern.{Held, some-text, pattern}
 use Rattle.paper.specs.Places.{leaves}
 use Rattle.paper.specs.Taken.{leaves-take}
 use Rattle.paper.specs.Written.{Judged, judged, judge}
@@ -41,12 +41,12 @@ pub record GoodSide (side : Side) : Type 0 where
 
 -- what a field may hold
 abbrev pub GoodHeld : Held → Type 0
-GoodHeld any-text = Unit {0}
+GoodHeld some-text = Unit {0}
 GoodHeld (pattern p) = leaves-take characters p × (leaves p ≤ most-leaves)
 
 pub record GoodFields (held : List Held) : Type 0 where
   pub each-field : length held ≡ fields
-  pub good : (f : ℕ) → GoodHeld (getD held f any-text)
+  pub good : (f : ℕ) → GoodHeld (getD held f some-text)
 
 pub record GoodQuestion (q : Question) : Type 0 where
   pub left : GoodSide (q .left)
@@ -114,15 +114,15 @@ record-read s at least =
 
 -- what is so of all that the fields may hold, where one of it is set, and where every field is open
 module _ (P : Held → Type 0) where
-  pub set-by : (held : List Held) (i : ℕ) (x : Held) → P x → ((f : ℕ) → P (getD held f any-text))
-      → (f : ℕ) → P (getD (set held i x) f any-text)
+  pub set-by : (held : List Held) (i : ℕ) (x : Held) → P x → ((f : ℕ) → P (getD held f some-text))
+      → (f : ℕ) → P (getD (set held i x) f some-text)
   set-by [] i x g h f = h f
   set-by (y ∷ held) zero x g h zero = g
   set-by (y ∷ held) zero x g h (suc f) = h (suc f)
   set-by (y ∷ held) (suc i) x g h zero = h zero
   set-by (y ∷ held) (suc i) x g h (suc f) = set-by held i x g (λ k. h (suc k)) f
 
-  pub open-by : P any-text → (n f : ℕ) → P (getD (replicate n any-text) f any-text)
+  pub open-by : P some-text → (n f : ℕ) → P (getD (replicate n some-text) f some-text)
   open-by g zero f = g
   open-by g (suc n) zero = g
   open-by g (suc n) (suc f) = open-by g n f
@@ -140,7 +140,7 @@ fields-with s at fs fp h g =
 
 -- "before the first record every field is" open
 pub opens-good : GoodFields (open-fields .held)
-opens-good = record { each-field = length-replicate fields any-text; good = open-by GoodHeld tt fields }
+opens-good = record { each-field = length-replicate fields some-text; good = open-by GoodHeld tt fields }
 
 -- The patterns' records, up to the first record that is none.
 abbrev pub Listed : {A : Type 0} → (A → Type 0) → Records A → Type 0

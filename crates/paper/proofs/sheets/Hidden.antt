@@ -18,7 +18,7 @@ use lib.Dec.{eqb}
 use lib.ListN.{length, getD, replicate, length-append, length-map, List·getD-append}
 use Rattle.paper.specs.Lists.{upto, any, keep}
 use Rattle.paper.specs.Numbers.{characters, fields, hidden-left, hidden-right, set-fields, sheet-side, space}
-use Rattle.paper.specs.Pattern.{char, leaf, many, Held, any-text, Fits, one, none, more, Holds}
+use Rattle.paper.specs.Pattern.{char, leaf, many, Held, some-text, Fits, one, none, more, Holds}
 use Rattle.paper.specs.Equation.{Token, chr, fld, Side, is-field, stands-in, Texts, label, Same, Over}
 use Rattle.paper.specs.Plain.{each-once, plain}
 use Rattle.paper.specs.Question.{Question, held-by, Solution, any-spaces, hidden, Equated}
@@ -108,8 +108,8 @@ module _ (q : Question) where
   -- what a field may hold
   held-own : (f : ℕ) → f < fields → held-by (hidden q) f ≡ held-by q f
   held-own f h =
-      List·getD-append (map (held-by q) (upto fields)) (any-spaces ∷ any-spaces ∷ []) any-text f (rw length-own h)
-      ∙ getD-map-upto (held-by q) any-text fields f h
+      List·getD-append (map (held-by q) (upto fields)) (any-spaces ∷ any-spaces ∷ []) some-text f (rw length-own h)
+      ∙ getD-map-upto (held-by q) some-text fields f h
 
   stands-hidden : (f : ℕ)
       → stands-in f (hidden q .left ++ hidden q .right)
@@ -151,18 +151,18 @@ module _ (q : Question) where
             (each-good (held-by q) (g .held .good) (upto fields)) last-two;
       }
     where
-      both-good : (k l : List Held) → ((f : ℕ) → GoodHeld (getD k f any-text)) → ((f : ℕ) → GoodHeld (getD l f any-text))
-          → (f : ℕ) → GoodHeld (getD (k ++ l) f any-text)
+      both-good : (k l : List Held) → ((f : ℕ) → GoodHeld (getD k f some-text)) → ((f : ℕ) → GoodHeld (getD l f some-text))
+          → (f : ℕ) → GoodHeld (getD (k ++ l) f some-text)
       both-good [] l h i f = i f
       both-good (x ∷ k) l h i zero = h zero
       both-good (x ∷ k) l h i (suc f) = both-good k l (λ j. h (suc j)) i f
 
-      each-good : (held : ℕ → Held) → ((f : ℕ) → GoodHeld (held f)) → (l : List ℕ) (f : ℕ) → GoodHeld (getD (map held l) f any-text)
+      each-good : (held : ℕ → Held) → ((f : ℕ) → GoodHeld (held f)) → (l : List ℕ) (f : ℕ) → GoodHeld (getD (map held l) f some-text)
       each-good held h [] f = tt
       each-good held h (x ∷ l) zero = h x
       each-good held h (x ∷ l) (suc f) = each-good held h l f
 
-      last-two : (f : ℕ) → GoodHeld (getD (any-spaces ∷ any-spaces ∷ []) f any-text)
+      last-two : (f : ℕ) → GoodHeld (getD (any-spaces ∷ any-spaces ∷ []) f some-text)
       last-two zero = good-spaces
       last-two (suc zero) = good-spaces
       last-two (suc (suc f)) = tt

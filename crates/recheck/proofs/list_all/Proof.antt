@@ -11,7 +11,7 @@ use lib.ListN.{length, drop}
 use Rattle.paper.specs.Rule.{rule-front}
 use Rattle.rules.specs.Read.{rule-of}
 use Rattle.kept.proofs.Standing.{standing-inside, next-inside}
-use Rattle.recheck.specs.Told.{Standing}
+use Rattle.kept.specs.Kept.{Of-form}
 use Rattle.recheck.proofs.Listing.{Listing-all, all-start, all-ready, all-more, all-ends}
 use Rattle.recheck.proofs.list_all.Statement.{statement}
 use Rattle.recheck.proofs.list_all.Tie as tie
@@ -19,7 +19,7 @@ use Rattle.recheck.proofs.list_all.Tie as tie
 abbrev Inv-loop : tie.InvT-loop
 Inv-loop catalogue count work₀ bytes₀ at₀ i₀ n₀ work bytes at i n =
     (length work ≡ length work₀) × (length bytes ≡ length bytes₀)
-    × ((x : Standing catalogue count) → Listing-all (x .rules-present) work₀ work bytes₀ bytes at i n)
+    × ((x : Of-form catalogue count) → Listing-all (x .rules-present) work₀ work bytes₀ bytes at i n)
 
 abbrev μ-loop : tie.MeasureT-loop
 μ-loop catalogue count work₀ bytes₀ at₀ i₀ n₀ work bytes at i n = count - i

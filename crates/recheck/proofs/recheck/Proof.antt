@@ -8,7 +8,8 @@ use borrow.Author.Needs.{needs}
 use borrow.Author.Tests.{not-true, not-false}
 use lib.ListN.{length, take, length-replicate}
 use Rattle.kept.proofs.Told.{no-rules, some-rules}
-use Rattle.recheck.specs.Told.{Standing, longest-list}
+use Rattle.recheck.specs.Told.{longest-list}
+use Rattle.kept.specs.Kept.{Of-form}
 use Rattle.recheck.proofs.Rechecking.{rechecks-none, rechecks-too-short, list-fits, rechecks-listed}
 use Rattle.recheck.proofs.recheck.Statement.{statement}
 use Rattle.recheck.proofs.recheck.Tie as tie
@@ -30,7 +31,7 @@ slice-aggregate-list-all c = search needs
 -- the rules that stand
 standing : (c : tie.Else1) →
     let f = c .before .before in
-    Standing (now (f .before .before .before .before .args .catalogue)) (f .find .result .rules)
+    Of-form (now (f .before .before .before .before .args .catalogue)) (f .find .result .rules)
 standing c =
     let f = c .before .before in
     let r = some-rules (f .find .result) _ _ (f .find .ensures) (not-false (f .find .result .good) (c .if1 .left)) in

@@ -33,6 +33,9 @@ print-requires c κs = search needs
 enum-known-scripted-2 : tie.Need-enum-known-scripted-2
 enum-known-scripted-2 c = search needs
 
+slice-aggregate-refuse : tie.Need-slice-aggregate-refuse
+slice-aggregate-refuse c = search needs
+
 refuse-requires : tie.Need-refuse-requires
 refuse-requires c κs = search needs
 
@@ -74,6 +77,7 @@ write-in-spec =
     part-print-end
     print-requires
     enum-known-scripted-2
+    slice-aggregate-refuse
     refuse-requires
     enum-told
     slice-aggregate-tell

@@ -1,0 +1,83 @@
+// `carry_over`: reads a question sheet, a rule of a catalogue or a whole catalogue from standard input and writes it with 68 65 0 42 for every standing
+// field without a pattern. A sheet begins with `PA` or `LE`, the others with `RU`; a catalogue keeps its length. There is no exit status: a refusal or a
+// failure is told on standard error, and nothing is written.
+//
+// The stored sheet: field 0 is a digit and stands on both sides; fields 1 and 3 stand without a pattern; field 2 has a pattern and doesn't stand.
+use answers::Fault;
+use failures::refuse;
+use lines::read_first;
+use lines::tell;
+use sides::Cursor;
+use sides::Mark;
+use spell_open::CarriedOver;
+use spell_open::SpeltOpen;
+
+// more than a catalogue of 32 of the longest rules has
+const INPUT: usize = 65536;
+
+// No sheet and no rule is longer: `enough`, which `spell_open::sheet` and `spell_open::rule` promise.
+const LONGEST: usize = 854;
+
+fn main() {
+    let mut input = [0u8; INPUT];
+    let got = read_first(&mut input);
+    let n = got.bytes;
+    if got.read {
+        carry(&mut input[0..n]);
+    } else {
+        tell(b"carry_over: standard input can't be read\n");
+    }
+}
+
+fn carry(bytes: &mut [u8]) {
+    let mut out = [0u8; LONGEST];
+    let start = Cursor { at: 0 };
+    if start.next_is(bytes, Mark::RU) {
+        carry_rule(bytes, &mut out);
+    } else {
+        carry_sheet(bytes, &mut out);
+    }
+}
+
+fn carry_sheet(sheet: &[u8], out: &mut [u8]) {
+    let spelt = spell_open::sheet(sheet, out);
+    match spelt {
+        SpeltOpen::Refused { fault, place } => refuse(b"carry_over", fault, place),
+        _ => show(spelt, out),
+    }
+}
+
+// What is no rule by itself may be a catalogue.
+fn carry_rule(rule: &mut [u8], out: &mut [u8]) {
+    let spelt = spell_open::rule(rule, out);
+    match spelt {
+        SpeltOpen::Refused { fault, place } => carry_catalogue(rule, fault, place),
+        _ => show(spelt, out),
+    }
+}
+
+fn carry_catalogue(catalogue: &mut [u8], fault: Fault, place: usize) {
+    let carried = spell_open::catalogue(catalogue);
+    match carried {
+        CarriedOver::Done => print(catalogue),
+        CarriedOver::Full => tell(b"carry_over: 32: the rules no longer fit the catalogue\n"),
+        CarriedOver::NoCatalogue => refuse(b"carry_over", fault, place),
+    }
+}
+
+// What was written, or why nothing was.
+fn show(spelt: SpeltOpen, out: &[u8]) {
+    let told = spell_open::in_numbers(spelt);
+    let n = told.written;
+    if told.number == 31 {
+        tell(b"carry_over: 31: the rule names a field above 3\n");
+    } else if n <= out.len() {
+        print(&out[0..n]);
+    }
+}
+
+fn print(bytes: &[u8]) {
+    if !lines::print(bytes) {
+        tell(b"carry_over: standard output can't be written\n");
+    }
+}

@@ -1,0 +1,8 @@
+pub mod Opening
+pub mod SameMeaning
+pub mod SaidBack
+pub mod RuleRead
+pub mod Lengths
+pub mod Carried
+pub mod Promised
+pub mod KnownSpelt

@@ -1,0 +1,70 @@
+-- Old sheets and rules carried over (request K5): "Sheets and catalogue rules that relied on the old meaning must carry 68 65 0 42 written out".
+-- From what was read to what is written: the same, with 68 65 0 42 for each standing field without a pattern. And the old meaning.
+use Prim.Native.Nat.{ℕ, suc, _-_}
+use mathlib.Core.Path.{_≡_}
+use mathlib.Core.Bool.{Bool, true, cond}
+use mathlib.Core.List.{List, [], _∷_, _++_}
+use lib.ListN.{getD}
+use Rattle.paper.specs.Numbers.{characters, space}
+use Rattle.paper.specs.Pattern.{range, Pattern, leaf, many, Held, some-text, pattern, Fits}
+use Rattle.paper.specs.Equation.{Side, stands-in, Texts, label, Same, Over}
+use Rattle.paper.specs.Question.{Question, held-by}
+use Rattle.paper.specs.Sheet.{LE, RU}
+use Rattle.paper.specs.Rule.{Rule, rule-holds}
+use Rattle.paper.specs.Saying.{mark-bytes, patterns-saying, side-saying}
+
+-- 68 65 0 42
+abbrev pub written-out : Pattern
+written-out = many (leaf (range 0 (characters - 1)))
+
+-- what a standing field holds then
+abbrev pub spelt-held : Held → Held
+spelt-held some-text = pattern written-out
+spelt-held (pattern p) = pattern p
+
+-- "adds it for an old sheet's standing fields without a pattern": what the fields from f on hold then
+abbrev pub opened : (ℕ → Bool) → ℕ → List Held → List Held
+opened stands f [] = []
+opened stands f (h ∷ held) = cond (stands f) (spelt-held h) h ∷ opened stands (suc f) held
+
+-- of a sheet: the question with 68 65 0 42 written out
+abbrev pub stands-asked : Question → ℕ → Bool
+stands-asked q f = stands-in f (q .left ++ q .right)
+
+abbrev pub spelt-open : Question → Question
+spelt-open q = record { left = q .left; right = q .right; held = opened (stands-asked q) 0 (q .held) }
+
+-- of a rule: "the mark `RU`, the `PA` records of its own fields .. and one `LE`"
+abbrev pub rule-saying : List Held → Side → List ℕ
+rule-saying held side = mark-bytes RU ++ patterns-saying 0 held ++ side-saying LE side
+
+abbrev pub stands-ruled : Rule → ℕ → Bool
+stands-ruled r f = stands-in f (r .side)
+
+abbrev pub held-open : Rule → List Held
+held-open r = opened (stands-ruled r) 0 (r .fields .held)
+
+unfoldable pub rule-open : Rule → List ℕ
+rule-open r = rule-saying (held-open r) (r .side)
+
+-- The old meaning of a field without a pattern: "any text, the empty one included".
+abbrev pub HeldBefore : Held → List ℕ → Type 0
+HeldBefore some-text w = Unit {0}
+HeldBefore (pattern p) w = Fits p w
+
+-- texts that solved a sheet's question
+pub record SolutionBefore (q : Question) (texts : Texts) : Type 0 where
+  pub same-label : Same space (label texts (q .left)) (label texts (q .right))
+  pub over : (f : ℕ) → stands-asked q f ≡ true → Over characters (texts f)
+  pub holds : (f : ℕ) → stands-asked q f ≡ true → HeldBefore (held-by q f) (texts f)
+
+-- a label that a rule made
+pub record MadeBefore (r : Rule) (l : List ℕ) : Type 0 where
+  pub texts : Texts
+  pub over : (f : ℕ) → stands-ruled r f ≡ true → Over characters (texts f)
+  pub holds : (f : ℕ) → stands-ruled r f ≡ true → HeldBefore (rule-holds r f) (texts f)
+  pub made : label texts (r .side) ≡ l
+
+-- every standing field has a pattern: there is nothing to write out
+abbrev pub NoneOpen : (ℕ → Bool) → List Held → Type 0
+NoneOpen stands held = (f : ℕ) → stands f ≡ true → getD held f some-text ≡ some-text → ⊥

@@ -1,0 +1,65 @@
+-- A question that a sheet asks can be said.
+--   sheet-sayable : read-sheet s ≡ asked q → Sayable q
+-- It is good (`Asked`), and the code of each pattern has at most 96 bytes. Follows from the checks on the patterns' records.
+use Prim.Native.Nat.{ℕ, suc, _+_}
+use native.Mathlib.Omega.{arith}
+use mathlib.Core.Path.{_≡_, subst}
+use mathlib.Core.List.{List}
+use lib.Dec.{ltb}
+use lib.ListN.{length, getD, drop, length-take}
+use Rattle.paper.specs.Numbers.{fields}
+use Rattle.paper.specs.Pattern.{Held, some-text, pattern}
+use Rattle.paper.specs.Equation.{Side}
+use Rattle.paper.specs.Question.{Question}
+use Rattle.paper.specs.Sheet.{Checked, fault, read, FieldPattern, byte-at, body, LE, RI, marked-side, Records, faulty, records, Fields, open-fields}
+use Rattle.paper.specs.Sheet.{with-pattern, read-patterns, Reading, refused, asked, read-end, right-read, left-read, sides-read, read-sheet}
+use Rattle.paper.proofs.base.Tests.{cond-by}
+use Rattle.paper.proofs.sheets.Asked.{PatternRead, set-by, open-by, Listed, patterns-by, sheet-good}
+use Rattle.paper.proofs.saying.Code.{judged-code}
+use Rattle.paper.proofs.saying.Saying.{ShortCode, Sayable}
+
+-- "length byte n 1 to 96"
+abbrev Short : List Held → Type 0
+Short held = (f : ℕ) → ShortCode (getD held f some-text)
+
+abbrev ShortFields : Fields → Type 0
+ShortFields fs = Short (fs .held)
+
+one-pattern : (s : List ℕ) (at : ℕ) (fs : Fields) (fp : FieldPattern) → ShortFields fs → PatternRead s at (fs .above) fp
+    → ShortFields (with-pattern fs fp)
+one-pattern s at fs fp h g = set-by ShortCode (fs .held) (fp .field) (pattern (fp .its)) code h
+  where
+    code : ShortCode (pattern (fp .its))
+    code =
+        let n = byte-at s (at + 3) in
+        rw (judged-code (body s (at + 4) n) (g .its-bytes), length-take n (drop (at + 4) s)) (omega (arith, g .short))
+
+-- the question that a reading asks
+abbrev AsksShort : Reading → Type 0
+AsksShort (refused x at) = Unit {0}
+AsksShort (asked q) = Short (q .held)
+
+end-short : (s : List ℕ) (at : ℕ) (q : Question) → Short (q .held) → AsksShort (read-end s at q)
+unfolding read-end
+end-short s at q h = cond-by AsksShort (ltb at (length s)) (λ _. tt) (λ _. h)
+
+right-short : (s : List ℕ) (held : List Held) (l : Side) (x : Checked Side) → Short held → AsksShort (right-read s held l x)
+right-short s held l (fault x at) h = tt
+right-short s held l (read r next) h = end-short s next (record { left = l; right = r; held = held }) h
+
+left-short : (s : List ℕ) (held : List Held) (x : Checked Side) → Short held → AsksShort (left-read s held x)
+left-short s held (fault x at) h = tt
+left-short s held (read l next) h = right-short s held l (marked-side RI s next) h
+
+sides-short : (s : List ℕ) (x : Records Fields) → Listed ShortFields x → AsksShort (sides-read s x)
+sides-short s (faulty x at) h = tt
+sides-short s (records fs at) h = left-short s (fs .held) (marked-side LE s at) h
+
+sheet-short : (s : List ℕ) → AsksShort (read-sheet s)
+unfolding read-sheet
+sheet-short s =
+    sides-short s (read-patterns (suc (length s)) s 0 open-fields)
+    (patterns-by ShortFields one-pattern (suc (length s)) s 0 open-fields (open-by ShortCode tt fields))
+
+pub sheet-sayable : (s : List ℕ) (q : Question) → read-sheet s ≡ asked q → Sayable q
+sheet-sayable s q e = record { good = sheet-good s q e; codes = subst AsksShort e (sheet-short s) }

@@ -1,0 +1,4 @@
+pub mod Whole
+pub mod Answered
+pub mod RulesPut
+pub mod Unique

@@ -1,0 +1,93 @@
+/*
+ * Carries the sheet of each case of a stream on standard input over, as the program `second --spelt` does. What begins with RU is a rule.
+ *
+ * A case is as for many.c; the output buffer has the length of the answer buffer, the working buffer does not count. The line of a case
+ * is number, place and written length, and every byte of the output buffer: those written one by one, the others in a word where they are
+ * as they were lent, and one by one where not. A line says so where a count is told, or where other lengths give something else: just
+ * enough bytes, one less, as many as are always enough.
+ */
+#include <inttypes.h>
+#include <stdio.h>
+#include <stdlib.h>
+
+#include "bradovusc.h"
+#include "streams.h"
+
+enum { HEAD = 10, LONGEST_SHEET = 65535, OUT_FILL = 165 };
+
+typedef uint32_t (*speller)(const uint8_t *, size_t, uint8_t *, size_t, uint64_t *, size_t);
+
+static bool is_rule(const uint8_t *sheet, size_t length) { return length >= 2 && sheet[0] == 'R' && sheet[1] == 'U'; }
+
+/* Whether a buffer of so many bytes is answered with this number, and these bytes at its front, the rest unchanged. */
+static bool gives(speller spell, const uint8_t *sheet, size_t sheet_length, size_t length, uint32_t number, const uint8_t *front,
+                  size_t front_length) {
+    uint8_t *out = lend(length, OUT_FILL);
+    uint64_t told[BRADOVUSC_TOLD];
+    bool same = spell(sheet, sheet_length, out, length, told, BRADOVUSC_TOLD) == number && told[BRADOVUSC_COUNT] == 0 &&
+                told[BRADOVUSC_PLACE] == 0 && told[BRADOVUSC_WRITTEN] == front_length && memcmp(out, front, front_length) == 0 &&
+                all(out + front_length, length - front_length, OUT_FILL);
+    free(out);
+    return same;
+}
+
+/* A sheet without a fault, in buffers of other lengths. */
+static void try_lengths(speller spell, const uint8_t *sheet, size_t sheet_length, size_t enough) {
+    uint8_t *out = lend(enough, OUT_FILL);
+    uint64_t told[BRADOVUSC_TOLD];
+    uint32_t number = spell(sheet, sheet_length, out, enough, told, BRADOVUSC_TOLD);
+    size_t written = (size_t)told[BRADOVUSC_WRITTEN];
+    if (number != BRADOVUSC_DONE || written > enough) {
+        fputs(", not in the bytes that are always enough", stdout);
+    } else if (!gives(spell, sheet, sheet_length, enough, BRADOVUSC_DONE, out, written) ||
+               !gives(spell, sheet, sheet_length, written, BRADOVUSC_DONE, out, written)) {
+        fputs(", not in just enough bytes", stdout);
+    } else if (!gives(spell, sheet, sheet_length, written - 1, BRADOVUSC_OUTPUT_TOO_SHORT, out, 0)) {
+        fputs(", no 41 for a byte less", stdout);
+    }
+    free(out);
+}
+
+static void carry_case(const uint8_t *sheet, size_t sheet_length, size_t out_length) {
+    bool rule = is_rule(sheet, sheet_length);
+    speller spell = rule ? bradovusc_spell_open_rule : bradovusc_spell_open;
+    uint8_t *out = lend(out_length, OUT_FILL);
+    uint64_t told[BRADOVUSC_TOLD];
+    uint32_t number = spell(sheet, sheet_length, out, out_length, told, BRADOVUSC_TOLD);
+    uint64_t written = told[BRADOVUSC_WRITTEN];
+    printf("%" PRIu32 " %" PRIu64 " %" PRIu64, number, told[BRADOVUSC_PLACE], written);
+    if (written <= out_length) {
+        fputs(", written", stdout);
+        print_each(out, written);
+        fputs(", rest", stdout);
+        print_lent(out + written, out_length - written, OUT_FILL);
+    } else {
+        fputs(", more than the output buffer", stdout);
+        print_each(out, out_length);
+    }
+    if (told[BRADOVUSC_COUNT] != 0) {
+        fputs(", a count", stdout);
+    }
+    if (number == BRADOVUSC_DONE || number == BRADOVUSC_OUTPUT_TOO_SHORT) {
+        try_lengths(spell, sheet, sheet_length, rule ? BRADOVUSC_RULE_BYTES : BRADOVUSC_SHEET_BYTES);
+    }
+    putchar('\n');
+    free(out);
+}
+
+int main(void) {
+    static uint8_t head[HEAD], sheet[LONGEST_SHEET];
+    size_t read;
+    while ((read = fread(head, 1, HEAD, stdin)) == HEAD) {
+        size_t sheet_length = low_first(head + 8, 2);
+        if (fread(sheet, 1, sheet_length, stdin) != sheet_length) {
+            break;
+        }
+        carry_case(sheet, sheet_length, low_first(head + 4, 4));
+    }
+    if (read != 0) {
+        fputs("spelt: the stream stops inside a case\n", stderr);
+        return EXIT_FAILURE;
+    }
+    return EXIT_SUCCESS;
+}
