@@ -30,13 +30,9 @@ static inline uint8_t *lend(size_t length, int fill) {
     return memset(buffer, fill, length);
 }
 
+/* Every byte is this one: the first is, and each is the one before it. */
 static inline bool all(const uint8_t *bytes, size_t length, uint8_t byte) {
-    for (size_t i = 0; i < length; i++) {
-        if (bytes[i] != byte) {
-            return false;
-        }
-    }
-    return true;
+    return length == 0 || (bytes[0] == byte && memcmp(bytes, bytes + 1, length - 1) == 0);
 }
 
 static inline void print_each(const uint8_t *bytes, size_t length) {

@@ -22,8 +22,8 @@ pub struct Front {
 }
 
 // The places that may follow those of the set of the field with the token b.
-fn gather(sets: [u32; FIELDS], b: u8, follow: [[u32; PLACES]; FIELDS]) -> u32
-    ensures { λ r. ⌜ r ≡ followers-of (getD follow (field-of b) []) (getD sets (field-of b) 0) ⌝ }
+fn gather(sets: [u32; FIELDS], b: u8, follow: &[[u32; PLACES]; FIELDS]) -> u32
+    ensures { λ r. ⌜ r ≡ followers-of (getD (now (follow .entry)) (field-of b) []) (getD sets (field-of b) 0) ⌝ }
 {
     let f = field_of(b);
     if f < FIELDS {
@@ -34,8 +34,8 @@ fn gather(sets: [u32; FIELDS], b: u8, follow: [[u32; PLACES]; FIELDS]) -> u32
 }
 
 // What each character lets through in the field with the token b.
-fn row(b: u8, taking: [[u32; CHARACTERS]; FIELDS]) -> [u32; CHARACTERS]
-    ensures { λ r. ⌜ r ≡ row-at taking b ⌝ }
+fn row(b: u8, taking: &[[u32; CHARACTERS]; FIELDS]) -> [u32; CHARACTERS]
+    ensures { λ r. ⌜ r ≡ row-at (now (taking .entry)) b ⌝ }
 {
     let f = field_of(b);
     if f < FIELDS { taking[f] } else { taking[0] }
@@ -45,10 +45,10 @@ fn row(b: u8, taking: [[u32; CHARACTERS]; FIELDS]) -> [u32; CHARACTERS]
 pub fn front_with(
     token: u8,
     sets: [u32; FIELDS],
-    follow: [[u32; PLACES]; FIELDS],
-    taking: [[u32; CHARACTERS]; FIELDS],
+    follow: &[[u32; PLACES]; FIELDS],
+    taking: &[[u32; CHARACTERS]; FIELDS],
 ) -> Front
-    ensures { λ r. ⌜ r ≡ front-from follow taking sets token ⌝ }
+    ensures { λ r. ⌜ r ≡ front-from (now (follow .entry)) (now (taking .entry)) sets token ⌝ }
 {
     let followers = gather(sets, token, follow);
     let row = row(token, taking);

@@ -1,4 +1,5 @@
 pub mod Offers
+pub mod Puts
 pub mod Turns
 pub mod Children
 pub mod Keys

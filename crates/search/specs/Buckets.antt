@@ -2,38 +2,50 @@
 use Prim.Native.Nat.{ℕ, zero, suc, _+_, _*_, _/_, _%_, _≤_, _<_}
 use mathlib.Core.Path.{_≡_}
 use mathlib.Core.Bool.{Bool, true, false, cond}
-use mathlib.Core.List.{List, [], _∷_}
+use mathlib.Core.List.{List}
 use lib.Dec.{eqb}
-use lib.ListN.{length, getD}
+use lib.ListN.{length, getD, take, drop}
 use Rattle.paper.specs.Lists.{any}
-use Rattle.paper.specs.Numbers.{longest-side, situation-bytes}
-use Rattle.inner.specs.Inner.{no-token}
+use Rattle.paper.specs.Numbers.{situation-bytes}
 use Rattle.inner.specs.Coded.{Coded, same-coded, Short}
 use Rattle.search.specs.LowFirst.{number-of}
-use Rattle.search.specs.Slots.{right-at, sets-at, sets-bytes, number-width, held-bytes, key, Slot, slot-at, part, Holds}
+use Rattle.search.specs.Slots.{number-width, held-bytes, key-bytes, key, Slot, slot-at, part, Holds}
 use Rattle.search.specs.declared.buckets.Seen.{Seen}
 use Rattle.search.specs.declared.buckets.Seen.the-variants.{At, Nowhere}
 
--- There are as many buckets as the buffer has slots. A key's bucket is its hash modulo their number. The hash is over the tokens of both
--- sides and the sets.
-abbrev pub hash-limit : ℕ
-hash-limit = 16777216
+-- There are as many buckets as the buffer has slots. A key's bucket is its hash modulo their number. The hash is over all bytes of the
+-- key, in words of eight: each is added, and each half of the sum is multiplied by a factor of its own.
+abbrev pub word-width : ℕ
+word-width = 8
+
+abbrev pub half : ℕ
+half = 4294967296
+
+abbrev pub word-limit : ℕ
+word-limit = 18446744073709551616
+
+abbrev pub low-factor : ℕ
+low-factor = 1640531551
+
+abbrev pub high-factor : ℕ
+high-factor = 1824926689
+
+abbrev pub spread : ℕ → ℕ
+spread x = (x % half) * low-factor + (x / half) * high-factor
 
 abbrev pub mixed : ℕ → ℕ → ℕ
-mixed h b = (31 * h + b) % hash-limit
+mixed h w = spread ((h + w) % word-limit)
 
-abbrev pub hash-from : ℕ → List ℕ → ℕ
-hash-from h [] = h
-hash-from h (b ∷ bytes) = hash-from (mixed h b) bytes
+-- the hash gone on with by so many words
+abbrev pub hash-words : ℕ → ℕ → List ℕ → ℕ
+hash-words zero h bytes = h
+hash-words (suc n) h bytes = hash-words n (mixed h (number-of (take word-width bytes))) (drop word-width bytes)
 
--- the same up to the first 255, which is the last to go in
-abbrev pub hash-side : ℕ → List ℕ → ℕ
-hash-side h [] = h
-hash-side h (b ∷ bytes) = let g = hash-side (mixed h b) bytes in cond (eqb b no-token) (mixed h b) g
+abbrev pub key-words : ℕ
+key-words = key-bytes / word-width
 
 unfoldable pub hash : List ℕ → ℕ
-hash k =
-    hash-from (hash-side (hash-side 0 (part 0 longest-side k)) (part right-at longest-side k)) (part sets-at sets-bytes k)
+hash k = let h = hash-words key-words 0 k in mixed h (h / half)
 
 unfoldable pub bucket : ℕ → Coded → ℕ
 bucket n k = hash (key k) % n
@@ -41,7 +53,7 @@ bucket n k = hash (key k) % n
 abbrev pub buckets : List ℕ → ℕ
 buckets work = length work / situation-bytes
 
--- A link is the number of a slot and one, or 0 for none, in two bytes. Behind what slot i holds stand the link to the next older slot of
+-- A link is the number of a slot and one, in two bytes. Behind what slot i holds stand the link to the next older slot of
 -- its bucket, and the link to the newest slot of bucket i.
 abbrev pub older-at : ℕ
 older-at = held-bytes
@@ -61,12 +73,16 @@ newest p (suc n) = cond (p n) (suc n) (newest p n)
 abbrev pub in-bucket : ℕ → List Slot → ℕ → ℕ → Bool
 in-bucket n ss b j = eqb (bucket n (slot-at ss j .at)) b
 
+-- a link leads to the newest slot below n that passes the test; where none does it may be anything
+abbrev pub Leads : ℕ → (ℕ → Bool) → ℕ → Type 0
+Leads l p n = 0 < newest p n → l ≡ newest p n
+
 -- the links lead to the slots of each bucket from the newest to the oldest
 pub record Linked (work : List ℕ) (ss : List Slot) : Type 0 where
   pub older : (i : ℕ) → i < length ss
-      → link work (situation-bytes * i + older-at) ≡ newest (in-bucket (buckets work) ss (bucket (buckets work) (slot-at ss i .at))) i
+      → Leads (link work (situation-bytes * i + older-at)) (in-bucket (buckets work) ss (bucket (buckets work) (slot-at ss i .at))) i
   pub newest-of : (b : ℕ) → situation-bytes * (b + 1) ≤ length work
-      → link work (situation-bytes * b + newest-at) ≡ newest (in-bucket (buckets work) ss b) (length ss)
+      → Leads (link work (situation-bytes * b + newest-at)) (in-bucket (buckets work) ss b) (length ss)
 
 -- the buffer has these slots and their links
 pub record Kept (work : List ℕ) (ss : List Slot) : Type 0 where
@@ -91,4 +107,4 @@ pub record Sought (work bytes : List ℕ) (n newest-link : ℕ) (k : Coded) (ss 
   pub short : Short k
   pub kept : Kept work ss
   pub many : length ss ≡ n
-  pub begins : newest-link ≡ newest (in-bucket (buckets work) ss (bucket (buckets work) k)) n
+  pub begins : Leads newest-link (in-bucket (buckets work) ss (bucket (buckets work) k)) n

@@ -1,7 +1,8 @@
 // Situations looked up in the working buffer: slots are linked by buckets, and each bucket is walked from its newest slot to its oldest.
+use crate::numbers::number;
 use crate::numbers::put_number;
 use crate::slots;
-use inner::NO_TOKEN;
+use std::num::wrapping_add_u64;
 ghost use mathlib.Core.Path.{_≡_};
 ghost use mathlib.Core.List.{List, _∷_, [], _++_};
 ghost use Prim.Native.Nat.{_+_, _*_, _/_, _%_, _<_, _≤_};
@@ -10,16 +11,26 @@ ghost use lib.Dec.{eqb};
 ghost use Rattle.paper.specs.Lists.{same-by};
 ghost use Rattle.paper.specs.Numbers.{situation-bytes};
 ghost use Rattle.inner.specs.Coded.{Coded, Short};
-ghost use Rattle.search.specs.Buckets.{hash-limit, mixed, hash-from, hash-side, hash, bucket, buckets, Links-put, Sought, Kept, Entered-at};
+ghost use Rattle.search.specs.Buckets.{spread, mixed, hash, bucket, buckets, Links-put, Sought, Kept, Entered-at};
 ghost use Rattle.search.specs.Slots.{key-bytes, key, Slot};
 
-// A link is the number of a slot and one, or 0 for none. Slot i has one to the next older slot of its bucket, and one to the newest slot
-// of bucket i.
+// A link is the number of a slot and one. Slot i has one to the next older slot of its bucket, and one to the newest slot of bucket i. Where
+// there is no such slot the link is whatever the bytes were: it leads to slots of other buckets at most, and none of them is the one sought.
 const OLDER: usize = slots::HELD;
 
 const NEWEST: usize = OLDER + slots::NUMBER;
 
-const HASH_LIMIT: u32 = 16777216;
+// The bytes of a word, how many words a key has, and where a word's high half begins.
+const WORD: usize = 8;
+
+const WORDS: usize = slots::KEY / WORD;
+
+const HALF: u64 = 4294967296;
+
+// Primes below 2 to the power of 31, so that no sum of two products is too large.
+const LOW_FACTOR: u64 = 1640531551;
+
+const HIGH_FACTOR: u64 = 1824926689;
 
 // Where a situation is entered: the number of its slot.
 pub enum Seen {
@@ -27,53 +38,31 @@ pub enum Seen {
     Nowhere,
 }
 
-// The hash gone on with by a byte.
-fn mixed(h: u32, b: u8) -> u32
-    requires { ⌜ h < hash-limit ⌝ }
-    ensures { λ r. ⌜ (r < hash-limit) × (r ≡ mixed h b) ⌝ }
+// Each half of a word by a factor of its own.
+fn spread(x: u64) -> u64
+    ensures { λ r. ⌜ r ≡ spread x ⌝ }
 {
-    (31 * h + b as u32) % HASH_LIMIT
+    x % HALF * LOW_FACTOR + x / HALF * HIGH_FACTOR
 }
 
-// By several.
-fn hash_from(h: u32, bytes: &[u8]) -> u32
-    requires { ⌜ h < hash-limit ⌝ }
-    ensures { λ r. ⌜ (r < hash-limit) × (r ≡ hash-from h (now (bytes .entry))) ⌝ }
+// The hash gone on with by a word.
+fn mixed(h: u64, w: u64) -> u64
+    ensures { λ r. ⌜ r ≡ mixed h w ⌝ }
 {
-    let mut r = h;
-    let mut i = 0;
-    while i < bytes.len() {
-        r = mixed(r, bytes[i]);
-        i += 1;
-    }
-    r
+    spread(wrapping_add_u64(h, w))
 }
 
-// By a side, up to its first 255.
-fn hash_side(h: u32, bytes: &[u8]) -> u32
-    requires { ⌜ h < hash-limit ⌝ }
-    ensures { λ r. ⌜ (r < hash-limit) × (r ≡ hash-side h (now (bytes .entry))) ⌝ }
-{
-    let mut r = h;
-    let mut i = 0;
-    while i < bytes.len() {
-        let b = bytes[i];
-        r = mixed(r, b);
-        if b == NO_TOKEN {
-            return r;
-        }
-        i += 1;
-    }
-    r
-}
-
-fn hash(key: &[u8]) -> u32
+fn hash(key: &[u8]) -> u64
     requires { ⌜ length (now key) ≡ key-bytes ⌝ }
     ensures { λ r. ⌜ r ≡ hash (now (key .entry)) ⌝ }
 {
-    let a = hash_side(0, &key[0..slots::RIGHT]);
-    let b = hash_side(a, &key[slots::RIGHT..slots::SETS]);
-    hash_from(b, &key[slots::SETS..slots::KEY])
+    let mut h = 0;
+    let mut i = 0;
+    while i < WORDS {
+        h = mixed(h, number(&key[WORD * i..WORD * i + WORD]));
+        i += 1;
+    }
+    mixed(h, h / HALF)
 }
 
 // The bucket of a key, in a buffer of so many bytes.
@@ -106,18 +95,18 @@ pub fn write_slot(work: &mut [u8], n: usize, its: &[u8], b: usize, parent: usize
     put_links(work, at + OLDER, slots::SLOT * b + NEWEST, n);
 }
 
+// No test on the way: so several bytes can be compared at once.
 fn same(a: &[u8], b: &[u8]) -> bool
     requires { ⌜ length (now a) ≡ length (now b) ⌝ }
     ensures { λ r. ⌜ r ≡ same-by eqb (now (a .entry)) (now (b .entry)) ⌝ }
 {
+    let mut r = true;
     let mut i = 0;
     while i < a.len() {
-        if a[i] != b[i] {
-            return false;
-        }
+        r = r & (a[i] == b[i]);
         i += 1;
     }
-    true
+    r
 }
 
 // The slots of a bucket, from the newest to the oldest: a child is often the same as one that was entered just before. A link leads to an

@@ -41,7 +41,7 @@ pub fn run(
 {
     let first = trimming::question(left, right);
     let room = room_for(work.len());
-    let run = search::search(work, room, first, follow, taking, last);
+    let run = search::search(work, room, first, &follow, &taking, last);
     let sets = first.sets;
     let r = conclude(answer, work, run, sets);
     slots::clear(work);

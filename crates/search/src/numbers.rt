@@ -20,7 +20,7 @@ pub fn put_number(to: &mut [u8], number: u64)
 
 // The number of the bytes.
 pub fn number(from: &[u8]) -> u64
-    requires { ⌜ length (now from) ≤ 7 ⌝ }
+    requires { ⌜ length (now from) ≤ 8 ⌝ }
     ensures { λ r. ⌜ r ≡ number-of (now (from .entry)) ⌝ }
 {
     let mut r = 0;

@@ -18,7 +18,7 @@ ghost use Rattle.paper.specs.Numbers.{situation-bytes, most-room};
 ghost use Rattle.inner.specs.Coded.{Coded};
 ghost use Rattle.situations.specs.Children.{puts-of, children-coded};
 ghost use Rattle.search.specs.Buckets.{buckets};
-ghost use Rattle.search.specs.Lent.{Roomy, tables, Enters, Enters-with, Offers-made, Offers-child, Offers, Takes, Searches};
+ghost use Rattle.search.specs.Lent.{Roomy, Starts-puts, Ends-puts, tables, Enters, Enters-with, Offers-made, Offers-child, Offers, Takes, Searches};
 ghost use Rattle.search.specs.Run.{is-going};
 ghost use Rattle.search.specs.Slots.{key-bytes};
 ghost use Rattle.search.specs.declared.search.Status.the-variants.{NoRoom};
@@ -148,6 +148,32 @@ fn offer(work: &mut [u8], room: usize, run: Run, parent: usize, step: u8, child:
     }
 }
 
+// "a character in front must be c": no character below this one is put.
+fn first_put(a: u8, b: u8) -> usize
+    ensures { λ r. ⌜ Starts-puts a b r ⌝ }
+{
+    if (a as usize) < CHARACTERS {
+        return a as usize;
+    }
+    if (b as usize) < CHARACTERS {
+        return b as usize;
+    }
+    0
+}
+
+// And none from this one on.
+fn first_not_put(a: u8, b: u8) -> usize
+    ensures { λ r. ⌜ Ends-puts a b r ⌝ }
+{
+    if (a as usize) < CHARACTERS {
+        return a as usize + 1;
+    }
+    if (b as usize) < CHARACTERS {
+        return b as usize + 1;
+    }
+    CHARACTERS
+}
+
 // Child 3: "for each character c from 0 to 42". Most are not taken: that is seen before a child is made.
 fn offer_puts(
     work: &mut [u8],
@@ -163,8 +189,10 @@ fn offer_puts(
     ensures { λ r. ⌜ Offers room parent s (now (work .entry)) run (now (work .exit)) r (λ (k : Coded). puts-of k left right) ⌝ }
 {
     let mut now = run;
-    let mut c: usize = 0;
-    while c < CHARACTERS {
+    let first = first_put(left.token, right.token);
+    let end = first_not_put(left.token, right.token);
+    let mut c = first;
+    while c < end {
         let m = left.followers & left.row[c];
         let n = right.followers & right.row[c];
         if fronts::both_take(left.token, m, right.token, n, c as u8) {
@@ -183,13 +211,13 @@ fn offer_children(
     run: Run,
     parent: usize,
     s: Situation,
-    follow: [[u32; PLACES]; FIELDS],
-    taking: [[u32; CHARACTERS]; FIELDS],
+    follow: &[[u32; PLACES]; FIELDS],
+    taking: &[[u32; CHARACTERS]; FIELDS],
     last: [u32; FIELDS],
 ) -> Run
     requires { ⌜ Roomy (now work) room (run .entered) parent ⌝ }
     requires { ⌜ 0 < run .entered ⌝ }
-    ensures { λ r. ⌜ Offers room parent s (now (work .entry)) run (now (work .exit)) r (children-coded (tables follow taking last)) ⌝ }
+    ensures { λ r. ⌜ Offers room parent s (now (work .entry)) run (now (work .exit)) r (children-coded (tables (now (follow .entry)) (now (taking .entry)) last)) ⌝ }
 {
     let sets = s.sets;
     let one = offer(
@@ -219,13 +247,13 @@ fn take(
     room: usize,
     run: Run,
     k: usize,
-    follow: [[u32; PLACES]; FIELDS],
-    taking: [[u32; CHARACTERS]; FIELDS],
+    follow: &[[u32; PLACES]; FIELDS],
+    taking: &[[u32; CHARACTERS]; FIELDS],
     last: [u32; FIELDS],
 ) -> Run
     requires { ⌜ Roomy (now work) room (run .entered) k ⌝ }
     requires { ⌜ k < run .entered ⌝ }
-    ensures { λ r. ⌜ Takes room (tables follow taking last) k (now (work .entry)) run (now (work .exit)) r ⌝ }
+    ensures { λ r. ⌜ Takes room (tables (now (follow .entry)) (now (taking .entry)) last) k (now (work .entry)) run (now (work .exit)) r ⌝ }
 {
     let s = slots::read_situation(work, k);
     offer_children(work, room, run, k, s, follow, taking, last)
@@ -236,14 +264,13 @@ pub fn search(
     work: &mut [u8],
     room: usize,
     first: Situation,
-    follow: [[u32; PLACES]; FIELDS],
-    taking: [[u32; CHARACTERS]; FIELDS],
+    follow: &[[u32; PLACES]; FIELDS],
+    taking: &[[u32; CHARACTERS]; FIELDS],
     last: [u32; FIELDS],
 ) -> Run
     requires { ⌜ (situation-bytes * room ≤ length (now work)) × (room ≤ most-room) ⌝ }
-    ensures { λ r. ⌜ Searches room (tables follow taking last) first (now (work .exit)) r ⌝ }
+    ensures { λ r. ⌜ Searches room (tables (now (follow .entry)) (now (taking .entry)) last) first (now (work .exit)) r ⌝ }
 {
-    slots::clear(work);
     let mut run = enter_first(work, room, first);
     let mut k: usize = 0;
     loop {

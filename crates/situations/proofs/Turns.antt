@@ -1,14 +1,17 @@
--- Laws of sides as lists of tokens: turn by turn, what striking and putting do. Follows from the definitions by induction on the side.
+-- Laws of sides as lists of tokens: turn by turn, what striking and putting do, and when all tokens are passed. Follows from the definitions
+-- by induction on the side.
 use Prim.Native.Nat.{ℕ, _+_, _<_}
 use native.Mathlib.Numerals.{add-one}
+use native.Mathlib.Omega.{arith}
 use mathlib.Core.Path.{_≡_, refl}
 use mathlib.Core.Bool.{Bool, not, _&&_, _||_}
 use mathlib.Core.List.{List, [], _∷_, _++_, append-assoc, append-nil}
 use lib.Dec.{leb, eqb}
-use lib.ListN.{length, getD, take}
+use lib.ListN.{length, getD, take, drop}
 use lib.Seq.{take-suc}
 use Rattle.paper.specs.Lists.{only, keep}
-use Rattle.inner.specs.Inner.{field-code}
+use Rattle.inner.specs.Inner.{field-code, tokens}
+use Rattle.inner.proofs.Tokens.{tokens-part}
 use Rattle.situations.specs.Children.{strike-codes, put-codes}
 
 -- the tokens of a loop's first turns, and of one turn more
@@ -26,3 +29,9 @@ module _ (side : List ℕ) (i : ℕ) (h : i < length side) where
 
   pub put-more : (c a b : ℕ) → put-codes c a b (take (i + 1) side) ≡ (put-codes c a b (take i side) ++ only (leb field-code (getD side i 0) && (eqb (getD side i 0) a || eqb (getD side i 0) b)) c) ++ (getD side i 0 ∷ [])
   put-more c a b = rw (add-one, take-suc side i 0 h, put-append c a b, append-assoc)
+
+-- the first i bytes are tokens, and no token is behind them
+pub all-passed : (side : List ℕ) (i : ℕ) → length (tokens side) ≡ i + length (tokens (drop i side)) → length (tokens (drop i side)) ≡ 0 → take i side ≡ tokens side
+all-passed side i e z =
+    let f : i ≡ length (tokens side) = omega arith in
+    rw f (tokens-part side)

@@ -9,7 +9,6 @@ use Rattle.situations.specs.Children.{Settled, dropped, above, made}
 use Rattle.situations.specs.declared.Child.{Child}
 use Rattle.situations.specs.declared.Fate.{Fate}
 use Rattle.situations.specs.declared.Fate.the-variants.{Dropped, Above, Made}
-use Rattle.situations.specs.declared.sides.Wide.{Wide}
 
 -- the situation of a child that is not made
 abbrev pub nowhere : Coded
@@ -29,11 +28,7 @@ child-of (made s) = record { fate = Made; at = as-struct s }
 abbrev pub widest-side : ℕ
 widest-side = longest-side + longest-side
 
--- the tokens of a side before it is trimmed
-abbrev pub wide-tokens : Wide → List ℕ
-wide-tokens w = take (w .len) (w .bytes)
-
--- these tokens, and no more than there is room for
-pub record Has (w : Wide) (l : List ℕ) : Type 0 where
-  pub few : w .len ≤ widest-side
-  pub has : wide-tokens w ≡ l
+-- the first n bytes are these tokens, and no more than there is room for
+pub record Has (bytes : List ℕ) (n : ℕ) (l : List ℕ) : Type 0 where
+  pub few : n ≤ widest-side
+  pub has : take n bytes ≡ l

@@ -44,22 +44,21 @@ fn may_end(sets: [u32; FIELDS], b: u8, last: [u32; FIELDS]) -> bool
 fn strike(s: Situation, b: u8) -> Child
     ensures { λ r. ⌜ r ≡ child-of (struck (denoted s) b) ⌝ }
 {
-    let left = s.left;
-    let right = s.right;
+    let mut left = sides::no_wide_side();
+    let l = sides::struck_side(&mut left, &s.left, b);
+    let mut right = sides::no_wide_side();
+    let r = sides::struck_side(&mut right, &s.right, b);
     let old = s.sets;
-    let l = sides::struck_side(left, b);
-    let r = sides::struck_side(right, b);
     let sets = with_set(old, b, 0);
-    sides::settle(l, r, sets)
+    sides::settle(&left[0..l], &right[0..r], sets)
 }
 
 // "1. the left front is a field whose set may end: strike it everywhere"
 pub fn strike_left(s: Situation, last: [u32; FIELDS]) -> Child
     ensures { λ r. ⌜ r ≡ child-of (left-strike last (denoted s)) ⌝ }
 {
-    let left = s.left;
     let sets = s.sets;
-    let a = sides::front_in(left);
+    let a = sides::front_in(&s.left);
     if may_end(sets, a, last) {
         return strike(s, a);
     }
@@ -70,11 +69,9 @@ pub fn strike_left(s: Situation, last: [u32; FIELDS]) -> Child
 pub fn strike_right(s: Situation, last: [u32; FIELDS]) -> Child
     ensures { λ r. ⌜ r ≡ child-of (right-strike last (denoted s)) ⌝ }
 {
-    let left = s.left;
-    let right = s.right;
     let sets = s.sets;
-    let a = sides::front_in(left);
-    let b = sides::front_in(right);
+    let a = sides::front_in(&s.left);
+    let b = sides::front_in(&s.right);
     if b == a {
         return sides::unmade(Fate::Dropped);
     }
@@ -89,14 +86,14 @@ pub fn strike_right(s: Situation, last: [u32; FIELDS]) -> Child
 pub fn put(s: Situation, c: u8, m: u32, n: u32) -> Child
     ensures { λ r. ⌜ r ≡ child-of (put-child (denoted s) c m n) ⌝ }
 {
-    let left = s.left;
-    let right = s.right;
+    let a = sides::front_in(&s.left);
+    let b = sides::front_in(&s.right);
+    let mut left = sides::no_wide_side();
+    let l = sides::put_side(&mut left, &s.left, c, a, b);
+    let mut right = sides::no_wide_side();
+    let r = sides::put_side(&mut right, &s.right, c, a, b);
     let old = s.sets;
-    let a = sides::front_in(left);
-    let b = sides::front_in(right);
-    let l = sides::put_side(left, c, a, b);
-    let r = sides::put_side(right, c, a, b);
     let with_left = with_set(old, a, m);
     let sets = with_set(with_left, b, n);
-    sides::settle(l, r, sets)
+    sides::settle(&left[0..l], &right[0..r], sets)
 }

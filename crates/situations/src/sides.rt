@@ -6,59 +6,57 @@ use inner::FIELDS;
 use inner::LONGEST_SIDE;
 use inner::NO_TOKEN;
 use inner::Situation;
-use inner::length_of;
 use trimming::Trimmed;
 ghost use mathlib.Core.Bool.{_&&_, _||_};
 ghost use mathlib.Core.List.{List};
 ghost use mathlib.Core.Path.{_≡_};
-ghost use Prim.Native.Nat.{ℕ, _+_, _≤_};
+ghost use Prim.Native.Nat.{ℕ, _+_};
 ghost use lib.Dec.{leb, eqb};
-ghost use lib.ListN.{replicate};
+ghost use lib.ListN.{length, replicate};
+ghost use Rattle.paper.specs.Numbers.{longest-side};
 ghost use Rattle.inner.specs.Inner.{field-code, front, tokens};
 ghost use Rattle.inner.specs.Coded.{as-struct};
 ghost use Rattle.trimming.specs.Trimming.{trimmed-sides};
 ghost use Rattle.situations.specs.Children.{strike-codes, put-codes, dead-sides, judged-sides, settle};
-ghost use Rattle.situations.specs.Laid.{nowhere, unmade, child-of, widest-side, wide-tokens, Has};
+ghost use Rattle.situations.specs.Laid.{nowhere, unmade, child-of, widest-side, Has};
 
 // a side with a character put before each of its tokens
-const WIDEST_SIDE: usize = LONGEST_SIDE + LONGEST_SIDE;
-
-// A side before it is trimmed.
-pub struct Wide {
-    pub bytes: [u8; WIDEST_SIDE],
-    pub len: usize,
-}
+pub const WIDEST_SIDE: usize = LONGEST_SIDE + LONGEST_SIDE;
 
 // The token in front of a side, 255 where there is none.
-pub fn front_in(side: [u8; LONGEST_SIDE]) -> u8
-    ensures { λ r. ⌜ r ≡ front (tokens side) ⌝ }
+pub fn front_in(side: &[u8]) -> u8
+    requires { ⌜ length (now side) ≡ longest-side ⌝ }
+    ensures { λ r. ⌜ r ≡ front (tokens (now (side .entry))) ⌝ }
 {
     side[0]
 }
 
-fn no_wide_side() -> [u8; WIDEST_SIDE]
+// the bytes of a side before it is trimmed
+pub fn no_wide_side() -> [u8; WIDEST_SIDE]
     ensures { λ r. ⌜ r ≡ replicate widest-side 0 ⌝ }
 {
     [0; WIDEST_SIDE]
 }
 
-// "strike it everywhere"
-pub fn struck_side(side: [u8; LONGEST_SIDE], b: u8) -> Wide
-    ensures { λ w. ⌜ Has w (strike-codes b (tokens side)) ⌝ }
+// "strike it everywhere": how many tokens are left, in the front of the bytes
+pub fn struck_side(bytes: &mut [u8], side: &[u8], b: u8) -> usize
+    requires { ⌜ (length (now bytes) ≡ widest-side) × (length (now side) ≡ longest-side) ⌝ }
+    ensures { λ r. ⌜ Has (now (bytes .exit)) r (strike-codes b (tokens (now (side .entry)))) ⌝ }
 {
-    let len = length_of(side);
-    let mut bytes = no_wide_side();
     let mut n: usize = 0;
     let mut i: usize = 0;
-    while i < len {
+    while i < LONGEST_SIDE {
         let x = side[i];
+        if x == NO_TOKEN {
+            return n;
+        }
         if x != b {
             bytes[n] = x;
             n += 1;
         }
         i += 1;
     }
-    Wide { bytes, len: n }
+    n
 }
 
 // Is x the token of a field in front?
@@ -74,16 +72,18 @@ fn is_front(x: u8, a: u8, b: u8) -> bool
     x == b
 }
 
-// "put c before each front field wherever that field stands"
-pub fn put_side(side: [u8; LONGEST_SIDE], c: u8, a: u8, b: u8) -> Wide
-    ensures { λ w. ⌜ Has w (put-codes c a b (tokens side)) ⌝ }
+// "put c before each front field wherever that field stands": how many tokens that makes, in the front of the bytes
+pub fn put_side(bytes: &mut [u8], side: &[u8], c: u8, a: u8, b: u8) -> usize
+    requires { ⌜ (length (now bytes) ≡ widest-side) × (length (now side) ≡ longest-side) ⌝ }
+    ensures { λ r. ⌜ Has (now (bytes .exit)) r (put-codes c a b (tokens (now (side .entry)))) ⌝ }
 {
-    let len = length_of(side);
-    let mut bytes = no_wide_side();
     let mut n: usize = 0;
     let mut i: usize = 0;
-    while i < len {
+    while i < LONGEST_SIDE {
         let x = side[i];
+        if x == NO_TOKEN {
+            return n;
+        }
         if is_front(x, a, b) {
             bytes[n] = c;
             n += 1;
@@ -92,7 +92,7 @@ pub fn put_side(side: [u8; LONGEST_SIDE], c: u8, a: u8, b: u8) -> Wide
         n += 1;
         i += 1;
     }
-    Wide { bytes, len: n }
+    n
 }
 
 // A child that is not made.
@@ -149,14 +149,8 @@ fn judge(t: Trimmed, sets: [u32; FIELDS]) -> Child
 }
 
 // "Each child is trimmed", then judged.
-pub fn settle(l: Wide, r: Wide, sets: [u32; FIELDS]) -> Child
-    requires { ⌜ (l .len ≤ widest-side) × (r .len ≤ widest-side) ⌝ }
-    ensures { λ child. ⌜ child ≡ child-of (settle (wide-tokens l) (wide-tokens r) sets) ⌝ }
+pub fn settle(l: &[u8], r: &[u8], sets: [u32; FIELDS]) -> Child
+    ensures { λ child. ⌜ child ≡ child-of (settle (now (l .entry)) (now (r .entry)) sets) ⌝ }
 {
-    let left = l.bytes;
-    let left_len = l.len;
-    let right = r.bytes;
-    let right_len = r.len;
-    let trimmed = trimming::trim(&left[..left_len], &right[..right_len]);
-    judge(trimmed, sets)
+    judge(trimming::trim(l, r), sets)
 }

@@ -16,8 +16,8 @@ field-of-requires c κs = search needs
 mul-masks : tie.Need-mul-masks
 mul-masks c = search needs
 
-array-copy-out-masks : tie.Need-array-copy-out-masks
-array-copy-out-masks c = search needs
+element-copy-out-masks : tie.Need-element-copy-out-masks
+element-copy-out-masks c = search needs
 
 mul-followers : tie.Need-mul-followers
 mul-followers c = search needs
@@ -35,7 +35,7 @@ returns-2 : tie.Need-returns-2
 returns-2 c =
     let a = c .before .before .args in
     let l : length (a .t1) ≡ set-fields = search needs in
-    rw (List·getD-eq-default (a .t1) 0 {n = field-of (a .b)} (omega arith)) (sym (no-followers (getD (a .t3) (field-of (a .b)) [])))
+    rw (List·getD-eq-default (a .t1) 0 {n = field-of (a .b)} (omega arith)) (sym (no-followers (getD (a .follow .now) (field-of (a .b)) [])))
 
 pub gather-spec : {M : Type 1} → statement M
 gather-spec =
@@ -43,7 +43,7 @@ gather-spec =
     (tie.spec
     field-of-requires
     mul-masks
-    array-copy-out-masks
+    element-copy-out-masks
     mul-followers
     array-read-followers
     followers-requires

@@ -14,11 +14,11 @@ field-of-requires c κs = search needs
 mul-result : tie.Need-mul-result
 mul-result c = search needs
 
-array-copy-out-result : tie.Need-array-copy-out-result
-array-copy-out-result c = search needs
+element-copy-out-result : tie.Need-element-copy-out-result
+element-copy-out-result c = search needs
 
-array-copy-out-result-2 : tie.Need-array-copy-out-result-2
-array-copy-out-result-2 c = search needs
+element-copy-out-result-2 : tie.Need-element-copy-out-result-2
+element-copy-out-result-2 c = search needs
 
 returns : tie.Need-returns
 unfolding row-at
@@ -35,7 +35,7 @@ row-spec =
     (tie.spec
     field-of-requires
     mul-result
-    array-copy-out-result
-    array-copy-out-result-2
+    element-copy-out-result
+    element-copy-out-result-2
     returns
     returns-2)

@@ -2,7 +2,7 @@
 -- leads to the newest of the others in its bucket. Follows from the laws of `newest`.
 use Prim.Native.Nat.{ℕ, suc, _+_, _-_, _*_, _≤_, _<_}
 use native.Mathlib.Omega.{arith}
-use mathlib.Core.Path.{_≡_, refl, sym, ap, _∙_}
+use mathlib.Core.Path.{_≡_, refl, sym, ap, subst, _∙_}
 use mathlib.Core.Bool.{Bool, false}
 use mathlib.Core.List.{List, [], _∷_}
 use lib.Dec.{leb}
@@ -11,19 +11,19 @@ use Rattle.paper.specs.Lists.{any}
 use Rattle.paper.specs.Numbers.{situation-bytes}
 use Rattle.paper.proofs.base.Tests.{by-bool, true-false, not-true, leb-true, leb-false, eqb-true, eq-eqb}
 use Rattle.inner.specs.Coded.{Coded, same-coded, Short}
-use Rattle.search.specs.Buckets.{buckets, bucket, in-bucket, newest, link, older-at, newest-at, Kept, Sought, Entered-at}
+use Rattle.search.specs.Buckets.{buckets, bucket, in-bucket, newest, Leads, link, older-at, newest-at, Kept, Sought, Entered-at}
 use Rattle.search.specs.Slots.{key, Slot, slot-at, no-slot}
 use Rattle.search.specs.declared.buckets.Seen.the-variants.{Nowhere}
-use Rattle.search.proofs.buckets.Newest.{newest-le, newest-passes, newest-none}
+use Rattle.search.proofs.buckets.Newest.{newest-le, newest-passes, newest-none, newest-zero}
 use Rattle.search.proofs.slots.Situations.{same-coded-equal}
 
 none-at {ℓ} : {A : Type ℓ} (p : A → Bool) (d : A) (l : List A) → ((i : ℕ) → i < length l → p (getD l i d) ≡ false) → any p l ≡ false
 none-at p d [] h = refl
 none-at p d (x ∷ l) h = rw (h 0 (omega arith), none-at p d l (λ i k. h (suc i) (omega arith)))
 
--- the slots from `above - 1` on don't hold the situation; `next` is the link to the newest of the others in its bucket
+-- the slots from `above - 1` on don't hold the situation; `next` leads to the newest of the others in its bucket
 pub record Walked (work : List ℕ) (k : Coded) (ss : List Slot) (above next : ℕ) : Type 0 where
-  pub link-is : next ≡ newest (in-bucket (buckets work) ss (bucket (buckets work) k)) (above - 1)
+  pub leads : Leads next (in-bucket (buckets work) ss (bucket (buckets work) k)) (above - 1)
   pub none : (j : ℕ) → above ≤ j + 1 → j < length ss → same-coded (slot-at ss j .at) k ≡ false
 
 module _ {work bytes : List ℕ} {n first : ℕ} {k : Coded} {ss : List Slot} (q : Sought work bytes n first k ss) where
@@ -32,8 +32,8 @@ module _ {work bytes : List ℕ} {n first : ℕ} {k : Coded} {ss : List Slot} (q
 
   pub walk-begins : Walked work k ss (n + 1) first
   walk-begins =
-      let e : n + 1 - 1 ≡ n = omega arith in
-      record { link-is = q .begins ∙ ap (newest test) (sym e); none = λ j h b. absurd (omega (arith, q .many)) }
+      let e : n ≡ n + 1 - 1 = omega arith in
+      record { leads = subst (Leads first test) e (q .begins); none = λ j h b. absurd (omega (arith, q .many)) }
 
   other-bucket : (j : ℕ) → test j ≡ false → same-coded (slot-at ss j .at) k ≡ false
   other-bucket j e =
@@ -44,35 +44,47 @@ module _ {work bytes : List ℕ} {n first : ℕ} {k : Coded} {ss : List Slot} (q
       e)
 
   module _ {above next : ℕ} (w : Walked work k ss above next) where
-    pub walk-within : 0 < above → next < above
-    walk-within h = omega (arith, w .link-is, newest-le test (above - 1))
-
-    -- from the slot that the link leads to, one more than the newest of the rest
-    passed-over : (j : ℕ) → next ≤ j → j < length ss → same-coded (slot-at ss j .at) k ≡ false
+    -- no slot from the newest of its bucket on holds the situation
+    passed-over : (j : ℕ) → newest test (above - 1) ≤ j → j < length ss → same-coded (slot-at ss j .at) k ≡ false
     passed-over j h b =
         by-bool (leb above (j + 1)) (λ t. w .none j (leb-true above (j + 1) t) b)
         (λ t.
         let c : j < above - 1 = omega (arith, leb-false above (j + 1) t) in
-        let d : newest test (above - 1) ≤ j = rw (w .link-is) at h in
-        other-bucket j (newest-none test (above - 1) j d c))
+        other-bucket j (newest-none test (above - 1) j h c))
 
-    pub walk-ends : next ≡ 0 → Entered-at ss k Nowhere
-    walk-ends e =
+    -- the link is 0, or one that is not followed: its bucket has no older slot
+    pub walk-ends : (next < above → next ≡ 0) → 0 < above → Entered-at ss k Nowhere
+    walk-ends e a =
+        let z : newest test (above - 1) ≡ 0 =
+        by-bool (leb (newest test (above - 1)) 0) (λ t. omega (arith, leb-true (newest test (above - 1)) 0 t))
+        (λ t.
+        let some : 0 < newest test (above - 1) = omega (arith, leb-false (newest test (above - 1)) 0 t) in
+        let f : next ≡ newest test (above - 1) = w .leads some in
+        omega (arith, f, e (omega (arith, f, newest-le test (above - 1))))) in
         none-at (λ (x : Slot). same-coded (x .at) k) no-slot ss (λ (i : ℕ) (b : i < length ss). passed-over i (omega arith) b)
 
-    pub walk-goes-on : (i next′ : ℕ) → next ≡ suc i → i < n → same-coded (slot-at ss i .at) k ≡ false → next′ ≡ link work (situation-bytes * i + older-at) → Walked work k ss next next′
-    walk-goes-on i next′ e b s l =
+    pub walk-goes-on : (i next′ : ℕ) → next ≡ suc i → next < above → i < n → same-coded (slot-at ss i .at) k ≡ false → next′ ≡ link work (situation-bytes * i + older-at) → Walked work k ss next next′
+    walk-goes-on i next′ e a b s l =
         let c : i < length ss = omega (arith, q .many) in
-        let in-it : bucket (buckets work) (slot-at ss i .at) ≡ bucket (buckets work) k =
-        eqb-true (bucket (buckets work) (slot-at ss i .at)) (bucket (buckets work) k) (newest-passes test (above - 1) i (sym (w .link-is) ∙ e)) in
         let m : i ≡ next - 1 = omega arith in
+        let goes : (newest test (above - 1) ≤ next) × Leads next′ test i =
+        by-bool (leb (newest test (above - 1)) 0)
+        (λ t.
+        let z : newest test (above - 1) ≡ 0 = omega (arith, leb-true (newest test (above - 1)) 0 t) in
+        let y : newest test i ≡ 0 = newest-zero test i (λ (j : ℕ) (d : j < i). newest-none test (above - 1) j (omega arith) (omega arith)) in
+        (omega arith, λ (some : 0 < newest test i). absurd (omega arith)))
+        (λ t.
+        let some : 0 < newest test (above - 1) = omega (arith, leb-false (newest test (above - 1)) 0 t) in
+        let f : next ≡ newest test (above - 1) = w .leads some in
+        let in-it : bucket (buckets work) (slot-at ss i .at) ≡ bucket (buckets work) k =
+        eqb-true (bucket (buckets work) (slot-at ss i .at)) (bucket (buckets work) k) (newest-passes test (above - 1) i (sym f ∙ e)) in
+        let there : Leads (link work (situation-bytes * i + older-at)) test i =
+        subst (λ (x : ℕ). Leads (link work (situation-bytes * i + older-at)) (in-bucket (buckets work) ss x) i) in-it (q .kept .linked .older i c) in
+        (omega arith, λ (older : 0 < newest test i). l ∙ there older)) in
         record {
-          link-is = l
-              ∙ q .kept .linked .older i c
-              ∙ ap (λ (x : ℕ). newest (in-bucket (buckets work) ss x) i) in-it
-              ∙ ap (newest test) m;
+          leads = subst (Leads next′ test) m (goes .1);
           none = λ j h d.
-              by-bool (leb next j) (λ t. passed-over j (leb-true next j t) d)
+              by-bool (leb next j) (λ t. passed-over j (omega (arith, goes .0, leb-true next j t)) d)
               (λ t.
               let f : i ≡ j = omega (arith, leb-false next j t) in
               rw (← f) s);
@@ -88,8 +100,7 @@ sought {work} {ss} h k its n b first e g short many room first-is =
       short = short;
       kept = h;
       many = many;
-      begins = first-is
-          ∙ h .linked .newest-of b (omega arith)
-          ∙ ap (newest (in-bucket (buckets work) ss b)) many
-          ∙ ap (λ (c : ℕ). newest (in-bucket (buckets work) ss c) n) g;
+      begins = subst (λ (c : ℕ). Leads first (in-bucket (buckets work) ss c) n) g
+          (subst (Leads first (in-bucket (buckets work) ss b)) many
+          (subst (λ (x : ℕ). Leads x (in-bucket (buckets work) ss b) (length ss)) (sym first-is) (h .linked .newest-of b (omega arith))));
     }

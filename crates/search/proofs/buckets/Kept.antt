@@ -1,38 +1,35 @@
--- The buffer with its slots and their links: it has none when it is cleared, and one more when one is written and linked into its bucket.
+-- The buffer with its slots and their links: it has none at first, and one more when one is written and linked into its bucket.
 -- Follows from what writing leaves as it was, and from the laws of `newest`.
 use Prim.Native.Nat.{ℕ, suc, _+_, _-_, _*_, _/_, _≤_, _<_}
 use native.Mathlib.Omega.{arith}
-use mathlib.Core.Path.{_≡_, sym, ap, ap₂, _∙_}
+use mathlib.Core.Path.{_≡_, sym, ap, ap₂, subst, _∙_}
+use mathlib.Core.Bool.{Bool}
 use mathlib.Core.List.{List, [], _∷_, _++_}
 use lib.Dec.{eqb, ltb}
-use lib.ListN.{length, replicate, length-append, length-replicate, getD-replicate, List·getD-append}
+use lib.ListN.{length, length-append, List·getD-append}
 use lib.Seq.{getD-at}
 use borrow.Rule.Slice.PartMut.{putMid}
 use Rattle.paper.specs.Numbers.{situation-bytes}
 use Rattle.paper.proofs.base.Tests.{by-bool, ltb-true, ltb-false, eqb-true, eqb-false}
 use Rattle.inner.specs.Coded.{Coded, Short}
-use Rattle.search.specs.Buckets.{older-at, newest-at, link, newest, buckets, bucket, in-bucket, Linked, Links-put, Kept}
+use Rattle.search.specs.Buckets.{older-at, newest-at, link, newest, buckets, bucket, in-bucket, Leads, Linked, Links-put, Kept}
 use Rattle.search.specs.Slots.{Slot, slot-at, no-slot, slot-bytes, slot-part, held-bytes, origin-bytes, key, Holds}
-use Rattle.search.proofs.buckets.Links.{link-is}
 use Rattle.search.proofs.buckets.Newest.{newest-same}
 use Rattle.search.proofs.buckets.Stored.{Slot-put, slot-put, slot-kept, older-kept, newest-kept}
 use Rattle.search.proofs.slots.Seen.{holds-none}
 use Rattle.search.proofs.slots.Situations.{length-slot-bytes}
 
--- A buffer of zeros has no slots.
-pub kept-none : (n : ℕ) → Kept (replicate n 0) []
-kept-none n =
-    let no-link : (a : ℕ) → a + 1 < n → link (replicate n 0) a ≡ 0 =
-    λ a h.
-    link-is (replicate n 0) a (rw length-replicate h)
-    ∙ rw (getD-replicate {A = ℕ} n a 0 0 (omega arith), getD-replicate {A = ℕ} n (a + 1) 0 0 h) in
+-- At first the buffer has no slots, whatever its bytes are.
+pub kept-none : (work : List ℕ) → Kept work []
+kept-none work =
     record {
-      holds = holds-none n;
-      linked = record {
-        older = λ i h. absurd (omega arith);
-        newest-of = λ b h. no-link (situation-bytes * b + newest-at) (omega (arith, length-replicate {A = ℕ} n 0));
-      };
+      holds = holds-none work;
+      linked = record { older = λ i h. absurd (omega arith); newest-of = λ b h some. absurd (omega arith) };
     }
+
+-- a link that leads to the same slot as another does
+same-lead : {l m : ℕ} (p q : ℕ → Bool) (n : ℕ) → l ≡ m → newest p n ≡ newest q n → Leads m q n → Leads l p n
+same-lead p q n e f h some = e ∙ h (rw f at some) ∙ sym f
 
 module _ {work work′ : List ℕ} {ss : List Slot} (h : Kept work ss) (x : Slot) (s : Short (x .at)) {n : ℕ} (e : length ss ≡ n)
     (room : situation-bytes * (n + 1) ≤ length work) (within : bucket (buckets work) (x .at) < buckets work)
@@ -69,9 +66,11 @@ module _ {work work′ : List ℕ} {ss : List Slot} (h : Kept work ss) (x : Slot
       let d : n ≡ i = omega (arith, ltb-false i n t, one-more) in
       rw d at g)
 
+  abbrev tests : ℕ → ℕ → Bool
+  tests i = in-bucket (buckets work′) more (bucket (buckets work′) (slot-at more i .at))
+
   abbrev Links : ℕ → Type 0
-  Links i =
-      link work′ (situation-bytes * i + older-at) ≡ newest (in-bucket (buckets work′) more (bucket (buckets work′) (slot-at more i .at))) i
+  Links i = Leads (link work′ (situation-bytes * i + older-at)) (tests i) i
 
   holds-more : Holds work′ more
   holds-more =
@@ -89,27 +88,27 @@ module _ {work work′ : List ℕ} {ss : List Slot} (h : Kept work ss) (x : Slot
       record {
         older = each-slot Links
             (λ (i : ℕ) (k : i < n).
-            older-kept p i k
-            ∙ h .linked .older i (omega arith)
-            ∙ ap₂ (λ (m : ℕ) (y : Slot). newest (in-bucket (buckets work) ss (bucket m (y .at))) i) (sym as-many) (sym (before i k))
-            ∙ sym (newest-before (bucket (buckets work′) (slot-at more i .at)) i (omega arith)))
-            (p .older
-            ∙ h .linked .newest-of b (omega arith)
-            ∙ ap (newest (in-bucket (buckets work) ss b)) e
-            ∙ ap₂ (λ (m : ℕ) (y : Slot). newest (in-bucket (buckets work) ss (bucket m (y .at))) n) (sym as-many) (sym last)
-            ∙ sym (newest-before (bucket (buckets work′) (slot-at more n .at)) n (omega arith)));
+            same-lead (tests i) (in-bucket (buckets work) ss (bucket (buckets work) (slot-at ss i .at))) i (older-kept p i k)
+            (newest-before (bucket (buckets work′) (slot-at more i .at)) i (omega arith)
+            ∙ ap₂ (λ (m : ℕ) (y : Slot). newest (in-bucket (buckets work) ss (bucket m (y .at))) i) as-many (before i k))
+            (h .linked .older i (omega arith)))
+            (same-lead (tests n) (in-bucket (buckets work) ss b) n (p .older)
+            (newest-before (bucket (buckets work′) (slot-at more n .at)) n (omega arith)
+            ∙ ap₂ (λ (m : ℕ) (y : Slot). newest (in-bucket (buckets work) ss (bucket m (y .at))) n) as-many last)
+            (subst (Leads (link work (situation-bytes * b + newest-at)) (in-bucket (buckets work) ss b)) e (h .linked .newest-of b (omega arith))));
         newest-of = λ c k.
             let last-test : in-bucket (buckets work′) more c n ≡ eqb b c = ap₂ (λ (m : ℕ) (y : Slot). eqb (bucket m (y .at)) c) as-many last in
             by-bool (eqb b c)
             (λ t.
             let f : b ≡ c = eqb-true b c t in
-            rw (one-more, last-test, t, ← f) (p .newest-is ∙ omega arith))
+            rw (one-more, last-test, t, ← f) (λ some. p .newest-is ∙ omega arith))
             (λ t.
             rw (one-more, last-test, t)
-            (newest-kept p c (λ (d : c ≡ b). eqb-false b c t (sym d))
-            ∙ h .linked .newest-of c (omega (arith, p .same-length))
-            ∙ ap (newest (in-bucket (buckets work) ss c)) e
-            ∙ sym (newest-before c n (omega arith))));
+            (same-lead (in-bucket (buckets work′) more c) (in-bucket (buckets work) ss c) n
+            (newest-kept p c (λ (d : c ≡ b). eqb-false b c t (sym d)))
+            (newest-before c n (omega arith))
+            (subst (Leads (link work (situation-bytes * c + newest-at)) (in-bucket (buckets work) ss c)) e
+            (h .linked .newest-of c (omega (arith, p .same-length))))));
       }
 
   kept-more : Kept work′ more

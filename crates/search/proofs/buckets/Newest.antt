@@ -1,5 +1,5 @@
--- Laws of the newest of the numbers below n that pass a test: it is at most n, it passes, those from it on don't, and it depends on the
--- test below n alone. Follows from the definition by induction on n.
+-- Laws of the newest of the numbers below n that pass a test: it is at most n, it passes, those from it on don't, there is none where none
+-- passes, and it depends on the test below n alone. Follows from the definition by induction on n.
 use Prim.Native.Nat.{ℕ, zero, suc, _≤_, _<_}
 use native.Mathlib.Omega.{arith}
 use mathlib.Core.Path.{_≡_, refl}
@@ -35,6 +35,10 @@ module _ (p : ℕ → Bool) where
       (λ b.
       let g : n ≡ j = omega (arith, ltb-false j n b) in
       rw (← g) t))
+
+  pub newest-zero : (n : ℕ) → ((j : ℕ) → j < n → p j ≡ false) → newest p n ≡ 0
+  newest-zero zero h = refl
+  newest-zero (suc n) h = rw (h n (omega arith)) (newest-zero n (λ j k. h j (omega arith)))
 
 pub newest-same : (p q : ℕ → Bool) (n : ℕ) → ((j : ℕ) → j < n → p j ≡ q j) → newest p n ≡ newest q n
 newest-same p q zero h = refl

@@ -35,9 +35,9 @@ short c =
 -- the search in the lent buffer is over
 abbrev is-over : (c : tie.After-search) → Over (c .search .last .0) (c .search .result)
 is-over c =
-    let p = c .before .before .before .before .before .before in
-    over (tables (p .args .follow) (p .args .taking) (p .args .last)) (c .before .before .room-for .result) (first p)
-    (c .search .ensures .lent (first p) (c .before .before .before .question .ensures) (short p))
+    let p = c .before .before .before .before .before .before .before .before in
+    over (tables (p .args .t3) (p .args .t4) (p .args .last)) (c .before .before .before .before .room-for .result) (first p)
+    (c .search .ensures .lent (first p) (c .before .before .before .before .before .question .ensures) (short p))
 
 conclude-requires : tie.Need-conclude-requires
 conclude-requires c κs = is-over (c .before .before .before .before .before)
@@ -55,10 +55,10 @@ returns : tie.Need-returns
 returns c =
     let f = c .before .before .before .before .before .before in
     let s = f .before .before .before .before .before .before in
-    let p = s .before .before .before .before .before .before in
-    let q = s .before .before .before .question in
-    let e = ended (tables (p .args .follow) (p .args .taking) (p .args .last)) (s .before .before .room-for .result) (first p) (q .result) (q .ensures) (f .conclude .ensures (is-over s)) in
-    let n = s .before .before .room-for .ensures in (
+    let p = s .before .before .before .before .before .before .before .before in
+    let q = s .before .before .before .before .before .question in
+    let e = ended (tables (p .args .t3) (p .args .t4) (p .args .last)) (s .before .before .before .before .room-for .result) (first p) (q .result) (q .ensures) (f .conclude .ensures (is-over s)) in
+    let n = s .before .before .before .before .room-for .ensures in (
       rw n at (e .0),
       (rw n at (e .1), c .before .before .clear .ensures ∙ ap (λ n. replicate n 0) (s .search .kept .0)),
     )

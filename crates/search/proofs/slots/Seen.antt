@@ -6,7 +6,7 @@ use native.Mathlib.Nat.{add-zero}
 use mathlib.Core.Path.{_≡_, refl, sym, ap, _∙_}
 use mathlib.Core.List.{List, [], _∷_}
 use lib.Dec.{eqb}
-use lib.ListN.{length, getD, take, drop, replicate}
+use lib.ListN.{length, getD, take, drop}
 use lib.Seq.{getD-take, getD-drop, take-take}
 use Rattle.paper.specs.Lists.{same-by}
 use Rattle.paper.specs.Numbers.{longest-side, situation-bytes}
@@ -18,9 +18,9 @@ use Rattle.search.proofs.numbers.Bytes.{number-back}
 use Rattle.search.proofs.slots.Parts.{part-of-part}
 use Rattle.search.proofs.slots.Situations.{left-read, right-read, key-read, origin-read, keys-compared}
 
--- A buffer of zeros holds no slots.
-pub holds-none : (n : ℕ) → Holds (replicate n 0) []
-holds-none n =
+-- At first a buffer holds no slots.
+pub holds-none : (work : List ℕ) → Holds work []
+holds-none work =
     record {
       fits = omega arith;
       holds = λ i h. absurd (omega arith);

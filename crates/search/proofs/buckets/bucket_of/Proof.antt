@@ -11,9 +11,6 @@ use Rattle.search.proofs.buckets.bucket_of.Tie as tie
 hash-requires : tie.Need-hash-requires
 hash-requires c κs = search needs
 
-cast-result : tie.Need-cast-result
-cast-result c = search needs
-
 rem-result : tie.Need-rem-result
 rem-result c = search needs
 
@@ -24,4 +21,4 @@ returns c =
     (mod-lt (c .hash .result) some, ap (λ (h : ℕ). h % (bytes / situation-bytes)) (c .hash .ensures))
 
 pub bucket-of-spec : {M : Type 1} → statement M
-bucket-of-spec = tie.close (tie.spec hash-requires cast-result rem-result returns)
+bucket-of-spec = tie.close (tie.spec hash-requires rem-result returns)

@@ -13,7 +13,7 @@ use Rattle.paper.specs.Numbers.{situation-bytes}
 use Rattle.inner.specs.Coded.{Coded, same-coded}
 use Rattle.search.specs.Buckets.{Sought}
 use Rattle.search.specs.Slots.{Slot, slot-at, key-bytes, key}
-use Rattle.search.proofs.buckets.Chained.{Walked, walk-begins, walk-within, walk-ends, walk-goes-on}
+use Rattle.search.proofs.buckets.Chained.{Walked, walk-begins, walk-ends, walk-goes-on}
 use Rattle.search.proofs.slots.Seen.{slot-is}
 use Rattle.search.proofs.slots.Situations.{short-key}
 use borrow.Author.Needs.{needs}
@@ -43,7 +43,9 @@ loop-holds : tie.Need-loop-holds Inv-loop μ-loop
 loop-holds c = (omega arith, omega arith, λ k ss q. walk-begins q)
 
 returns : tie.Need-returns Inv-loop μ-loop
-returns c k ss q = walk-ends q (c .before .before .loop .inv .2 k ss q) (c .if1 .taken)
+returns c k ss q =
+    let at = c .before .before in
+    walk-ends q (at .loop .inv .2 k ss q) (λ _. c .if1 .taken) (at .loop .inv .1)
 
 sub-i : tie.Need-sub-i Inv-loop μ-loop
 sub-i c = search needs
@@ -100,14 +102,14 @@ loop-again c =
     let b : i < args .n = omega (arith, at .loop .inv .0) in (
       omega arith,
       omega arith,
-      λ k ss q. walk-goes-on q (at .loop .inv .2 k ss q) i (c .number-at .result) (omega arith) b
+      λ k ss q. walk-goes-on q (at .loop .inv .2 k ss q) i (c .number-at .result) (omega arith) (omega arith) b
           (slot-met i (c .before .before .same .result) q b (c .before .before .same .ensures) ∙ c .before .if2 .left) (c .number-at .ensures),
     )
 
 returns-3 : tie.Need-returns-3 Inv-loop μ-loop
 returns-3 c k ss q =
     let at = c .before in
-    absurd (omega (arith, walk-within q (at .loop .inv .2 k ss q) (at .loop .inv .1)))
+    walk-ends q (at .loop .inv .2 k ss q) (λ (b : at .loop .next < at .loop .above). absurd (omega arith)) (at .loop .inv .1)
 
 pub entered-spec : {M : Type 1} → statement M
 entered-spec =

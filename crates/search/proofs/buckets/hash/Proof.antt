@@ -1,66 +1,86 @@
--- `hash` is the hash of a key. Follows from `hash-parts`.
-use Rattle.search.proofs.buckets.Hashed.{hash-parts}
+-- `hash` is the hash of a key. The loop's invariant: the hash so far, gone on with over the words that are left, is that over all.
+-- Follows from `word-next` and `words-done`.
+use Prim.Native.Nat.{_≤_, _-_}
+use native.Mathlib.Omega.{arith}
+use mathlib.Core.Path.{_≡_, refl, _∙_}
+use Rattle.search.specs.Buckets.{key-words}
+use Rattle.search.proofs.buckets.Hashed.{hash-left, word-next, words-done}
 use borrow.Author.Needs.{needs}
 use Rattle.search.proofs.buckets.hash.Statement.{statement}
 use Rattle.search.proofs.buckets.hash.Tie as tie
 
-sub-hash-side : tie.Need-sub-hash-side
-sub-hash-side c = search needs
+abbrev Inv-loop : tie.InvT-loop
+Inv-loop key h₀ i₀ h i = (i ≤ key-words) × (hash-left 0 0 key ≡ hash-left i h key)
 
-part-hash-side-start : tie.Need-part-hash-side-start
-part-hash-side-start c = search needs
+abbrev μ-loop : tie.MeasureT-loop
+μ-loop key h₀ i₀ h i = key-words - i
 
-part-hash-side-end : tie.Need-part-hash-side-end
-part-hash-side-end c = search needs
+loop-holds : tie.Need-loop-holds Inv-loop μ-loop
+loop-holds c = (search needs, refl)
 
-hash-side-requires : tie.Need-hash-side-requires
-hash-side-requires c κs = search needs
+mul-number : tie.Need-mul-number Inv-loop μ-loop
+mul-number c = search needs
 
-sub-hash-side-2 : tie.Need-sub-hash-side-2
-sub-hash-side-2 c = search needs
+mul-number-2 : tie.Need-mul-number-2 Inv-loop μ-loop
+mul-number-2 c = search needs
 
-part-hash-side-start-2 : tie.Need-part-hash-side-start-2
-part-hash-side-start-2 c = search needs
+add-number : tie.Need-add-number Inv-loop μ-loop
+add-number c = search needs
 
-part-hash-side-end-2 : tie.Need-part-hash-side-end-2
-part-hash-side-end-2 c = search needs
+sub-number : tie.Need-sub-number Inv-loop μ-loop
+sub-number c = search needs
 
-hash-side-requires-2 : tie.Need-hash-side-requires-2
-hash-side-requires-2 c κs = search needs
+part-number-start : tie.Need-part-number-start Inv-loop μ-loop
+part-number-start c = search needs
 
-sub-hash-from : tie.Need-sub-hash-from
-sub-hash-from c = search needs
+part-number-end : tie.Need-part-number-end Inv-loop μ-loop
+part-number-end c = search needs
 
-part-hash-from-start : tie.Need-part-hash-from-start
-part-hash-from-start c = search needs
+number-requires : tie.Need-number-requires Inv-loop μ-loop
+number-requires c κs = search needs
 
-part-hash-from-end : tie.Need-part-hash-from-end
-part-hash-from-end c = search needs
+mixed-requires : tie.Need-mixed-requires Inv-loop μ-loop
+mixed-requires c κs = search needs
 
-hash-from-requires : tie.Need-hash-from-requires
-hash-from-requires c κs = search needs
+add-i : tie.Need-add-i Inv-loop μ-loop
+add-i c = search needs
 
-returns : tie.Need-returns
+loop-less : tie.Need-loop-less Inv-loop μ-loop
+loop-less c = search needs
+
+loop-again : tie.Need-loop-again Inv-loop μ-loop
+loop-again c =
+    let at = c .before .before .before .before in (
+      search needs,
+      at .loop .inv .1
+          ∙ word-next (at .before .before .args .key .now) (at .loop .i) (at .loop .h) (c .before .number .result) (c .mixed .result) (omega arith) (c .before .number .ensures) (c .mixed .ensures),
+    )
+
+mixed-requires-2 : tie.Need-mixed-requires-2 Inv-loop μ-loop
+mixed-requires-2 c κs = search needs
+
+returns : tie.Need-returns Inv-loop μ-loop
 returns c =
-    let right = c .before .before in
-    let left = right .before .before in
-    hash-parts (left .before .before .before .args .key .now) (left .hash-side .result) (right .hash-side2 .result) (c .hash-from .result)
-    (left .hash-side .ensures .1) (right .hash-side2 .ensures .1) (c .hash-from .ensures .1)
+    let at = c .before .before in
+    words-done (at .before .before .args .key .now) (at .loop .i) (at .loop .h) (c .mixed2 .result) (omega arith) (at .loop .inv .1) (c .mixed2 .ensures)
 
 pub hash-spec : {M : Type 1} → statement M
 hash-spec =
     tie.close
     (tie.spec
-    sub-hash-side
-    part-hash-side-start
-    part-hash-side-end
-    hash-side-requires
-    sub-hash-side-2
-    part-hash-side-start-2
-    part-hash-side-end-2
-    hash-side-requires-2
-    sub-hash-from
-    part-hash-from-start
-    part-hash-from-end
-    hash-from-requires
+    Inv-loop
+    μ-loop
+    loop-holds
+    mul-number
+    mul-number-2
+    add-number
+    sub-number
+    part-number-start
+    part-number-end
+    number-requires
+    mixed-requires
+    add-i
+    loop-less
+    loop-again
+    mixed-requires-2
     returns)

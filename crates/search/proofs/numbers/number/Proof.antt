@@ -18,14 +18,14 @@ abbrev μ-loop : tie.MeasureT-loop
 μ-loop from r₀ i₀ r i = i
 
 -- there is room for one byte more
-fits : (c : tie.In-loop Inv-loop μ-loop) → c .before .loop .r < 256 ^ 6
+fits : (c : tie.In-loop Inv-loop μ-loop) → c .before .loop .r < 256 ^ 7
 fits c =
     let at = c .before in
     let from = at .before .before .args .from .now in
-    let h : length (drop (at .loop .i) from) ≤ 6 = rw length-drop (omega arith) in
+    let h : length (drop (at .loop .i) from) ≤ 7 = rw length-drop (omega arith) in
     let byte : (j : ℕ) → getD (drop (at .loop .i) from) j 0 < 256 =
     λ j. rw (getD-drop (at .loop .i) from j 0) (omega (arith, at .before .shared-slice-known .given (at .loop .i + j))) in
-    omega (arith, number-fits 6 (drop (at .loop .i) from) byte h)
+    omega (arith, number-fits 7 (drop (at .loop .i) from) byte h)
 
 loop-holds : tie.Need-loop-holds Inv-loop μ-loop
 loop-holds c = (search needs, rw (drop-length (c .before .args .from .now)))

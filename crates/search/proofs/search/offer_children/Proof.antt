@@ -71,7 +71,7 @@ returns c =
           let lent-one = n .offer .ensures .lent R x t left-child (λ u f. left-strike-short (a .last) h f) in
           let lent-two = o .offer2 .ensures .lent one y lent-one right-child (λ u f. right-strike-short (a .last) h f) in
           subst (Lent (q .offer-puts .last .0) (q .offer-puts .result))
-          (children-offered h e (tables (a .follow) (a .taking) (a .last)) (a .room) (a .parent) R _ _
+          (children-offered h e (tables (a .follow .now) (a .taking .now) (a .last)) (a .room) (a .parent) R _ _
           (g .before .before .front-with .ensures) (g .front-with2 .ensures))
           (q .offer-puts .ensures .lent two k lent-two e h);
     }

@@ -29,34 +29,31 @@ abbrev μ-loop : tie.MeasureT-loop
 
 abbrev tables-at : tie.At-loop Inv-loop μ-loop → Tables
 tables-at c =
-    let a = c .before .before .before .before .before .before .before .before .before .before .args in
-    tables (a .follow) (a .taking) (a .last)
+    let a = c .before .before .before .before .before .before .args in
+    tables (a .follow .now) (a .taking .now) (a .last)
 
 -- at the loop's head: the search that began with k
 standing : (c : tie.At-loop Inv-loop μ-loop) →
-    let a = c .before .before .before .before .before .before .before .before .before .before .args in
+    let a = c .before .before .before .before .before .before .args in
     (k : Coded) → a .first ≡ as-struct k → Short k →
     Standing (tables-at c) (a .room) (enter-slot (a .room) [] (record { at = k; parent = 0; step = 0 }))
     (c .loop .work) (c .loop .run) (c .loop .k)
 standing c k e h =
     let n = c .before .before .before in
-    let a = n .before .before .before .before .before .before .before .args in
+    let a = n .before .before .before .args in
     c .loop .inv .3 (enter-slot (a .room) [] (record { at = k; parent = 0; step = 0 }))
-    (n .enter-first .ensures .lent k [] e h (rw (n .before .before .before .before .clear .ensures) (kept-none (length (a .work .now)))) refl)
+    (n .enter-first .ensures .lent k [] e h (kept-none (a .work .now)) refl)
 
 going : (c : tie.Else1 Inv-loop μ-loop) → is-going (c .before .before .loop .run .status) ≡ true
 going c = sym (c .before .is-going .ensures) ∙ not-is-false (c .if1 .left)
-
-clear-requires : tie.Need-clear-requires Inv-loop μ-loop
-clear-requires c κs = search needs
 
 enter-first-requires : tie.Need-enter-first-requires Inv-loop μ-loop
 enter-first-requires c κs = search needs
 
 loop-holds : tie.Need-loop-holds Inv-loop μ-loop
 loop-holds c =
-    let a = c .before .before .before .before .before .before .before .before .before .args in
-    (zero-le, c .before .before .enter-first .ensures .within, refl, λ R l. begun (tables (a .follow) (a .taking) (a .last)) (a .room) l)
+    let a = c .before .before .before .before .before .args in
+    (zero-le, c .before .before .enter-first .ensures .within, refl, λ R l. begun (tables (a .follow .now) (a .taking .now) (a .last)) (a .room) l)
 
 is-going-requires : tie.Need-is-going-requires Inv-loop μ-loop
 is-going-requires c κs = search needs
@@ -64,26 +61,26 @@ is-going-requires c κs = search needs
 same-length : tie.Need-same-length Inv-loop μ-loop
 same-length c =
     let n = c .before .before .before .before .before in
-    c .before .before .loop .inv .2 ∙ n .enter-first .kept .0 ∙ n .before .before .before .before .clear .kept .0
+    c .before .before .loop .inv .2 ∙ n .enter-first .kept .0
 
 returns : tie.Need-returns Inv-loop μ-loop
 unfolding slot-search
 returns c =
     let j = c .before .before in
     let g : is-going (j .loop .run .status) ≡ false = sym (c .before .is-going .ensures) ∙ not-is-true (c .if1 .taken) in
-    let room = j .before .before .before .before .before .before .before .before .before .before .args .room in
+    let room = j .before .before .before .before .before .before .args .room in
     record { within = j .loop .inv .1; over = g; lent = λ k e h. ended (tables-at j) room (standing j k e h) g }
 
 same-length-2 : tie.Need-same-length-2 Inv-loop μ-loop
 same-length-2 c =
     let n = c .before .before .before .before .before .before in
-    c .before .before .before .loop .inv .2 ∙ n .enter-first .kept .0 ∙ n .before .before .before .before .clear .kept .0
+    c .before .before .before .loop .inv .2 ∙ n .enter-first .kept .0
 
 returns-2 : tie.Need-returns-2 Inv-loop μ-loop
 unfolding slot-search
 returns-2 c =
     let j = c .before .before .before in
-    let room = j .before .before .before .before .before .before .before .before .before .before .args .room in
+    let room = j .before .before .before .before .before .before .args .room in
     record {
       within = j .loop .inv .1;
       over = refl;
@@ -93,9 +90,9 @@ returns-2 c =
 take-requires : tie.Need-take-requires Inv-loop μ-loop
 take-requires c κs =
     let j = c .before .before .before .before in
-    let p = j .before .before .before .before .before .before .before .before .before .before in
+    let p = j .before .before .before .before .before .before in
     let e = j .before .before .before in
-    let n = e .enter-first .kept .0 ∙ e .before .before .before .before .clear .kept .0 in (
+    let n = e .enter-first .kept .0 in (
       record {
         fits = omega (arith, p .pre .0, j .loop .inv .2, n);
         most = p .pre .1;
@@ -116,7 +113,7 @@ loop-again c =
     let t = c .before .before in
     let d = t .before .before in
     let j = d .before .before .before in
-    let room = j .before .before .before .before .before .before .before .before .before .before .args .room in
+    let room = j .before .before .before .before .before .before .args .room in
     let i = j .loop .k in
     let b : i < room = omega (arith, j .loop .inv .1, d .if2 .left) in (
       omega arith,
@@ -133,7 +130,6 @@ search-spec =
     (tie.spec
     Inv-loop
     μ-loop
-    clear-requires
     enter-first-requires
     loop-holds
     is-going-requires

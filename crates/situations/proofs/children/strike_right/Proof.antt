@@ -20,11 +20,11 @@ returns : tie.Need-returns
 unfolding right-strike
 returns c =
     let r = c .before .before in
-    let l = r .before in
-    let a = l .before .before .before .before .args in
+    let l = r .before .before .before .before in
+    let a = l .before .before .before .before .before .args in
     let x = l .front-in .result in
     let y = r .front-in2 .result in
-    rw (sym (l .front-in .ensures), sym (r .front-in2 .ensures), eq-eqb y x (c .before .if1 .taken), right-false (may-end-at (a .s .sets) (a .last) y) false refl)
+    rw (sym (l .front-in .ensures), sym (r .front-in2 .ensures), eq-eqb y x (c .before .if1 .taken), right-false (may-end-at (a .t1 .sets) (a .last) y) false refl)
     (c .unmade .ensures)
 
 may-end-requires : tie.Need-may-end-requires
@@ -38,7 +38,7 @@ unfolding right-strike
 returns-2 c =
     let m = c .before .before in
     let r = m .before .before in
-    let l = r .before in
+    let l = r .before .before .before .before in
     rw (sym (l .front-in .ensures), sym (r .front-in2 .ensures), neq-eqb (r .front-in2 .result) (l .front-in .result) (m .before .if1 .left), sym (m .may-end .ensures) ∙ c .before .if2 .taken)
     (c .strike .ensures)
 

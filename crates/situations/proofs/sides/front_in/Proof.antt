@@ -1,21 +1,18 @@
 -- `sides::front_in` meets its contract: the first byte is the front.
 use native.Mathlib.Omega.{arith}
-use mathlib.Core.Path.{_≡_, sym}
-use lib.ListN.{length}
+use mathlib.Core.Path.{sym}
 use borrow.Author.Needs.{needs}
-use Rattle.paper.specs.Numbers.{longest-side}
 use Rattle.inner.proofs.Tokens.{tokens-front}
 use Rattle.situations.proofs.sides.front_in.Statement.{statement}
 use Rattle.situations.proofs.sides.front_in.Tie as tie
 
-array-read-result : tie.Need-array-read-result
-array-read-result c = search needs
+shared-slice-read-result : tie.Need-shared-slice-read-result
+shared-slice-read-result c = search needs
 
 returns : tie.Need-returns
 returns c =
-    let side = c .args .t1 in
-    let e : length side ≡ longest-side = search needs in
-    sym (tokens-front side 0 (omega arith))
+    let start = c .before in
+    sym (tokens-front (start .args .side .now) 0 (omega (arith, start .pre)))
 
 pub front-in-spec : {M : Type 1} → statement M
-front-in-spec = tie.close (tie.spec array-read-result returns)
+front-in-spec = tie.close (tie.spec shared-slice-read-result returns)

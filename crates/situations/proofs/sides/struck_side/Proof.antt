@@ -1,42 +1,65 @@
 -- `sides::struck_side` meets its contract. The loop's invariant: what striking leaves of the first `i` tokens is written.
-use Prim.Native.Nat.{_≤_, _-_}
+use Prim.Native.Nat.{_+_, _≤_, _-_}
 use native.Mathlib.Omega.{arith}
 use mathlib.Core.Path.{_≡_}
 use mathlib.Core.Bool.{not}
 use mathlib.Core.Logic.{⊎-elim}
 use lib.Dec.{eqb}
-use lib.ListN.{length, take, getD}
+use lib.ListN.{length, take, drop, getD}
 use borrow.Author.Needs.{needs}
 use Rattle.paper.specs.Numbers.{longest-side}
 use Rattle.paper.proofs.base.Tests.{eq-eqb, neq-eqb, true-not, false-not}
+use Rattle.inner.specs.Inner.{no-token, tokens}
+use Rattle.inner.proofs.Tokens.{tokens-more, tokens-end, tokens-none}
 use Rattle.situations.specs.Children.{strike-codes}
 use Rattle.inner.specs.InFront.{In-front}
-use Rattle.situations.specs.Laid.{widest-side}
+use Rattle.situations.specs.Laid.{Has}
 use Rattle.inner.proofs.InFront.{in-front-none, in-front-taken, in-front-left, in-front-part}
-use Rattle.situations.proofs.Turns.{strike-more}
+use Rattle.situations.proofs.Turns.{strike-more, all-passed}
 use Rattle.situations.proofs.sides.struck_side.Statement.{statement}
 use Rattle.situations.proofs.sides.struck_side.Tie as tie
 
 abbrev Inv-loop : tie.InvT-loop
-Inv-loop b side len bytes₀ n₀ i₀ bytes n i = (i ≤ len) × (n ≤ i) × In-front bytes₀ bytes n (strike-codes b (take i side))
+Inv-loop bytes₀ side b n₀ i₀ bytes n i =
+    (i ≤ longest-side)
+    × (n ≤ i)
+    × In-front bytes₀ bytes n (strike-codes b (take i side))
+    × (length (tokens side) ≡ i + length (tokens (drop i side)))
 
 abbrev μ-loop : tie.MeasureT-loop
-μ-loop b side len bytes₀ n₀ i₀ bytes n i = len - i
+μ-loop bytes₀ side b n₀ i₀ bytes n i = longest-side - i
 
-length-of-requires : tie.Need-length-of-requires Inv-loop μ-loop
-length-of-requires c κs = search needs
-
-no-wide-side-requires : tie.Need-no-wide-side-requires Inv-loop μ-loop
-no-wide-side-requires c κs = search needs
+-- where the tokens are passed
+passed : (c : tie.At-loop Inv-loop μ-loop) →
+    let a = c .before .args in
+    let l = c .loop in
+    length (tokens (drop (l .i) (a .side .now))) ≡ 0 → Has (l .bytes) (l .n) (strike-codes (a .b) (tokens (a .side .now)))
+passed c z =
+    let a = c .before .args in
+    let l = c .loop in
+    let all : take (l .i) (a .side .now) ≡ tokens (a .side .now) = all-passed (a .side .now) (l .i) (l .inv .3) z in
+    record { few = omega (arith, l .inv .0, l .inv .1); has = rw all at (in-front-part (l .inv .2)) }
 
 loop-holds : tie.Need-loop-holds Inv-loop μ-loop
-loop-holds c = (omega arith, omega arith, in-front-none (c .no-wide-side .result))
+loop-holds c = (omega arith, omega arith, in-front-none (c .args .bytes .now), omega arith)
 
-array-read-x : tie.Need-array-read-x Inv-loop μ-loop
-array-read-x c = search needs
+shared-slice-read-x : tie.Need-shared-slice-read-x Inv-loop μ-loop
+shared-slice-read-x c = search needs
 
-array-write-bytes : tie.Need-array-write-bytes Inv-loop μ-loop
-array-write-bytes c = omega arith
+same-length : tie.Need-same-length Inv-loop μ-loop
+same-length c = c .before .before .before .loop .inv .2 .same-length
+
+returns : tie.Need-returns Inv-loop μ-loop
+returns c =
+    let d = c .before .before .before in
+    let start = d .before in
+    let side = start .args .side .now in
+    passed d (tokens-end side (d .loop .i) (omega (arith, start .pre .1)) (eq-eqb (getD side (d .loop .i) 0) no-token (c .if1 .taken)))
+
+slice-write-bytes : tie.Need-slice-write-bytes Inv-loop μ-loop
+slice-write-bytes c =
+    let d = c .before .before .before .before in
+    omega (arith, d .loop .inv .2 .same-length, d .before .pre .0)
 
 add-n : tie.Need-add-n Inv-loop μ-loop
 add-n c = omega arith
@@ -49,25 +72,32 @@ loop-less c = omega arith
 
 loop-again : tie.Need-loop-again Inv-loop μ-loop
 loop-again c =
-    let d = c .before .before .before in
-    let a = d .before .before .args in
-    let l = c .before .before .loop in
-    let x = getD (a .t1) (l .i) 0 in
-    let t = not (eqb x (a .b)) in
-    let side : length (a .t1) ≡ longest-side = search needs in
-    let room : length (d .no-wide-side .result) ≡ widest-side = search needs in
-    rw (strike-more (a .t1) (l .i) (omega arith) (a .b))
+    let k = c .before in
+    let d = k .before .before .before in
+    let l = d .loop in
+    let b = d .before .args .b in
+    let start = d .before in
+    let side = start .args .side .now in
+    let x = getD side (l .i) 0 in
+    let t = not (eqb x b) in
+    let few = start .pre in
+    let more : length (tokens side) ≡ l .i + 1 + length (tokens (drop (l .i + 1) side)) =
+    omega (arith, l .inv .3, tokens-more side (l .i) (omega arith) (neq-eqb x no-token (k .if1 .left))) in
+    rw (strike-more side (l .i) (omega arith) b)
     (⊎-elim
-    (λ w. (omega arith, omega arith, in-front-taken (l .inv .2) (omega arith) t x (false-not (neq-eqb x (a .b) (w .0 .taken))) (w .1) (w .2)))
-    (λ w. (omega arith, omega arith, in-front-left (l .inv .2) t x (true-not (eq-eqb x (a .b) (w .0 .left))) (w .1) (w .2)))
-    (c .if1 .came))
+    (λ w. (omega arith, omega arith, in-front-taken (l .inv .2) (omega arith) t x (false-not (neq-eqb x b (w .0 .taken))) (w .1) (w .2), more))
+    (λ w. (omega arith, omega arith, in-front-left (l .inv .2) t x (true-not (eq-eqb x b (w .0 .left))) (w .1) (w .2), more))
+    (c .if2 .came))
 
-returns : tie.Need-returns Inv-loop μ-loop
-returns c =
-    let l = c .before .loop in
-    let n = c .before .before .before .length-of in
-    let e : l .i ≡ n .result = omega arith in
-    record { few = omega arith; has = in-front-part (rw (e, n .ensures .2) at (l .inv .2)) }
+same-length-2 : tie.Need-same-length-2 Inv-loop μ-loop
+same-length-2 c = c .before .loop .inv .2 .same-length
+
+returns-2 : tie.Need-returns-2 Inv-loop μ-loop
+returns-2 c =
+    let d = c .before in
+    let start = d .before in
+    let side = start .args .side .now in
+    passed d (tokens-none side (d .loop .i) (omega (arith, start .pre .1)))
 
 pub struck-side-spec : {M : Type 1} → statement M
 struck-side-spec =
@@ -75,13 +105,14 @@ struck-side-spec =
     (tie.spec
     Inv-loop
     μ-loop
-    length-of-requires
-    no-wide-side-requires
     loop-holds
-    array-read-x
-    array-write-bytes
+    shared-slice-read-x
+    same-length
+    returns
+    slice-write-bytes
     add-n
     add-i
     loop-less
     loop-again
-    returns)
+    same-length-2
+    returns-2)
