@@ -9,11 +9,13 @@
  * A sheet can be written out as a script for string solvers, in SMT-LIB 2.6.
  * Up to version 0.5 a field without a pattern could be empty. Since 0.6 it holds one character or more. Sheets, rules and catalogues
  * from before can be carried over: they then mean what they meant.
+ * Up to version 0.6 a pattern had at most 96 bytes and 31 leaves. Since 0.7 it may have 192 bytes and 63 leaves, and a situation
+ * takes 184 bytes where it took 144. What was good before is good and means the same.
  *
  * The static library libexported.a, for x86-64 Linux, defines eight functions: bradovusc_clash, bradovusc_script, bradovusc_add,
  * bradovusc_withdraw, bradovusc_recheck, bradovusc_spell_open, bradovusc_spell_open_rule, bradovusc_spell_open_catalogue. They keep
  * nothing from one call to the next, ask for no memory, and touch nothing but what they are lent, so calls in several threads don't
- * meet. bradovusc_spell_open_catalogue takes at most about 50 KiB of stack, the others about 40; 46 and 39 were measured. All else is
+ * meet. bradovusc_spell_open_catalogue takes at most about 115 KiB of stack, the others about 105; 109 and 100 were measured. All else is
  * in this header: bradovusc_ask, bradovusc_write_script, bradovusc_enter, bradovusc_remove, bradovusc_check_again,
  * bradovusc_carry_sheet, bradovusc_carry_rule and bradovusc_carry_catalogue call them with any buffers, bradovusc_text and
  * bradovusc_catalogue_text say a number in words, bradovusc_next walks the texts of a clash, bradovusc_next_pair the pairs that were
@@ -29,9 +31,9 @@
 
 /* The version of this header, of the library and of the Rust package. It rises where one of them, or a rule, changes for callers. */
 #define BRADOVUSC_VERSION_MAJOR 0
-#define BRADOVUSC_VERSION_MINOR 6
+#define BRADOVUSC_VERSION_MINOR 7
 #define BRADOVUSC_VERSION_PATCH 0
-#define BRADOVUSC_VERSION "0.6.0"
+#define BRADOVUSC_VERSION "0.7.0"
 
 #ifdef __cplusplus
 extern "C" {
@@ -62,11 +64,11 @@ enum bradovusc_number {
     BRADOVUSC_WRONG_MARK = 12,
     /* A pattern's field is above 7, or not above the field of the pattern before it. */
     BRADOVUSC_WRONG_FIELD = 13,
-    /* A pattern's length is not 1 to 96, or a side's is above 24. */
+    /* A pattern's length is not 1 to 192, or a side's is above 24. */
     BRADOVUSC_WRONG_LENGTH = 14,
     /* The bytes of a pattern are not exactly one pattern. */
     BRADOVUSC_NOT_ONE_PATTERN = 15,
-    /* A pattern has more than 31 leaves. */
+    /* A pattern has more than 63 leaves. */
     BRADOVUSC_TOO_MANY_LEAVES = 16,
     /* A side holds a byte that is neither a character nor a field 0 to 7. */
     BRADOVUSC_WRONG_TOKEN = 17,
@@ -180,7 +182,7 @@ static inline int bradovusc_value(int sign) {
 /*
  * The sheet. Every record begins with a mark of two letters:
  *
- *   PA  field 0 to 7, length 1 to 96, that many bytes    the pattern of a field; none, one or several, fields rising
+ *   PA  field 0 to 7, length 1 to 192, that many bytes   the pattern of a field; none, one or several, fields rising
  *   LE  length 0 to 24, that many tokens                 the left side: one rule
  *   RI  length 0 to 24, that many tokens                 the right side: the other rule; the sheet ends behind it
  *
@@ -193,16 +195,16 @@ static inline int bradovusc_value(int sign) {
  * searched as if one hidden field, of any number of spaces, stood at its end: field 8 on the left, field 9 on the right. It is not
  * written, 72 and 73 are no tokens, it does not count among the 24, and it has no text in the answer.
  */
-#define BRADOVUSC_SHEET_BYTES 854
+#define BRADOVUSC_SHEET_BYTES 1622
 
 /*
- * The working buffer. A situation of the search takes 144 bytes. Room is counted in whole situations, at most 65,535; bytes beyond
+ * The working buffer. A situation of the search takes 184 bytes. Room is counted in whole situations, at most 65,535; bytes beyond
  * that are no use. Where no field stands more than once in the two sides together, (1 + L) * (1 + R) situations are always enough,
  * unless that is above 65,535: L adds, over the left side, one for each character, 2 for each field without a pattern, for a field
  * with a pattern the number of its reachable place sets, and 2 for the hidden field; R does so for the right side. Other questions
- * may need any number. The program `clash` lends 455 situations. The buffer need not be cleared beforehand.
+ * may need any number. The program `clash` lends 356 situations. The buffer need not be cleared beforehand.
  */
-#define BRADOVUSC_SITUATION_BYTES 144
+#define BRADOVUSC_SITUATION_BYTES 184
 #define BRADOVUSC_MOST_SITUATIONS 65535
 #define BRADOVUSC_WORK_BYTES(situations) ((size_t)BRADOVUSC_SITUATION_BYTES * (size_t)(situations))
 
@@ -275,7 +277,7 @@ static inline int bradovusc_next(struct bradovusc_records *records) {
  *   14   the length byte
  *   15   read from left to right: the first byte that is no code; the lo byte if lo is above 42, else the hi byte if that is above
  *        42 or below lo; the first byte left over; where the code runs out, the offset behind the pattern's last byte
- *   16   the first byte of the 32nd leaf
+ *   16   the first byte of the 64th leaf
  *   17   the first byte that is no token
  *
  * It is never above the length. With 11 it is the length, and with 15 it can be, if the code runs out where the bytes end: no byte
@@ -347,7 +349,7 @@ static inline struct bradovusc_answer bradovusc_ask(const uint8_t *sheet, size_t
  * question: "sat" says that the rules clash, "unsat" that they don't. A line ends with a line feed; no zero byte stands behind the
  * last. So many bytes are always enough, which is proved.
  */
-#define BRADOVUSC_SCRIPT_BYTES 140000
+#define BRADOVUSC_SCRIPT_BYTES 280000
 
 /*
  * Writes the sheet out as a script. What is told has the indices of bradovusc_told: the count is 0, the place is that of a fault, and
@@ -398,11 +400,11 @@ static inline struct bradovusc_scripted bradovusc_write_script(const uint8_t *sh
  * kept since an older version: up to 0.3 a space at the end made another label. bradovusc_recheck looks at all of its pairs. Up to
  * 0.5 a field without a pattern could be empty: carry such a catalogue over first, as below.
  *
- * A record has at most 429 bytes, so a buffer of that many for each rule is always long enough.
+ * A record has at most 813 bytes, so a buffer of that many for each rule is always long enough.
  */
 #define BRADOVUSC_RULES 32
 #define BRADOVUSC_RULE_FIELDS 4
-#define BRADOVUSC_RULE_BYTES 429
+#define BRADOVUSC_RULE_BYTES 813
 #define BRADOVUSC_CATALOGUE_BYTES(rules) ((size_t)BRADOVUSC_RULE_BYTES * (size_t)(rules))
 
 /*
@@ -592,7 +594,7 @@ static inline int bradovusc_next_pair(struct bradovusc_pairs *pairs) {
  * then checked again.
  *
  * So many bytes are always enough, which is proved: BRADOVUSC_SHEET_BYTES for a sheet, BRADOVUSC_RULE_BYTES for a rule, and
- * BRADOVUSC_CATALOGUE_BYTES(BRADOVUSC_RULES), 13,728, for a catalogue.
+ * BRADOVUSC_CATALOGUE_BYTES(BRADOVUSC_RULES), 26,016, for a catalogue.
  */
 
 /*

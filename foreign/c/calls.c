@@ -22,7 +22,7 @@
 #include "bradovusc.h"
 #include "streams.h"
 
-enum { LONGEST_CATALOGUE = 8192, WORK = 65520, MOST_WORK = 65663, LONGEST_LIST = 2560, LIST_FILL = 165 };
+enum { LONGEST_CATALOGUE = 8192, WORK = 65520, MOST_WORK = 65687, LONGEST_LIST = 2560, LIST_FILL = 165 };
 
 static uint8_t *catalogue;
 static size_t catalogue_length, work_length;

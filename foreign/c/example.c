@@ -2,10 +2,12 @@
  * Two rules: one makes labels of any digits, the other the label 4. Do they clash? Then the same as a script, for a string solver.
  * Then the sheet with a wrong byte. Then a catalogue of rules is kept. Then one that was kept since a space at the end made another
  * label is checked again. Then a sheet and a catalogue are carried over, from the time when a field without a pattern could be empty.
+ * Last a keypad maker's 40 finish codes stand in one pattern.
  *
  * The first line of a sheet is number, count and place, and the number in words. After a clash follows a line for each field, its
  * number and its text, and after a fault a line with the byte at its place. The script has a line with its number before it. Then
- * comes a line for each call of a catalogue, and one for each pair that is listed. Last come the lines of what is carried over.
+ * comes a line for each call of a catalogue, and one for each pair that is listed, then the lines of what is carried over. Of the
+ * finish codes there is a line for each pattern, with its bytes and the number in words, and after a clash the texts.
  */
 #include <inttypes.h>
 #include <stdio.h>
@@ -53,13 +55,24 @@ static const uint8_t old_sheet[] = {
 /* The same two as rules of a catalogue. */
 static const uint8_t finished[] = {'R', 'U', 'L', 'E', 4, 21, 29, 64, 28}, plain[] = {'R', 'U', 'L', 'E', 3, 21, 29, 28};
 
-static uint8_t work[BRADOVUSC_WORK_BYTES(455)];
-static uint8_t answer[BRADOVUSC_ANSWER_BYTES(455)];
+/* A keypad maker's 40 finish codes, of two letters each. Here those with one first letter stand together: it, then the second ones. */
+static const char *const finishes[] = {"ABCN", "BBCKNRZ", "CBHP", "DBN",    "GBDN", "MBCN", "NBK",
+                                       "OBR",  "PBCNW",   "RBG",  "SBCGNS", "WBH",  "ZBNP"};
+enum { FIRST_LETTERS = sizeof finishes / sizeof *finishes, FINISHES = 40 };
+/* Keypads are marked KP and a finish, field 0. Is such a label also KPS and any text, field 1? */
+static const uint8_t keypad_sides[] = {
+    'L', 'E', 3, 20, 25, 64,    /* left side: K, P, field 0 */
+    'R', 'I', 4, 20, 25, 28, 65 /* right side: K, P, S, field 1 */
+};
+
+static uint8_t work[BRADOVUSC_WORK_BYTES(356)];
+static uint8_t answer[BRADOVUSC_ANSWER_BYTES(356)];
 static uint8_t script[BRADOVUSC_SCRIPT_BYTES];
 static uint8_t catalogue[BRADOVUSC_CATALOGUE_BYTES(BRADOVUSC_RULES)]; /* all zero: no rule is there */
 static uint8_t list[BRADOVUSC_LIST_BYTES(BRADOVUSC_RULES)];
 static uint8_t new_sheet[BRADOVUSC_SHEET_BYTES];
 static uint8_t old_catalogue[BRADOVUSC_CATALOGUE_BYTES(BRADOVUSC_RULES)];
+static uint8_t keypad_sheet[BRADOVUSC_SHEET_BYTES];
 
 static void print_texts(uint64_t written) {
     struct bradovusc_records texts = bradovusc_records_in(answer, (size_t)written);
@@ -143,6 +156,58 @@ static void carry_catalogue(void) {
     add_to(old_catalogue, "plain one", plain, sizeof plain); /* refused, as before 0.6 */
 }
 
+static uint8_t *put_letter(uint8_t *at, char letter) {
+    *at = (uint8_t)bradovusc_value(letter);
+    return at + 1;
+}
+
+/* so many times "or", which makes one choice of one pattern more */
+static uint8_t *put_or(uint8_t *at, size_t times) {
+    memset(at, 67, times);
+    return at + times;
+}
+
+/* a choice of the 40 codes: two leaves for each, 80 in all, and a pattern has at most 63 */
+static uint8_t *put_one_by_one(uint8_t *at) {
+    at = put_or(at, FINISHES - 1);
+    for (size_t i = 0; i < FIRST_LETTERS; i++) {
+        for (const char *second = finishes[i] + 1; *second != '\0'; second++) {
+            *at++ = 66;
+            at = put_letter(put_letter(at, finishes[i][0]), *second);
+        }
+    }
+    return at;
+}
+
+/* the same texts: a choice of the 13 first letters, behind each a choice of its second ones; 53 leaves */
+static uint8_t *put_by_first_letter(uint8_t *at) {
+    at = put_or(at, FIRST_LETTERS - 1);
+    for (size_t i = 0; i < FIRST_LETTERS; i++) {
+        const char *second = finishes[i] + 1;
+        *at++ = 66;
+        at = put_or(put_letter(at, finishes[i][0]), strlen(second) - 1);
+        while (*second != '\0') {
+            at = put_letter(at, *second++);
+        }
+    }
+    return at;
+}
+
+static void ask_keypads(const char *how, uint8_t *(*put_finishes)(uint8_t *)) {
+    static const uint8_t head[] = {'P', 'A', 0, 0}; /* the pattern of field 0; its length comes last */
+    uint8_t *at = keypad_sheet + sizeof head;
+    struct bradovusc_answer given;
+    memcpy(keypad_sheet, head, sizeof head);
+    at = put_finishes(at);
+    keypad_sheet[3] = (uint8_t)(at - keypad_sheet - sizeof head);
+    memcpy(at, keypad_sides, sizeof keypad_sides);
+    at += sizeof keypad_sides;
+    given = bradovusc_ask(keypad_sheet, (size_t)(at - keypad_sheet), work, sizeof work, answer, sizeof answer);
+    printf("%d finishes %s, %u bytes: %" PRIu32 ", %s\n", FINISHES, how, (unsigned)keypad_sheet[3], given.number,
+           bradovusc_text(given.number));
+    print_texts(given.written);
+}
+
 int main(void) {
     sheet[CHARACTER_OF_FIELD_1] = (uint8_t)bradovusc_value('4');
     ask();
@@ -161,5 +226,8 @@ int main(void) {
 
     carry_sheet();
     carry_catalogue();
+
+    ask_keypads("one by one", put_one_by_one);
+    ask_keypads("by their first letters", put_by_first_letter);
     return 0;
 }

@@ -269,14 +269,14 @@ static int pairs_in(const uint8_t *bytes, size_t written) {
 }
 
 static void try_pairs(void) {
-    static const uint8_t bytes[] = {0, 1, 0, 6, 0, 2, 31, 18, 199, 1, 30, 31, 19, 255, 255};
+    static const uint8_t bytes[] = {0, 1, 0, 6, 0, 2, 31, 18, 100, 1, 30, 31, 19, 255, 255};
     struct bradovusc_pairs pairs = bradovusc_pairs_in(bytes, sizeof bytes);
     size_t written;
 
     check(bradovusc_next_pair(&pairs) && pairs.lower == 0 && pairs.higher == 1, "the first pair", 0);
     check(pairs.answer == BRADOVUSC_CLASH && pairs.count == 6, "its answer", 0);
     check(bradovusc_next_pair(&pairs) && pairs.lower == 2 && pairs.higher == 31, "the second pair", 1);
-    check(pairs.answer == BRADOVUSC_NO_ROOM && pairs.count == 455, "its answer", 1);
+    check(pairs.answer == BRADOVUSC_NO_ROOM && pairs.count == 356, "its answer", 1);
     check(bradovusc_next_pair(&pairs) && pairs.lower == 30 && pairs.higher == 31, "the third pair", 2);
     check(pairs.answer == BRADOVUSC_SIDE_TOO_LONG && pairs.count == 65535, "its answer", 2);
     check(!bradovusc_next_pair(&pairs), "the end", 0);
@@ -330,7 +330,7 @@ static const struct {
     {{'L', 'E', 0, 'R', 'X', 0}, 6, 12, 3},
     {{'L', 'E', 0, 'R', 'I', 0, 0}, 7, 12, 6},
     {{'P', 'A', 8, 1, 4}, 5, 13, 2},
-    {{'P', 'A', 0, 97}, 4, 14, 3},
+    {{'P', 'A', 0, 193}, 4, 14, 3},
     {{'L', 'E', 25}, 3, 14, 2},
     {{'P', 'A', 0, 3, 66, 4, 43}, 7, 15, 6}, /* no code */
     {{'P', 'A', 0, 2, 65, 43}, 6, 15, 5},    /* lo above 42, and no hi */
@@ -344,14 +344,14 @@ static const struct {
 };
 
 static void try_places(void) {
-    uint8_t leaves[4 + 63] = {'P', 'A', 0, 63};
+    uint8_t leaves[4 + 127] = {'P', 'A', 0, 127};
     size_t i;
     for (i = 0; i < sizeof faults / sizeof *faults; i++) {
         struct bradovusc_answer given = bradovusc_ask(faults[i].bytes, faults[i].length, work, sizeof work, answer, sizeof answer);
         check(is(given, faults[i].number, 0, faults[i].place, 0), "the place of a fault", (long)i);
     }
-    memset(leaves + 4, 66, 31); /* and then 32 times the character 0 */
-    check(is(bradovusc_ask(leaves, sizeof leaves, work, sizeof work, answer, sizeof answer), 16, 0, 66, 0), "the 32nd leaf", 16);
+    memset(leaves + 4, 66, 63); /* and then 64 times the character 0 */
+    check(is(bradovusc_ask(leaves, sizeof leaves, work, sizeof work, answer, sizeof answer), 16, 0, 130, 0), "the 64th leaf", 16);
 }
 
 /* ---- the script of a sheet */
@@ -428,9 +428,9 @@ static void try_script(void) {
     }
 }
 
-/* Eight patterns of 96 bytes, with as many ranges of all the characters as there is room for, and all eight stand: it fits. */
+/* Eight patterns of 192 bytes, with as many ranges of all the characters as there is room for, and all eight stand: it fits. */
 static void try_longest_script(void) {
-    static uint8_t sheet[8 * 100 + 2 * 27];
+    static uint8_t sheet[8 * 196 + 2 * 27];
     uint8_t *at = sheet;
     struct bradovusc_scripted scripted;
     int field, i;
@@ -438,11 +438,11 @@ static void try_longest_script(void) {
         *at++ = 'P';
         *at++ = 'A';
         *at++ = (uint8_t)field;
-        *at++ = 96;
-        *at++ = 68; /* any number of 24 ranges, with 23 times "or" */
-        memset(at, 67, 23);
-        at += 23;
-        for (i = 0; i < 24; i++) {
+        *at++ = 192;
+        *at++ = 68; /* any number of 48 ranges, with 47 times "or" */
+        memset(at, 67, 47);
+        at += 47;
+        for (i = 0; i < 48; i++) {
             *at++ = 65;
             *at++ = 0;
             *at++ = 42;
@@ -458,7 +458,7 @@ static void try_longest_script(void) {
     }
     check(at == sheet + sizeof sheet, "the longest sheet", (long)(at - sheet));
     scripted = bradovusc_write_script(sheet, sizeof sheet, script, sizeof script);
-    check(scripted.number == 0 && scripted.written > 136000, "its script fits", (long)scripted.written);
+    check(scripted.number == 0 && scripted.written > 272000, "its script fits", (long)scripted.written);
     check(scripted.written < sizeof script && script[scripted.written] == 7, "with bytes to spare", (long)scripted.written);
 }
 
@@ -502,7 +502,7 @@ static void try_catalogue(void) {
     check(bradovusc_remove(catalogue, length, 0) == 0, "the first rule withdrawn", 0);
     check(memcmp(catalogue, rule_b, 6) == 0 && all_zero(catalogue + 6, 7), "the gap is closed", 0);
     check(is_added(bradovusc_enter(catalogue, length, rule_x, 6, work, sizeof work), 30, 10, 0, 0, 0), "a clash", 30);
-    check(is_added(bradovusc_enter(catalogue, length, rule_x, 6, work, 144), 30, 1, 0, 0, 18), "room for one situation", 18);
+    check(is_added(bradovusc_enter(catalogue, length, rule_x, 6, work, BRADOVUSC_WORK_BYTES(1)), 30, 1, 0, 0, 18), "room for one", 18);
     check(memcmp(catalogue, rule_b, 6) == 0 && all_zero(catalogue + 6, 7), "no byte changed", 30);
     catalogue[length - 1] = 1;
     check(is_added(bradovusc_enter(catalogue, length, rule_a, 6, work, sizeof work), 34, 0, 0, 0, 0), "no catalogue", 34);
@@ -598,7 +598,7 @@ static void try_told(void) {
     for (length = 0; length <= 5; length++) {
         uint64_t told[] = {7, 7, 7, 7, 7};
         static const uint64_t expected[] = {2, 0, 1, 18, 7};
-        check(bradovusc_add(catalogue, 18, rule_a, 6, work, 288, told, length) == 30, "not apart", (long)length);
+        check(bradovusc_add(catalogue, 18, rule_a, 6, work, BRADOVUSC_WORK_BYTES(2), told, length) == 30, "not apart", (long)length);
         for (i = 0; i < 5; i++) {
             check(told[i] == (i < length ? expected[i] : 7), "an element of what is told", (long)i);
         }
@@ -616,18 +616,18 @@ static void try_longest_rules(void) {
         *at++ = 'P';
         *at++ = 'A';
         *at++ = (uint8_t)field;
-        *at++ = 96;
-        memset(at, 68, 95);
-        at[95] = 10;
-        at += 96;
+        *at++ = 192;
+        memset(at, 68, 191);
+        at[191] = 10;
+        at += 192;
     }
     *at++ = 'L';
     *at++ = 'E';
     *at++ = 24;
     memset(at, 64, 24);
     check(at + 24 == rule + sizeof rule, "the longest rule", (long)(at - rule));
-    check(bradovusc_enter(catalogue, sizeof rule - 1, rule, sizeof rule, work, sizeof work).number == 32, "a byte too few", 428);
-    check(bradovusc_enter(catalogue, sizeof rule, rule, sizeof rule, work, sizeof work).number == 0, "just enough", 429);
+    check(bradovusc_enter(catalogue, sizeof rule - 1, rule, sizeof rule, work, sizeof work).number == 32, "a byte too few", 812);
+    check(bradovusc_enter(catalogue, sizeof rule, rule, sizeof rule, work, sizeof work).number == 0, "just enough", 813);
     memset(catalogue, 0, sizeof catalogue);
     for (i = 0; i < BRADOVUSC_RULES; i++) {
         *at = (uint8_t)i; /* a character in front, another for each */
@@ -755,13 +755,13 @@ int main(void) {
     char version[64];
     snprintf(version, sizeof version, "%d.%d.%d", BRADOVUSC_VERSION_MAJOR, BRADOVUSC_VERSION_MINOR, BRADOVUSC_VERSION_PATCH);
     check(strcmp(version, BRADOVUSC_VERSION) == 0, "the version's string", 0);
-    check(BRADOVUSC_WORK_BYTES(455) == 65520, "455 situations of work", 455);
-    check(BRADOVUSC_ANSWER_BYTES(455) == 3680, "an answer buffer for them", 455);
-    check(BRADOVUSC_CATALOGUE_BYTES(32) == 13728, "a catalogue of 32 rules", 32);
+    check(BRADOVUSC_WORK_BYTES(356) == 65504, "356 situations of work", 356);
+    check(BRADOVUSC_ANSWER_BYTES(356) == 2888, "an answer buffer for them", 356);
+    check(BRADOVUSC_CATALOGUE_BYTES(32) == 26016, "a catalogue of 32 rules", 32);
     check(BRADOVUSC_LIST_BYTES(32) == 2480, "a list of their pairs", 32);
-    check(BRADOVUSC_SCRIPT_BYTES == 140000, "a script", 140000);
-    check(BRADOVUSC_SHEET_BYTES == BRADOVUSC_FIELDS * (4 + 96) + 2 * (3 + 24), "a sheet", 854);
-    check(BRADOVUSC_RULE_BYTES == 2 + BRADOVUSC_RULE_FIELDS * (4 + 96) + (3 + 24), "a rule", 429);
+    check(BRADOVUSC_SCRIPT_BYTES == 280000, "a script", 280000);
+    check(BRADOVUSC_SHEET_BYTES == BRADOVUSC_FIELDS * (4 + 192) + 2 * (3 + 24), "a sheet", 1622);
+    check(BRADOVUSC_RULE_BYTES == 2 + BRADOVUSC_RULE_FIELDS * (4 + 192) + (3 + 24), "a rule", 813);
     check(BRADOVUSC_LIST_BYTES(2) == 5 && BRADOVUSC_LIST_BYTES(1) == 0 && BRADOVUSC_LIST_BYTES(0) == 0, "of fewer rules", 2);
     try_texts();
     try_signs();

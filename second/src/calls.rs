@@ -18,10 +18,10 @@ use crate::spell_open;
 
 /// The catalogue's length at the start, and the greatest.
 pub const MOST_CATALOGUE: usize = 8_192;
-/// The bytes of work at the start: 455 situations.
+/// The bytes of work at the start: 356 situations.
 pub const WORK: usize = 65_520;
-/// The most bytes of work: still 455 situations.
-pub const MOST_WORK: usize = 65_663;
+/// The most bytes of work: still 356 situations.
+pub const MOST_WORK: usize = 65_687;
 /// The greatest length of a list buffer: more than enough for the 496 pairs of
 /// 32 rules.
 pub const MOST_LIST: usize = 2_560;

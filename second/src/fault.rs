@@ -14,7 +14,7 @@ pub const WRONG_LENGTH: u8 = 14;
 /// where bytes are left over, the first of them; where the code runs out, the
 /// offset after the pattern's last byte."
 pub const NOT_ONE_PATTERN: u8 = 15;
-/// "For 16 it is the 32nd leaf's first byte."
+/// "16 now points at the 64th leaf", at its first byte.
 pub const TOO_MANY_LEAVES: u8 = 16;
 /// "for 17 the token"
 pub const WRONG_TOKEN: u8 = 17;

@@ -52,9 +52,10 @@ pub const SIDE_TOO_LONG: u8 = 19;
 pub const ANSWER_BUFFER_TOO_SHORT: u8 = 20;
 pub const TEXT_TOO_LONG: u8 = 21;
 
-/// "Room is one situation for each whole 144 bytes of working buffer ..."
-pub const SITUATION_BYTES: usize = 144;
-/// "... and at most 65,535."
+/// Room is one situation for each whole so many bytes of working buffer: "A
+/// situation then takes 184 bytes".
+pub const SITUATION_BYTES: usize = 184;
+/// "and at most 65,535"
 pub const MOST_ROOM: usize = 65_535;
 /// "a side above 48 tokens gives 19"
 pub const MOST_TOKENS: usize = 48;
@@ -91,8 +92,8 @@ impl Outcome {
     }
 }
 
-/// "Room is one situation for each whole 144 bytes of working buffer, and at
-/// most 65,535."
+/// Room is one situation for each whole 184 bytes of working buffer, and at most
+/// 65,535.
 pub fn room(work_length: usize) -> usize {
     (work_length / SITUATION_BYTES).min(MOST_ROOM)
 }

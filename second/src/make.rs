@@ -12,8 +12,10 @@ use std::ops::Range;
 
 use self::damages::{damaged, random_bytes};
 use crate::cases::Case;
-use crate::pattern::{CHARACTERS, SPACE};
-use crate::sheet::{FIELDS, LEFT, PATTERN, RIGHT};
+use crate::pattern::{CHARACTERS, MOST_LEAVES, SPACE};
+use crate::sheet::{FIELDS, LEFT, MOST_PATTERN, PATTERN, RIGHT};
+use crate::storeroom::{by_first_letter, FINISHES};
+use crate::write::{self, choice, field, row, tokens};
 use crate::{spell_open, ANSWER_BUFFER_TOO_SHORT, CLASH, SITUATION_BYTES};
 
 /// A small deterministic generator (xorshift with a multiplication).
@@ -67,8 +69,6 @@ impl Dice {
     }
 }
 
-/// "length byte n 1 to 96"
-const MOST_PATTERN: usize = 96;
 /// "length byte 0 to 24, tokens"
 const MOST_SIDE: usize = 24;
 
@@ -140,7 +140,7 @@ fn work_length(dice: &mut Dice, room: usize) -> u32 {
 
 fn any_room(dice: &mut Dice) -> usize {
     match dice.below(40) {
-        0..=3 => 455,
+        0..=3 => 356,
         4..=6 => dice.below(4),
         7..=16 => dice.between(41, 150),
         _ => dice.between(5, 40),
@@ -191,6 +191,9 @@ fn with_chosen_buffers(dice: &mut Dice, sheet: Vec<u8>) -> Case {
 
 /// A good sheet.
 fn good(dice: &mut Dice) -> Vec<Record> {
+    if dice.one_in(50) {
+        return keypads(dice);
+    }
     let alphabet = alphabet(dice);
     let fields = some_fields(dice, FIELDS as u8);
     let (left, right, texts) = sides(dice, &alphabet, &fields);
@@ -199,6 +202,48 @@ fn good(dice: &mut Dice) -> Vec<Record> {
     records.push(Record::side(LEFT, left));
     records.push(Record::side(RIGHT, right));
     records
+}
+
+/// A keypad maker's rule, `KP` and one of 40 finishes, and a label or a rule
+/// that is much like it.
+fn keypads(dice: &mut Dice) -> Vec<Record> {
+    let (x, y) = (dice.between(0, 3) as u8, dice.between(4, 7) as u8);
+    let mut patterns = vec![Record::pattern(x, by_first_letter(&FINISHES))];
+    let finish = tokens(dice.pick(&FINISHES));
+    let then = |rest: &[u8]| [&tokens("KP")[..], rest].concat();
+    let mut sides = match dice.below(8) {
+        // a finish, and two letters that may be one
+        0 | 1 => [then(&[field(x)]), then(&finish)],
+        2 => {
+            let letters = [dice.pick(&finish), dice.between(10, 35) as u8];
+            [then(&[field(x)]), then(&letters)]
+        }
+        // one that stands twice
+        3 => [
+            then(&[field(x), field(x)]),
+            then(&[&finish[..], &tokens(dice.pick(&FINISHES))].concat()),
+        ],
+        4 => [then(&[field(x), field(y)]), then(&finish)],
+        // the last letter is another
+        5 => [[then(&[field(x)]), tokens("L")].concat(), [then(&[field(y)]), tokens("R")].concat()],
+        _ => [then(&[field(x)]), then(&[field(y)])],
+    };
+    // A few of the finishes one by one, all of them, or any two letters.
+    match dice.below(5) {
+        0 | 1 => {
+            let mut some: Vec<Vec<u8>> = FINISHES.map(write::text).to_vec();
+            dice.shuffle(&mut some);
+            some.truncate(dice.between(1, MOST_LEAVES / 2));
+            patterns.push(Record::pattern(y, choice(some)));
+        }
+        2 => patterns.push(Record::pattern(y, by_first_letter(&FINISHES))),
+        3 => patterns.push(Record::pattern(y, row(vec![vec![65, 10, 35]; 2]))),
+        _ => {}
+    }
+    dice.shuffle(&mut sides);
+    let [left, right] = sides;
+    patterns.extend([Record::side(LEFT, left), Record::side(RIGHT, right)]);
+    patterns
 }
 
 /// A few of the fields below this one, in any order.
@@ -413,8 +458,11 @@ fn many_times(dice: &mut Dice, alphabet: &[u8], fields: &[u8]) -> Sides {
 
 /// A pattern for a field; where its text is known, mostly one that takes it.
 fn field_pattern(dice: &mut Dice, alphabet: &[u8], text: Option<&[u8]>) -> Vec<u8> {
-    if dice.one_in(30) {
+    if dice.one_in(20) {
         return big_pattern(dice, alphabet);
+    }
+    if dice.one_in(30) {
+        return codes(dice, alphabet, text);
     }
     if dice.one_in(8) {
         return spaces::pattern(dice, alphabet, text);
@@ -477,18 +525,46 @@ fn range(dice: &mut Dice, alphabet: &[u8]) -> Vec<u8> {
     }
 }
 
-/// A pattern with exactly 31 leaves, with 32 or with more; its length is left
-/// as it comes, or filled up to 96 bytes.
+/// A pattern with exactly 63 leaves, with 64 or with more, or with 32 to 62; its
+/// length is left as it comes, or filled up to 192 bytes, now and then to 193.
 fn big_pattern(dice: &mut Dice, alphabet: &[u8]) -> Vec<u8> {
-    let leaves = match dice.below(6) {
-        0 | 1 => 31,
-        2 => 30,
-        3 => 32,
-        4 => 33,
-        _ => dice.between(32, 48),
+    let leaves = match dice.below(12) {
+        0 | 1 => MOST_LEAVES,
+        2 => MOST_LEAVES - 1,
+        3 => MOST_LEAVES + 1,
+        4 => MOST_LEAVES + 2,
+        5 => dice.between(MOST_LEAVES + 1, MOST_PATTERN / 2),
+        6 => dice.between(1, 31),
+        7 => dice.pick(&[31, 32, 33]),
+        _ => dice.between(32, MOST_LEAVES - 1),
     };
     let parts = parts(dice, alphabet, leaves, MOST_PATTERN);
-    joined(dice, parts)
+    let body = joined(dice, parts);
+    if dice.one_in(8) {
+        let stars = vec![68; MOST_PATTERN + 1 - body.len()];
+        return [stars, body].concat();
+    }
+    body
+}
+
+/// One of many codes of two characters, 32 to 64 leaves; where the text is known
+/// it is mostly one of them, with other codes before it.
+fn codes(dice: &mut Dice, alphabet: &[u8], text: Option<&[u8]>) -> Vec<u8> {
+    let mut codes = vec![exactly(text.unwrap_or(&[]))];
+    let mut leaves = text.map_or(0, <[u8]>::len);
+    let most = if dice.one_in(6) { MOST_LEAVES + 1 } else { dice.between(32, MOST_LEAVES) };
+    while leaves + 2 <= most {
+        // Those with the same first character stand together, or each alone.
+        let seconds = if dice.one_in(2) { 1 } else { dice.between(1, most - leaves - 1).min(6) };
+        let second: Vec<Vec<u8>> = (0..seconds).map(|_| vec![dice.pick(alphabet)]).collect();
+        let first = dice.below(CHARACTERS.into()) as u8;
+        codes.push(row(vec![vec![first], choice(second)]));
+        leaves += 1 + seconds;
+    }
+    if !dice.one_in(4) {
+        codes.rotate_left(1);
+    }
+    choice(codes)
 }
 
 /// Parts with so many leaves in all, characters and ranges mixed; joined they
@@ -562,8 +638,15 @@ pub fn long(room: u32) -> Vec<Case> {
         // xx`A` and yy`B`, open: the lists differ early, in the left one.
         case(&[], &[X, X, A], &[Y, Y, B]),
         case(&[], &late_left, &late_right),
-        case(&[(0, twenty_first)], &[X, A], &[Y, B]),
+        case(&[(0, twenty_first.clone())], &[X, A], &[Y, B]),
+        // The same, and the places that differ stand behind 32 others.
+        case(&[(0, behind_32_leaves(twenty_first))], &[X, A], &[Y, B]),
     ]
+}
+
+/// A choice of a text that begins with `Z` and this pattern.
+fn behind_32_leaves(pattern: Vec<u8>) -> Vec<u8> {
+    choice(vec![row(vec![vec![35]; 32]), pattern])
 }
 
 /// 0s and 1s with a 1 at the 21st place from the end: 22 leaves.

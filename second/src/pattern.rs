@@ -2,8 +2,10 @@
 
 use crate::fault::{Fault, NOT_ONE_PATTERN, TOO_MANY_LEAVES};
 
-/// "31 leaves and the start make 32 places."
-pub const MOST_LEAVES: usize = 31;
+/// "Allow 63 leaves, which with the start make 64 places".
+pub const MOST_LEAVES: usize = 63;
+/// The leaves and the start.
+const PLACES: usize = MOST_LEAVES + 1;
 /// Characters are the values 0 to 42.
 pub const CHARACTERS: u8 = 43;
 /// "38 space"
@@ -12,7 +14,7 @@ pub const SPACE: u8 = 38;
 /// A set of places: bit 0 is the start, bit k the k-th leaf of the pattern. A
 /// field without a pattern has one place beside the start: bit 1, after a
 /// character.
-pub type PlaceSet = u32;
+pub type PlaceSet = u64;
 
 /// The place set that "at first ... holds only the start".
 pub const ONLY_START: PlaceSet = 1;
@@ -46,7 +48,8 @@ impl Pattern {
         if reader.offset < bytes.len() {
             return Err(reader.not_one_pattern());
         }
-        // "then for a pattern 15, then 16": "the 32nd leaf's first byte"
+        // "then for a pattern 15, then 16": "16 now points at the
+        // 64th leaf", at its first byte
         match reader.leaves.get(MOST_LEAVES) {
             Some(&place) => Err(Fault { number: TOO_MANY_LEAVES, place }),
             None => Ok(pattern),
@@ -116,7 +119,7 @@ impl Reader<'_> {
 #[derive(Clone, Debug)]
 pub struct Places {
     /// For each place, the places that may follow it.
-    follow: [PlaceSet; 32],
+    follow: [PlaceSet; PLACES],
     /// For each character, the leaves that take it.
     takes: [PlaceSet; CHARACTERS as usize],
     /// The places that "may be the last one of a text (the start may, if the
@@ -135,9 +138,9 @@ struct Part {
 }
 
 impl Places {
-    /// The places of a pattern with at most 31 leaves.
+    /// The places of a pattern with at most 63 leaves.
     pub fn of(pattern: &Pattern) -> Places {
-        let mut places = Places { follow: [0; 32], takes: [0; CHARACTERS as usize], last: 0 };
+        let mut places = Places { follow: [0; PLACES], takes: [0; CHARACTERS as usize], last: 0 };
         let mut leaves = 0;
         let whole = places.part(pattern, &mut leaves);
         places.follow[0] = whole.first;

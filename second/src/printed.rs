@@ -5,8 +5,8 @@ use crate::cases::Case;
 use crate::write::{field, many, patterns, row, sheet, text, values};
 use crate::SITUATION_BYTES;
 
-/// "lends 65,520 bytes of work (455 situations) and 4,096 of answer"
-const ROOM: usize = 455;
+/// "the program's 65,520 hold 356", and 4,096 bytes of answer
+const ROOM: usize = 356;
 const ANSWER: u32 = 4_096;
 
 const A: u8 = 10;
@@ -36,7 +36,7 @@ pub fn cases() -> Vec<Case> {
         plain(ending_in_spaces()),
         // no clash
         plain(sheet(&[], &[A], &[B])),
-        // no room, after 455 situations and for the first
+        // no room, after 356 situations and for the first
         plain(sheet(&[], &[field(0), A], &[B, field(1), field(0)])),
         case(0, ANSWER, sheet(&[], &[field(0), A], &[B, field(0)])),
         // a side above 48 tokens
@@ -44,35 +44,35 @@ pub fn cases() -> Vec<Case> {
         // an answer buffer too short by one byte, and one just long enough
         case(ROOM, 11, sheet(&[], &[field(0), field(1)], &[A, B])),
         case(ROOM, 12, sheet(&[], &[field(0), field(1)], &[A, B])),
-        // 11 at 0 and at 800
+        // 11 at 0 and at 1,568
         plain(Vec::new()),
         plain(patterns(&eight)),
-        // 12 behind `RI`, and at 700
+        // 12 behind `RI`, and at 1,372
         plain([sheet(&[], &[], &[]), vec![0]].concat()),
         plain([patterns(&seven), b"PE".to_vec()].concat()),
-        // 13 at 802, 14 at 302, 15 at 11, 16 at 166, 17 at 106
+        // 13 at 1,570, 14 at 590, 15 at 11, 16 at 326, 17 at 202
         plain([patterns(&eight), b"PA\x03".to_vec(), vec![1, 0]].concat()),
         plain([patterns(&seven[..3]), b"LE".to_vec(), vec![25]].concat()),
         plain(sheet(&[(0, vec![64]), (1, vec![66, 1])], &[], &[])),
-        plain(sheet(&[(0, full(0, 9)), (7, row(vec![vec![A]; 32]))], &[], &[])),
+        plain(sheet(&[(0, full(0, 9)), (7, row(vec![vec![A]; 64]))], &[], &[])),
         plain(sheet(&seven[..1], &[], &[43])),
     ]
 }
 
-/// x is `+` 20 times and `%`, any number of times, then 8 times `+`; w is
-/// `-. $/`; y is `+` or `%` 17 times, any number of times, then 4 times more; z
-/// is empty. w x z and `-. $/`y: both long texts have 344 characters, the
-/// search enters the 455th situation at its end, and patterns of fields that
-/// stand nowhere make the sheet longer than 512 bytes.
+/// x is `+` 39 times and `%`, any number of times, then 14 times `+`; w is
+/// `-. $/`; y is `+` or `%` 31 times, any number of times, then 15 times more; z
+/// is empty. w x z and `-. $/`y: both long texts have 294 characters, the
+/// search enters the 356th situation at its end, and patterns of fields that
+/// stand nowhere make the sheet longer than 1,024 bytes.
 fn long_texts() -> Vec<u8> {
     let (x, w, y, z) = (0, 1, 3, 7);
-    let mut round = vec![values("+"); 20];
+    let mut round = vec![values("+"); 39];
     round.push(values("%"));
     let patterns = [
-        (x, many_then(round, vec![values("+"); 8])),
+        (x, many_then(round, vec![values("+"); 14])),
         (w, text("-. $/")),
         (2, full(0, 9)),
-        (y, many_then(vec![vec![65, 41, 42]; 17], vec![vec![65, 41, 42]; 4])),
+        (y, many_then(vec![vec![65, 41, 42]; 31], vec![vec![65, 41, 42]; 15])),
         (4, full(10, 35)),
         (5, full(36, 42)),
         (6, full(0, 42)),
@@ -86,10 +86,10 @@ fn ending_in_spaces() -> Vec<u8> {
     sheet(&[(0, text("A  ")), (1, text("   "))], &[field(0)], &[A, field(1)])
 }
 
-/// x is the first 31 characters, z the other 12; xz and y: y is all of them.
+/// x is the first 41 characters, z the other 2; xz and y: y is all of them.
 fn every_sign() -> Vec<u8> {
     let leaves: Vec<Vec<u8>> = (0..43).map(|value| vec![value]).collect();
-    let patterns = [(0, row(leaves[..31].to_vec())), (2, row(leaves[31..].to_vec()))];
+    let patterns = [(0, row(leaves[..41].to_vec())), (2, row(leaves[41..].to_vec()))];
     sheet(&patterns, &[field(0), field(2)], &[field(1)])
 }
 
@@ -120,7 +120,7 @@ fn many_then(round: Vec<Vec<u8>>, end: Vec<Vec<u8>>) -> Vec<u8> {
     }
 }
 
-/// A pattern of 96 bytes: 24 characters of a range, any number of times.
+/// A pattern of 192 bytes: 48 characters of a range, any number of times.
 fn full(lo: u8, hi: u8) -> Vec<u8> {
-    many_then(vec![vec![65, lo, hi]; 24], Vec::new())
+    many_then(vec![vec![65, lo, hi]; 48], Vec::new())
 }

@@ -1,5 +1,5 @@
 //! The same search with the situations in the lent working buffer, as flat
-//! slots of 144 bytes, and with the look-up done by a plain scan over them
+//! slots of 184 bytes, and with the look-up done by a plain scan over them
 //! from the oldest to the newest.
 //!
 //! A slot, by offset:
@@ -9,11 +9,11 @@
 //! | 0, 1 | lengths of the left and of the right token list |
 //! | 2 to 49 | left tokens, the rest 0 |
 //! | 50 to 97 | right tokens, the rest 0 |
-//! | 98 to 137 | place set of each field in four bytes, 0 for a field that is gone |
-//! | 138, 139 | number of the parent |
-//! | 140 | the character put, or 255 for a strike or the start |
+//! | 98 to 177 | place set of each field in eight bytes, 0 for a field that is gone |
+//! | 178, 179 | number of the parent |
+//! | 180 | the character put, or 255 for a strike or the start |
 //!
-//! Bytes 0 to 137 are the situation, the others its way.
+//! Bytes 0 to 177 are the situation, the others its way.
 
 use crate::pattern::{Allowed, PlaceSet, CHARACTERS, ONLY_START};
 use crate::search::Ending;
@@ -26,7 +26,9 @@ use crate::{
 const LEFT: usize = 2;
 const RIGHT: usize = LEFT + MOST_TOKENS;
 const SETS: usize = RIGHT + MOST_TOKENS;
-const KEY_BYTES: usize = SETS + 4 * ALL_FIELDS;
+/// The bytes of a place set.
+const SET: usize = size_of::<PlaceSet>();
+const KEY_BYTES: usize = SETS + SET * ALL_FIELDS;
 const PARENT: usize = KEY_BYTES;
 const STEP: usize = PARENT + 2;
 /// The step byte where no character was put.
@@ -92,8 +94,8 @@ impl Slots<'_> {
     fn situation(&self, number: usize) -> Flat {
         let slot = self.slot(number);
         let set = |field: usize| {
-            let at = SETS + 4 * field;
-            PlaceSet::from_le_bytes([slot[at], slot[at + 1], slot[at + 2], slot[at + 3]])
+            let at = SETS + SET * field;
+            PlaceSet::from_le_bytes(std::array::from_fn(|byte| slot[at + byte]))
         };
         Flat {
             left: Side::of(&slot[LEFT..][..usize::from(slot[0])]),
@@ -247,7 +249,7 @@ impl Flat {
         key[LEFT..][..left.len()].copy_from_slice(left);
         key[RIGHT..][..right.len()].copy_from_slice(right);
         for (field, set) in self.sets.iter().enumerate() {
-            key[SETS + 4 * field..][..4].copy_from_slice(&set.to_le_bytes());
+            key[SETS + SET * field..][..SET].copy_from_slice(&set.to_le_bytes());
         }
         key
     }

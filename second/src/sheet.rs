@@ -17,11 +17,13 @@ pub const PATTERN: &[u8; 2] = b"PA";
 pub const LEFT: &[u8; 2] = b"LE";
 pub const RIGHT: &[u8; 2] = b"RI";
 
+/// "a pattern length up to 192"
+pub const MOST_PATTERN: usize = 192;
 /// Mark, field byte and length byte.
 pub const PATTERN_HEAD: usize = 4;
 /// The field byte's offset from the mark.
 const FIELD_BYTE: usize = 2;
-const PATTERN_LENGTHS: RangeInclusive<u8> = 1..=96;
+const PATTERN_LENGTHS: RangeInclusive<u8> = 1..=MOST_PATTERN as u8;
 /// Mark and length byte.
 const SIDE_HEAD: usize = 3;
 const SIDE_LENGTHS: RangeInclusive<u8> = 0..=24;

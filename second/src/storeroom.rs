@@ -11,6 +11,7 @@
 //! | keypad | `KP`, three digits | `KP100` |
 //! | keypad with a finish | a keypad, `-`, a finish of `BK`, `WH` or `SS` | `KP100-BK` |
 //! | keypad with a cable | a keypad, `/`, any digits | `KP100/25` |
+//! | keypad of a maker | `KP`, one of 40 finishes | `KPGD` |
 //! | key safe | `KS`, any digits, `-`, the same digits again | `KS12-12` |
 //! | strike plate | `SP`, any digits | `SP3` |
 //! | battery | `BT 9V` | `BT 9V` |
@@ -37,7 +38,15 @@ pub struct Row {
 }
 
 pub fn rows() -> Vec<Row> {
-    let rows = [entered(), refused(), withdrawn(), rechecked(), other_buffers(), carried_over()];
+    let rows = [
+        entered(),
+        refused(),
+        withdrawn(),
+        forty_finishes(),
+        rechecked(),
+        other_buffers(),
+        carried_over(),
+    ];
     rows.into_iter().flatten().collect()
 }
 
@@ -52,6 +61,24 @@ fn written(operations: impl Iterator<Item = Operation>) -> Vec<u8> {
         operation.write(&mut stream);
     }
     stream
+}
+
+/// The finishes of a keypad maker, 40 codes of two letters, rising.
+pub const FINISHES: [&str; 40] = [
+    "AB", "AC", "AN", "BB", "BC", "BK", "BN", "BR", "BZ", "CB", "CH", "CP", "DB", "DN", "GB", "GD",
+    "GN", "MB", "MC", "MN", "NB", "NK", "OB", "OR", "PB", "PC", "PN", "PW", "RB", "RG", "SB", "SC",
+    "SG", "SN", "SS", "WB", "WH", "ZB", "ZN", "ZP",
+];
+
+/// One of these codes of two letters, those with the same first letter together.
+/// The 40 finishes begin with 13 letters: 53 leaves, 105 bytes. One by one they
+/// would have 80 leaves.
+pub fn by_first_letter(codes: &[&str]) -> Vec<u8> {
+    let together = |group: &[&str]| {
+        let second = choice(group.iter().map(|code| text(&code[1..])).collect());
+        row(vec![text(&group[0][..1]), second])
+    };
+    choice(codes.chunk_by(|a, b| a[..1] == b[..1]).map(together).collect())
 }
 
 // -------------------------------------------------------------- the rules
@@ -81,6 +108,10 @@ fn keypad_with_finish() -> Vec<u8> {
 
 fn keypad_with_cable() -> Vec<u8> {
     rule(&[(A, digits(3)), (B, many(digit()))], &tokens("KPa/b"))
+}
+
+fn keypad_of_a_maker() -> Vec<u8> {
+    rule(&[(A, by_first_letter(&FINISHES))], &tokens("KPa"))
 }
 
 fn key_safe() -> Vec<u8> {
@@ -148,14 +179,11 @@ fn refused() -> Vec<Row> {
     let left_over = [&one_of(&["BR", "CH"])[..], &text("SS")].concat();
     // 67 stands before one finish alone.
     let missing = [&[67], &text("BR")[..]].concat();
-    let long = row(vec![text(&"A".repeat(31)), many(digit())]);
-    let sixteen = one_of(&[
-        "BK", "BN", "BR", "CH", "CP", "GD", "IV", "NK", "PB", "PC", "PN", "SB", "SC", "SN", "SS",
-        "WH",
-    ]);
+    let letters = row(vec![text(&"A".repeat(63)), many(digit())]);
+    let too_long_pattern = digits(49);
     vec![
         add("`KP100` is a keypad already", any_keypad, "add 30 17 0 3 0"),
-        add("18: the search runs on", box_of_a_pair("BXaaR"), "add 30 455 0 8 18"),
+        add("18: the search runs on", box_of_a_pair("BXaaR"), "add 30 356 0 8 18"),
         add("19: a side above 48 tokens", tag_and_letter(), "add 30 14 0 9 19"),
         add("a space behind the battery's mark", shelf_mark("BT 9V "), "add 30 6 0 7 0"),
         add("a night latch filled up with spaces", filled_up, "add 30 22 0 2 0"),
@@ -165,12 +193,14 @@ fn refused() -> Vec<Row> {
         add("12: a byte behind `LE`", [battery(), vec![0]].concat(), "add 12 0 10 0 0"),
         add("13: the second field first", falling, "add 13 0 11 0 0"),
         add("14: 25 tokens", too_long, "add 14 0 4 0 0"),
+        add("14: 49 digits, a pattern of 195 bytes", latch(too_long_pattern), "add 14 0 5 0 0"),
         add("15: the last finish is left over", latch(left_over), "add 15 0 13 0 0"),
         add("15: the last finish is missing", latch(missing), "add 15 0 10 0 0"),
         add("15: digits from 9 to 0, hi below lo", latch(vec![65, 9, 0]), "add 15 0 8 0 0"),
         add("15: lo is the stop sign, and no hi", latch(vec![65, 43]), "add 15 0 7 0 0"),
-        add("16: 16 finishes, 32 leaves", rule(&[(A, sixteen)], &tokens("KPa")), "add 16 0 68 0 0"),
-        add("16: 31 letters and any digits", rule(&[(A, long)], &tokens("KPa")), "add 16 0 69 0 0"),
+        add("16: 32 finishes, 64 leaves", latch(one_of(&FINISHES[..32])), "add 16 0 132 0 0"),
+        add("16: 40 finishes one by one", latch(one_of(&FINISHES)), "add 16 0 133 0 0"),
+        add("16: 63 letters and any digits", latch(letters), "add 16 0 133 0 0"),
         add("17: the stop sign is no character", rule(&[], &[43]), "add 17 0 5 0 0"),
         add("17: field 8, behind `LT`", rule(&[], &[21, 29, 72]), "add 17 0 7 0 0"),
         add("31: a side with field 4", rule(&[], &tokens("LTe")), "add 31 0 0 0 0"),
@@ -190,8 +220,26 @@ fn withdrawn() -> Vec<Row> {
         add("18: not enough for the pair with rule 2", keypad_with_cable(), "add 30 1 0 2 18"),
         work("no room", 0),
         add("18: for the pair with rule 0", keypad_with_cable(), "add 30 0 0 0 18"),
-        work("455 situations again", WORK),
+        work("356 situations again", WORK),
         add("the keypad with a cable is rule 11", keypad_with_cable(), "add 0 0 0 0 0"),
+    ]
+}
+
+/// A maker's keypads, the longest list of finishes.
+fn forty_finishes() -> Vec<Row> {
+    let two_letters = rule(&[(A, row(vec![vec![65, 10, 35]; 2]))], &tokens("KPa"));
+    let others = rule(&[(A, one_of(&["GX", "ZA", "ZZ"]))], &tokens("KPa"));
+    vec![
+        add(
+            "a maker's keypad, one of 40 finishes, is rule 12",
+            keypad_of_a_maker(),
+            "add 0 0 0 0 0",
+        ),
+        add("`KPAB` is its first", shelf_mark("KPAB"), "add 30 9 0 12 0"),
+        add("`KPZP` is its last", shelf_mark("KPZP"), "add 30 9 0 12 0"),
+        add("any two letters are one of them", two_letters, "add 30 141 0 12 0"),
+        add("three that are none are rule 13", others, "add 0 0 0 0 0"),
+        withdraw("they go", 13, "withdraw 0"),
     ]
 }
 
@@ -204,7 +252,7 @@ fn rechecked() -> Vec<Row> {
         [box_of_a_pair("BXaaL"), box_of_a_pair("BXaaR"), strip_of_tags(), tag_and_letter()]
             .concat();
     vec![
-        recheck("no two of the twelve rules clash", 0, "recheck 0 0 0"),
+        recheck("no two of the thirteen rules clash", 0, "recheck 0 0 0"),
         catalogue("rules kept from when spaces counted", 100, kept),
         recheck("35: seven pairs clash, a byte is missing", 34, "recheck 35 0 0"),
         recheck(
@@ -220,7 +268,7 @@ fn rechecked() -> Vec<Row> {
         withdraw("the one with two goes", 2, "withdraw 0"),
         recheck("no pair is left", 5, "recheck 0 0 0"),
         catalogue("pairs that are given up", 200, given_up),
-        recheck("18 and 19 are listed too", 12, "recheck 0 2 10\npair 0 1 18 455\npair 2 3 19 14"),
+        recheck("18 and 19 are listed too", 12, "recheck 0 2 10\npair 0 1 18 356\npair 2 3 19 14"),
         work("no room", 0),
         recheck(
             "every pair is given up",
@@ -228,7 +276,7 @@ fn rechecked() -> Vec<Row> {
             "recheck 0 6 30\npair 0 1 18 0\npair 0 2 18 0\npair 0 3 18 0\n\
             pair 1 2 18 0\npair 1 3 18 0\npair 2 3 18 0",
         ),
-        work("455 situations again", WORK),
+        work("356 situations again", WORK),
     ]
 }
 
@@ -296,12 +344,12 @@ fn added_record() -> usize {
 type Made = (Vec<(u8, Vec<u8>)>, String);
 
 /// 32 rules of which no two can make the same label: eight articles, each
-/// marked in four ways.
+/// marked in four ways. No pair needs more than 322 situations.
 fn full() -> Vec<Made> {
     let four = |article: &str| {
         let side = |rest: &str| format!("{article}{rest}");
         [
-            (vec![(A, digits(2)), (B, one_of(&["BR", "CH", "SS"]))], side("ab")),
+            (vec![(A, digits(2)), (B, one_of(&["BR", "CH", "SS"]))], side("a+b")),
             (vec![(A, digits(2)), (B, one_of(&["L", "R"]))], side("a-b")),
             (vec![(A, digits(2)), (B, many(digit()))], side("a/b")),
             (vec![(A, many(digit()))], side("a.a")),

@@ -30,7 +30,7 @@ fn the_two_modules_agree() {
 fn all_answers_come_up() {
     let mut seen = BTreeMap::new();
     let mut see = |answer| *seen.entry(answer).or_insert(0) += 1;
-    for After { call, .. } in run(&operations(&mut Dice::new(2), 6000), HASHING) {
+    for After { call, .. } in run(&operations(&mut Dice::new(2), 8000), HASHING) {
         match call {
             Call::Add { told: Added { number, pair, .. }, .. } => see(("add", number, pair)),
             Call::Withdraw { number } => see(("withdraw", number, 0)),
@@ -81,6 +81,17 @@ fn each_byte_that_shows_a_fault_comes_up() {
         }
     }
     table::all_come_up(&seen, 10);
+}
+
+#[test]
+fn long_patterns_come_up() {
+    let mut seen = BTreeMap::new();
+    for operation in operations(&mut Dice::new(7), 6000) {
+        if let Operation::Add(rule) = operation {
+            table::sizes(&rule, b"RU", &mut seen);
+        }
+    }
+    table::all_sizes_come_up(&seen, 60, 10);
 }
 
 #[test]
@@ -310,7 +321,7 @@ fn no_label_is_made_by_two_rules_of_a_catalogue_that_began_empty() {
         let records = records(&calls.catalogue);
         let (new, others) = records.split_last().unwrap();
         for present in others {
-            let mut work = vec![0; 455 * SITUATION_BYTES];
+            let mut work = vec![0; 356 * SITUATION_BYTES];
             assert_eq!(second::answer(&sheet(present, new), &mut work, &mut []).number, 1);
             // Nor the other way round, where the search ends.
             let number = second::answer(&sheet(new, present), &mut work, &mut []).number;

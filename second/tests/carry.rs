@@ -302,3 +302,16 @@ fn each_byte_that_shows_a_fault_comes_up() {
     }
     table::all_come_up(&seen, 10);
 }
+
+#[test]
+fn long_patterns_come_up() {
+    let mut dice = Dice::new(43);
+    let (mut sheets, mut rules) = (BTreeMap::new(), BTreeMap::new());
+    for _ in 0..10_000 {
+        let case = spelt::case(&mut dice);
+        table::sizes(&case.sheet, b"", &mut sheets);
+        table::sizes(&case.sheet, b"RU", &mut rules);
+    }
+    table::all_sizes_come_up(&sheets, 60, 10);
+    table::all_sizes_come_up(&rules, 60, 10);
+}

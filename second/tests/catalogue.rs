@@ -137,10 +137,10 @@ fn rules_that_differ_in_spaces_at_their_ends() {
 fn the_first_pair_that_is_not_1_is_told() {
     // Rules 1 and 2 both make `A`, rules 2 and 3 both `AA`.
     let rules = [rule(&[B]), rule(&[A]), rule(&[X]), rule(&[X, X])];
-    refused_by_pair(&rules, &rule(&[A]), 455, pair(1, 0, 5));
-    refused_by_pair(&rules, &rule(&[A, A]), 455, pair(2, 0, 12));
+    refused_by_pair(&rules, &rule(&[A]), 356, pair(1, 0, 5));
+    refused_by_pair(&rules, &rule(&[A, A]), 356, pair(2, 0, 12));
     // Bh|yk, h|y'k, |y'k, h|k, h'|y'k, |k, h|, h'|k', h'|k, |
-    refused_by_pair(&rules[..2], &rule(&[X]), 455, pair(0, 0, 10));
+    refused_by_pair(&rules[..2], &rule(&[X]), 356, pair(0, 0, 10));
     // A pair given up ends it too, though a later one has a clash.
     refused_by_pair(&[rule(&[X, X]), rule(&[A])], &rule(&[A]), 1, pair(0, 18, 1));
 }
@@ -150,7 +150,7 @@ fn the_new_rules_fields_are_others() {
     // As one sheet xA and Bx have no clash; as rules they have: BA. Entered:
     // xAh|Byk, x'Ah|yk, Ah|yk, x'Ah|y'k, h|y'k, Ah|y'k, x'Ah|k, |y'k, h|k,
     // h'|y'k, Ah|k, x'Ah|, x'Ah|k', |k, h|, h'|k', h'|k, Ah|k', |.
-    refused_by_pair(&[rule(&[X, A])], &rule(&[B, X]), 455, pair(0, 0, 19));
+    refused_by_pair(&[rule(&[X, A])], &rule(&[B, X]), 356, pair(0, 0, 19));
     refused_by_pair(&[rule(&[X, A])], &rule(&[B, X]), 19, pair(0, 0, 19));
     refused_by_pair(&[rule(&[X, A])], &rule(&[B, X]), 18, pair(0, 18, 18));
     // Field 3 becomes 7.
@@ -202,7 +202,7 @@ fn no_room() {
     refused_by_pair(&[rule(&[X])], &rule(&[A]), 2, pair(0, 18, 2));
     // xxA and yyB: no label, but the search runs on.
     let (left, right) = (rule(&[X, X, A]), rule(&[X, X, B]));
-    refused_by_pair(&[left], &right, 455, pair(0, 18, 455));
+    refused_by_pair(&[left], &right, 356, pair(0, 18, 356));
 }
 
 #[test]
@@ -275,9 +275,9 @@ fn wrong_field() {
 #[test]
 fn wrong_length() {
     fault(b"RUPA\x00\x00", 14, 5);
-    fault(b"RUPA\x00\x61", 14, 5);
+    fault(b"RUPA\x00\xc1", 14, 5);
     fault(b"RULE\x19", 14, 4);
-    fault(b"RUPA\x00\x01\x04PA\x01\x61", 14, 10);
+    fault(b"RUPA\x00\x01\x04PA\x01\xc1", 14, 10);
     fault(b"RUPA\x00\x01\x04LE\xff", 14, 9);
 }
 
@@ -311,16 +311,49 @@ fn not_one_pattern() {
 }
 
 #[test]
-fn more_than_31_leaves() {
+fn more_than_63_leaves() {
     let leaves = |number: usize| [vec![66; number - 1], vec![7; number]].concat();
-    fault_of_body(&leaves(32), 16, 62);
-    fault_of_body(&leaves(48), 16, 78);
-    fault_of_body(&[vec![66; 31], [7, 65, 0, 9].repeat(16)].concat(), 16, 92);
+    fault_of_body(&leaves(64), 16, 126);
+    fault_of_body(&leaves(96), 16, 158);
+    fault_of_body(&[vec![66; 63], [7, 65, 0, 9].repeat(32)].concat(), 16, 188);
     // 15 comes before 16.
-    fault_of_body(&[leaves(32), vec![7]].concat(), 15, 63);
-    fault_of_body(&[vec![66], leaves(32), vec![65, 2, 1]].concat(), 15, 66);
-    let body = [b"PA\x00\x3d", &leaves(31)[..]].concat();
-    enters(&[], &with(&body, &[X]), 0);
+    fault_of_body(&[leaves(64), vec![7]].concat(), 15, 127);
+    fault_of_body(&[vec![66], leaves(64), vec![65, 2, 1]].concat(), 15, 130);
+    for number in [31, 32, 62, 63] {
+        let leaves = leaves(number);
+        let body = [b"PA", &[0, leaves.len() as u8][..], &leaves].concat();
+        enters(&[], &with(&body, &[X]), 0);
+    }
+}
+
+/// A longest rule has 813 bytes: 2 + 4 × (4 + 192) + 3 + 24.
+#[test]
+fn the_longest_rule() {
+    // `7` any number of times, then 62 times: 63 leaves, 192 bytes
+    let full = [vec![66; 62], vec![68; 67], vec![7; 63]].concat();
+    let longer = [&[68], &full[..]].concat();
+    let leaf_more = [vec![66; 63], vec![68; 65], vec![7; 64]].concat();
+    let four = |other: u8, body: &[u8]| {
+        let pattern = |field: u8| {
+            let body = if field == other { body } else { &full };
+            [b"PA", &[field, body.len() as u8][..], body].concat()
+        };
+        let patterns: Vec<u8> = (0..4).flat_map(pattern).collect();
+        with(&patterns, &[X, X + 1, X + 2, X + 3].repeat(6))
+    };
+    let longest = four(0, &full);
+    assert_eq!((full.len(), leaf_more.len(), longest.len()), (192, 192, 813));
+    enters(&[], &longest, 0);
+    // Bh|x..k: no field takes `B`, and none may be empty.
+    enters(&[rule(&[B])], &longest, 1);
+    // Just long enough, and a byte too short.
+    refused_at_once(&[0; 812], &longest, refused(32));
+    // One of its patterns is a byte longer, or has a leaf more.
+    for field in 0..4 {
+        let record = 2 + 196 * usize::from(field);
+        fault(&four(field, &longer), 14, record + 3);
+        fault(&four(field, &leaf_more), 16, record + 4 + 63 + 65 + 63);
+    }
 }
 
 #[test]
@@ -420,10 +453,10 @@ fn a_rule_entered_again_is_the_last() {
     let rules = [rule(&[A]), rule(&[B]), rule(&[A, B])];
     let mut after = catalogue(&rules, 40);
     assert_eq!(withdraw(&mut after, 0), 0);
-    let (told, again, _) = added(&after, &rules[0], 455);
+    let (told, again, _) = added(&after, &rules[0], 356);
     assert_eq!(told, DONE);
     assert_eq!(again, catalogue(&[&rules[1..], &rules[..1]].concat(), 40));
-    refused_by_pair(&[&rules[1..], &rules[..1]].concat(), &rules[0], 455, pair(2, 0, 5));
+    refused_by_pair(&[&rules[1..], &rules[..1]].concat(), &rules[0], 356, pair(2, 0, 5));
 }
 
 // ------------------------------------------------------------------- 34
@@ -489,7 +522,7 @@ fn zeros_that_are_part_of_a_record() {
     // A side of no token ends in a zero byte, and so does one that ends in the
     // character 0; a range may begin with it.
     let rules = [rule(&[]), rule(&[A, 0]), with(b"PA\x00\x03\x41\x00\x09", &[X, 0, 0])];
-    enters(&rules, &rule(&[B]), 455);
+    enters(&rules, &rule(&[B]), 356);
     let used = rules.concat().len();
     let mut after = catalogue(&rules, used);
     assert_eq!(withdraw(&mut after, 1), 0);
@@ -500,7 +533,7 @@ fn zeros_that_are_part_of_a_record() {
 fn pairs_of_a_kept_catalogue_are_not_searched_again() {
     // Two rules that make the same label; a third that clashes with neither.
     let kept = [rule(&[X, A]), rule(&[X, A])];
-    enters(&kept, &rule(&[X, B]), 455);
+    enters(&kept, &rule(&[X, B]), 356);
     let mut after = catalogue(&kept, 30);
     assert_eq!(withdraw(&mut after, 1), 0);
     assert_eq!(after, catalogue(&kept[..1], 30));
@@ -528,7 +561,7 @@ fn rechecks_to(
     for search in [HASHING, SCANNING] {
         let mut list = vec![LIST_FILL; length];
         // Bytes beyond the last situation's are no room.
-        let mut work = vec![FILL; room * SITUATION_BYTES + 143];
+        let mut work = vec![FILL; room * SITUATION_BYTES + 183];
         let told = recheck(catalogue, &mut work, &mut list, search);
         assert_eq!(told, expected, "{catalogue:?}");
         let (front, rest) = list.split_at(listed.len());
@@ -582,8 +615,8 @@ fn pairs_that_clash_are_listed() {
     lists(&[rule(&[X]), rule(&[A; 24])], 56, &[[0, 1, 0, 56, 0]]);
     // By lower, then higher number; `B` clashes with none of them.
     let rules = [rule(&[A, SPACE]), rule(&[B]), rule(&[A]), rule(&[A; 2]), rule(&[A, SPACE])];
-    lists(&rules, 455, &[[0, 2, 0, 6, 0], [0, 4, 0, 5, 0], [2, 4, 0, 6, 0]]);
-    lists(&rules[1..], 455, &[[1, 3, 0, 6, 0]]);
+    lists(&rules, 356, &[[0, 2, 0, 6, 0], [0, 4, 0, 5, 0], [2, 4, 0, 6, 0]]);
+    lists(&rules[1..], 356, &[[1, 3, 0, 6, 0]]);
     // Each rule has fields of its own: xA and Bx make BA.
     lists(&[rule(&[X, A]), rule(&[B, X])], 19, &[[0, 1, 0, 19, 0]]);
 }
@@ -615,7 +648,7 @@ fn pairs_given_up_are_listed() {
     lists(&rules, 4, &[[0, 2, 18, 4, 0]]);
     // xxA and yyB: a count above 255. With x..x and AA a side above 48 tokens.
     let runs_on = [rule(&[X, X, A]), rule(&[X, X, B])];
-    lists(&runs_on, 455, &[[0, 1, 18, 0xc7, 1]]);
+    lists(&runs_on, 356, &[[0, 1, 18, 0x64, 1]]);
     lists(&runs_on, 256, &[[0, 1, 18, 0, 1]]);
     lists(&[rule(&[X; 24]), rule(&[A, A])], 3, &[[0, 1, 19, 3, 0]]);
 }
@@ -690,7 +723,7 @@ fn lines_have_every_byte() {
         WI\x00\
         CA\x07\x00\x06\x00RULE\x01\x0a\
         AD\x05\x00RULE\x00\
-        WO\x90\x00\x00\x00\
+        WO\xb8\x00\x00\x00\
         CA\x0b\x00\x06\x00RULE\x01\x0a\
         AD\x05\x00RULE\x00\
         WO\x00\x00\x00\x00\
@@ -702,7 +735,7 @@ fn lines_have_every_byte() {
         RE\x02\x00\
         CA\x10\x00\x0d\x00RULE\x01\x0aRULE\x02\x0a\x26\
         RE\x05\x00\
-        WO\xd0\x03\x00\x00\
+        WO\xc0\x04\x00\x00\
         RE\x04\x00\
         RE\x05\x00\
         RE\x07\x00\
@@ -759,10 +792,10 @@ fn a_stream_ends_where_an_operation_is_none() {
         b"re\x00\x00WI\x00",
         b"RI\x00\x00WI\x00",
         // more than is allowed: 8,193 bytes, a front longer than the buffer,
-        // 65,664 bytes of work, 2,561 bytes of list
+        // 65,688 bytes of work, 2,561 bytes of list
         b"CA\x01\x20\x00\x00WI\x00",
         b"CA\x01\x00\x02\x00\x00\x00WI\x00",
-        b"WO\x80\x00\x01\x00WI\x00",
+        b"WO\x98\x00\x01\x00WI\x00",
         b"WO\x00\x00\x00\x01WI\x00",
         b"WO\xff\xff\xff\xffWI\x00",
         b"RE\x01\x0aWI\x00",
@@ -772,7 +805,7 @@ fn a_stream_ends_where_an_operation_is_none() {
         assert_eq!(lines(&[b"WI\x00", end].concat()).len(), 1, "{end:?}");
     }
     // The most that is allowed.
-    let most = [b"CA\x00\x20\x00\x00", &b"WO\x7f\x00\x01\x00"[..], b"WI\x00"].concat();
+    let most = [b"CA\x00\x20\x00\x00", &b"WO\x97\x00\x01\x00"[..], b"WI\x00"].concat();
     assert_eq!(lines(&most), ["withdraw 33, catalogue, zeros 8192"]);
     let list = lines(b"RE\x00\x0aWI\x00");
     assert!(list[0].starts_with("recheck 0 0 0, list a5 a5 ") && list.len() == 2);

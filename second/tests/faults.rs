@@ -36,7 +36,7 @@ fn fault_of_body(body: &[u8]) -> (u8, usize) {
 }
 
 fn good(sheet: &[u8]) -> bool {
-    let outcome = second::answer(sheet, &mut [0; 144], &mut []);
+    let outcome = second::answer(sheet, &mut [0; 184], &mut []);
     !(11..=17).contains(&outcome.number)
 }
 
@@ -86,15 +86,31 @@ fn wrong_field() {
 #[test]
 fn wrong_length() {
     assert_eq!(fault(b"PA\0\0"), (14, 3));
-    assert_eq!(fault(b"PA\0\x61"), (14, 3));
+    assert_eq!(fault(b"PA\0\xc1"), (14, 3));
     assert_eq!(fault(b"PA\0\xff"), (14, 3));
-    assert_eq!(fault(b"PA\0\x60"), (11, 4));
+    assert_eq!(fault(b"PA\0\xc0"), (11, 4));
+    assert_eq!(fault(b"PA\0\x61"), (11, 4));
     assert_eq!(fault(b"PA\0\x01\x04PA\x01\0"), (14, 8));
     assert_eq!(fault(b"LE\x19"), (14, 2));
     assert_eq!(fault(b"LE\x18"), (11, 3));
     assert_eq!(fault(b"PA\0\x01\x04LE\x19"), (14, 7));
     assert_eq!(fault(b"LE\0RI\x19"), (14, 5));
     assert_eq!(fault(b"LE\0RI\xff"), (14, 5));
+}
+
+#[test]
+fn a_pattern_of_193_bytes() {
+    // With all its bytes, and though they are not one pattern or have 64 leaves.
+    let many = |number: usize| [vec![68; number - 1], vec![7]].concat();
+    for length in [96, 97, 191, 192] {
+        assert!(good(&[&pattern(0, &many(length)), SIDES].concat()), "{length}");
+    }
+    let leaves = [vec![68; 66], leaves(64)].concat();
+    for body in [many(193), many(194), many(255), vec![255; 193], vec![68; 193], leaves] {
+        assert!(body.len() > 192);
+        assert_eq!(fault(&[&pattern(0, &body), SIDES].concat()), (14, 3));
+        assert_eq!(fault(&[&pattern(0, &many(192))[..], &pattern(5, &body)].concat()), (14, 199));
+    }
 }
 
 // ------------------------------------------------------------------- 15
@@ -166,8 +182,8 @@ fn bytes_left_over() {
     wrong_byte(&[1, 43], 1);
     wrong_byte(&[66, 1, 2, 255, 1], 3);
     wrong_byte(&[65, 0, 9, 63, 63], 3);
-    // 96 bytes, and the last one is left over.
-    wrong_byte(&[vec![68; 94], vec![7, 7]].concat(), 95);
+    // 192 bytes, and the last one is left over.
+    wrong_byte(&[vec![68; 190], vec![7, 7]].concat(), 191);
 }
 
 #[test]
@@ -181,7 +197,7 @@ fn the_code_runs_out() {
     wrong_byte(&[68], 1);
     wrong_byte(&[66, 66, 1, 2], 4);
     wrong_byte(&[68, 66, 1, 67, 64, 65, 3], 7);
-    wrong_byte(&[68; 96], 96);
+    wrong_byte(&[68; 192], 192);
     // The body is judged by itself: the next record's bytes are not used.
     assert_eq!(fault(b"PA\0\x01\x44\x04LE\0RI\0"), (15, 5));
     // Every cut of a pattern.
@@ -204,77 +220,80 @@ fn leaves(number: usize) -> Vec<u8> {
     [vec![66; number - 1], vec![7; number]].concat()
 }
 
-/// 32 leaves or more; the 32nd begins at this one of the bytes.
+/// 64 leaves or more; the 64th begins at this one of the bytes.
 fn leaf_too_many(body: &[u8], place: usize) {
-    assert!(body.len() <= 96);
+    assert!(body.len() <= 192);
     assert_eq!(fault_of_body(body), (16, place), "{body:?}");
 }
 
 #[test]
-fn the_32nd_leaf() {
-    assert!(good(&[&pattern(0, &leaves(31)), SIDES].concat()));
-    leaf_too_many(&leaves(32), 62);
-    leaf_too_many(&leaves(33), 63);
-    leaf_too_many(&leaves(48), 78);
+fn the_64th_leaf() {
+    for number in [31, 32, 33, 62, 63] {
+        assert!(good(&[&pattern(0, &leaves(number)), SIDES].concat()), "{number}");
+    }
+    leaf_too_many(&leaves(64), 126);
+    leaf_too_many(&leaves(65), 127);
+    leaf_too_many(&leaves(96), 158);
     // An operator before each leaf but the last.
-    leaf_too_many(&[[66, 7].repeat(31), vec![7]].concat(), 62);
-    leaf_too_many(&[[67, 7].repeat(40), vec![7]].concat(), 63);
+    leaf_too_many(&[[66, 7].repeat(63), vec![7]].concat(), 126);
+    leaf_too_many(&[[67, 7].repeat(80), vec![7]].concat(), 127);
     // The leaf's byte, not that of the operator in front of it.
-    leaf_too_many(&[vec![66; 31], vec![7; 31], vec![68, 7]].concat(), 63);
-    leaf_too_many(&[vec![68; 33], leaves(32)].concat(), 95);
-    assert_eq!(fault(&[&pattern(1, &[4])[..], &pattern(5, &leaves(32)), SIDES].concat()), (16, 71));
+    leaf_too_many(&[vec![66; 63], vec![7; 63], vec![68, 7]].concat(), 127);
+    leaf_too_many(&[vec![68; 65], leaves(64)].concat(), 191);
+    let behind = [&pattern(1, &[4])[..], &pattern(5, &leaves(64)), SIDES].concat();
+    assert_eq!(fault(&behind), (16, 135));
 }
 
 #[test]
-fn the_32nd_leaf_among_ranges() {
-    // With its 31 operators a pattern of 96 bytes has room for 16 ranges.
-    let ranges = [65, 0, 42].repeat(16);
-    leaf_too_many(&[vec![66; 31], ranges.clone(), vec![7; 16]].concat(), 94);
+fn the_64th_leaf_among_ranges() {
+    // With its 63 operators a pattern of 192 bytes has room for 32 ranges.
+    let ranges = [65, 0, 42].repeat(32);
+    leaf_too_many(&[vec![66; 63], ranges.clone(), vec![7; 32]].concat(), 190);
     // Of a range, its 65.
-    leaf_too_many(&[vec![66; 31], vec![7; 16], ranges].concat(), 92);
-    leaf_too_many(&[vec![66; 31], vec![7; 31], vec![65, 1, 2]].concat(), 62);
-    leaf_too_many(&[vec![66; 32], vec![7; 31], vec![65, 1, 2, 7]].concat(), 63);
-    leaf_too_many(&[vec![66; 31], [65, 0, 9, 7].repeat(16)].concat(), 94);
-    leaf_too_many(&[vec![66; 31], [7, 65, 0, 9].repeat(16)].concat(), 92);
-    leaf_too_many(&[[66, 7].repeat(31), vec![65, 0, 0]].concat(), 62);
-    leaf_too_many(&[vec![66; 31], vec![7; 31], vec![68, 68, 65, 1, 2]].concat(), 64);
-    // A range is one leaf: 31 leaves in 96 bytes.
-    let mut full = [vec![68; 31], vec![66; 30], vec![7; 29]].concat();
+    leaf_too_many(&[vec![66; 63], vec![7; 32], ranges].concat(), 188);
+    leaf_too_many(&[vec![66; 63], vec![7; 63], vec![65, 1, 2]].concat(), 126);
+    leaf_too_many(&[vec![66; 64], vec![7; 63], vec![65, 1, 2, 7]].concat(), 127);
+    leaf_too_many(&[vec![66; 63], [65, 0, 9, 7].repeat(32)].concat(), 190);
+    leaf_too_many(&[vec![66; 63], [7, 65, 0, 9].repeat(32)].concat(), 188);
+    leaf_too_many(&[[66, 7].repeat(63), vec![65, 0, 0]].concat(), 126);
+    leaf_too_many(&[vec![66; 63], vec![7; 63], vec![68, 68, 65, 1, 2]].concat(), 128);
+    // A range is one leaf: 63 leaves in 192 bytes.
+    let mut full = [vec![68; 63], vec![66; 62], vec![7; 61]].concat();
     full.extend([65, 0, 42, 65, 1, 2]);
-    assert_eq!(full.len(), 96);
+    assert_eq!(full.len(), 192);
     assert!(good(&[&pattern(0, &full), SIDES].concat()));
 }
 
 #[test]
 fn the_empty_text_is_no_leaf() {
-    let empty_ones = [vec![66; 47], vec![64; 48]].concat();
+    let empty_ones = [vec![66; 95], vec![64; 96]].concat();
     assert!(good(&[&pattern(0, &empty_ones), SIDES].concat()));
-    assert!(good(&[&pattern(0, &[vec![66], leaves(31), vec![64]].concat()), SIDES].concat()));
-    leaf_too_many(&[vec![66; 32], vec![7; 31], vec![64, 7]].concat(), 64);
-    leaf_too_many(&[vec![66; 33], vec![64, 64], vec![7; 32]].concat(), 66);
+    assert!(good(&[&pattern(0, &[vec![66], leaves(63), vec![64]].concat()), SIDES].concat()));
+    leaf_too_many(&[vec![66; 64], vec![7; 63], vec![64, 7]].concat(), 128);
+    leaf_too_many(&[vec![66; 65], vec![64, 64], vec![7; 64]].concat(), 130);
 }
 
 #[test]
 fn fifteen_comes_before_16() {
-    // Behind the 32nd leaf, which stands at 63 of the bytes or at 62.
-    let open = [vec![66; 32], vec![7; 32]].concat();
+    // Behind the 64th leaf, which stands at 127 of the bytes or at 126.
+    let open = [vec![66; 64], vec![7; 64]].concat();
     let then = |more: &[u8]| [&open[..], more].concat();
-    wrong_byte(&then(&[43]), 64);
-    wrong_byte(&then(&[65, 43]), 65);
-    wrong_byte(&then(&[65, 43, 43]), 65);
-    wrong_byte(&then(&[65, 2, 1]), 66);
-    wrong_byte(&then(&[65, 0, 43]), 66);
-    wrong_byte(&then(&[7, 7]), 65);
-    wrong_byte(&open, 64);
-    wrong_byte(&then(&[65, 0]), 66);
-    wrong_byte(&[leaves(32), vec![7]].concat(), 63);
-    wrong_byte(&[leaves(32), vec![255]].concat(), 63);
-    // At the 32nd leaf, and before it.
-    wrong_byte(&[vec![66; 31], vec![7; 31], vec![65, 9, 8]].concat(), 64);
-    wrong_byte(&[vec![66; 31], vec![7; 31], vec![65, 9]].concat(), 64);
-    wrong_byte(&[vec![66; 32], vec![7; 10], vec![43], vec![7; 22]].concat(), 42);
-    // 32 ranges fill the 96 bytes, and no operator joins them.
-    wrong_byte(&[65, 0, 9].repeat(32), 3);
+    wrong_byte(&then(&[43]), 128);
+    wrong_byte(&then(&[65, 43]), 129);
+    wrong_byte(&then(&[65, 43, 43]), 129);
+    wrong_byte(&then(&[65, 2, 1]), 130);
+    wrong_byte(&then(&[65, 0, 43]), 130);
+    wrong_byte(&then(&[7, 7]), 129);
+    wrong_byte(&open, 128);
+    wrong_byte(&then(&[65, 0]), 130);
+    wrong_byte(&[leaves(64), vec![7]].concat(), 127);
+    wrong_byte(&[leaves(64), vec![255]].concat(), 127);
+    // At the 64th leaf, and before it.
+    wrong_byte(&[vec![66; 63], vec![7; 63], vec![65, 9, 8]].concat(), 128);
+    wrong_byte(&[vec![66; 63], vec![7; 63], vec![65, 9]].concat(), 128);
+    wrong_byte(&[vec![66; 64], vec![7; 10], vec![43], vec![7; 54]].concat(), 74);
+    // 64 ranges fill the 192 bytes, and no operator joins them.
+    wrong_byte(&[65, 0, 9].repeat(64), 3);
 }
 
 // ------------------------------------------------------------------- 17

@@ -3,7 +3,12 @@
 //! lists the situations: h is the left hidden field, k the right one, `_` a
 //! space, and a field with a stroke one whose set is no longer the first.
 
+use std::io::Write;
+use std::process::{Command, Stdio};
+
 use second::cases::{After, Case, ANSWER_FILL};
+use second::storeroom::by_first_letter;
+use second::write::tokens;
 use second::{lines, Outcome, SITUATION_BYTES};
 
 const A: u8 = 10;
@@ -46,7 +51,7 @@ fn check(sheet: &[u8], room: usize, answer: u32, expected: (u8, usize, usize), r
 
 /// The same at the least room for it; with one situation less there is no room.
 fn check_at_least_room(sheet: &[u8], number: u8, count: usize, records: &[u8]) {
-    check(sheet, 455, 4096, (number, count, 0), records);
+    check(sheet, 356, 4096, (number, count, 0), records);
     check(sheet, count, 4096, (number, count, 0), records);
     check(sheet, count - 1, 4096, (18, count - 1, 0), &[]);
 }
@@ -55,12 +60,12 @@ fn check_at_least_room(sheet: &[u8], number: u8, count: usize, records: &[u8]) {
 fn both_sides_empty() {
     // h|k, |k, h|, h'|k', |
     check_at_least_room(&sheet(&[], &[]), 0, 5, &[]);
-    check(&sheet(&[], &[]), 455, 0, (0, 5, 0), &[]);
+    check(&sheet(&[], &[]), 356, 0, (0, 5, 0), &[]);
 }
 
 #[test]
 fn a_and_b() {
-    check(&sheet(&[A], &[B]), 455, 4096, (1, 1, 0), &[]);
+    check(&sheet(&[A], &[B]), 356, 4096, (1, 1, 0), &[]);
 }
 
 #[test]
@@ -77,7 +82,7 @@ fn x_and_a() {
 fn x_and_the_empty_side() {
     // x is one space: xh|k, xh|, x'h|k', h|k', x'h|, |k', h|, h'|k', |
     check_at_least_room(&sheet(&[X], &[]), 0, 9, &record(&[SPACE]));
-    let printed = run(&sheet(&[X], &[]), 455, 4096);
+    let printed = run(&sheet(&[X], &[]), 356, 4096);
     assert_eq!(lines(&printed.outcome, &printed.answer), "0 9 0\n0  \n");
     // h|xk, |xk, h'|x'k, |x'k, h'|k, |k, h'|, h'|k', |
     check_at_least_room(&sheet(&[], &[X]), 0, 9, &record(&[SPACE]));
@@ -93,18 +98,44 @@ fn xa_and_bx() {
 fn xa_and_bx_with_a_pattern() {
     // xAh|Bxk, x'Ah|Bx'k
     let with_pattern = [b"PA", &[0, 4, 68, 65, 0, 42][..], &sheet(&[X, A], &[B, X])].concat();
-    check(&with_pattern, 455, 4096, (1, 2, 0), &[]);
+    check(&with_pattern, 356, 4096, (1, 2, 0), &[]);
 }
 
 #[test]
 fn xa_and_bx_without_room() {
     check(&sheet(&[X, A], &[B, X]), 0, 4096, (18, 0, 0), &[]);
-    // 143 bytes are no room either, and end all zero.
-    let case = Case { work: 143, answer: 9, sheet: sheet(&[X, A], &[B, X]) };
+    // 183 bytes are no room either, and end all zero.
+    let case = Case { work: 183, answer: 9, sheet: sheet(&[X, A], &[B, X]) };
     for after in [case.run(second::answer), case.run(second::scan::answer)] {
         assert_eq!((after.outcome.number, after.outcome.count), (18, 0));
-        assert_eq!(after.work, [0; 143]);
+        assert_eq!(after.work, [0; 183]);
     }
+}
+
+/// "A situation then takes 184 bytes, so the program's 65,520 hold 356".
+#[test]
+fn whole_184_bytes_are_room_for_a_situation() {
+    // xAh|Bxk, x'Ah|Bx'k
+    let rows = [(183, 18, 0), (184, 18, 1), (185, 18, 1), (367, 18, 1), (368, 1, 2), (551, 1, 2)];
+    for (work, number, count) in rows {
+        let case = Case { work, answer: 9, sheet: sheet(&[X, A], &[B, X]) };
+        for after in [case.run(second::answer), case.run(second::scan::answer)] {
+            assert_eq!((after.outcome.number, after.outcome.count), (number, count), "{work}");
+            assert!(after.work.iter().all(|&byte| byte == 0));
+        }
+    }
+    // xA and Byx runs on.
+    for (work, room) in [(65_503, 355), (65_504, 356), (65_520, 356), (65_687, 356), (65_688, 357)]
+    {
+        assert_eq!(second::room(work), room);
+        let case = Case { work: work as u32, answer: 0, sheet: sheet(&[X, A], &[B, Y, X]) };
+        for after in [case.run(second::answer), case.run(second::scan::answer)] {
+            assert_eq!((after.outcome.number, after.outcome.count), (18, room), "{work}");
+        }
+    }
+    assert_eq!(second::room(65_535 * 184 - 1), 65_534);
+    assert_eq!(second::room(65_535 * 184), 65_535);
+    assert_eq!(second::room(65_536 * 184), 65_535);
 }
 
 #[test]
@@ -121,7 +152,7 @@ fn xx_and_a() {
     // x'A_..x'h|k', A_..h|k' and x'A_..x'h|, until the first has more than 48
     // tokens: x, A, 44 spaces, x and h are 48. So 4, and three for each of 44
     // spaces.
-    check(&sheet(&[X, X], &[A]), 455, 4096, (19, 136, 0), &[]);
+    check(&sheet(&[X, X], &[A]), 356, 4096, (19, 136, 0), &[]);
     check(&sheet(&[X, X], &[A]), 136, 4096, (19, 136, 0), &[]);
     check(&sheet(&[X, X], &[A]), 135, 4096, (18, 135, 0), &[]);
 }
@@ -136,13 +167,13 @@ fn abxb_and_xby() {
 
 #[test]
 fn xa_and_byx_runs_on() {
-    check(&sheet(&[X, A], &[B, Y, X]), 455, 4096, (18, 455, 0), &[]);
+    check(&sheet(&[X, A], &[B, Y, X]), 356, 4096, (18, 356, 0), &[]);
 }
 
 #[test]
 fn twenty_four_times_x_and_aa() {
     // x..h|AAk, x'(Ax')..h|Ak of 48 tokens, A..h|k, then 71 tokens
-    check(&sheet(&[X; 24], &[A, A]), 455, 4096, (19, 3, 0), &[]);
+    check(&sheet(&[X; 24], &[A, A]), 356, 4096, (19, 3, 0), &[]);
     check(&sheet(&[X; 24], &[A, A]), 3, 4096, (19, 3, 0), &[]);
     check(&sheet(&[X; 24], &[A, A]), 2, 4096, (18, 2, 0), &[]);
 }
@@ -163,7 +194,7 @@ fn fields_without_a_pattern_alone() {
     let b_and_a = [b"VA", &[0, 1, 0, B][..], b"VA", &[1, 1, 0, A]].concat();
     check_at_least_room(&sheet(&[Y, X], &[A, B]), 0, 18, &b_and_a);
     // Each of 43 characters has children for each of 43.
-    check(&sheet(&[X, Y], &[Y, X]), 455, 4096, (18, 455, 0), &[]);
+    check(&sheet(&[X, Y], &[Y, X]), 356, 4096, (18, 356, 0), &[]);
 }
 
 #[test]
@@ -174,7 +205,7 @@ fn a_field_without_a_pattern_holds_a_character_or_more() {
         let fields: Vec<u8> = (X..X + length).collect();
         let made = |characters: u8| {
             let label = [vec![A; usize::from(characters)], vec![B]].concat();
-            run(&sheet(&[&fields[..], &[B]].concat(), &label), 455, 4096).outcome.number
+            run(&sheet(&[&fields[..], &[B]].concat(), &label), 356, 4096).outcome.number
         };
         assert_eq!(made(length), 0);
         assert_eq!(made(length + 1), 0);
@@ -184,13 +215,13 @@ fn a_field_without_a_pattern_holds_a_character_or_more() {
 
 #[test]
 fn empty_sheet() {
-    check(&[], 455, 4096, (11, 0, 0), &[]);
+    check(&[], 356, 4096, (11, 0, 0), &[]);
 }
 
 #[test]
 fn one_byte_more() {
     let one_more = [&sheet(&[], &[])[..], &[0]].concat();
-    check(&one_more, 455, 4096, (12, 0, 6), &[]);
+    check(&one_more, 356, 4096, (12, 0, 6), &[]);
 }
 
 #[test]
@@ -200,20 +231,20 @@ fn sheet_s() {
     // |
     check_at_least_room(&SHEET_S, 0, 13, &records);
     check(&SHEET_S, 13, 12, (0, 13, 0), &records);
-    check(&SHEET_S, 455, 11, (20, 13, 0), &[]);
+    check(&SHEET_S, 356, 11, (20, 13, 0), &[]);
     check(&SHEET_S, 12, 4096, (18, 12, 0), &[]);
 }
 
 #[test]
 fn sheet_s_as_printed() {
-    let After { outcome, answer, .. } = run(&SHEET_S, 455, 4096);
+    let After { outcome, answer, .. } = run(&SHEET_S, 356, 4096);
     assert_eq!(lines(&outcome, &answer), "0 13 0\n0 4\n1 4\n");
 }
 
 #[test]
 fn characters_as_printed() {
     let all: Vec<u8> = (19..43).collect();
-    let After { outcome, answer, .. } = run(&sheet(&[X, Y], &all), 455, 4096);
+    let After { outcome, answer, .. } = run(&sheet(&[X, Y], &all), 356, 4096);
     let printed = lines(&outcome, &answer);
     // x is struck as soon as it may be, so y is the rest of the label.
     assert_eq!(printed, format!("0 {} 0\n0 J\n1 KLMNOPQRSTUVWXYZ-. $/+%\n", outcome.count));
@@ -247,7 +278,7 @@ fn lt4_and_lt4_with_spaces() {
         check_at_least_room(&sheet(&spaced, &lt4), 0, 5 + spaces, &[]);
         // Spaces on both sides are trimmed as far as they are equal.
         let twice = then_spaces(&lt4, 21 - spaces);
-        check(&sheet(&spaced, &twice), 455, 0, (0, 5 + spaces.abs_diff(21 - spaces), 0), &[]);
+        check(&sheet(&spaced, &twice), 356, 0, (0, 5 + spaces.abs_diff(21 - spaces), 0), &[]);
     }
 }
 
@@ -263,17 +294,17 @@ fn sides_of_spaces_alone() {
 fn other_spaces_count() {
     // In front, and between characters: h|_..Bk, then h'|_..Bk with a space
     // less each time.
-    check(&sheet(&[SPACE, A], &[A]), 455, 4096, (1, 1, 0), &[]);
+    check(&sheet(&[SPACE, A], &[A]), 356, 4096, (1, 1, 0), &[]);
     for spaces in 1..=22 {
         let inside = [then_spaces(&[A], spaces), vec![B]].concat();
         check_at_least_room(&sheet(&[A], &inside), 1, spaces + 1, &[]);
         check_at_least_room(&sheet(&inside, &[A]), 1, spaces + 1, &[]);
     }
-    check(&sheet(&[A, SPACE, B], &[A, B, SPACE]), 455, 4096, (1, 1, 0), &[]);
+    check(&sheet(&[A, SPACE, B], &[A, B, SPACE]), 356, 4096, (1, 1, 0), &[]);
     // Only spaces are dropped: `.` and `$` are the values beside.
     for other in [37, 39, 0, 42] {
-        check(&sheet(&[A], &[A, other]), 455, 4096, (1, 1, 0), &[]);
-        check(&sheet(&[A, other], &[A]), 455, 4096, (1, 1, 0), &[]);
+        check(&sheet(&[A], &[A, other]), 356, 4096, (1, 1, 0), &[]);
+        check(&sheet(&[A, other], &[A]), 356, 4096, (1, 1, 0), &[]);
     }
 }
 
@@ -304,7 +335,7 @@ fn a_text_that_ends_in_a_space() {
     let a_space = pattern(0, &[66, A, SPACE]);
     let with_a = [&a_space[..], &sheet(&[X], &[A])].concat();
     check_at_least_room(&with_a, 0, 10, &record(&[A, SPACE]));
-    let printed = run(&with_a, 455, 4096);
+    let printed = run(&with_a, 356, 4096);
     assert_eq!(lines(&printed.outcome, &printed.answer), "0 10 0\n0 A \n");
     // It is no longer at the end: xBh|Ak, x'Bh|k, x'Bh|, x''Bh|k', Bh|k', x''Bh|
     check_at_least_room(&[&a_space[..], &sheet(&[X, B], &[A])].concat(), 1, 6, &[]);
@@ -333,22 +364,156 @@ fn the_limit_of_48_counts_the_hidden_field() {
     // x 16 times, B, AAA: x..Bh|AAAk, x'(Ax')..Bh|AAk of 33 tokens, A..Bh|k,
     // x'(AAx')..Bh|Ak of 48, A..Bh|k, then 63.
     let left = [vec![X; 16], vec![B]].concat();
-    check(&sheet(&left, &[A; 3]), 455, 0, (19, 5, 0), &[]);
-    check(&sheet(&[A; 3], &left), 455, 0, (19, 5, 0), &[]);
+    check(&sheet(&left, &[A; 3]), 356, 0, (19, 5, 0), &[]);
+    check(&sheet(&[A; 3], &left), 356, 0, (19, 5, 0), &[]);
     // With one B more the 48 are 49.
     let left = [vec![X; 16], vec![B, B]].concat();
-    check(&sheet(&left, &[A; 3]), 455, 0, (19, 3, 0), &[]);
-    check(&sheet(&[A; 3], &left), 455, 0, (19, 3, 0), &[]);
+    check(&sheet(&left, &[A; 3]), 356, 0, (19, 3, 0), &[]);
+    check(&sheet(&[A; 3], &left), 356, 0, (19, 3, 0), &[]);
 }
 
 #[test]
 fn the_hidden_fields_tokens_are_none_in_a_sheet() {
     for token in [72, 73] {
-        check(&sheet(&[A, token], &[]), 455, 0, (17, 0, 4), &[]);
-        check(&sheet(&[A], &[A, token]), 455, 0, (17, 0, 8), &[]);
+        check(&sheet(&[A, token], &[]), 356, 0, (17, 0, 4), &[]);
+        check(&sheet(&[A], &[A, token]), 356, 0, (17, 0, 8), &[]);
     }
     for field in [8, 9] {
         let hidden = [&pattern(field, &[68, SPACE])[..], &sheet(&[], &[])].concat();
-        check(&hidden, 455, 0, (13, 0, 2), &[]);
+        check(&hidden, 356, 0, (13, 0, 2), &[]);
     }
+}
+
+// ----------------------------------------------------------- longer patterns
+
+/// A keypad maker's finishes: the letters that may follow each first one.
+const FINISHES: [(&str, &str); 13] = [
+    ("A", "BCN"),
+    ("B", "BCKNRZ"),
+    ("C", "BHP"),
+    ("D", "BN"),
+    ("G", "BDN"),
+    ("M", "BCN"),
+    ("N", "BK"),
+    ("O", "BR"),
+    ("P", "BCNW"),
+    ("R", "BG"),
+    ("S", "BCGNS"),
+    ("W", "BH"),
+    ("Z", "BNP"),
+];
+
+/// One of the finishes: 67 before all choices but the last, 66 before each first
+/// letter.
+fn one_finish() -> Vec<u8> {
+    let mut bytes = Vec::new();
+    for (number, (first, seconds)) in FINISHES.iter().enumerate() {
+        bytes.extend((number + 1 < FINISHES.len()).then_some(67));
+        bytes.extend([66, first.as_bytes()[0] - b'A' + 10]);
+        for (number, second) in seconds.bytes().enumerate() {
+            bytes.extend((number + 1 < seconds.len()).then_some(67));
+            bytes.push(second - b'A' + 10);
+        }
+    }
+    bytes
+}
+
+/// "A keypad maker lists 40 finish codes as one choice."
+#[test]
+fn forty_finishes() {
+    assert_eq!(FINISHES.iter().map(|(_, seconds)| seconds.len()).sum::<usize>(), 40);
+    let finish = one_finish();
+    // 13 + 40 leaves, and an operator less
+    assert_eq!(finish.len(), 105);
+    assert_eq!(finish, by_first_letter(&second::storeroom::FINISHES));
+    let keypad = |right: &[u8]| {
+        let (left, right) =
+            ([&tokens("KP")[..], &[X]].concat(), [&tokens("KP")[..], right].concat());
+        [&pattern(0, &finish)[..], &sheet(&left, &right)].concat()
+    };
+    // `KP`x and `KPGD`: xh|GDk, x'h|Dk, x''h|k, h|k, x''h|, |k, h|, h'|k', |
+    check_at_least_room(&keypad(&tokens("GD")), 0, 9, &record(&tokens("GD")));
+    let printed = run(&keypad(&tokens("ZP")), 356, 4096);
+    assert_eq!(lines(&printed.outcome, &printed.answer), "0 9 0\n0 ZP\n");
+    // `KP`x and `KPS`y, y open: xh|Syk, x'h|yk, then for each of five codes
+    // x''h|y'k; h|y'k, five x''h|k, |y'k, h|k, h'|y'k, five x''h|, |k, h|,
+    // h'|k', h'|k, |
+    let texts = [&record(&tokens("SB"))[..], b"VA", &[1, 1, 0], &tokens("B")].concat();
+    check_at_least_room(&keypad(&[28, Y]), 0, 26, &texts);
+    // Of all codes of two letters just the 40 clash. Otherwise it is xh|GGk,
+    // x'h|Gk, or the first letter is none.
+    for (first, second) in (10..36).flat_map(|first| (10..36).map(move |second| (first, second))) {
+        let letter = |value: u8| char::from(b'A' + value - 10);
+        let seconds = FINISHES.iter().find(|(of, _)| of.starts_with(letter(first)));
+        match seconds.map(|(_, seconds)| seconds.contains(letter(second))) {
+            Some(true) => {
+                check_at_least_room(&keypad(&[first, second]), 0, 9, &record(&[first, second]))
+            }
+            Some(false) => check_at_least_room(&keypad(&[first, second]), 1, 2, &[]),
+            None => check_at_least_room(&keypad(&[first, second]), 1, 1, &[]),
+        }
+    }
+}
+
+/// `KP`x and `KP`y, both of the 40 finishes.
+#[test]
+fn forty_finishes_on_both_sides() {
+    // xh|yk, then one for each of 13 first letters and of 40 codes: 54. Of each
+    // code h|y''k and x''h|k: 134. Of each |y''k and x''h|, and once h|k: 215.
+    // Then |k, h|, h'|k', and |.
+    let patterns = [pattern(0, &one_finish()), pattern(1, &one_finish())].concat();
+    let keypads = [patterns, sheet(&tokens("KPa"), &tokens("KPb"))].concat();
+    let first = tokens("AB");
+    let records = [&record(&first)[..], b"VA", &[1, 2, 0], &first].concat();
+    check_at_least_room(&keypads, 0, 219, &records);
+}
+
+#[test]
+fn the_last_of_63_leaves() {
+    // x is one character, the 63rd leaf `A` and all others `B`: xh|Ak, x'h|k,
+    // h|k, x'h|, |k, h|, h'|k', |
+    let b_or_a = [[67, B].repeat(62), vec![A]].concat();
+    let one = [&pattern(0, &b_or_a)[..], &sheet(&[X], &[A])].concat();
+    check_at_least_room(&one, 0, 8, &record(&[A]));
+    // x is `B` 62 times and `A`, and so is y, which has no pattern.
+    let row = [[66, B].repeat(62), vec![A]].concat();
+    let long = [&pattern(0, &row)[..], &sheet(&[X], &[Y])].concat();
+    let text = [vec![B; 62], vec![A]].concat();
+    let After { outcome, answer, .. } = run(&long, 356, 4096);
+    assert_eq!(outcome.number, 0);
+    let expected = [&record(&text)[..], b"VA", &[1, 63, 0], &text].concat();
+    assert_eq!(&answer[..outcome.written], expected);
+}
+
+#[test]
+fn the_limits_of_a_pattern() {
+    let of = |body: &[u8]| [&pattern(0, body)[..], &sheet(&[A], &[B])].concat();
+    let leaves = |number: usize| [vec![66; number - 1], vec![7; number]].concat();
+    check(&of(&leaves(63)), 356, 0, (1, 1, 0), &[]);
+    // The 64th leaf is the last byte.
+    check(&of(&leaves(64)), 356, 0, (16, 0, 4 + 126), &[]);
+    check(&of(&[vec![68; 191], vec![7]].concat()), 356, 0, (1, 1, 0), &[]);
+    check(&of(&[vec![68; 192], vec![7]].concat()), 356, 0, (14, 0, 3), &[]);
+}
+
+/// A longest sheet has 1,622 bytes, and the program reads them all.
+#[test]
+fn the_longest_sheet() {
+    let full = [vec![66; 62], vec![68; 67], vec![7; 63]].concat();
+    let mut longest: Vec<u8> = (0..8).flat_map(|field| pattern(field, &full)).collect();
+    longest.extend(sheet(&[A; 24], &[A; 24]));
+    assert_eq!(longest.len(), 1_622);
+    check(&longest, 356, 0, (0, 5, 0), &[]);
+    let printed = |input: &[u8]| {
+        let mut program = Command::new(env!("CARGO_BIN_EXE_second"))
+            .stdin(Stdio::piped())
+            .stdout(Stdio::piped())
+            .spawn()
+            .unwrap();
+        program.stdin.take().unwrap().write_all(input).unwrap();
+        String::from_utf8(program.wait_with_output().unwrap().stdout).unwrap()
+    };
+    assert_eq!(printed(&longest), "0 5 0\n");
+    assert_eq!(printed(&longest[..1_621]), "11 0 1621\n");
+    assert_eq!(printed(&[&longest[..], &[0; 600]].concat()), "12 0 1622\n");
 }

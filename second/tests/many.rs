@@ -6,6 +6,7 @@ use std::collections::BTreeMap;
 
 use second::cases::{After, Case};
 use second::make::{case, long, Dice};
+use second::storeroom::{by_first_letter, FINISHES};
 use second::{printed, Outcome, CODE_39};
 
 fn cases(seed: u64, number: usize) -> Vec<Case> {
@@ -49,10 +50,37 @@ fn each_byte_that_shows_a_fault_comes_up() {
 }
 
 #[test]
+fn long_patterns_come_up() {
+    let mut seen = BTreeMap::new();
+    for case in cases(8, 6000) {
+        table::sizes(&case.sheet, b"", &mut seen);
+    }
+    table::all_sizes_come_up(&seen, 60, 15);
+}
+
+/// The keypad maker's 40 finishes, in sheets that clash and in sheets that do
+/// not.
+#[test]
+fn forty_finishes_come_up() {
+    let finishes = by_first_letter(&FINISHES);
+    let mut seen = BTreeMap::new();
+    for case in cases(9, 12_000) {
+        if case.sheet.windows(finishes.len()).any(|bytes| bytes == finishes) {
+            let after = case.run(second::answer);
+            assert_eq!(after, case.run(second::scan::answer));
+            *seen.entry(after.outcome.number).or_insert(0) += 1;
+        }
+    }
+    for number in [0, 1, 18, 20] {
+        assert!(seen.get(&number).is_some_and(|&times| times >= 5), "{number}: {seen:?}");
+    }
+}
+
+#[test]
 fn the_long_ones_fill_the_room() {
-    for case in long(455) {
+    for case in long(356) {
         let after = case.run(second::answer);
-        assert_eq!((after.outcome.number, after.outcome.count), (18, 455));
+        assert_eq!((after.outcome.number, after.outcome.count), (18, 356));
         assert_eq!(after, case.run(second::scan::answer));
     }
 }
@@ -67,22 +95,23 @@ fn the_printed_cases_tell_printers_apart() {
     let every_sign = String::from_utf8(CODE_39.to_vec()).unwrap();
     assert!(outcomes.iter().any(|after| after.lines().contains(&every_sign)));
     // The first one, which the program `clash` is run on, has its end behind
-    // 512 bytes, a text above 255 characters and an empty last one, and wants
-    // all 455 situations.
+    // 1,024 bytes, a text above 255 characters and an empty last one, and wants
+    // all 356 situations.
     let Case { work, answer, sheet } = cases[0].clone();
     let lines = outcomes[0].lines();
-    assert!(lines.starts_with("0 455 0\n") && lines.ends_with("\n7 \n"));
+    assert!(lines.starts_with("0 356 0\n") && lines.ends_with("\n7 \n"));
     assert!(lines.lines().any(|line| line.len() > 2 + 255));
     let other = |work, answer, sheet: &[u8]| {
         Case { work, answer, sheet: sheet.to_vec() }.run(second::answer).lines()
     };
-    assert_eq!(other(work - 144, answer, &sheet), "18 454 0\n");
-    assert_eq!(other(work, 64, &sheet), "20 455 0\n");
-    assert_eq!(other(work, answer, &sheet[..512]), "11 0 512\n");
+    assert_eq!(other(work - 184, answer, &sheet), "18 355 0\n");
+    assert_eq!(other(work - 1, answer, &sheet), "18 355 0\n");
+    assert_eq!(other(work, 64, &sheet), "20 356 0\n");
+    assert_eq!(other(work, answer, &sheet[..1_024]), "11 0 1024\n");
     // The last ones have a fault, some places above 255.
     let faults: Vec<String> = outcomes[15..].iter().map(After::lines).collect();
-    let (cut_short, marks) = (["11 0 0\n", "11 0 800\n"], ["12 0 6\n", "12 0 700\n"]);
-    let others = ["13 0 802\n", "14 0 302\n", "15 0 11\n", "16 0 166\n", "17 0 106\n"];
+    let (cut_short, marks) = (["11 0 0\n", "11 0 1568\n"], ["12 0 6\n", "12 0 1372\n"]);
+    let others = ["13 0 1570\n", "14 0 590\n", "15 0 11\n", "16 0 326\n", "17 0 202\n"];
     assert_eq!(faults, [&cut_short[..], &marks, &others].concat());
 }
 

@@ -7,7 +7,7 @@ mod plain;
 use plain::{parts, regular, script, takes, Layout, LAYOUTS};
 use second::cases::Case;
 use second::make::{case, Dice};
-use second::pattern::{Allowed, Pattern, Places};
+use second::pattern::{Allowed, Pattern, Places, MOST_LEAVES};
 use second::sheet;
 use second::smt::compare::says;
 use second::smt::language::difference;
@@ -157,7 +157,7 @@ fn memberships_differ_as_their_short_texts_do() {
     let (mut same, mut too_many, mut too_few) = (0, 0, 0);
     for number in 0..4_000 {
         let (held, written) = (few.pattern(4), few.pattern(4));
-        if leaves(&held) > 31 {
+        if leaves(&held) > MOST_LEAVES {
             continue;
         }
         let allowed = Allowed::Pattern(Box::new(Places::of(&held)));

@@ -147,20 +147,20 @@ fn a_refused_sheet() {
     assert_eq!(spell_open::sheet(&with(&falling, &[X], &[])), told(13, 7));
     assert_eq!(spell_open::sheet(b"LE\x19"), told(14, 2));
     assert_eq!(spell_open::sheet(&with(&[pattern(0, &[43])], &[X], &[])), told(15, 4));
-    let leaves = [vec![66; 31], vec![7; 32]].concat();
-    assert_eq!(spell_open::sheet(&with(&[pattern(0, &leaves)], &[Y], &[])), told(16, 66));
+    let leaves = [vec![66; 63], vec![7; 64]].concat();
+    assert_eq!(spell_open::sheet(&with(&[pattern(0, &leaves)], &[Y], &[])), told(16, 130));
     assert_eq!(spell_open::sheet(&with(&[], &[X, 72], &[])), told(17, 4));
 }
 
 #[test]
 fn the_longest_sheet() {
-    // Seven patterns of 96 bytes, a field without one, and full sides.
-    let full = [vec![66; 30], vec![68; 35], vec![7; 31]].concat();
+    // Seven patterns of 192 bytes, a field without one, and full sides.
+    let full = [vec![66; 62], vec![68; 67], vec![7; 63]].concat();
     let seven: Vec<Vec<u8>> = (0..7).map(|field| pattern(field, &full)).collect();
     let left = [&[71][..], &[A; 23]].concat();
     let new = [&seven[..], &[added(7)]].concat();
     spells(&seven, &left, &[64; 24], &new);
-    assert!(with(&new, &left, &[64; 24]).len() <= 1_024);
+    assert!(with(&new, &left, &[64; 24]).len() <= 2_048);
 }
 
 // ----------------------------------------------------- known sheets carried over
@@ -298,13 +298,13 @@ fn the_new_sheet_asks_the_old_question() {
         let asked = sheet::read(&new).unwrap();
         let before = old_question(&old);
         assert_eq!((&asked.left, &asked.right), (&before.left, &before.right));
-        for room in [0, 7, 40, 455] {
+        for room in [0, 7, 40, 356] {
             let found = search(&asked, room);
             assert_eq!(found, search(&before, room), "{old:?}");
             let mut work = vec![9; room * SITUATION_BYTES];
             let told = second::scan::searched(&asked, &mut work);
             assert_eq!(told, (found.ending.number(), found.count), "{old:?}");
-            if room == 455 && new != old {
+            if room == 356 && new != old {
                 *seen.entry(found.ending.number()).or_insert(0) += 1;
             }
         }
@@ -324,7 +324,7 @@ fn the_old_meaning_has_more_clashes() {
         if new == old {
             continue;
         }
-        let [now, before] = [&old, &new].map(|sheet| search(&sheet::read(sheet).unwrap(), 455));
+        let [now, before] = [&old, &new].map(|sheet| search(&sheet::read(sheet).unwrap(), 356));
         let numbers = (now.ending.number(), before.ending.number());
         assert!(numbers != (0, 1), "{old:?}");
         // Where only the old meaning has a clash, a field without a pattern is
@@ -598,8 +598,8 @@ fn a_refused_rule() {
     assert_eq!(spell_open::rule(&rule(&[pattern(8, &[4])], &[X])), told(13, 4));
     assert_eq!(spell_open::rule(b"RULE\x19"), told(14, 4));
     assert_eq!(spell_open::rule(&rule(&[pattern(0, &[4, 4])], &[X])), told(15, 7));
-    let leaves = [vec![66; 31], vec![7; 32]].concat();
-    assert_eq!(spell_open::rule(&rule(&[pattern(0, &leaves)], &[X])), told(16, 68));
+    let leaves = [vec![66; 63], vec![7; 64]].concat();
+    assert_eq!(spell_open::rule(&rule(&[pattern(0, &leaves)], &[X])), told(16, 132));
     assert_eq!(spell_open::rule(&rule(&[], &[X, 43])), told(17, 6));
     // A field above 3, behind 11 to 17.
     for field in 4..8 {
@@ -782,7 +782,7 @@ fn a_kept_catalogue() {
     // clash: Bh|yBk, h|k, h|y'Bk, |k, h|, h'|k', |y'Bk, h|Bk, h'|y'Bk, |
     let rules = [rule(&[], &[A, B]), rule(&[], &[A, X, B])].concat();
     let kept = [&rules[..], &[0; 20]].concat();
-    let (now, carried) = rechecked(&kept, 455).unwrap();
+    let (now, carried) = rechecked(&kept, 356).unwrap();
     assert_eq!((now, carried), (vec![], vec![0, 1, 0, 10, 0]));
 }
 

@@ -4,7 +4,7 @@
 --   sheet-stands   : read-sheet s ≡ asked q → Stands s some-text (found s 0 f) (held-by q f)
 --   stands-none    : Stands s before b h → b .end ≡ 0 → h ≡ before
 --   stands-one     : Stands s before b h → 0 < b .end → PatternAt s b h
--- Where none stands, the field holds what it held. Where one stands, its bytes are judged to be the field's pattern, and are at most 96.
+-- Where none stands, the field holds what it held. Where one stands, its bytes are judged to be the field's pattern, and are at most 192.
 -- Follows from the checks on the records, test by test: field numbers rise, so a field's first record is its only one.
 use Prim.Native.Nat.{ℕ, zero, suc, _+_, _-_, _≤_, _<_}
 use native.Mathlib.Omega.{arith}

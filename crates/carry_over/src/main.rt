@@ -16,7 +16,7 @@ use spell_open::SpeltOpen;
 const INPUT: usize = 65536;
 
 // No sheet and no rule is longer: `enough`, which `spell_open::sheet` and `spell_open::rule` promise.
-const LONGEST: usize = 854;
+const LONGEST: usize = 1622;
 
 fn main() {
     let mut input = [0u8; INPUT];

@@ -27,70 +27,78 @@
 // 21  AD  12: a byte behind its `LE`
 // 22  AD  13: the second field first
 // 23  AD  14: 25 tokens
-// 24  AD  15: a finish left over
-// 25  AD  15: a finish missing
-// 26  AD  15: digits from 9 to 0, hi below lo
-// 27  AD  15: lo is 43, and hi is missing
-// 28  AD  16: 16 finishes, 32 leaves
-// 29  AD  16: 31 letters and any digits, the 32nd leaf a range
-// 30  AD  17: 43 is no character
-// 31  AD  17: field 8, behind `LT`
-// 32  AD  31: a side with field 4
-// 33  AD  31: a pattern of field 4
-// 34  WI  33: there is no rule 11
-// 35  WI  the rim latch goes, and the others move up
-// 36  AD  it comes back as rule 10
-// 37  AD  30: a left-hand rim latch, and `RL07L` is a rim latch already, of rule 10
+// 24  AD  14: 49 digits, a pattern of 195 bytes
+// 25  AD  15: a finish left over
+// 26  AD  15: a finish missing
+// 27  AD  15: digits from 9 to 0, hi below lo
+// 28  AD  15: lo is 43, and hi is missing
+// 29  AD  16: 32 finishes, 64 leaves
+// 30  AD  16: 40 finishes one by one, 80 leaves
+// 31  AD  16: 63 letters and any digits, the 64th leaf a range
+// 32  AD  17: 43 is no character
+// 33  AD  17: field 8, behind `LT`
+// 34  AD  31: a side with field 4
+// 35  AD  31: a pattern of field 4
+// 36  WI  33: there is no rule 11
+// 37  WI  the rim latch goes, and the others move up
+// 38  AD  it comes back as rule 10
+// 39  AD  30: a left-hand rim latch, and `RL07L` is a rim latch already, of rule 10
 //     WO  room for one situation
-// 38  AD  30, 18: the keypad with a cable, a keypad, `/` and any digits; not enough for its pair with rule 2
+// 40  AD  30, 18: the keypad with a cable, a keypad, `/` and any digits; not enough for its pair with rule 2
 //     WO  no room
-// 39  AD  30, 18: the same, not enough for the pair with rule 0
-//     WO  455 situations again
-// 40  AD  the keypad with a cable is rule 11
-// 41  RE  no two of the twelve rules clash
+// 41  AD  30, 18: the same, not enough for the pair with rule 0
+//     WO  356 situations again
+// 42  AD  the keypad with a cable is rule 11
+// 43  AD  the maker's keypad is rule 12: `KP`, one of 40 finishes, 53 leaves
+// 44  AD  30: `KPAB` is its first
+// 45  AD  30: `KPZP` is its last
+// 46  AD  30: `KP` and any two letters, and 40 of them are marks already
+// 47  AD  `KP` and one of three codes that are no finish is rule 13
+// 48  WI  it goes
+// 49  RE  no two of the thirteen rules clash
 //     CA  five rules kept from when spaces counted: `LT4`, `LT4` and a space, `LT5`, `LT4` and two, `LT` and any digits
-// 42  RE  35: a byte is missing for the seven pairs
-// 43  RE  the seven pairs, to line 50
-// 51  WI  the one with any digits goes
-// 52  WI  and `LT4` without spaces
-// 53  RE  `LT4` with one space and with two, to line 54
-// 55  WI  the one with two goes
-// 56  RE  no pair is left
+// 50  RE  35: a byte is missing for the seven pairs
+// 51  RE  the seven pairs, to line 58
+// 59  WI  the one with any digits goes
+// 60  WI  and `LT4` without spaces
+// 61  RE  `LT4` with one space and with two, to line 62
+// 63  WI  the one with two goes
+// 64  RE  no pair is left
 //     CA  both boxes and both strips, two pairs that are given up
-// 57  RE  18 and 19 are listed too, to line 59
+// 65  RE  18 and 19 are listed too, to line 67
 //     WO  no room
-// 60  RE  every pair is given up, to line 66
-//     WO  455 situations again
+// 68  RE  every pair is given up, to line 74
+//     WO  356 situations again
 //     CA  the mortice latch and a byte too few for the night latch
-// 67  AD  32: it doesn't fit
+// 75  AD  32: it doesn't fit
 //     CA  one byte more
-// 68  AD  it fits
+// 76  AD  it fits
 //     CA  32 shelf marks, rules of one character each
-// 69  AD  32: no 33rd, though its bytes would fit
-// 70  WI  the last one goes
-// 71  AD  another is the 32nd
+// 77  AD  32: no 33rd, though its bytes would fit
+// 78  WI  the last one goes
+// 79  AD  another is the 32nd
 //     CA  a rule whose last token is none
-// 72  AD  34: no catalogue to add to
-// 73  WI  34: nor to withdraw from
-// 74  RE  34: nor to check again
+// 80  AD  34: no catalogue to add to
+// 81  WI  34: nor to withdraw from
+// 82  RE  34: nor to check again
 //     CA  no bytes
-// 75  AD  32: nothing fits
-// 76  WI  33: no rule
-// 77  RE  no pair
-// 78  SO  no bytes, and nothing to carry over
+// 83  AD  32: nothing fits
+// 84  WI  33: no rule
+// 85  RE  no pair
+// 86  SO  no bytes, and nothing to carry over
 //     CA  kept from when a text could be empty: a parcel `PKX`, parcels `PK`, any text, `X`, the strike plate; just long enough
-// 79  RE  no text is empty now
-// 80  SO  the empty text is written out
-// 81  RE  `PKX` is a parcel of both, to line 82
-// 83  SO  again, and nothing is added
-// 84  RE  as before, to line 85
-// 86  WI  the parcel `PKX` goes
-// 87  AD  30: its mark is a parcel's already
+// 87  RE  no text is empty now
+// 88  SO  the empty text is written out
+// 89  RE  `PKX` is a parcel of both, to line 90
+// 91  SO  again, and nothing is added
+// 92  RE  as before, to line 93
+// 94  WI  the parcel `PKX` goes
+// 95  AD  30: its mark is a parcel's already
 //     CA  the same, a byte too short
-// 88  SO  32: they no longer fit
-// 89  RE  nothing is changed
+// 96  SO  32: they no longer fit
+// 97  RE  nothing is changed
 //     CA  parcels with another mark
-// 90  SO  34: no catalogue to carry over
+// 98  SO  34: no catalogue to carry over
 use lines::tell;
 use operations::How;
 use operations::Shown;

@@ -19,8 +19,8 @@ ghost use Rattle.answers.specs.Faults.{fault-of};
 ghost use Rattle.answers.specs.declared.Found.the-variants as Found;
 ghost use Rattle.fields.specs.Walk.{fields-of, Pattern-read};
 
-// "length byte n 1 to 96"
-const PATTERN_BYTES: usize = 96;
+// "length byte n 1 to 192"
+const PATTERN_BYTES: usize = 192;
 
 // What the patterns' records say.
 pub struct Fields {
@@ -174,7 +174,7 @@ fn wrong_field(field: usize, least: usize) -> bool
     field < least
 }
 
-// "length byte n 1 to 96"
+// "length byte n 1 to 192"
 fn wrong_length(len: usize) -> bool
     ensures { λ r. ⌜ r ≡ (eqb len 0 || ltb pattern-bytes len) ⌝ }
 {

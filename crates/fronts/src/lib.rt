@@ -17,12 +17,12 @@ ghost use Rattle.fronts.specs.Fronts.{row-at, front-from, takes-next};
 // each character lets through.
 pub struct Front {
     pub token: u8,
-    pub followers: u32,
-    pub row: [u32; CHARACTERS],
+    pub followers: u64,
+    pub row: [u64; CHARACTERS],
 }
 
 // The places that may follow those of the set of the field with the token b.
-fn gather(sets: [u32; FIELDS], b: u8, follow: &[[u32; PLACES]; FIELDS]) -> u32
+fn gather(sets: [u64; FIELDS], b: u8, follow: &[[u64; PLACES]; FIELDS]) -> u64
     ensures { λ r. ⌜ r ≡ followers-of (getD (now (follow .entry)) (field-of b) []) (getD sets (field-of b) 0) ⌝ }
 {
     let f = field_of(b);
@@ -34,7 +34,7 @@ fn gather(sets: [u32; FIELDS], b: u8, follow: &[[u32; PLACES]; FIELDS]) -> u32
 }
 
 // What each character lets through in the field with the token b.
-fn row(b: u8, taking: &[[u32; CHARACTERS]; FIELDS]) -> [u32; CHARACTERS]
+fn row(b: u8, taking: &[[u64; CHARACTERS]; FIELDS]) -> [u64; CHARACTERS]
     ensures { λ r. ⌜ r ≡ row-at (now (taking .entry)) b ⌝ }
 {
     let f = field_of(b);
@@ -44,9 +44,9 @@ fn row(b: u8, taking: &[[u32; CHARACTERS]; FIELDS]) -> [u32; CHARACTERS]
 // What is worked out once of a token in front.
 pub fn front_with(
     token: u8,
-    sets: [u32; FIELDS],
-    follow: &[[u32; PLACES]; FIELDS],
-    taking: &[[u32; CHARACTERS]; FIELDS],
+    sets: [u64; FIELDS],
+    follow: &[[u64; PLACES]; FIELDS],
+    taking: &[[u64; CHARACTERS]; FIELDS],
 ) -> Front
     ensures { λ r. ⌜ r ≡ front-from (now (follow .entry)) (now (taking .entry)) sets token ⌝ }
 {
@@ -60,7 +60,7 @@ pub fn front_with(
 }
 
 // "a character in front must be c, and each front field's set after c must not be empty"
-fn takes(b: u8, next: u32, c: u8) -> bool
+fn takes(b: u8, next: u64, c: u8) -> bool
     ensures { λ r. ⌜ r ≡ takes-next b next c ⌝ }
 {
     if b < FIELD_CODE {
@@ -73,7 +73,7 @@ fn takes(b: u8, next: u32, c: u8) -> bool
 }
 
 // Do both tokens in front take c, where the sets of their fields after c are m and n?
-pub fn both_take(a: u8, m: u32, b: u8, n: u32, c: u8) -> bool
+pub fn both_take(a: u8, m: u64, b: u8, n: u64, c: u8) -> bool
     ensures { λ r. ⌜ r ≡ (takes-next a m c && takes-next b n c) ⌝ }
 {
     takes(a, m, c) && takes(b, n, c)

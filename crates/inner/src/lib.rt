@@ -61,7 +61,7 @@ pub fn length_of(side: [u8; LONGEST_SIDE]) -> usize
 pub struct Situation {
     pub left: [u8; LONGEST_SIDE],
     pub right: [u8; LONGEST_SIDE],
-    pub sets: [u32; FIELDS],
+    pub sets: [u64; FIELDS],
 }
 
 // "finished (both sides empty)"

@@ -3,8 +3,8 @@ ghost use mathlib.Core.Path.{_≡_};
 ghost use Prim.Native.Nat.{_+_, _*_};
 ghost use lib.ListN.{length, replicate};
 
-// "65,520 bytes of work (455 situations)", and as much of one more situation as gives no room for it.
-pub const WORK: usize = 65663;
+// "65,520 bytes of work" (356 situations), and as much of one more situation as gives no room for it.
+pub const WORK: usize = 65687;
 
 // The byte with which the working buffer is filled before each call.
 pub const WORK_FILL: u8 = 90;

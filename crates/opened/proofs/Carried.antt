@@ -7,33 +7,31 @@
 use Prim.Native.Nat.{ℕ, zero, suc, _+_, _-_, _*_, _≤_, _<_}
 use native.Mathlib.Nat.{suc-mul, zero-add}
 use native.Mathlib.Omega.{arith}
-use mathlib.Core.Path.{_≡_, refl, sym, ap, _∙_, subst}
+use mathlib.Core.Path.{_≡_, refl, ap, _∙_}
 use mathlib.Core.Logic.{_↔_}
-use mathlib.Core.Bool.{Bool, true, false, _||_}
+use mathlib.Core.Bool.{true, false}
 use mathlib.Core.List.{List, [], _∷_, _++_, append-assoc}
 use lib.Dec.{ltb}
-use lib.ListN.{length, getD, take, drop, length-append}
+use lib.ListN.{length, getD, drop, length-append}
 use lib.Seq.{drop-at, drop-drop, take-all, length-take-le}
 use Rattle.paper.specs.Lists.{any}
-use Rattle.paper.specs.Numbers.{characters, fields, rule-fields, most-leaves, pattern-bytes, catalogue-rules}
+use Rattle.paper.specs.Numbers.{characters, fields, rule-fields}
 use Rattle.paper.specs.Pattern.{Held, some-text, pattern}
-use Rattle.paper.specs.Places.{leaves}
-use Rattle.paper.specs.Equation.{Token, chr, fld}
 use Rattle.paper.specs.Question.{Question}
 use Rattle.paper.specs.Sheet.{records, asked, read-sheet, LE}
 use Rattle.paper.specs.Rule.{Rule, rule-holds, Makes, rule-front, read-rule, foreign-token, foreign-field}
 use Rattle.paper.specs.Saying.{patterns-saying, side-saying, sheet-saying}
 use Rattle.rulebook.specs.Catalogue.{Present, rules, form, all-zero, used}
-use Rattle.rulebook.specs.Calls.{present-at, rule-at}
-use Rattle.paper.proofs.base.Tests.{by-bool, true-false, le-ltb, or-right-false}
+use Rattle.rulebook.specs.Calls.{rule-at}
+use Rattle.paper.proofs.base.Tests.{by-bool, le-ltb, or-right-false}
 use Rattle.paper.proofs.places.Judged.{range-takes}
-use Rattle.paper.proofs.sheets.Asked.{GoodHeld, GoodFields, GoodQuestion, GoodSide, sheet-good}
+use Rattle.paper.proofs.sheets.Asked.{GoodHeld, GoodFields, GoodSide, sheet-good}
 use Rattle.paper.proofs.saying.Saying.{ShortCode, Sayable, reads-back}
 use Rattle.paper.proofs.saying.Sayable.{sheet-sayable}
 use Rattle.rulebook.proofs.Local.{rule-bounds, rule-whole, rule-in-front}
 use Rattle.rulebook.proofs.Form.{LaidOut, zeros, rule, form-stands, rules-at-most, stands-form, zero-drop}
-use Rattle.rulebook.proofs.GoodRule.{GoodRule, rule-good, new-good, own-field, own-in-range}
-use Rattle.opened.specs.Opened.{written-out, opened, stands-asked, spelt-open, rule-saying, stands-ruled, held-open, rule-open, MadeBefore, NoneOpen}
+use Rattle.rulebook.proofs.GoodRule.{GoodRule, rule-good, own-field, own-in-range}
+use Rattle.opened.specs.Opened.{written-out, stands-asked, spelt-open, rule-saying, stands-ruled, held-open, rule-open, MadeBefore, NoneOpen}
 use Rattle.opened.specs.Spelling.{rules-open, longest-sheet, longest-rule, CarriedSheet, CarriedRule, CarriedCatalogue}
 use Rattle.opened.proofs.Opening.{opened-length, opened-by, opened-still, opened-same}
 use Rattle.opened.proofs.SameMeaning.{same-solutions, same-labels}

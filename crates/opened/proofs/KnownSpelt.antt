@@ -10,7 +10,7 @@ use Rattle.paper.specs.Saying.{sheet-saying}
 use Rattle.rulebook.specs.Catalogue.{form}
 use Rattle.paper.proofs.known.Known.{PA, LE, RI}
 use Rattle.opened.specs.Opened.{rule-open}
-use Rattle.opened.specs.Spelling.{Spelling, spelling-told, spelling, rule-spelling, CarriedOver, rules-open, carrying-over}
+use Rattle.opened.specs.Spelling.{spelling-told, spelling, rule-spelling, CarriedOver, rules-open, carrying-over}
 
 -- 68 65 0 42
 abbrev any : List ℕ

@@ -1,14 +1,14 @@
 -- How long the sheets and rules are that are written.
---   patterns-length : the records of the patterns of the fields below k, where the others have none: at most 100 bytes each
+--   patterns-length : the records of the patterns of the fields below k, where the others have none: at most 196 bytes each
 --   sheet-length    : Sayable q → length (sheet-saying q) ≤ longest-sheet
 --   rule-length     : of a good rule's fields and side: length (rule-saying held side) ≤ longest-rule
 --   opened-longer   : nothing becomes shorter
--- A pattern's code has at most 96 bytes and a side at most 24 tokens. By induction over the fields.
-use Prim.Native.Nat.{ℕ, zero, suc, _+_, _*_, _≤_, _<_}
+-- A pattern's code has at most 192 bytes and a side at most 24 tokens. By induction over the fields.
+use Prim.Native.Nat.{ℕ, zero, suc, _+_, _*_, _≤_}
 use native.Mathlib.Nat.{suc-mul}
 use native.Mathlib.Omega.{arith}
-use mathlib.Core.Path.{_≡_, refl, ap}
-use mathlib.Core.Bool.{Bool, true, cond}
+use mathlib.Core.Path.{_≡_, refl}
+use mathlib.Core.Bool.{Bool, cond}
 use mathlib.Core.List.{List, [], _∷_, _++_}
 use lib.ListN.{length, getD, length-append, length-map}
 use Rattle.paper.specs.Numbers.{fields, rule-fields, pattern-bytes, sheet-side}
@@ -16,7 +16,7 @@ use Rattle.paper.specs.Pattern.{Held, some-text, pattern}
 use Rattle.paper.specs.Equation.{Side}
 use Rattle.paper.specs.Question.{Question}
 use Rattle.paper.specs.Sheet.{Mark, LE, RI}
-use Rattle.paper.specs.Saying.{pattern-code, token-byte, pattern-saying, patterns-saying, side-saying, sheet-saying}
+use Rattle.paper.specs.Saying.{token-byte, pattern-saying, patterns-saying, side-saying, sheet-saying}
 use Rattle.paper.proofs.base.Tests.{cond-by}
 use Rattle.paper.proofs.saying.Saying.{ShortCode, Sayable}
 use Rattle.opened.specs.Opened.{spelt-held, opened, rule-saying}

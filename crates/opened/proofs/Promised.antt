@@ -4,16 +4,14 @@
 --   catalogue-promised : CataloguePromised catalogue (carrying-over catalogue)
 --   fault-between      : the number of a fault is one of 11 to 17
 -- Follows from `Carried`, by what reading gives.
-use Prim.Native.Nat.{ℕ, _+_, _*_, _≤_, _<_}
+use Prim.Native.Nat.{ℕ, _+_, _≤_}
 use native.Mathlib.Omega.{arith}
 use native.Mathlib.Nat.{mul-le-mul-right}
 use mathlib.Core.Path.{_≡_, refl, sym, ap, _∙_, subst}
-use mathlib.Core.Bool.{true, false}
 use mathlib.Core.List.{List, _++_}
 use lib.Dec.{ltb}
 use lib.ListN.{length, take, drop, length-append, length-drop}
 use lib.Seq.{take-append-seam}
-use Rattle.paper.specs.Numbers.{catalogue-rules}
 use Rattle.paper.specs.Question.{Question}
 use Rattle.paper.specs.Sheet.{Fault, cut-short, wrong-mark, wrong-field, wrong-length, not-one-pattern, too-many-leaves, wrong-token, fault-number}
 use Rattle.paper.specs.Sheet.{Records, faulty, records, Reading, refused, asked, read-sheet}
@@ -24,7 +22,7 @@ use Rattle.paper.proofs.base.Tests.{cond-by, ltb-true, ltb-false}
 use Rattle.rulebook.proofs.Form.{rules-at-most}
 use Rattle.rulebook.proofs.GoodRule.{new-good}
 use Rattle.opened.specs.Opened.{spelt-open, rule-open}
-use Rattle.opened.specs.Spelling.{Spelling, put-into, spelling-of, spelling, rule-spelling-of, rule-spelling, CarriedOver, rules-open}
+use Rattle.opened.specs.Spelling.{Spelling, put-into, spelling-of, spelling, rule-spelling-of, rule-spelling, rules-open}
 use Rattle.opened.specs.Spelling.{carried-of, carrying-over, longest-sheet, longest-rule, longest-rules}
 use Rattle.opened.specs.Spelling.{CarriedSheet, CarriedRule, CarriedCatalogue, Promised, RulePromised, CataloguePromised}
 use Rattle.opened.proofs.Carried.{sheet-carried, sheet-fits, sheet-same, rule-carried, rule-fits, rule-same, rules-carried, rules-fit}

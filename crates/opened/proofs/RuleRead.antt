@@ -1,19 +1,17 @@
 -- Reading the rule that was written gives it back.
 --   rule-reads : a side and what its fields hold, if a rule can say them: read-rule (rule-saying held side) ≡ records new (its length)
 -- Follows from the laws by which a sheet is read back (`Saying`), behind the rule's mark.
-use Prim.Native.Nat.{ℕ, suc, _+_, _≤_, _<_}
-use native.Mathlib.Nat.{add-zero}
+use Prim.Native.Nat.{ℕ, suc, _+_}
 use native.Mathlib.Omega.{arith}
 use mathlib.Core.Path.{_≡_, refl, sym, ap, _∙_}
-use mathlib.Core.List.{List, [], _∷_, _++_, append-assoc, append-nil}
-use lib.Dec.{ltb}
-use lib.ListN.{length, getD, drop, length-append}
+use mathlib.Core.List.{List, [], _++_, append-nil}
+use lib.ListN.{length, getD, length-append}
 use Rattle.paper.specs.Numbers.{fields}
 use Rattle.paper.specs.Pattern.{Held, some-text}
 use Rattle.paper.specs.Equation.{Side}
-use Rattle.paper.specs.Sheet.{LE, RU, marked, marked-side, records, open-fields, read-patterns}
+use Rattle.paper.specs.Sheet.{LE, marked, records, open-fields, read-patterns}
 use Rattle.paper.specs.Rule.{Rule, rule-front, read-rule}
-use Rattle.paper.specs.Saying.{patterns-saying, side-saying, mark-bytes}
+use Rattle.paper.specs.Saying.{patterns-saying, side-saying}
 use Rattle.paper.proofs.base.Tests.{le-ltb}
 use Rattle.paper.proofs.sheets.Asked.{GoodSide, GoodFields}
 use Rattle.paper.proofs.saying.Saying.{ShortCode, Said, left-there, side-said, side-behind, not-marked, patterns-said}

@@ -1,17 +1,17 @@
 -- Of records that say what fields hold, what is put says what they hold once 68 65 0 42 is written out.
 --   from-said : drop at s ≡ patterns-saying f held ++ rest → from-field (length held) s at f sets ≡ patterns-saying f (opened (marked sets) f held) ++ rest
 -- where the rest begins with no pattern. By induction over the fields: the record in front is the field's own, or no record of it is left.
-use Prim.Native.Nat.{ℕ, zero, suc, _+_, _≤_, _<_}
+use Prim.Native.Nat.{ℕ, suc, _+_, _<_}
 use native.Mathlib.Nat.{add-zero}
 use native.Mathlib.Omega.{arith}
-use mathlib.Core.Path.{_≡_, refl, sym, ap, _∙_}
-use mathlib.Core.Bool.{Bool, true, false, cond}
+use mathlib.Core.Path.{_≡_, refl, sym, _∙_}
+use mathlib.Core.Bool.{Bool, false, cond}
 use mathlib.Core.List.{List, [], _∷_, _++_, append-assoc}
 use lib.Dec.{ltb, eqb}
-use lib.ListN.{length, getD, take, drop, length-append}
+use lib.ListN.{length, getD, drop, length-append}
 use lib.Seq.{take-at}
 use Rattle.paper.specs.Pattern.{Pattern, Held, some-text, pattern}
-use Rattle.paper.specs.Sheet.{byte-at, bytes-left, body, PA, next-is}
+use Rattle.paper.specs.Sheet.{bytes-left, PA, next-is}
 use Rattle.paper.specs.Sheet as Sheet
 use Rattle.paper.specs.Saying.{pattern-code, pattern-saying, patterns-saying}
 use Rattle.paper.proofs.base.Tests.{cond-by, by-bool, neq-eqb, eqb-same, le-ltb}

@@ -2,7 +2,7 @@
 --   record-within : a record that stands at the offset is within the bytes
 --   Going         : how far the fields are put; the start, one more, the end
 -- By the tests of `record-at`, and by `from-field`.
-use Prim.Native.Nat.{ℕ, zero, suc, _+_, _≤_, _<_}
+use Prim.Native.Nat.{ℕ, suc, _+_, _≤_}
 use native.Mathlib.Nat.{add-zero}
 use native.Mathlib.Numerals.{add-one}
 use native.Mathlib.Omega.{arith}

@@ -38,7 +38,7 @@ fn record_at(s: &[u8], at: usize, f: usize) -> usize
 }
 
 // The record that is added for a field which stands: one with a first place set.
-fn put_missing(out: &mut [u8], at: usize, f: usize, set: u32) -> usize
+fn put_missing(out: &mut [u8], at: usize, f: usize, set: u64) -> usize
     requires { ⌜ f < fields ⌝ }
     ensures { λ r. ⌜ Counted (now (out .entry)) (now (out .exit)) at r (missing f set) ⌝ }
 {
@@ -58,7 +58,7 @@ pub struct Placed {
 }
 
 // What is put for a field.
-fn put_field(out: &mut [u8], at: usize, s: &[u8], from: usize, f: usize, set: u32) -> Placed
+fn put_field(out: &mut [u8], at: usize, s: &[u8], from: usize, f: usize, set: u64) -> Placed
     requires { ⌜ f < fields ⌝ }
     ensures next { λ r. ⌜ r .next ≡ from + record-at (now (s .entry)) from f ⌝ }
     ensures put { λ r. ⌜ Counted (now (out .entry)) (now (out .exit)) at (r .end) (field-put (now (s .entry)) from f set) ⌝ }
@@ -78,7 +78,7 @@ fn put_field(out: &mut [u8], at: usize, s: &[u8], from: usize, f: usize, set: u3
 }
 
 // The records from an offset on. The first place sets say which fields stand.
-pub fn put_from(out: &mut [u8], at: usize, s: &[u8], from: usize, sets: [u32; FIELDS]) -> usize
+pub fn put_from(out: &mut [u8], at: usize, s: &[u8], from: usize, sets: [u64; FIELDS]) -> usize
     ensures { λ r. ⌜ Counted (now (out .entry)) (now (out .exit)) at r (opened-from (now (s .entry)) from sets) ⌝ }
 {
     let mut end = at;

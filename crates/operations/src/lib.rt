@@ -22,7 +22,7 @@ const RULE: usize = 65535;
 
 const CATALOGUE: usize = 8192;
 
-// 455 situations
+// 356 situations
 const FIRST_WORK: usize = 65520;
 
 // more than the 496 pairs of 32 rules

@@ -45,13 +45,13 @@ or-code = 67
 abbrev pub many-code : ℕ
 many-code = 68
 
--- "length byte n 1 to 96"
+-- "a pattern length up to 192" (request K7)
 abbrev pub pattern-bytes : ℕ
-pattern-bytes = 96
+pattern-bytes = 192
 
--- "A pattern has at most 31 leaves"
+-- "Allow 63 leaves, which with the start make 64 places" (request K7)
 abbrev pub most-leaves : ℕ
-most-leaves = 31
+most-leaves = 63
 
 -- "length byte 0 to 24"
 abbrev pub sheet-side : ℕ
@@ -61,9 +61,9 @@ sheet-side = 24
 abbrev pub longest-side : ℕ
 longest-side = 48
 
--- "Room is one situation for each whole 144 bytes of working buffer, and at most 65,535"
+-- "Room is one situation for each whole" 184 "bytes of working buffer, and at most 65,535" (request K7: "A situation then takes 184 bytes")
 abbrev pub situation-bytes : ℕ
-situation-bytes = 144
+situation-bytes = 184
 
 abbrev pub most-room : ℕ
 most-room = 65535
@@ -80,9 +80,9 @@ rule-fields = 4
 abbrev pub catalogue-rules : ℕ
 catalogue-rules = 32
 
--- "`clash` reads the first 1,024 bytes of standard input, lends 65,520 bytes of work (455 situations) and 4,096 of answer"
+-- "`clash` .. lends 65,520 bytes of work .. and 4,096 of answer"; "the program's 65,520 hold 356; it reads 2,048 bytes of input" (request K7)
 abbrev pub program-input : ℕ
-program-input = 1024
+program-input = 2048
 
 abbrev pub program-work : ℕ
 program-work = 65520

@@ -23,7 +23,7 @@ pub record Outcome : Type 0 where
   pub answer : List ℕ
   pub work : List ℕ
 
--- "Room is one situation for each whole 144 bytes of working buffer, and at most 65,535."
+-- "Room is one situation for each whole 184 bytes of working buffer, and at most 65,535."
 unfoldable pub room-of : List ℕ → ℕ
 room-of work = min (length work / situation-bytes) most-room
 

@@ -50,6 +50,6 @@ unfoldable pub printed-of : Outcome → List ℕ
 printed-of o =
     first-line (o .number) (o .count) (o .place) ++ value-lines (o .written) (take (o .written) (o .answer))
 
--- "`clash` reads the first 1,024 bytes of standard input, lends 65,520 bytes of work (455 situations) and 4,096 of answer."
+-- "`clash` reads the first" 2,048 "bytes of standard input, lends 65,520 bytes of work" (356 situations) "and 4,096 of answer."
 unfoldable pub printed : List ℕ → List ℕ
 printed input = printed-of (outcome (take program-input input) (replicate program-work 0) (replicate program-answer 0))

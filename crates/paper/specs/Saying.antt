@@ -24,7 +24,7 @@ token-byte (fld f) = field-token + f
 abbrev pub mark-bytes : Mark → List ℕ
 mark-bytes m = first-letter m ∷ second-letter m ∷ []
 
--- `PA`: "field byte 0 to 7, length byte n 1 to 96, n bytes"; "A field without `PA` is open"
+-- `PA`: "field byte 0 to 7, length byte n 1 to 192, n bytes"; "A field without `PA` is open"
 abbrev pub pattern-saying : ℕ → Held → List ℕ
 pattern-saying f some-text = []
 pattern-saying f (pattern p) = mark-bytes PA ++ f ∷ length (pattern-code p) ∷ pattern-code p

@@ -56,13 +56,13 @@ read-part (suc n) (b ∷ s) =
     (no-pattern (length (b ∷ s))))))))
 
 -- "The n bytes after the length byte are judged by themselves, as exactly one pattern that uses them all" (else 15).
--- "A pattern has at most 31 leaves" (else 16). With a fault goes the offset of its byte.
+-- "A pattern has at most 63 leaves" (else 16). With a fault goes the offset of its byte.
 pub data Judged : Type 0 where
   not-one-pattern : ℕ → Judged
   too-many-leaves : ℕ → Judged
   judged : Pattern → Judged
 
--- n bytes in all: "where bytes are left over, the first of them"; "for 16 it is the 32nd leaf's first byte"
+-- n bytes in all: "where bytes are left over, the first of them"; "for 16 it is the 64th leaf's first byte"
 abbrev pub judge-part : ℕ → Part → Judged
 judge-part n (no-pattern left) = not-one-pattern (n - left)
 judge-part n (part p starts []) =

@@ -12,7 +12,7 @@ ghost use mathlib.Core.Path.{_≡_};
 ghost use Rattle.paper.specs.Written.{judge};
 ghost use Rattle.patterns.specs.Worked.{worked-of, refused-as};
 
-// "15 bytes are not one pattern", "16 more than 31 leaves", or neither.
+// "15 bytes are not one pattern", "16 more than 63 leaves", or neither.
 pub enum Verdict {
     NotOnePattern,
     TooManyLeaves,

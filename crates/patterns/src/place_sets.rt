@@ -11,14 +11,14 @@ ghost use Rattle.places.specs.Masks.{places, in-mask};
 ghost use Rattle.patterns.specs.ReadPart.{Adds};
 
 // The set, or no place.
-pub fn when(b: bool, set: u32) -> u32
+pub fn when(b: bool, set: u64) -> u64
     ensures { λ r. ⌜ r ≡ cond b set 0 ⌝ }
 {
     if b { set } else { 0 }
 }
 
 // Lets every place of `first` follow every place of `last`.
-pub fn link(follow: &mut [u32; PLACES], last: u32, first: u32)
+pub fn link(follow: &mut [u64; PLACES], last: u64, first: u64)
     ensures { λ _. ⌜ Adds places (λ (i : ℕ). cond (in-mask last i) first 0) (now (follow .entry)) (now (follow .exit)) ⌝ }
 {
     let mut i = 0;
@@ -40,7 +40,7 @@ fn between(lo: u8, c: usize, hi: u8) -> bool
 }
 
 // Lets the set take the characters from lo to hi.
-pub fn mark(taking: &mut [u32; CHARACTERS], lo: u8, hi: u8, set: u32)
+pub fn mark(taking: &mut [u64; CHARACTERS], lo: u8, hi: u8, set: u64)
     ensures { λ _. ⌜ Adds characters (λ (c : ℕ). cond (takes (range lo hi) c) set 0) (now (taking .entry)) (now (taking .exit)) ⌝ }
 {
     let mut c = 0;

@@ -43,8 +43,8 @@ pub struct ReadPart {
     // it takes the empty text
     pub empty: bool,
     // the places that may be first, and last
-    pub first: u32,
-    pub last: u32,
+    pub first: u64,
+    pub last: u64,
 }
 
 impl ReadPart {
@@ -80,7 +80,7 @@ impl ReadPart {
 
     // "one character with lo ≤ value ≤ hi (a leaf)": so many bytes from its first on, so many behind it
     fn leaf(
-        taking: &mut [u32; CHARACTERS],
+        taking: &mut [u64; CHARACTERS],
         from: usize,
         left: usize,
         o: usize,
@@ -153,7 +153,7 @@ fn earlier(a: usize, b: usize) -> usize
 
 // "65 lo hi: one character with lo ≤ value ≤ hi ≤ 42": what stands behind the 65. "The lo byte if lo is above 42, else the hi byte if that is
 // above 42 or below lo."
-fn read_range(s: &[u8], o: usize, taking: &mut [u32; CHARACTERS]) -> ReadPart
+fn read_range(s: &[u8], o: usize, taking: &mut [u64; CHARACTERS]) -> ReadPart
     requires { ⌜ (o + 1 < 2 ^ 64) × (length (now s) + 1 < 2 ^ 64) ⌝ }
     ensures { λ r. ⌜ ((follow : List ℕ) → Read-as (read-range (now (s .entry))) o (working follow (now (taking .entry))) (working follow (now (taking .exit))) r) ⌝ }
 {
@@ -179,7 +179,7 @@ fn read_range(s: &[u8], o: usize, taking: &mut [u32; CHARACTERS]) -> ReadPart
 }
 
 // A pattern that has no part: a leaf or the empty text.
-fn read_single(s: &[u8], o: usize, taking: &mut [u32; CHARACTERS]) -> ReadPart
+fn read_single(s: &[u8], o: usize, taking: &mut [u64; CHARACTERS]) -> ReadPart
     requires { ⌜ (o + length (now s) < 2 ^ 64) × (0 < length (now s)) × (getD (now s) 0 0 < then-code) ⌝ }
     ensures { λ r. ⌜ ((follow : List ℕ) → Reading-of (now (s .entry)) o (working follow (now (taking .entry))) (working follow (now (taking .exit))) r) ⌝ }
 {
@@ -202,8 +202,8 @@ fn read_single(s: &[u8], o: usize, taking: &mut [u32; CHARACTERS]) -> ReadPart
 pub fn read(
     s: &[u8],
     o: usize,
-    follow: &mut [u32; PLACES],
-    taking: &mut [u32; CHARACTERS],
+    follow: &mut [u64; PLACES],
+    taking: &mut [u64; CHARACTERS],
 ) -> ReadPart
     requires { ⌜ o + length (now s) < 2 ^ 64 ⌝ }
     ensures { λ r. ⌜ Reading-of (now (s .entry)) o (working (now (follow .entry)) (now (taking .entry))) (working (now (follow .exit)) (now (taking .exit))) r ⌝ }

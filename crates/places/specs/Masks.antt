@@ -1,5 +1,5 @@
--- Place sets as masks (document 01, "How to write each place"): "31 leaves and the start make 32 places: a place set is a 32-bit
--- mask; following places are gathered by or and shifts".
+-- Place sets as masks (document 01, "How to write each place"): a place set is a mask of 64 bits, since "63 leaves .. with the start make 64
+-- places" (request K7); "following places are gathered by or and shifts".
 --
 -- Masks are sums of powers of two, so that these definitions compute. The laws that lead from masks back to place sets are in
 -- proofs/Masks.antt.
@@ -13,7 +13,7 @@ use Rattle.paper.specs.Numbers.{characters, most-leaves}
 use Rattle.paper.specs.Pattern.{Held, some-text, pattern}
 use Rattle.paper.specs.Places.{leaf-takes, follows, ends-at, PlaceSet}
 
--- "31 leaves and the start make 32 places"
+-- "63 leaves, which with the start make 64 places"
 abbrev pub places : ℕ
 places = suc most-leaves
 

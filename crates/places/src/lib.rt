@@ -1,4 +1,4 @@
-// Places: a place set is a 32-bit mask. Its lowest bit is the start, the others are the leaves in the order of reading.
+// Places: a place set is a 64-bit mask. Its lowest bit is the start, the others are the leaves in the order of reading.
 ghost use mathlib.Core.Path.{_≡_};
 ghost use mathlib.Core.Bool.{cond};
 ghost use Prim.Native.Nat.{ℕ};
@@ -7,38 +7,38 @@ ghost use Rattle.paper.specs.Pattern.{some-text};
 ghost use Rattle.places.specs.Masks.{mask-of, in-mask, followers-of};
 ghost use Rattle.places.specs.WorkedOut.{worked-out};
 
-// "31 leaves and the start make 32 places".
-pub const PLACES: usize = 32;
+// "63 leaves, which with the start make 64 places".
+pub const PLACES: usize = 64;
 
 // "Code 39, by value": 0 to 42.
 pub const CHARACTERS: usize = 43;
 
 // Every place; every place but the start; and the place behind the start of an open field.
-const ALL: u32 = 0xFFFF_FFFF;
+const ALL: u64 = 0xFFFF_FFFF_FFFF_FFFF;
 
-const NOT_THE_START: u32 = 0xFFFF_FFFE;
+const NOT_THE_START: u64 = 0xFFFF_FFFF_FFFF_FFFE;
 
-const BEHIND_START: u32 = 2;
+const BEHIND_START: u64 = 2;
 
 // What is worked out once of a pattern.
 pub struct PlaceTables {
     // for every place the places that may follow
-    pub follow: [u32; PLACES],
+    pub follow: [u64; PLACES],
     // for every character the places that take it
-    pub taking: [u32; CHARACTERS],
+    pub taking: [u64; CHARACTERS],
     // the places that may be the last one: "the start may, if the pattern takes the empty text"
-    pub last: u32,
+    pub last: u64,
 }
 
 // The set that holds the place i alone; no place, where i is none.
-pub fn place(i: usize) -> u32
+pub fn place(i: usize) -> u64
     ensures { λ r. ⌜ r ≡ mask-of (λ (q : ℕ). eqb i q) ⌝ }
 {
     if i < PLACES { 1 << i } else { 0 }
 }
 
 // The other set, if the place i stands in the first one; else no place.
-pub fn when_holds(set: u32, i: usize, other: u32) -> u32
+pub fn when_holds(set: u64, i: usize, other: u64) -> u64
     ensures { λ r. ⌜ r ≡ cond (in-mask set i) other 0 ⌝ }
 {
     if PLACES <= i {
@@ -48,7 +48,7 @@ pub fn when_holds(set: u32, i: usize, other: u32) -> u32
 }
 
 // All places that may follow some place of the set. The set after a character is what of these takes it.
-pub fn followers(follow: [u32; PLACES], set: u32) -> u32
+pub fn followers(follow: [u64; PLACES], set: u64) -> u64
     ensures { λ r. ⌜ r ≡ followers-of follow set ⌝ }
 {
     let mut r = 0;

@@ -6,8 +6,8 @@ ghost use Rattle.paper.specs.Printed.{printed as printed-for};
 ghost use Rattle.writing.specs.Lines.{Prints};
 ghost use Rattle.printing.specs.Lines.{no-work, no-answer, lined-as, lined};
 
-// "`clash` reads the first 1,024 bytes of standard input, lends 65,520 bytes of work (455 situations) and 4,096 of answer."
-pub const INPUT: usize = 1024;
+// "`clash` reads the first" 2,048 "bytes of standard input, lends 65,520 bytes of work" (356 situations) "and 4,096 of answer."
+pub const INPUT: usize = 2048;
 
 const WORK: usize = 65520;
 

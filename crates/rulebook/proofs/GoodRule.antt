@@ -5,7 +5,7 @@
 --   own-field     : a field that stands in a good rule's side is one of its own
 --   pair-sayable  : GoodRule r → GoodRule s → Sayable (pair r s)
 --   pair-asks     : GoodRule r → GoodRule s → AsksGood (asked (pair r s))
--- Its tokens are 01's characters and its own fields, its side has at most 24 of them, a pattern has at most 31 leaves and 96 bytes of code, and
+-- Its tokens are 01's characters and its own fields, its side has at most 24 of them, a pattern has at most 63 leaves and 192 bytes of code, and
 -- the fields that are not its own are open.
 -- Follows from the checks on the records, as for a good question (`Asked`), from the test for 31, and from the form as a relation (`LaidOut`).
 use Prim.Native.Nat.{ℕ, zero, suc, _+_, _≤_, _<_}

@@ -47,7 +47,7 @@ clash-row c b w i answer count =
 -- refused before any pair is searched: catalogue, rule, number, place
 abbrev refused-row : List ℕ → List ℕ → ℕ → ℕ → KnownAddition
 refused-row c b n p =
-    record { catalogue = c; bytes = b; work-bytes = 864; number = n; count = 0; place = p; rule = 0; answer = 0; after = c; all-zero = false }
+    record { catalogue = c; bytes = b; work-bytes = 1104; number = n; count = 0; place = p; rule = 0; answer = 0; after = c; all-zero = false }
 
 abbrev work-before : KnownAddition → List ℕ
 work-before k = replicate (k .work-bytes) 90
@@ -123,57 +123,57 @@ entered-rules =
     -- `A` into 16 zero bytes, with no byte of work
     entered-row (zeros 16) rule-A 0 (82 ∷ 85 ∷ 76 ∷ 69 ∷ 1 ∷ 10 ∷ zeros 10) false ∷
     -- into as many bytes as the rule has
-    entered-row (zeros 6) rule-A 150 rule-A false ∷
+    entered-row (zeros 6) rule-A 200 rule-A false ∷
     -- a rule of 33 bytes into 33
-    entered-row (zeros 33) of-33-bytes 150 of-33-bytes false ∷
+    entered-row (zeros 33) of-33-bytes 200 of-33-bytes false ∷
     -- `B` behind `A`: they are apart, in one situation
-    entered-row (rule-A ++ zeros 10) rule-B 144 (82 ∷ 85 ∷ 76 ∷ 69 ∷ 1 ∷ 10 ∷ 82 ∷ 85 ∷ 76 ∷ 69 ∷ 1 ∷ 11 ∷ zeros 4) true ∷
+    entered-row (rule-A ++ zeros 10) rule-B 184 (82 ∷ 85 ∷ 76 ∷ 69 ∷ 1 ∷ 10 ∷ 82 ∷ 85 ∷ 76 ∷ 69 ∷ 1 ∷ 11 ∷ zeros 4) true ∷
     -- `AB` behind both, to the last byte
-    entered-row (rule-A ++ rule-B ++ zeros 7) rule-AB 864 (rule-A ++ rule-B ++ rule-AB) true ∷
+    entered-row (rule-A ++ rule-B ++ zeros 7) rule-AB 1104 (rule-A ++ rule-B ++ rule-AB) true ∷
     -- `A B` behind `A`: a space in the middle is not dropped
-    entered-row (rule-A ++ zeros 8) (RU (LE (10 ∷ 38 ∷ 11 ∷ []))) 300 (rule-A ++ RU (LE (10 ∷ 38 ∷ 11 ∷ []))) true ∷
+    entered-row (rule-A ++ zeros 8) (RU (LE (10 ∷ 38 ∷ 11 ∷ []))) 400 (rule-A ++ RU (LE (10 ∷ 38 ∷ 11 ∷ []))) true ∷
     -- `A` behind any digits
-    entered-row (digits ++ zeros 7) rule-A 864 (digits ++ rule-A ++ zeros 1) true ∷
+    entered-row (digits ++ zeros 7) rule-A 1104 (digits ++ rule-A ++ zeros 1) true ∷
     -- `A` behind x`A`, open: x is not struck to nothing
-    entered-row (x-A ++ zeros 6) rule-A 1000 (x-A ++ rule-A) true ∷
+    entered-row (x-A ++ zeros 6) rule-A 1150 (x-A ++ rule-A) true ∷
     -- the same field of both rules is not one field: x is `A` in the one and `B` in the other, for field 0 and for field 3
-    entered-row (one-character 0 10 ++ zeros 11) (one-character 0 11) 864 (one-character 0 10 ++ one-character 0 11) true ∷
-    entered-row (one-character 3 10 ++ zeros 11) (one-character 3 11) 864 (one-character 3 10 ++ one-character 3 11) true ∷
+    entered-row (one-character 0 10 ++ zeros 11) (one-character 0 11) 1104 (one-character 0 10 ++ one-character 0 11) true ∷
+    entered-row (one-character 3 10 ++ zeros 11) (one-character 3 11) 1104 (one-character 3 10 ++ one-character 3 11) true ∷
     []
 
 -- "30 for a pair not answered 1"
 abbrev clashing-rules : List KnownAddition
 clashing-rules =
     -- x and `A`, either way round: ten situations
-    clash-row (rule-x ++ zeros 6) rule-A 1600 0 0 10 ∷
-    clash-row (rule-A ++ zeros 6) rule-x 1600 0 0 10 ∷
+    clash-row (rule-x ++ zeros 6) rule-A 2050 0 0 10 ∷
+    clash-row (rule-A ++ zeros 6) rule-x 2050 0 0 10 ∷
     -- a byte less than ten situations lent, one situation, none
-    clash-row (rule-x ++ zeros 6) rule-A 1439 0 18 9 ∷
-    clash-row (rule-x ++ zeros 6) rule-A 144 0 18 1 ∷
-    clash-row (rule-x ++ zeros 6) rule-A 143 0 18 0 ∷
+    clash-row (rule-x ++ zeros 6) rule-A 1839 0 18 9 ∷
+    clash-row (rule-x ++ zeros 6) rule-A 184 0 18 1 ∷
+    clash-row (rule-x ++ zeros 6) rule-A 183 0 18 0 ∷
     -- 24 times x and `AA`: 48 tokens are passed
-    clash-row (many-x ++ zeros 10) (RU (LE (10 ∷ 10 ∷ []))) 432 0 19 3 ∷
+    clash-row (many-x ++ zeros 10) (RU (LE (10 ∷ 10 ∷ []))) 552 0 19 3 ∷
     -- any digits and the digit 4, as sheet S
-    clash-row (digits ++ zeros 20) the-4 2000 0 0 13 ∷
+    clash-row (digits ++ zeros 20) the-4 2400 0 0 13 ∷
     -- x`AAA` and x`AA`: the present rule is the left side, whose front is struck first
-    clash-row (RU (LE (64 ∷ 10 ∷ 10 ∷ 10 ∷ [])) ++ zeros 10) (RU (LE (64 ∷ 10 ∷ 10 ∷ []))) 3200 0 0 20 ∷
-    clash-row (RU (LE (64 ∷ 10 ∷ 10 ∷ [])) ++ zeros 10) (RU (LE (64 ∷ 10 ∷ 10 ∷ 10 ∷ []))) 3200 0 0 21 ∷
+    clash-row (RU (LE (64 ∷ 10 ∷ 10 ∷ 10 ∷ [])) ++ zeros 10) (RU (LE (64 ∷ 10 ∷ 10 ∷ []))) 4050 0 0 20 ∷
+    clash-row (RU (LE (64 ∷ 10 ∷ 10 ∷ [])) ++ zeros 10) (RU (LE (64 ∷ 10 ∷ 10 ∷ 10 ∷ []))) 4050 0 0 21 ∷
     -- `B` again: the pair with `A` is answered 1, that with `B` is not
-    clash-row (rule-A ++ rule-B ++ zeros 6) rule-B 864 1 0 5 ∷
+    clash-row (rule-A ++ rule-B ++ zeros 6) rule-B 1104 1 0 5 ∷
     -- x: the pairs with both are not answered 1, and the first is told
-    clash-row (rule-A ++ rule-B ++ zeros 6) rule-x 1600 0 0 10 ∷
+    clash-row (rule-A ++ rule-B ++ zeros 6) rule-x 2050 0 0 10 ∷
     -- the same field of both rules: x is `A` in both
-    clash-row (one-character 3 10 ++ zeros 11) (one-character 3 10) 1600 0 0 11 ∷
+    clash-row (one-character 3 10 ++ zeros 11) (one-character 3 10) 2050 0 0 11 ∷
     -- rules that differ only in spaces at the end: on the right, on the left, on both; a byte less than six situations lent
-    clash-row (rule-A ++ zeros 7) (A-spaces 1) 864 0 0 6 ∷
-    clash-row (A-spaces 1 ++ zeros 6) rule-A 864 0 0 6 ∷
-    clash-row (A-spaces 1 ++ zeros 8) (A-spaces 2) 864 0 0 6 ∷
-    clash-row (rule-A ++ zeros 7) (A-spaces 1) 863 0 18 5 ∷
+    clash-row (rule-A ++ zeros 7) (A-spaces 1) 1104 0 0 6 ∷
+    clash-row (A-spaces 1 ++ zeros 6) rule-A 1104 0 0 6 ∷
+    clash-row (A-spaces 1 ++ zeros 8) (A-spaces 2) 1104 0 0 6 ∷
+    clash-row (rule-A ++ zeros 7) (A-spaces 1) 1103 0 18 5 ∷
     -- a rule that makes spaces alone, and one without a token
-    clash-row (RU (LE (38 ∷ 38 ∷ [])) ++ zeros 5) (RU (LE [])) 1200 0 0 7 ∷
+    clash-row (RU (LE (38 ∷ 38 ∷ [])) ++ zeros 5) (RU (LE [])) 1500 0 0 7 ∷
     -- a rule without a token, and x, which is one space; x`A` and `A`, x written out
-    clash-row (RU (LE []) ++ zeros 6) rule-x 1400 0 0 9 ∷
-    clash-row (x-A-written-out ++ zeros 6) rule-A 1600 0 0 10 ∷
+    clash-row (RU (LE []) ++ zeros 6) rule-x 1700 0 0 9 ∷
+    clash-row (x-A-written-out ++ zeros 6) rule-A 2050 0 0 10 ∷
     []
 
 -- the refusals before any pair: "34 .., then the rule's own 11 to 17, then 31 .., then 32"
@@ -206,7 +206,7 @@ refused-rules =
     refused-row (zeros 16) (RU (PA 4 (0 ∷ []) ++ PA 4 (0 ∷ []) ++ LE [])) 13 9 ∷
     refused-row (zeros 16) (RU (PA 4 [] ++ LE [])) 14 5 ∷
     refused-row (zeros 16) (RU (PA 4 (0 ∷ 0 ∷ []) ++ LE [])) 15 7 ∷
-    refused-row (zeros 16) (RU (PA 4 (replicate 31 66 ++ replicate 32 0) ++ LE [])) 16 68 ∷
+    refused-row (zeros 16) (RU (PA 4 (replicate 63 66 ++ replicate 64 0) ++ LE [])) 16 132 ∷
     refused-row (zeros 16) (RU (LE (68 ∷ 72 ∷ []))) 17 6 ∷
     -- a byte that is not zero behind the zeros, and behind the last record; a gap between two records
     refused-row (zeros 16 ++ 1 ∷ []) rule-A 34 0 ∷

@@ -8,11 +8,11 @@ use lines::read_first;
 use lines::tell;
 use scripts::Scripted;
 
-// As `clash` does: it "reads the first 1,024 bytes of standard input".
-const INPUT: usize = 1024;
+// As `clash` does: it "reads the first" 2,048 "bytes of standard input".
+const INPUT: usize = 2048;
 
 // No script is longer: `enough`, which `scripts::script` promises.
-const SCRIPT: usize = 140000;
+const SCRIPT: usize = 280000;
 
 fn main() {
     let mut input = [0u8; INPUT];

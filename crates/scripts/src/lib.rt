@@ -118,7 +118,7 @@ fn put_heading(out: &mut [u8], at: usize) -> usize
 }
 
 // The lines of a field, if it has a place set.
-fn put_field(out: &mut [u8], at: usize, sheet: &[u8], f: usize, set: u32) -> usize
+fn put_field(out: &mut [u8], at: usize, sheet: &[u8], f: usize, set: u64) -> usize
     requires { ⌜ f < set-fields ⌝ }
     ensures { λ r. ⌜ ((q : Question) → read-sheet (now (sheet .entry)) ≡ asked q → Counted (now (out .entry)) (now (out .exit)) at r (lines-of q (only (not (eqb set 0)) f))) ⌝ }
 {
@@ -129,7 +129,7 @@ fn put_field(out: &mut [u8], at: usize, sheet: &[u8], f: usize, set: u32) -> usi
 }
 
 // Those of each field that has a first place set, since that is one which stands.
-fn put_fields(out: &mut [u8], at: usize, sheet: &[u8], sets: [u32; FIELDS]) -> usize
+fn put_fields(out: &mut [u8], at: usize, sheet: &[u8], sets: [u64; FIELDS]) -> usize
     ensures { λ r. ⌜ ((q : Question) → read-sheet (now (sheet .entry)) ≡ asked q → Counted (now (out .entry)) (now (out .exit)) at r (lines-of q (marked-fields sets))) ⌝ }
 {
     let mut end = at;

@@ -20,7 +20,7 @@ use Rattle.search.specs.declared.search.Run.{Run}
 use Rattle.search.specs.declared.search.Status.{Status}
 use Rattle.search.specs.declared.search.Status.the-variants as Status-as
 
--- "Room is one situation for each whole 144 bytes of working buffer, and at most 65,535"
+-- "Room is one situation for each whole 184 bytes of working buffer, and at most 65,535"
 abbrev pub room-for : ℕ → ℕ
 room-for bytes = min (bytes / situation-bytes) most-room
 

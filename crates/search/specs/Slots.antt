@@ -1,4 +1,4 @@
--- The working buffer: one slot of 144 bytes for each situation entered. A slot's key is what makes two situations the same; behind it
+-- The working buffer: one slot of 184 bytes for each situation entered. A slot's key is what makes two situations the same; behind it
 -- stand the number of the parent's slot and the step that made it. What is left of a slot is no business of this file (`Buckets`).
 use Prim.Native.Nat.{ℕ, _+_, _*_, _-_, _≤_, _<_}
 use mathlib.Core.Path.{_≡_}
@@ -10,9 +10,9 @@ use Rattle.inner.specs.Coded.{Coded, as-struct, Short}
 use Rattle.inner.specs.declared.Situation.{Situation}
 use Rattle.search.specs.LowFirst.{low-first}
 
--- a mask in four bytes
+-- a mask in eight bytes
 abbrev pub mask-width : ℕ
-mask-width = 4
+mask-width = 8
 
 abbrev pub mask-bytes : ℕ → List ℕ
 mask-bytes m = low-first (mask-width - 1) m

@@ -29,9 +29,9 @@ const MOST_ROOM: usize = 65535;
 pub fn run(
     left: [u8; LONGEST_SIDE],
     right: [u8; LONGEST_SIDE],
-    follow: [[u32; PLACES]; FIELDS],
-    taking: [[u32; CHARACTERS]; FIELDS],
-    last: [u32; FIELDS],
+    follow: [[u64; PLACES]; FIELDS],
+    taking: [[u64; CHARACTERS]; FIELDS],
+    last: [u64; FIELDS],
     work: &mut [u8],
     answer: &mut [u8],
 ) -> Ended
@@ -48,7 +48,7 @@ pub fn run(
     r
 }
 
-// "Room is one situation for each whole 144 bytes of working buffer, and at most 65,535."
+// "Room is one situation for each whole 184 bytes of working buffer, and at most 65,535."
 fn room_for(bytes: usize) -> usize
     ensures { λ r. ⌜ r ≡ room-for bytes ⌝ }
 {
@@ -57,7 +57,7 @@ fn room_for(bytes: usize) -> usize
 }
 
 // How it ends once the search is over. The first situation's sets say which fields stand.
-fn conclude(answer: &mut [u8], work: &[u8], run: Run, sets: [u32; FIELDS]) -> Ended
+fn conclude(answer: &mut [u8], work: &[u8], run: Run, sets: [u64; FIELDS]) -> Ended
     requires { ⌜ Over (now work) run ⌝ }
     ensures { λ r. ⌜ ((o : Over (now (work .entry)) run) → Concluded (o .search) sets (now (answer .entry)) (now (answer .exit)) r) ⌝ }
 {
@@ -73,7 +73,7 @@ fn conclude(answer: &mut [u8], work: &[u8], run: Run, sets: [u32; FIELDS]) -> En
 }
 
 // The end of a clash, whose finish is in the last slot.
-fn found(answer: &mut [u8], work: &[u8], count: usize, sets: [u32; FIELDS]) -> Ended
+fn found(answer: &mut [u8], work: &[u8], count: usize, sets: [u64; FIELDS]) -> Ended
     requires { ⌜ 0 < count ⌝ }
     requires { ⌜ Way-to (now work) (count - 1) ⌝ }
     ensures { λ r. ⌜ ((w : Way-to (now (work .entry)) (count - 1)) → Clash-told (w .slots) count sets (now (answer .entry)) (now (answer .exit)) r) ⌝ }

@@ -140,7 +140,7 @@ fn write_record(out: &mut [u8], work: &[u8], last: usize, f: u8) -> usize
 }
 
 // Is a text above 65,535 characters?
-fn some_text_above(work: &[u8], last: usize, sets: [u32; FIELDS]) -> bool
+fn some_text_above(work: &[u8], last: usize, sets: [u64; FIELDS]) -> bool
     requires { ⌜ Way-to (now work) last ⌝ }
     ensures { λ r. ⌜ ((w : Way-to (now (work .entry)) last) → r ≡ text-above sets (text-at (w .slots) last)) ⌝ }
 {
@@ -157,7 +157,7 @@ fn some_text_above(work: &[u8], last: usize, sets: [u32; FIELDS]) -> bool
 }
 
 // How many bytes the records have.
-fn records_length(work: &[u8], last: usize, sets: [u32; FIELDS]) -> usize
+fn records_length(work: &[u8], last: usize, sets: [u64; FIELDS]) -> usize
     requires { ⌜ Way-to (now work) last ⌝ }
     ensures { λ r. ⌜ ((w : Way-to (now (work .entry)) last) → r ≡ length (value-records sets (text-at (w .slots) last))) ⌝ }
 {
@@ -173,7 +173,7 @@ fn records_length(work: &[u8], last: usize, sets: [u32; FIELDS]) -> usize
 }
 
 // "each record written directly behind the one before"
-fn write_records(answer: &mut [u8], work: &[u8], last: usize, sets: [u32; FIELDS])
+fn write_records(answer: &mut [u8], work: &[u8], last: usize, sets: [u64; FIELDS])
     requires { ⌜ Way-to (now work) last ⌝ }
     requires { ⌜ ((w : Way-to (now work) last) → Records-fit sets (text-at (w .slots) last) (now answer)) ⌝ }
     ensures { λ _. ⌜ ((w : Way-to (now (work .entry)) last) → now (answer .exit) ≡ in-front (value-records sets (text-at (w .slots) last)) (now (answer .entry))) ⌝ }
@@ -189,7 +189,7 @@ fn write_records(answer: &mut [u8], work: &[u8], last: usize, sets: [u32; FIELDS
 }
 
 // The answer of a clash whose finish is in the last slot. A field stands in the question's sides if its first place set isn't 0. "21 comes before 20", and both before any byte is written.
-pub fn answer_clash(answer: &mut [u8], work: &[u8], last: usize, sets: [u32; FIELDS]) -> Given
+pub fn answer_clash(answer: &mut [u8], work: &[u8], last: usize, sets: [u64; FIELDS]) -> Given
     requires { ⌜ Way-to (now work) last ⌝ }
     ensures { λ r. ⌜ ((w : Way-to (now (work .entry)) last) → Answered sets (text-at (w .slots) last) (now (answer .entry)) (now (answer .exit)) r) ⌝ }
 {

@@ -211,9 +211,9 @@ fn offer_children(
     run: Run,
     parent: usize,
     s: Situation,
-    follow: &[[u32; PLACES]; FIELDS],
-    taking: &[[u32; CHARACTERS]; FIELDS],
-    last: [u32; FIELDS],
+    follow: &[[u64; PLACES]; FIELDS],
+    taking: &[[u64; CHARACTERS]; FIELDS],
+    last: [u64; FIELDS],
 ) -> Run
     requires { ⌜ Roomy (now work) room (run .entered) parent ⌝ }
     requires { ⌜ 0 < run .entered ⌝ }
@@ -247,9 +247,9 @@ fn take(
     room: usize,
     run: Run,
     k: usize,
-    follow: &[[u32; PLACES]; FIELDS],
-    taking: &[[u32; CHARACTERS]; FIELDS],
-    last: [u32; FIELDS],
+    follow: &[[u64; PLACES]; FIELDS],
+    taking: &[[u64; CHARACTERS]; FIELDS],
+    last: [u64; FIELDS],
 ) -> Run
     requires { ⌜ Roomy (now work) room (run .entered) k ⌝ }
     requires { ⌜ k < run .entered ⌝ }
@@ -264,9 +264,9 @@ pub fn search(
     work: &mut [u8],
     room: usize,
     first: Situation,
-    follow: &[[u32; PLACES]; FIELDS],
-    taking: &[[u32; CHARACTERS]; FIELDS],
-    last: [u32; FIELDS],
+    follow: &[[u64; PLACES]; FIELDS],
+    taking: &[[u64; CHARACTERS]; FIELDS],
+    last: [u64; FIELDS],
 ) -> Run
     requires { ⌜ (situation-bytes * room ≤ length (now work)) × (room ≤ most-room) ⌝ }
     ensures { λ r. ⌜ Searches room (tables (now (follow .entry)) (now (taking .entry)) last) first (now (work .exit)) r ⌝ }

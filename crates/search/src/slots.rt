@@ -1,4 +1,4 @@
-// Situations in the working buffer: a slot of 144 bytes for each, in the order of entry.
+// Situations in the working buffer: a slot of 184 bytes for each, in the order of entry.
 use crate::numbers::number;
 use crate::numbers::put_number;
 use inner::FIELDS;
@@ -14,11 +14,11 @@ ghost use Rattle.inner.specs.Coded.{as-struct, Short};
 ghost use Rattle.search.specs.LowFirst.{number-of};
 ghost use Rattle.search.specs.Slots.{mask-width, mask-bytes, number-width, origin-width, struct-key, origin-bytes, key-bytes, held-bytes, sets-bytes, Slot, slot-bytes, slot-at, part, Holds};
 
-// "one situation for each whole 144 bytes"
-pub const SLOT: usize = 144;
+// "one situation for each whole 184 bytes"
+pub const SLOT: usize = 184;
 
 // A slot's parts: the sides, the sets; the parent and the step; two links.
-const MASK: usize = 4;
+const MASK: usize = 8;
 
 pub const NUMBER: usize = 2;
 
@@ -43,14 +43,14 @@ fn put(to: &mut [u8], from: &[u8])
     }
 }
 
-fn put_mask(to: &mut [u8], mask: u32)
+fn put_mask(to: &mut [u8], mask: u64)
     requires { ⌜ length (now to) ≡ mask-width ⌝ }
     ensures { λ _. ⌜ now (to .exit) ≡ mask-bytes mask ⌝ }
 {
-    put_number(to, mask as u64);
+    put_number(to, mask);
 }
 
-fn put_sets(to: &mut [u8], sets: &[u32])
+fn put_sets(to: &mut [u8], sets: &[u64])
     requires { ⌜ length (now to) ≡ mask-width * length (now sets) ⌝ }
     ensures { λ _. ⌜ now (to .exit) ≡ each mask-bytes (now (sets .entry)) ⌝ }
 {
@@ -107,18 +107,18 @@ fn side_of(from: &[u8]) -> [u8; LONGEST_SIDE]
     side
 }
 
-fn mask_of(from: &[u8]) -> u32
+fn mask_of(from: &[u8]) -> u64
     requires { ⌜ length (now from) ≡ mask-width ⌝ }
     ensures { λ r. ⌜ ((m : ℕ) → now (from .entry) ≡ mask-bytes m → r ≡ m) ⌝ }
 {
-    number(from) as u32
+    number(from)
 }
 
-fn sets_of(from: &[u8]) -> [u32; FIELDS]
+fn sets_of(from: &[u8]) -> [u64; FIELDS]
     requires { ⌜ length (now from) ≡ sets-bytes ⌝ }
     ensures { λ r. ⌜ ((ms : List ℕ) → length ms ≡ set-fields → now (from .entry) ≡ each mask-bytes ms → r ≡ ms) ⌝ }
 {
-    let mut sets = [0u32; FIELDS];
+    let mut sets = [0u64; FIELDS];
     let mut i = 0;
     while i < FIELDS {
         sets[i] = mask_of(&from[MASK * i..MASK * i + MASK]);

@@ -1,5 +1,5 @@
 -- Place sets as masks, in a situation: the set of a field, which fields may end, the set after a character, the test of sets.
--- Holds of codable situations, which are those that their codes tell apart: known tokens, a set for each field, rising places below 32;
+-- Holds of codable situations, which are those that their codes tell apart: known tokens, a set for each field, rising places below 64;
 -- and of fields with few leaves. Follows from the laws of masks.
 use Prim.Native.Nat.{ℕ, zero, suc, _+_, _<_}
 use native.Mathlib.Omega.{arith}

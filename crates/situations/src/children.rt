@@ -12,7 +12,7 @@ ghost use Rattle.situations.specs.Children.{with-set, struck, put-child,
 ghost use Rattle.situations.specs.Laid.{child-of};
 
 // The sets with the new one of the field with the token b, if it is a field's.
-fn with_set(mut sets: [u32; FIELDS], b: u8, m: u32) -> [u32; FIELDS]
+fn with_set(mut sets: [u64; FIELDS], b: u8, m: u64) -> [u64; FIELDS]
     ensures { λ r. ⌜ r ≡ with-set b m sets ⌝ }
 {
     if b < FIELD_CODE {
@@ -26,7 +26,7 @@ fn with_set(mut sets: [u32; FIELDS], b: u8, m: u32) -> [u32; FIELDS]
 }
 
 // "a field whose set may end"
-fn may_end(sets: [u32; FIELDS], b: u8, last: [u32; FIELDS]) -> bool
+fn may_end(sets: [u64; FIELDS], b: u8, last: [u64; FIELDS]) -> bool
     ensures { λ r. ⌜ r ≡ may-end-at sets last b ⌝ }
 {
     if b < FIELD_CODE {
@@ -54,7 +54,7 @@ fn strike(s: Situation, b: u8) -> Child
 }
 
 // "1. the left front is a field whose set may end: strike it everywhere"
-pub fn strike_left(s: Situation, last: [u32; FIELDS]) -> Child
+pub fn strike_left(s: Situation, last: [u64; FIELDS]) -> Child
     ensures { λ r. ⌜ r ≡ child-of (left-strike last (denoted s)) ⌝ }
 {
     let sets = s.sets;
@@ -66,7 +66,7 @@ pub fn strike_left(s: Situation, last: [u32; FIELDS]) -> Child
 }
 
 // "2. the right front is a field, not the same as the left front, whose set may end: strike it everywhere"
-pub fn strike_right(s: Situation, last: [u32; FIELDS]) -> Child
+pub fn strike_right(s: Situation, last: [u64; FIELDS]) -> Child
     ensures { λ r. ⌜ r ≡ child-of (right-strike last (denoted s)) ⌝ }
 {
     let sets = s.sets;
@@ -83,7 +83,7 @@ pub fn strike_right(s: Situation, last: [u32; FIELDS]) -> Child
 
 // "3. .. put c before each front field wherever that field stands, and give the field its new set": m on the left, n on the right. Whether
 // both fronts take c is asked before.
-pub fn put(s: Situation, c: u8, m: u32, n: u32) -> Child
+pub fn put(s: Situation, c: u8, m: u64, n: u64) -> Child
     ensures { λ r. ⌜ r ≡ child-of (put-child (denoted s) c m n) ⌝ }
 {
     let a = sides::front_in(&s.left);

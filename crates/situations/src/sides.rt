@@ -127,7 +127,7 @@ fn is_dead(t: Trimmed) -> bool
 }
 
 // "dead is dropped; a side above 48 tokens gives 19"
-fn judge(t: Trimmed, sets: [u32; FIELDS]) -> Child
+fn judge(t: Trimmed, sets: [u64; FIELDS]) -> Child
     ensures { λ child. ⌜ ((l r : List ℕ) → t ≡ trimmed-sides l r → child ≡ child-of (judged-sides l r sets)) ⌝ }
 {
     if is_dead(t) {
@@ -149,7 +149,7 @@ fn judge(t: Trimmed, sets: [u32; FIELDS]) -> Child
 }
 
 // "Each child is trimmed", then judged.
-pub fn settle(l: &[u8], r: &[u8], sets: [u32; FIELDS]) -> Child
+pub fn settle(l: &[u8], r: &[u8], sets: [u64; FIELDS]) -> Child
     ensures { λ child. ⌜ child ≡ child-of (settle (now (l .entry)) (now (r .entry)) sets) ⌝ }
 {
     judge(trimming::trim(l, r), sets)

@@ -77,7 +77,7 @@ expression-length (either a b) h =
 expression-length (many a) h = omega (arith, length-append (expression a) (bytes ")"), expression-length a h)
 
 -- What a field may hold, and its lines.
-held-length : (h : Held) → GoodHeld h → ShortCode h → length (expression-of h) ≤ 17205
+held-length : (h : Held) → GoodHeld h → ShortCode h → length (expression-of h) ≤ 34245
 held-length some-text good short =
     let all-of = range-takes 0 (characters - 1) (omega arith) (omega arith) in
     omega (arith, expression-length some-characters (all-of, all-of))
@@ -92,7 +92,7 @@ spaces-length : length (expression-of any-spaces) ≡ 22
 spaces-length = omega (arith, length-append (one-character Numbers.space) (bytes ")"), character-length Numbers.space)
 
 abbrev most : ℕ → ℕ
-most f = cond (ltb f fields) 17266 83
+most f = cond (ltb f fields) 34306 83
 
 module _ (q : Question) where
   pub held-own : (f : ℕ) → f < fields → held-by (hidden q) f ≡ held-by q f

@@ -103,4 +103,4 @@ script q =
 
 -- so many bytes are enough for the script of every good sheet
 abbrev pub longest-script : ℕ
-longest-script = 140000
+longest-script = 280000

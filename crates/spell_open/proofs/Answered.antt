@@ -4,20 +4,19 @@
 --   rule-at-fault, rule-foreign, rule-put : of a rule; and-rule-promised
 --   none-kept, too-full, all-put          : of a catalogue; and-kept-promised
 -- Follows from the definitions by the tests that they make.
-use Prim.Native.Nat.{ℕ, _+_, _*_, _≤_, _<_}
+use Prim.Native.Nat.{ℕ, _+_, _≤_, _<_}
 use native.Mathlib.Nat.{zero-add, mul-le-mul-right}
 use native.Mathlib.Omega.{arith}
-use mathlib.Core.Path.{_≡_, refl, sym, ap, _∙_, subst}
+use mathlib.Core.Path.{_≡_, sym, ap, _∙_, subst}
 use mathlib.Core.Bool.{true, false}
 use mathlib.Core.List.{List, [], _++_}
-use lib.ListN.{length, take, drop, length-replicate}
+use lib.ListN.{length, take, drop}
 use lib.Seq.{take-at}
-use Rattle.paper.specs.Numbers.{catalogue-rules}
 use Rattle.paper.specs.Question.{Question}
-use Rattle.paper.specs.Sheet.{records, faulty, asked, refused, read-sheet}
+use Rattle.paper.specs.Sheet.{records, asked, read-sheet}
 use Rattle.paper.specs.Rule.{Rule, foreign-field, read-rule}
 use Rattle.paper.specs.Saying.{sheet-saying}
-use Rattle.rulebook.specs.Catalogue.{Present, no-catalogue, rules, form, with-record}
+use Rattle.rulebook.specs.Catalogue.{no-catalogue, form, with-record}
 use Rattle.paper.proofs.base.Tests.{lt-ltb, le-ltb}
 use Rattle.rulebook.proofs.Form.{rules-at-most}
 use Rattle.opened.specs.Opened.{spelt-open, rule-open}

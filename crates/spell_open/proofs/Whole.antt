@@ -3,20 +3,18 @@
 --   rule-whole  : rule-saying (r .fields .held) (r .side) ≡ s → GoodRule r → put-whole s 2 sets ≡ rule-open r
 -- where the sets are the first place sets of the sides. Follows from `from-said`, and since the fields that have a first place set are those that
 -- stand.
-use Prim.Native.Nat.{ℕ, _+_, _<_}
-use native.Mathlib.Nat.{zero-add}
+use Prim.Native.Nat.{ℕ, _+_}
 use native.Mathlib.Omega.{arith}
-use mathlib.Core.Path.{_≡_, refl, sym, ap, ap₂, _∙_, subst}
-use mathlib.Core.Bool.{Bool}
-use mathlib.Core.List.{List, [], _∷_, _++_, append-assoc, append-nil}
+use mathlib.Core.Path.{_≡_, sym, ap, ap₂, _∙_}
+use mathlib.Core.List.{List, [], _++_, append-assoc, append-nil}
 use lib.ListN.{length, take, drop}
-use Rattle.paper.specs.Numbers.{fields, set-fields}
+use Rattle.paper.specs.Numbers.{fields}
 use Rattle.paper.specs.Pattern.{Held}
 use Rattle.paper.specs.Equation.{Side, stands-in}
 use Rattle.paper.specs.Question.{Question}
-use Rattle.paper.specs.Sheet.{LE, RI, RU, asked, read-sheet}
+use Rattle.paper.specs.Sheet.{LE, RI, asked, read-sheet}
 use Rattle.paper.specs.Rule.{Rule}
-use Rattle.paper.specs.Saying.{mark-bytes, patterns-saying, side-saying, sheet-saying}
+use Rattle.paper.specs.Saying.{patterns-saying, side-saying, sheet-saying}
 use Rattle.paper.proofs.base.Lists.{map-append}
 use Rattle.paper.proofs.sheets.Asked.{GoodSide, GoodQuestion, sheet-good}
 use Rattle.paper.proofs.sheets.Hidden.{in-range-has-set}
@@ -27,7 +25,7 @@ use Rattle.trimming.specs.Trimming.{first-masks}
 use Rattle.situations.proofs.CodedSides.{Known-side, known-side}
 use Rattle.situations.proofs.CodedQuestion.{marked-stands, known-append}
 use Rattle.hidden.proofs.Codes.{side-back}
-use Rattle.opened.specs.Opened.{opened, stands-asked, spelt-open, rule-saying, stands-ruled, held-open, rule-open}
+use Rattle.opened.specs.Opened.{opened, stands-asked, spelt-open, rule-saying, held-open, rule-open}
 use Rattle.opened.proofs.Opening.{opened-alike}
 use Rattle.opened.proofs.SaidBack.{said-back}
 use Rattle.opening.specs.Opening.{from-field, opened-from, marked}

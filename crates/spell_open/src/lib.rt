@@ -21,8 +21,8 @@ ghost use Rattle.spell_open.specs.Told.{spelt-numbers, told-spelt, carri
 // "the mark `RU`"
 const RULE_MARK: usize = 2;
 
-// the most bytes that the rules of a catalogue have: 32 times a mark, four patterns of 96 bytes and a side of 24 tokens
-const LONGEST_RULES: usize = CATALOGUE_RULES * (RULE_MARK + 4 * 100 + 27);
+// the most bytes that the rules of a catalogue have: 32 times a mark, four patterns of 192 bytes and a side of 24 tokens
+const LONGEST_RULES: usize = CATALOGUE_RULES * (RULE_MARK + 4 * 196 + 27);
 
 // The answer to a sheet or a rule that is to be carried over. specs/Told.antt gives each its numbers.
 pub enum SpeltOpen {
@@ -79,7 +79,8 @@ pub fn rule(rule: &[u8], out: &mut [u8]) -> SpeltOpen
             place: read.place,
         };
     }
-    if read.foreign {
+    let foreign = read.foreign;
+    if foreign {
         return SpeltOpen::ForeignField;
     }
     let side = read.side;
@@ -150,7 +151,7 @@ pub fn number(c: CarriedOver) -> usize
 }
 
 // The bytes in front of the patterns, then the records: as far as there is room, and the place behind them.
-fn put_whole(out: &mut [u8], at: usize, s: &[u8], from: usize, sets: [u32; FIELDS]) -> usize
+fn put_whole(out: &mut [u8], at: usize, s: &[u8], from: usize, sets: [u64; FIELDS]) -> usize
     requires { ⌜ from ≤ length (now s) ⌝ }
     ensures { λ r. ⌜ Counted (now (out .entry)) (now (out .exit)) at r (put-whole (now (s .entry)) from sets) ⌝ }
 {
@@ -159,7 +160,7 @@ fn put_whole(out: &mut [u8], at: usize, s: &[u8], from: usize, sets: [u32; FIELD
 }
 
 // Puts them into the buffer, if they fit.
-fn write_out(s: &[u8], from: usize, sets: [u32; FIELDS], out: &mut [u8]) -> SpeltOpen
+fn write_out(s: &[u8], from: usize, sets: [u64; FIELDS], out: &mut [u8]) -> SpeltOpen
     requires { ⌜ (from ≤ length (now s)) × (length (put-whole (now s) from sets) ≤ last-place) ⌝ }
     ensures { λ r. ⌜ told-spelt r (now (out .exit)) ≡ put-into (put-whole (now (s .entry)) from sets) (now (out .entry)) ⌝ }
 {
@@ -172,7 +173,7 @@ fn write_out(s: &[u8], from: usize, sets: [u32; FIELDS], out: &mut [u8]) -> Spel
 }
 
 // The first place sets of a rule: of the fields that stand in its side.
-fn rule_sets(side: [u8; LONGEST_SIDE]) -> [u32; FIELDS]
+fn rule_sets(side: [u8; LONGEST_SIDE]) -> [u64; FIELDS]
     ensures { λ r. ⌜ r ≡ first-masks (tokens side) ⌝ }
 {
     let none = no_side();

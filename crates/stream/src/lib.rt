@@ -12,7 +12,7 @@ use printing::FIRST_LINE;
 use printing::Filled;
 use printing::PRINTED;
 
-// "65,520 bytes of work (455 situations) and 4,096 of answer"
+// "65,520 bytes of work" (356 situations) "and 4,096 of answer"
 const ANSWER: usize = 4096;
 
 // What is printed of a case.

@@ -6,7 +6,7 @@ use lines::print_number;
 ghost use Prim.Native.Nat.{_≤_};
 
 // No script is longer: `enough`, which `scripts::script` promises.
-const SCRIPT: usize = 140000;
+const SCRIPT: usize = 280000;
 
 // The byte with which the buffer is filled before each call.
 const FILL: u8 = 165;

@@ -8,7 +8,7 @@ ghost use mathlib.Core.List.{map};
 ghost use Rattle.tables.specs.Tables.{follow-of, taking-of, last-of};
 
 // "For every field and every place, the set of places that may follow".
-pub fn follow_sets(fields: [PlaceTables; FIELDS]) -> [[u32; PLACES]; FIELDS]
+pub fn follow_sets(fields: [PlaceTables; FIELDS]) -> [[u64; PLACES]; FIELDS]
     ensures { λ r. ⌜ r ≡ map follow-of fields ⌝ }
 {
     let mut sets = [[0; PLACES]; FIELDS];
@@ -23,7 +23,7 @@ pub fn follow_sets(fields: [PlaceTables; FIELDS]) -> [[u32; PLACES]; FIELDS]
 }
 
 // For every field and every character the set of places that take it.
-pub fn taking_sets(fields: [PlaceTables; FIELDS]) -> [[u32; CHARACTERS]; FIELDS]
+pub fn taking_sets(fields: [PlaceTables; FIELDS]) -> [[u64; CHARACTERS]; FIELDS]
     ensures { λ r. ⌜ r ≡ map taking-of fields ⌝ }
 {
     let mut sets = [[0; CHARACTERS]; FIELDS];
@@ -38,7 +38,7 @@ pub fn taking_sets(fields: [PlaceTables; FIELDS]) -> [[u32; CHARACTERS]; FIELDS]
 }
 
 // For every field the set of places that may be the last one of a text.
-pub fn last_sets(fields: [PlaceTables; FIELDS]) -> [u32; FIELDS]
+pub fn last_sets(fields: [PlaceTables; FIELDS]) -> [u64; FIELDS]
     ensures { λ r. ⌜ r ≡ map last-of fields ⌝ }
 {
     let mut sets = [0; FIELDS];

@@ -101,7 +101,7 @@ fn stands(side: &[u8], token: u8) -> bool
 }
 
 // The mask of the start for a field that stands in either side, 0 for one that does not.
-fn first_mask(l: &[u8], r: &[u8], f: usize) -> u32
+fn first_mask(l: &[u8], r: &[u8], f: usize) -> u64
     requires { ⌜ f < set-fields ⌝ }
     ensures { λ m. ⌜ m ≡ first-mask (now (l .entry) ++ now (r .entry)) f ⌝ }
 {
@@ -116,10 +116,10 @@ fn first_mask(l: &[u8], r: &[u8], f: usize) -> u32
 }
 
 // "at first it holds only the start"
-fn first_masks(l: &[u8], r: &[u8]) -> [u32; FIELDS]
+fn first_masks(l: &[u8], r: &[u8]) -> [u64; FIELDS]
     ensures { λ sets. ⌜ sets ≡ first-masks (now (l .entry) ++ now (r .entry)) ⌝ }
 {
-    let mut sets = [0u32; FIELDS];
+    let mut sets = [0u64; FIELDS];
     let mut f: usize = 0;
     while f < FIELDS {
         sets[f] = first_mask(l, r, f);

@@ -61,9 +61,9 @@ pub lines-known :
 unfolding printed-of
 lines-known = refl
 
--- eight patterns of 96 bytes, two sides of 24 tokens: 854 bytes
+-- eight patterns of 192 bytes, two sides of 24 tokens: 1,622 bytes
 abbrev longest-pattern : ℕ → List ℕ
-longest-pattern f = PA f (replicate 95 68 ++ 0 ∷ [])
+longest-pattern f = PA f (replicate 191 68 ++ 0 ∷ [])
 
 abbrev longest-sheet : List ℕ
 longest-sheet = each longest-pattern (upto 8) ++ LE (replicate 24 10) ++ RI (replicate 24 10)
@@ -85,12 +85,12 @@ pub sheets-printed :
     "0 9 0\n0  \n" ∷
     "0 10 0\n0 \n" ∷
     "0 5 0\n" ∷
-    "12 0 854\n" ∷
+    "12 0 1622\n" ∷
     [])
 unfolding set-after may-end judge enter offer take-next search trimmed strike put-before open-moves child-by children question search-from texts-of acceptor marked pattern-record side-record read-end marked-side next-is read-sheet outcome room-of searched standing value-record records some-text-too-long clash count-of how-of printed-of printed
 sheets-printed = refl
 
--- The answer buffer that the program lends is long enough, whatever is found in 455 situations.
+-- The answer buffer that the program lends is long enough, whatever is found in 356 situations.
 pub program-never-20 : (input : List ℕ)
     → outcome (take program-input input) (replicate program-work 0) (replicate program-answer 0) .number ≡ 20 → ⊥
 unfolding outcome

@@ -6,7 +6,7 @@ use crate::Fault;
 
 /// A good sheet has at most so many bytes; an output buffer of so many is long enough for every
 /// sheet that is carried over, which is proved.
-pub const SHEET_BYTES: usize = 854;
+pub const SHEET_BYTES: usize = 1622;
 
 /// The answer to a sheet or a rule that is to be carried over.
 #[derive(Clone, Copy, Debug, PartialEq, Eq)]
@@ -177,7 +177,7 @@ pub fn spell_open_rule(rule: &[u8], out: &mut [u8]) -> SpeltOpen {
 ///
 /// A rule grows by eight bytes for each field that stands in it without a pattern. After
 /// [`CarriedOver::Full`] put the catalogue into a longer buffer, with zeros behind it:
-/// [`catalogue_bytes`](crate::catalogue_bytes) of [`MOST_RULES`](crate::MOST_RULES), 13,728, are
+/// [`catalogue_bytes`](crate::catalogue_bytes) of [`MOST_RULES`](crate::MOST_RULES), 26,016, are
 /// always enough. Only [`CarriedOver::Done`] changes the catalogue.
 pub fn spell_open_catalogue(catalogue: &mut [u8]) -> CarriedOver {
     // SAFETY: pointer and length are those of one slice. The function keeps no pointer.

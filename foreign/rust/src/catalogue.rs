@@ -13,7 +13,7 @@ pub const MOST_RULES: usize = 32;
 pub const RULE_FIELDS: usize = 4;
 
 /// A rule has at most so many bytes.
-pub const RULE_BYTES: usize = 429;
+pub const RULE_BYTES: usize = 813;
 
 /// A buffer of so many bytes is always long enough for this number of rules.
 pub const fn catalogue_bytes(rules: usize) -> usize {

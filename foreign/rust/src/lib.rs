@@ -11,8 +11,8 @@
 //!
 //! // Field 0, any digits, is the left side; field 1, the digit 4, the right one.
 //! let sheet = b"PA\x00\x04\x44\x41\x00\x09PA\x01\x01\x04LE\x01\x40RI\x01\x41";
-//! let mut work = [0; 455 * SITUATION_BYTES];
-//! let mut answer = [0; answer_bytes(455)];
+//! let mut work = [0; 356 * SITUATION_BYTES];
+//! let mut answer = [0; answer_bytes(356)];
 //! let given = clash(sheet, &mut work, &mut answer);
 //! assert_eq!(given.clashes(), Some(true));
 //! assert_eq!(given.to_string(), "clash");
@@ -59,7 +59,7 @@
 //! use bradovusc::{add, catalogue_bytes, withdraw, Added, Answer, Withdrawn, SITUATION_BYTES};
 //!
 //! let mut catalogue = [0; catalogue_bytes(32)];
-//! let mut work = [0; 455 * SITUATION_BYTES];
+//! let mut work = [0; 356 * SITUATION_BYTES];
 //! // Any digits; then the digit 4.
 //! let digits = b"RUPA\x00\x04\x44\x41\x00\x09LE\x01\x40";
 //! let four = b"RULE\x01\x04";
@@ -77,7 +77,7 @@
 //!
 //! // Kept since a space at the end made another label: the digit 4; the same with a space.
 //! let catalogue = b"RULE\x01\x04RULE\x02\x04\x26";
-//! let mut work = [0; 455 * SITUATION_BYTES];
+//! let mut work = [0; 356 * SITUATION_BYTES];
 //! let mut list = [0; list_bytes(2)];
 //! let Rechecked::Listed(pairs) = recheck(catalogue, &mut work, &mut list) else {
 //!     panic!("a catalogue, and the list is long enough");
@@ -103,7 +103,7 @@
 //!     panic!("the sheet is good, and the buffer is long enough");
 //! };
 //! assert_eq!(&new[..bytes], b"PA\x00\x04\x44\x41\x00\x2ALE\x02\x40\x04RI\x01\x04");
-//! let mut work = [0; 455 * SITUATION_BYTES];
+//! let mut work = [0; 356 * SITUATION_BYTES];
 //! let mut answer = [0; 5];
 //! assert_eq!(clash(old, &mut work, &mut answer).clashes(), Some(false));
 //! assert_eq!(clash(&new[..bytes], &mut work, &mut answer).clashes(), Some(true));
@@ -130,7 +130,7 @@ use std::iter::FusedIterator;
 pub const VERSION: &str = env!("CARGO_PKG_VERSION");
 
 /// A situation of the search takes so many bytes of the working buffer.
-pub const SITUATION_BYTES: usize = 144;
+pub const SITUATION_BYTES: usize = 184;
 
 /// Room in the working buffer is never counted above so many situations.
 pub const MOST_SITUATIONS: usize = 65_535;
@@ -178,7 +178,7 @@ pub enum Fault {
     /// 13: a pattern's field is above 7, or not above the field of the pattern before it. Its place
     /// is the field byte.
     WrongField,
-    /// 14: a pattern's length is not 1 to 96, or a side's is above 24. Its place is the length
+    /// 14: a pattern's length is not 1 to 192, or a side's is above 24. Its place is the length
     /// byte.
     WrongLength,
     /// 15: the bytes of a pattern are not exactly one pattern. Its place is, read from left to
@@ -186,7 +186,7 @@ pub enum Fault {
     /// byte if that is above 42 or below lo; the first byte left over; where the code runs out, the
     /// offset behind the pattern's last byte.
     NotOnePattern,
-    /// 16: a pattern has more than 31 leaves. Its place is the first byte of the 32nd.
+    /// 16: a pattern has more than 63 leaves. Its place is the first byte of the 64th.
     TooManyLeaves,
     /// 17: a side holds a byte that is neither a character nor a field 0 to 7. Its place is the
     /// first such byte.

@@ -5,7 +5,7 @@ use std::fmt;
 use crate::Fault;
 
 /// An output buffer of so many bytes is long enough for the script of every sheet; that is proved.
-pub const SCRIPT_BYTES: usize = 140_000;
+pub const SCRIPT_BYTES: usize = 280_000;
 
 /// The answer to a sheet that is to be written out.
 #[derive(Clone, Copy, Debug, PartialEq, Eq)]

@@ -90,8 +90,8 @@ fn faults_of_a_sheet() {
         refused(b"LE\x19", Fault::WrongLength, 2);
         refused(b"PA\x00\x03\x41\x02\x01LE\x00RI\x00", Fault::NotOnePattern, 6);
         refused(b"LE\x01\x48RI\x00", Fault::WrongToken, 3);
-        let leaves = [&b"PA\x00\x3F"[..], &[66; 31], &[7; 32]].concat();
-        refused(&leaves, Fault::TooManyLeaves, 66);
+        let leaves = [&b"PA\x00\x7F"[..], &[66; 63], &[7; 64]].concat();
+        refused(&leaves, Fault::TooManyLeaves, 130);
     }
 }
 
@@ -192,12 +192,12 @@ fn buffers_that_are_always_long_enough() {
         assert_ne!(written(spell_open_rule, &old, RULE_BYTES).0, SpeltOpen::TooShort, "{old:?}");
     }
     // Patterns of the greatest length for all fields but the last, which stands without one.
-    let pattern = [&[68][..], &[67; 23], &[65, 0, 42].repeat(24)].concat();
-    let record = |field: u8| [b"PA", &[field, 96][..], &pattern].concat();
+    let pattern = [&[68][..], &[67; 47], &[65, 0, 42].repeat(48)].concat();
+    let record = |field: u8| [b"PA", &[field, 192][..], &pattern].concat();
     let side = |mark: &[u8], token: u8| [mark, &[24], &[token; 24]].concat();
     let patterns = |fields: u8| (0..fields).flat_map(record).collect::<Vec<u8>>();
     let sheet = [patterns(7), side(b"LE", 71), side(b"RI", 71)].concat();
-    assert_eq!(written(spell_open, &sheet, SHEET_BYTES).0.written(), SHEET_BYTES - 92);
+    assert_eq!(written(spell_open, &sheet, SHEET_BYTES).0.written(), SHEET_BYTES - 188);
     let rule = [&RULE[..], &patterns(3), &side(b"LE", 67)].concat();
-    assert_eq!(written(spell_open_rule, &rule, RULE_BYTES).0.written(), RULE_BYTES - 92);
+    assert_eq!(written(spell_open_rule, &rule, RULE_BYTES).0.written(), RULE_BYTES - 188);
 }

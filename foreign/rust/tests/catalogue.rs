@@ -135,7 +135,7 @@ fn not_decided() {
     assert_eq!(not_apart(&long, &rule(&[A, A]), 3), (1, Answer::SideTooLong { count: 3 }));
     // xx and `A` make no label that is the same, but x can take one space after the other.
     let twice = [rule(&[X, X])];
-    assert_eq!(not_apart(&twice, &rule(&[A]), 455), (0, Answer::SideTooLong { count: 136 }));
+    assert_eq!(not_apart(&twice, &rule(&[A]), 356), (0, Answer::SideTooLong { count: 136 }));
 }
 
 #[test]
@@ -160,8 +160,8 @@ fn faults_of_the_rule() {
     fault(b"RUPA\x00\x02\x04\x04LE\x00", Fault::NotOnePattern, 7);
     fault(b"RUPA\x00\x02\x41\x2bLE\x00", Fault::NotOnePattern, 7);
     fault(b"RUPA\x00\x01\x44", Fault::NotOnePattern, 7);
-    let leaves = [&b"PA\x00\x3f"[..], &[66; 31], &[0; 32]].concat();
-    fault(&with(&leaves, &[X]), Fault::TooManyLeaves, 68);
+    let leaves = [&b"PA\x00\x7f"[..], &[66; 63], &[0; 64]].concat();
+    fault(&with(&leaves, &[X]), Fault::TooManyLeaves, 132);
     fault(&rule(&[X + 4, 43]), Fault::WrongToken, 6);
 }
 
@@ -194,7 +194,7 @@ fn full() {
 
 #[test]
 fn the_longest_rule() {
-    let pattern = |field| [&[b'P', b'A', field, 96][..], &[68; 95], &[A]].concat();
+    let pattern = |field| [&[b'P', b'A', field, 192][..], &[68; 191], &[A]].concat();
     let patterns: Vec<u8> = (0..RULE_FIELDS as u8).flat_map(pattern).collect();
     let longest = with(&patterns, &[X; 24]);
     assert_eq!(longest.len(), RULE_BYTES);

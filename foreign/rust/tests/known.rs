@@ -31,9 +31,9 @@ fn answered(sheet: &[u8], work: usize, answer: usize) -> (Answer, Vec<(u8, Strin
     (given, texts(records).map(|text| (text.field, text.to_string())).collect())
 }
 
-/// In 455 situations and 4,096 bytes of answer.
+/// In 356 situations and 4,096 bytes of answer.
 fn as_usual(sheet: &[u8]) -> (Answer, Vec<(u8, String)>) {
-    answered(sheet, 455 * SITUATION_BYTES, 4096)
+    answered(sheet, 356 * SITUATION_BYTES, 4096)
 }
 
 /// A clash and its texts, by field from 0.
@@ -79,7 +79,7 @@ fn one_field_with_a_pattern() {
 #[test]
 fn two_fields() {
     assert_eq!(as_usual(&sheet(&[A, B, X, B], &[X, B, Y])), holds(15, 13, &["A", "AB"]));
-    assert_eq!(as_usual(&sheet(&[X, A], &[B, Y, X])), plain(Answer::NoRoom { count: 455 }));
+    assert_eq!(as_usual(&sheet(&[X, A], &[B, Y, X])), plain(Answer::NoRoom { count: 356 }));
 }
 
 /// Spaces at the end are dropped, others are not.
@@ -177,16 +177,69 @@ fn not_one_pattern() {
 fn too_many_leaves() {
     let leaves = |operators: usize, behind: &[u8]| [&vec![66; operators][..], behind].concat();
     let many = Fault::TooManyLeaves;
-    refused_pattern(&leaves(31, &[7; 32]), many, 62);
-    // The 32nd is not the last; it is a range; the empty text before it is no leaf.
-    refused_pattern(&leaves(40, &[7; 41]), many, 71);
-    refused_pattern(&leaves(31, &[&[7; 31][..], &[65, 0, 9]].concat()), many, 62);
-    refused_pattern(&leaves(32, &[&[64][..], &[7; 32]].concat()), many, 64);
+    refused_pattern(&leaves(63, &[7; 64]), many, 126);
+    // The 64th is not the last; it is a range; the empty text before it is no leaf.
+    refused_pattern(&leaves(80, &[7; 81]), many, 143);
+    refused_pattern(&leaves(63, &[&[7; 63][..], &[65, 0, 9]].concat()), many, 126);
+    refused_pattern(&leaves(64, &[&[64][..], &[7; 64]].concat()), many, 128);
     // 15 is before 16: a byte left over, one that is no code, the code runs out.
     let not_one = Fault::NotOnePattern;
-    refused_pattern(&leaves(31, &[7; 33]), not_one, 63);
-    refused_pattern(&leaves(32, &[&[7; 32][..], &[43]].concat()), not_one, 64);
-    refused_pattern(&leaves(32, &[7; 32]), not_one, 64);
+    refused_pattern(&leaves(63, &[7; 65]), not_one, 127);
+    refused_pattern(&leaves(64, &[&[7; 64][..], &[43]].concat()), not_one, 128);
+    refused_pattern(&leaves(64, &[7; 64]), not_one, 128);
+}
+
+/// A keypad maker's 40 finish codes: those with the same first letter together, it first.
+const FINISHES: [&str; 13] = [
+    "ABCN", "BBCKNRZ", "CBHP", "DBN", "GBDN", "MBCN", "NBK", "OBR", "PBCNW", "RBG", "SBCGNS",
+    "WBH", "ZBNP",
+];
+
+/// One of these patterns.
+fn choice(patterns: &[Vec<u8>]) -> Vec<u8> {
+    [vec![67; patterns.len() - 1], patterns.concat()].concat()
+}
+
+fn letters(signs: &str) -> Vec<Vec<u8>> {
+    signs.chars().map(|sign| vec![bradovusc::value(sign).unwrap()]).collect()
+}
+
+fn then(first: &[u8], second: &[u8]) -> Vec<u8> {
+    [&[66], first, second].concat()
+}
+
+/// `KP` and a finish, and `KPS` and any text: 40 codes one by one have 80 leaves, and those of one
+/// first letter together 53.
+#[test]
+fn forty_finishes() {
+    let keypads = |finishes: &[u8]| {
+        let record = [&b"PA\x00"[..], &[finishes.len() as u8], finishes].concat();
+        as_usual(&[record, sheet(&[20, 25, X], &[20, 25, 28, Y])].concat())
+    };
+    let one_by_one: Vec<Vec<u8>> = FINISHES
+        .iter()
+        .flat_map(|group| {
+            let letters = letters(group);
+            letters[1..].iter().map(|second| then(&letters[0], second)).collect::<Vec<_>>()
+        })
+        .collect();
+    assert_eq!(one_by_one.len(), 40);
+    // The 64th leaf is the second letter of the 32nd code.
+    let place = 4 + 39 + 31 * 3 + 2;
+    let refused = plain(Answer::Refused { fault: Fault::TooManyLeaves, place });
+    assert_eq!(keypads(&choice(&one_by_one)), refused);
+    let by_first_letter: Vec<Vec<u8>> = FINISHES
+        .iter()
+        .map(|group| {
+            let letters = letters(group);
+            then(&letters[0], &choice(&letters[1..]))
+        })
+        .collect();
+    let pattern = choice(&by_first_letter);
+    assert_eq!(pattern.len(), 105);
+    let (given, texts) = keypads(&pattern);
+    assert_eq!(given.clashes(), Some(true));
+    assert_eq!(texts, [(0, "SB".to_string()), (1, "B".to_string())]);
 }
 
 #[test]

@@ -46,7 +46,7 @@ fn an_answer_buffer_that_is_always_long_enough() {
 
 #[test]
 fn long_searches() {
-    for case in long(455) {
+    for case in long(356) {
         assert_eq!(case.run(library), case.run(second::answer), "{case:?}");
     }
 }

@@ -100,23 +100,23 @@ fn faults() {
         refused(b"LE\x19", Fault::WrongLength, 2);
         refused(b"PA\x00\x03\x41\x02\x01LE\x00RI\x00", Fault::NotOnePattern, 6);
         refused(b"LE\x01\x48RI\x00", Fault::WrongToken, 3);
-        let leaves = [&b"PA\x00\x3F"[..], &[66; 31], &[7; 32]].concat();
-        refused(&leaves, Fault::TooManyLeaves, 66);
+        let leaves = [&b"PA\x00\x7F"[..], &[66; 63], &[7; 64]].concat();
+        refused(&leaves, Fault::TooManyLeaves, 130);
     }
 }
 
 /// Eight patterns of the longest expressions, and 24 tokens on either side.
 #[test]
 fn the_longest() {
-    let pattern = [&[68][..], &[67; 23], &[65, 0, 42].repeat(24)].concat();
-    let record = |field: u8| [b"PA", &[field, 96][..], &pattern].concat();
+    let pattern = [&[68][..], &[67; 47], &[65, 0, 42].repeat(48)].concat();
+    let record = |field: u8| [b"PA", &[field, 192][..], &pattern].concat();
     let patterns: Vec<u8> = (0..8).flat_map(record).collect();
     let side = |mark: &[u8]| [mark, &[24], &[64, 65, 66, 67, 68, 69, 70, 71].repeat(3)].concat();
     let sheet = [patterns, side(b"LE"), side(b"RI")].concat();
-    assert_eq!(sheet.len(), 854);
+    assert_eq!(sheet.len(), 1622);
     let (given, text) = written(&sheet, SCRIPT_BYTES);
     assert_eq!(given.number(), 0);
-    assert!((136_000..SCRIPT_BYTES).contains(&text.len()), "{} bytes", text.len());
+    assert!((272_000..SCRIPT_BYTES).contains(&text.len()), "{} bytes", text.len());
     assert_eq!(says(&text, &sheet::read(&sheet).unwrap()), Ok(()));
 }
 

@@ -27,9 +27,9 @@ use second::fault::Fault;
 use second::smt::{compare, output, Told};
 use second::{sheet, spell_open};
 
-/// "`clash` reads the first 1,024 bytes of standard input, lends 65,520 bytes
-/// of work (455 situations) and 4,096 of answer."
-const SHEET_BYTES: u64 = 1_024;
+/// "the program's 65,520 hold 356; it reads 2,048 bytes of input", and lends
+/// 4,096 bytes of answer.
+const SHEET_BYTES: u64 = 2_048;
 const WORK_BYTES: usize = 65_520;
 const ANSWER_BYTES: usize = 4_096;
 

@@ -3,7 +3,8 @@
 //! - `sheets SEED NUMBER`: so many cases made from the seed
 //! - `sheets --spelt SEED NUMBER`: so many sheets and rules to carry over, made
 //!   from the seed
-//! - `sheets --long ROOM`: a few whose search fills room for so many situations
+//! - `sheets --long ROOM`: five whose search fills room for so many situations,
+//!   the last one with a pattern of 54 leaves
 //! - `sheets --long ROOM N`: the sheet alone of the N-th of these
 //! - `sheets --printed`: those whose lines tell wrong printers apart
 //! - `sheets --printed N`: the sheet alone of the N-th of these

@@ -10,6 +10,7 @@ use crate::catalogue::{read, HASHING, MOST_RULES, PAIR_BYTES, RULE, RULE_FIELDS}
 use crate::pattern::{CHARACTERS, SPACE};
 use crate::sheet::{FIELDS, LEFT, PATTERN};
 use crate::spell_open;
+use crate::storeroom::{by_first_letter, FINISHES};
 use crate::write::{self, choice, many, row, tokens};
 
 /// A stream of so many `AD`, `WI`, `RE` and `SO` together, and an end.
@@ -37,7 +38,7 @@ const ENDS: [&[u8]; 18] = [
     b"wi\x00WI\x00",
     b"CA\x01\x20\x00\x00WI\x00",
     b"CA\x02\x00\x03\x00RULWI\x00",
-    b"WO\x80\x00\x01\x00WI\x00",
+    b"WO\x98\x00\x01\x00WI\x00",
     b"WO\x00\x00\x00\x01WI\x00",
     b"RE\x01\x0aWI\x00",
     b"RE\xff\xffWI\x00",
@@ -247,7 +248,7 @@ impl Maker<'_> {
             1 => 1,
             2..=4 => self.dice.between(2, 12),
             5..=9 => self.dice.between(13, 120),
-            _ => 455,
+            _ => 356,
         };
         let length = super::work_length(self.dice, room) as usize;
         self.make(Operation::Work(length.min(MOST_WORK)));
@@ -510,7 +511,7 @@ impl Maker<'_> {
             return rule;
         }
         if self.dice.one_in(10) {
-            // A pattern of 31 leaves, or of more, in place of one, before all or
+            // A pattern of 63 leaves, or of more, in place of one, before all or
             // behind them.
             let big = big_pattern(self.dice, &[0, 10]);
             let at = self.dice.below(records.len());
@@ -652,6 +653,9 @@ fn storeroom_pattern(dice: &mut Dice) -> Option<Vec<u8>> {
     let finishes = some(&["BR", "CH", "SS", "PB", "SC", "BK", "WH", "AB"], 5);
     let hands = some(&["L", "R"], 2);
     let filled_up = some(&["L   ", "LH  ", "R   ", "RH  ", "    "], 4);
+    if dice.one_in(40) {
+        return Some(by_first_letter(&FINISHES));
+    }
     match dice.below(18) {
         0..=3 => Some(row(vec![digit(); dice.between(1, 3)])),
         4 => Some(many(digit())),

@@ -125,7 +125,7 @@ fn wrong_length(dice: &mut Dice, record: &mut Record) {
             let length = MOST_SIDE + dice.below(2);
             record.set((0..length).map(|_| dice.pick(&[64, 65, 5])).collect());
         }
-        _ => record.length = dice.pick(&[0, 24, 25, 26, 96, 97, 255]),
+        _ => record.length = dice.pick(&[0, 24, 25, 26, 97, 192, 193, 255]),
     }
 }
 
@@ -151,7 +151,7 @@ fn wrong_pattern(dice: &mut Dice) -> Vec<u8> {
     let alphabet = alphabet(dice);
     match dice.below(10) {
         0 | 1 => {
-            let leaves = dice.pick(&[32, 32, 33, 34, 40, 48]);
+            let leaves = dice.pick(&[64, 64, 65, 66, 80, 96]);
             let parts = parts(dice, &alphabet, leaves, MOST_PATTERN);
             joined(dice, parts)
         }
@@ -171,7 +171,7 @@ fn any_code(dice: &mut Dice) -> u8 {
 }
 
 /// A pattern with a wrong part, now and then with two, with bytes left over or
-/// running out. Some have more than 31 leaves as well, before the wrong byte or
+/// running out. Some have more than 63 leaves as well, before the wrong byte or
 /// behind it.
 fn not_one_pattern(dice: &mut Dice, alphabet: &[u8]) -> Vec<u8> {
     let leaves = match dice.below(8) {

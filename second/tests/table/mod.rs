@@ -20,8 +20,8 @@ pub enum Shown {
     LeftOver,
     LeftOverNoCode,
     RunsOut,
-    /// A 15 of one of these kinds in a pattern with 32 leaves before it.
-    BehindThe32ndLeaf,
+    /// A 15 of one of these kinds in a pattern with 64 leaves before it.
+    BehindThe64thLeaf,
     Character,
     Range,
     FirstToken,
@@ -85,7 +85,7 @@ fn pattern_record(bytes: &[u8], at: usize, before: &mut Option<u8>) -> Result<us
     let end = body + length;
     if field > 7 || Some(field) <= *before {
         Err((13, at + 2, Field))
-    } else if length == 0 || length > 96 {
+    } else if length == 0 || length > 192 {
         Err((14, at + 3, PatternLength))
     } else if bytes.len() < end {
         Err((11, bytes.len(), CutShort))
@@ -119,8 +119,8 @@ fn side_record(bytes: &[u8], at: usize) -> Result<usize, Fault> {
 fn of_pattern(body: &[u8]) -> Option<Fault> {
     let mut leaves = Vec::new();
     let wrong = of_codes(body, &mut leaves);
-    match (wrong, leaves.get(31)) {
-        (Some((place, _)), Some(_)) => Some((15, place, BehindThe32ndLeaf)),
+    match (wrong, leaves.get(63)) {
+        (Some((place, _)), Some(_)) => Some((15, place, BehindThe64thLeaf)),
         (Some((place, shown)), None) => Some((15, place, shown)),
         (None, Some(&(place, shown))) => Some((16, place, shown)),
         (None, None) => None,
@@ -184,7 +184,7 @@ pub fn all_come_up(seen: &BTreeMap<(Shown, bool), usize>, times: usize) {
         LeftOver,
         LeftOverNoCode,
         RunsOut,
-        BehindThe32ndLeaf,
+        BehindThe64thLeaf,
         Character,
         Range,
         FirstToken,
@@ -195,5 +195,53 @@ pub fn all_come_up(seen: &BTreeMap<(Shown, bool), usize>, times: usize) {
     for row in first.into_iter().chain(later).chain([(BehindTheEnd, true)]) {
         let seen_times = seen.get(&row).copied().unwrap_or(0);
         assert!(seen_times >= times, "{row:?}: {seen_times} of {seen:?}");
+    }
+}
+
+/// The sizes of patterns that must come up.
+#[derive(Clone, Copy, Debug, PartialEq, Eq, PartialOrd, Ord)]
+pub enum Size {
+    From97To192Bytes,
+    Bytes192,
+    Bytes193,
+    From32To63Leaves,
+    Leaves63,
+    Leaves64,
+}
+
+/// Counts each pattern of the records behind this front that is one pattern, up
+/// to the first record that is none of a pattern.
+pub fn sizes(bytes: &[u8], front: &[u8], seen: &mut BTreeMap<Size, usize>) {
+    let mut rest = bytes.strip_prefix(front).unwrap_or(&[]);
+    while let [b'P', b'A', _, length, behind @ ..] = rest {
+        let Some((body, behind)) = behind.split_at_checked(usize::from(*length)) else {
+            return;
+        };
+        let mut leaves = Vec::new();
+        if of_codes(body, &mut leaves).is_none() {
+            let sizes = [
+                (Size::From97To192Bytes, (97..=192).contains(&body.len())),
+                (Size::Bytes192, body.len() == 192),
+                (Size::Bytes193, body.len() == 193),
+                (Size::From32To63Leaves, (32..=63).contains(&leaves.len())),
+                (Size::Leaves63, leaves.len() == 63),
+                (Size::Leaves64, leaves.len() == 64),
+            ];
+            for (size, _) in sizes.into_iter().filter(|(_, is)| *is) {
+                *seen.entry(size).or_insert(0) += 1;
+            }
+        }
+        rest = behind;
+    }
+}
+
+/// The sizes below the limits come up so many times, those at them and just
+/// above them so many.
+pub fn all_sizes_come_up(seen: &BTreeMap<Size, usize>, below: usize, at: usize) {
+    use Size::*;
+    let below = [From97To192Bytes, From32To63Leaves].map(|size| (size, below));
+    let at = [Bytes192, Bytes193, Leaves63, Leaves64].map(|size| (size, at));
+    for (size, times) in below.into_iter().chain(at) {
+        assert!(seen.get(&size).is_some_and(|&seen| seen >= times), "{size:?}: {seen:?}");
     }
 }

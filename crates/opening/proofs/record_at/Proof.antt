@@ -5,7 +5,6 @@ use mathlib.Core.Path.{_≡_, sym, _∙_}
 use mathlib.Core.Bool.{true, false}
 use denote.Ref.{now}
 use borrow.Author.Tests.{not-true, not-false, lt-ltb, le-ltb, eq-eqb, ne-eqb}
-use lib.ListN.{length}
 use Rattle.paper.specs.Sheet.{byte-at, bytes-left, PA, next-is}
 use Rattle.bodies.proofs.Sought.{mark-left}
 use Rattle.opening.specs.Opening.{record-at}

@@ -1,6 +1,6 @@
 -- What goes by a length alone, at lengths known by hand and whatever the bytes: the room of a working buffer, a record's two length bytes.
---   rooms-known        : "one situation for each whole 144 bytes of working buffer, and at most 65,535"
---   program-room       : "65,520 bytes of work (455 situations)"
+--   rooms-known        : "one situation for each whole 184 bytes of working buffer, and at most 65,535"
+--   program-room       : "65,520 bytes of work (356 situations)"
 --   length-bytes-known : "length in two bytes (low first)"
 -- Follows from the definitions by computation, once the length is put in.
 use Prim.Native.Nat.{ℕ}
@@ -15,12 +15,12 @@ abbrev Room : List ℕ → ℕ → ℕ → Type 0
 Room work bytes room = length work ≡ bytes → room-of work ≡ room
 
 pub rooms-known : (work : List ℕ)
-    → Room work 0 0 × Room work 143 0 × Room work 144 1 × Room work 287 1
-    × Room work 9437039 65534 × Room work 9437040 65535 × Room work 9437184 65535
+    → Room work 0 0 × Room work 183 0 × Room work 184 1 × Room work 367 1
+    × Room work 12058439 65534 × Room work 12058440 65535 × Room work 12058624 65535
 unfolding room-of
 rooms-known work = (λ e. rw e, λ e. rw e, λ e. rw e, λ e. rw e, λ e. rw e, λ e. rw e, λ e. rw e)
 
-pub program-room : (work : List ℕ) → Room work program-work 455
+pub program-room : (work : List ℕ) → Room work program-work 356
 unfolding room-of
 program-room work e = rw e
 

@@ -97,7 +97,7 @@ reads zero (b ∷ s) h = absurd (omega arith)
 reads (suc n) [] h = runs-out
 reads (suc n) (b ∷ s) h = by-code n b s (reads n s (omega arith)) (λ r (k : length r < length s). reads n r (omega arith))
 
--- The bytes "judged by themselves, as exactly one pattern that uses them all", with at most 31 leaves.
+-- The bytes "judged by themselves, as exactly one pattern that uses them all", with at most 63 leaves.
 pub data Judges (s : List ℕ) : Judged → Type 0 where
   at-fault : {left : ℕ} → Reads s (no-pattern left) → Judges s (judge-part (length s) (no-pattern left))
   left-over : {p : Pattern} {starts rest : List ℕ} {b : ℕ} → Reads s (part p starts (b ∷ rest))

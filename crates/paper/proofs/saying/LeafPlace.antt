@@ -1,4 +1,4 @@
--- The place of a 16 is the 32nd leaf's first byte: a leaf begins at it, and 31 leaves stand before it.
+-- The place of a 16 is the 64th leaf's first byte: a leaf begins at it, and 63 leaves stand before it.
 --   leaves-before : judge s ≡ too-many-leaves i → HasLeaves (take i s) most-leaves
 --   leaf-begins   : judge s ≡ too-many-leaves i → leaf-code (getD s i 0) ≡ true
 --   good-before   : what the bytes before it are continued to is judged good
@@ -98,7 +98,7 @@ too-many-at : {s : List ℕ} {i : ℕ} → Judges s (too-many-leaves i) → Leaf
 too-many-at {s} (above-most d h) = parted-at (LeafAt most-leaves) s (leaf-of d most-leaves h)
 
 module _ (s : List ℕ) (i : ℕ) (e : judge s ≡ too-many-leaves i) where
-  -- 31 leaves stand before the place
+  -- 63 leaves stand before the place
   pub leaves-before : HasLeaves (take i s) most-leaves
   leaves-before = too-many-at (subst (Judges s) e (judges s)) .0
 

@@ -1,6 +1,6 @@
 -- A question that a sheet asks can be said.
 --   sheet-sayable : read-sheet s ≡ asked q → Sayable q
--- It is good (`Asked`), and the code of each pattern has at most 96 bytes. Follows from the checks on the patterns' records.
+-- It is good (`Asked`), and the code of each pattern has at most 192 bytes. Follows from the checks on the patterns' records.
 use Prim.Native.Nat.{ℕ, suc, _+_}
 use native.Mathlib.Omega.{arith}
 use mathlib.Core.Path.{_≡_, subst}
@@ -18,7 +18,7 @@ use Rattle.paper.proofs.sheets.Asked.{PatternRead, set-by, open-by, Lis
 use Rattle.paper.proofs.saying.Code.{judged-code}
 use Rattle.paper.proofs.saying.Saying.{ShortCode, Sayable}
 
--- "length byte n 1 to 96"
+-- "length byte n 1 to 192"
 abbrev Short : List Held → Type 0
 Short held = (f : ℕ) → ShortCode (getD held f some-text)
 

@@ -1,8 +1,8 @@
 -- Reading the sheet that says a question gives the question back.
 --   reads-back : Sayable q → read-sheet (sheet-saying q) ≡ asked q
 -- A question can be said if it is good (`Asked`) and the code of each pattern fits into a record: its tokens are characters and fields, a side has
--- at most 24 of them, there is a pattern or none for each field, and a pattern has leaves that take characters alone, at most 31 of them, and a
--- code of at most 96 bytes.
+-- at most 24 of them, there is a pattern or none for each field, and a pattern has leaves that take characters alone, at most 63 of them, and a
+-- code of at most 192 bytes.
 -- Follows from the checks on the records, test by test, and from the laws of a pattern's code. What is left at an offset is all that a check there
 -- sees, so each law begins with `drop at s ≡ ..`.
 use Prim.Native.Nat.{ℕ, zero, suc, _+_, _≤_, _<_}
@@ -28,7 +28,7 @@ use Rattle.paper.specs.Saying.{pattern-code, token-byte, pattern-saying,
 use Rattle.paper.proofs.sheets.Asked.{InRange, GoodSide, GoodHeld, GoodQuestion}
 use Rattle.paper.proofs.saying.Code.{code-judged}
 
--- "length byte n 1 to 96": the code of what a field may hold fits into a record
+-- "length byte n 1 to 192": the code of what a field may hold fits into a record
 abbrev pub ShortCode : Held → Type 0
 ShortCode some-text = Unit {0}
 ShortCode (pattern p) = length (pattern-code p) ≤ pattern-bytes

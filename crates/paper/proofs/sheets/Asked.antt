@@ -4,7 +4,7 @@
 --   fields-known     : a field that stands in the sides of a good question is one of the fields
 --   fields-have-sets : and a situation has a place set for it
 -- The tokens are 01's characters and fields, a side has at most 24 of them, there is a pattern or none for each field, and a pattern has at
--- most 31 leaves, of which each takes some character and nothing but characters.
+-- most 63 leaves, of which each takes some character and nothing but characters.
 -- Follows from the checks on the records, test by test, and from the laws of judged patterns.
 use Prim.Native.Nat.{ℕ, zero, suc, _+_, _≤_, _<_}
 use native.Mathlib.Omega.{arith}

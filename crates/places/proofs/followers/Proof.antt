@@ -5,7 +5,7 @@ use native.Mathlib.Omega.{arith}
 use mathlib.Core.Path.{_≡_, ap, ap₂, _∙_}
 use lib.Bits.{bitOr}
 use lib.ListN.{getD}
-use mir.Syntax.{w32}
+use mir.Syntax.{w64}
 use mir.Val.{Fits}
 use Rattle.places.specs.Masks.{places}
 use Rattle.places.proofs.Gathered.{gathered, gathered-none, gathered-more, gathered-all}
@@ -40,7 +40,7 @@ loop-again : tie.Need-loop-again Inv-loop μ-loop
 loop-again c =
     let l = c .before .before .loop in
     let a = c .before .before .before .args in
-    let fits : Fits w32 (getD (a .t1) (l .i) 0) = search needs in (
+    let fits : Fits w64 (getD (a .t1) (l .i) 0) = search needs in (
       omega arith,
       ap₂ bitOr (l .inv .1) (c .when-holds .ensures) ∙ gathered-more (a .t1) (a .set) (l .i) (fits .fits),
     )

@@ -1,7 +1,7 @@
--- `when_holds` meets its contract: the code's digit is the definition's, and a number of 32 bits has none behind the last place.
+-- `when_holds` meets its contract: the code's digit is the definition's, and a number of 64 bits has none behind the last place.
 use borrow.Author.Needs.{needs}
 use mathlib.Core.Path.{sym}
-use mir.Syntax.{w32}
+use mir.Syntax.{w64}
 use mir.Val.{Fits}
 use Rattle.paper.proofs.base.Tests.{cond-true, cond-false, eq-eqb, neq-eqb}
 use Rattle.places.specs.Masks.{places, in-mask}
@@ -12,11 +12,8 @@ use Rattle.places.proofs.when_holds.Tie as tie
 returns : tie.Need-returns
 returns c =
     let a = c .before .args in
-    let fits : Fits w32 (a .set) = search needs in
+    let fits : Fits w64 (a .set) = search needs in
     sym (cond-false (in-mask (a .set) (a .i)) (a .other) 0 (in-mask-out places (a .set) (a .i) (fits .fits) (c .if1 .taken)))
-
-cast-if2 : tie.Need-cast-if2
-cast-if2 c = search needs
 
 shr-if2 : tie.Need-shr-if2
 shr-if2 c = search needs
@@ -34,4 +31,4 @@ returns-3 c =
     sym (cond-false (in-mask (a .set) (a .i)) (a .other) 0 (neq-eqb _ 1 (c .if2 .left)))
 
 pub when-holds-spec : {M : Type 1} → statement M
-when-holds-spec = tie.close (tie.spec returns cast-if2 shr-if2 returns-2 returns-3)
+when-holds-spec = tie.close (tie.spec returns shr-if2 returns-2 returns-3)

@@ -1,8 +1,7 @@
 -- `rule` meets its contract, by what reading the rule tells and by what is put of it (`Whole`, `Answered`).
-use Prim.Native.Nat.{ℕ, _≤_}
 use native.Mathlib.Omega.{arith}
 use mathlib.Core.Path.{_≡_, sym, ap, _∙_}
-use mathlib.Core.Bool.{true, false}
+use mathlib.Core.Bool.{false}
 use denote.Ref.{now}
 use lib.ListN.{length}
 use lib.Seq.{take-all}

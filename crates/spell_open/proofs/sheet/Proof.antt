@@ -1,8 +1,6 @@
 -- `sheet` meets its contract, by what reading the sheet tells and by what is put of it (`Whole`, `Answered`).
-use Prim.Native.Nat.{ℕ, _≤_}
 use native.Mathlib.Omega.{arith}
-use mathlib.Core.Path.{_≡_, ap, _∙_}
-use mathlib.Core.List.{List}
+use mathlib.Core.Path.{_≡_, ap}
 use denote.Ref.{now}
 use lib.ListN.{length}
 use Rattle.paper.specs.Saying.{sheet-saying}

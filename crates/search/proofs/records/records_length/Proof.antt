@@ -1,5 +1,5 @@
 -- `records_length` adds up the bytes of the records. The loop's invariant: those added and those of the fields left make the length.
--- A text is no longer than its way, and the buffer has 144 bytes for each slot of it, so a record has at most 2 ^ 57 bytes and the sum fits.
+-- A text is no longer than its way, and the buffer has 184 bytes for each slot of it, so a record has at most 2 ^ 57 bytes and the sum fits.
 use Prim.Native.Nat.{_+_, _-_, _*_, _^_, _≤_}
 use native.Mathlib.Omega.{arith}
 use mathlib.Core.Path.{_≡_, ap}
