@@ -3,7 +3,8 @@
  *
  * A rule is fixed Code 39 characters with fields between them; a field may have a pattern. Two rules clash when one label can be
  * read by both. Spaces at the end of a label are dropped before it is read, so LT4 and LT4 with a space are the same label. The two
- * rules stand on a question sheet; the answer is a number, and after a clash a text for each field.
+ * rules stand on a question sheet; the answer is a number, and after a clash a text for each field. One search answers it, or up to
+ * four, which decide more.
  * A catalogue has up to 32 rules in one buffer. A rule is added only if it clashes with none that is there; it can be withdrawn. One
  * that was kept can be checked again, pair by pair.
  * A sheet can be written out as a script for string solvers, in SMT-LIB 2.6.
@@ -12,14 +13,16 @@
  * Up to version 0.6 a pattern had at most 96 bytes and 31 leaves. Since 0.7 it may have 192 bytes and 63 leaves, and a situation
  * takes 184 bytes where it took 144. What was good before is good and means the same.
  *
- * The static library libexported.a, for x86-64 Linux, defines eight functions: bradovusc_clash, bradovusc_script, bradovusc_add,
- * bradovusc_withdraw, bradovusc_recheck, bradovusc_spell_open, bradovusc_spell_open_rule, bradovusc_spell_open_catalogue. They keep
- * nothing from one call to the next, ask for no memory, and touch nothing but what they are lent, so calls in several threads don't
- * meet. bradovusc_spell_open_catalogue takes at most about 115 KiB of stack, the others about 105; 109 and 100 were measured. All else is
- * in this header: bradovusc_ask, bradovusc_write_script, bradovusc_enter, bradovusc_remove, bradovusc_check_again,
- * bradovusc_carry_sheet, bradovusc_carry_rule and bradovusc_carry_catalogue call them with any buffers, bradovusc_text and
- * bradovusc_catalogue_text say a number in words, bradovusc_next walks the texts of a clash, bradovusc_next_pair the pairs that were
- * listed, bradovusc_sign and bradovusc_value go between values and signs.
+ * The static library libexported.a, for x86-64 Linux, defines nine functions: bradovusc_clash, bradovusc_decide, bradovusc_script,
+ * bradovusc_add, bradovusc_withdraw, bradovusc_recheck, bradovusc_spell_open, bradovusc_spell_open_rule and
+ * bradovusc_spell_open_catalogue. They keep nothing from one call to the next, ask for no memory, and touch nothing but what they are
+ * lent, so calls in several threads don't meet. bradovusc_decide takes at most about 155 KiB of stack, bradovusc_spell_open_catalogue
+ * about 115, the others about 105; 147, 109 and 100 were measured. So a thread with 128 KiB is enough for all but bradovusc_decide,
+ * and one with 192 KiB for that. All else is in this header: bradovusc_ask, bradovusc_settle,
+ * bradovusc_write_script, bradovusc_enter, bradovusc_remove, bradovusc_check_again, bradovusc_carry_sheet, bradovusc_carry_rule and
+ * bradovusc_carry_catalogue call them with any buffers, bradovusc_text and bradovusc_catalogue_text say a number in words,
+ * bradovusc_next walks the texts of a clash, bradovusc_next_pair the pairs that were listed, bradovusc_sign and bradovusc_value go
+ * between values and signs.
  *
  * The header is C99 and C++11. The rules in full: docs/RULES.md.
  */
@@ -31,9 +34,9 @@
 
 /* The version of this header, of the library and of the Rust package. It rises where one of them, or a rule, changes for callers. */
 #define BRADOVUSC_VERSION_MAJOR 0
-#define BRADOVUSC_VERSION_MINOR 7
+#define BRADOVUSC_VERSION_MINOR 8
 #define BRADOVUSC_VERSION_PATCH 0
-#define BRADOVUSC_VERSION "0.7.0"
+#define BRADOVUSC_VERSION "0.8.0"
 
 #ifdef __cplusplus
 extern "C" {
@@ -340,6 +343,54 @@ static inline struct bradovusc_answer bradovusc_ask(const uint8_t *sheet, size_t
     given.place = told[BRADOVUSC_PLACE];
     given.written = told[BRADOVUSC_WRITTEN];
     return given;
+}
+
+/*
+ * Deciding. bradovusc_clash makes one search and gives up, with 18 or 19, where that has no room or a side grows too long.
+ * bradovusc_decide then goes on, in the same working buffer: over characters that are alike taken as one, over a few characters, and
+ * with each standing of a field apart. What it answers is proved as what bradovusc_clash answers is: after 0 the texts solve the
+ * question, and with 1 there are none, of any length. Where bradovusc_clash with the same buffers does not give 18 or 19, it gives
+ * the same number, count, place and bytes.
+ *
+ * What is told has the indices of bradovusc_told, and one more. The count is that of all the searches made.
+ */
+enum bradovusc_told_decided {
+    /* the search that decided, 1 to 4; 0 where none did, and after 11 to 17 */
+    BRADOVUSC_DECIDED_SEARCH = 3,
+    BRADOVUSC_DECIDED_TOLD = 4
+};
+
+/*
+ * Decides the sheet. Afterwards the buffers are as bradovusc_clash leaves them with that number. 18 and 19 are neither yes nor no:
+ * they are what the first search gave, and no other decided.
+ *
+ * Any bytes and any lengths are taken, 0 included. Each pointer must be that of so many elements, and not null, also where the
+ * length is 0; the four must not overlap.
+ */
+uint32_t bradovusc_decide(const uint8_t *sheet, size_t sheet_length, uint8_t *work, size_t work_length, uint8_t *answer,
+                          size_t answer_length, uint64_t *told, size_t told_length);
+
+/* A decision: the number, and what is told beside it. */
+struct bradovusc_decision {
+    uint32_t number;
+    uint64_t count, place, written, search;
+};
+
+/* bradovusc_decide with all five numbers at once, and each pointer may be null where its length is 0. This is the one to call. */
+static inline struct bradovusc_decision bradovusc_settle(const uint8_t *sheet, size_t sheet_length, uint8_t *work,
+                                                         size_t work_length, uint8_t *answer, size_t answer_length) {
+    uint8_t no_sheet = 0, no_work = 0, no_answer = 0;
+    uint64_t told[BRADOVUSC_DECIDED_TOLD] = {0, 0, 0, 0};
+    struct bradovusc_decision decided;
+    decided.number = bradovusc_decide(sheet == NULL && sheet_length == 0 ? &no_sheet : sheet, sheet_length,
+                                      work == NULL && work_length == 0 ? &no_work : work, work_length,
+                                      answer == NULL && answer_length == 0 ? &no_answer : answer, answer_length, told,
+                                      BRADOVUSC_DECIDED_TOLD);
+    decided.count = told[BRADOVUSC_COUNT];
+    decided.place = told[BRADOVUSC_PLACE];
+    decided.written = told[BRADOVUSC_WRITTEN];
+    decided.search = told[BRADOVUSC_DECIDED_SEARCH];
+    return decided;
 }
 
 /*

@@ -2,12 +2,14 @@
  * Two rules: one makes labels of any digits, the other the label 4. Do they clash? Then the same as a script, for a string solver.
  * Then the sheet with a wrong byte. Then a catalogue of rules is kept. Then one that was kept since a space at the end made another
  * label is checked again. Then a sheet and a catalogue are carried over, from the time when a field without a pattern could be empty.
- * Last a keypad maker's 40 finish codes stand in one pattern.
+ * Then a keypad maker's 40 finish codes stand in one pattern. Last two rules in which fields stand twice: one search gives up, deciding
+ * does not.
  *
  * The first line of a sheet is number, count and place, and the number in words. After a clash follows a line for each field, its
  * number and its text, and after a fault a line with the byte at its place. The script has a line with its number before it. Then
  * comes a line for each call of a catalogue, and one for each pair that is listed, then the lines of what is carried over. Of the
- * finish codes there is a line for each pattern, with its bytes and the number in words, and after a clash the texts.
+ * finish codes there is a line for each pattern, with its bytes and the number in words, and after a clash the texts. Of the last sheet
+ * there is a line for each function, number, count and the number in words, and of deciding the search.
  */
 #include <inttypes.h>
 #include <stdio.h>
@@ -63,6 +65,14 @@ enum { FIRST_LETTERS = sizeof finishes / sizeof *finishes, FINISHES = 40 };
 static const uint8_t keypad_sides[] = {
     'L', 'E', 3, 20, 25, 64,    /* left side: K, P, field 0 */
     'R', 'I', 4, 20, 25, 28, 65 /* right side: K, P, S, field 1 */
+};
+
+/* One rule is KP, a number, - and the number again. The other is the same, but its number ends in 0. */
+static const uint8_t twice[] = {
+    'P', 'A', 0, 8, 66, 65, 0, 9, 68, 65, 0, 9,    /* field 0: a digit, then any number of digits */
+    'P', 'A', 1, 6, 66, 68, 65, 0, 9, 0,           /* field 1: any number of digits, then 0 */
+    'L', 'E', 5, 20, 25, 64, 36, 64,               /* left side: K, P, field 0, -, field 0 */
+    'R', 'I', 5, 20, 25, 65, 36, 65                /* right side: K, P, field 1, -, field 1 */
 };
 
 static uint8_t work[BRADOVUSC_WORK_BYTES(356)];
@@ -208,6 +218,15 @@ static void ask_keypads(const char *how, uint8_t *(*put_finishes)(uint8_t *)) {
     print_texts(given.written);
 }
 
+static void decide(void) {
+    struct bradovusc_answer given = bradovusc_ask(twice, sizeof twice, work, sizeof work, answer, sizeof answer);
+    struct bradovusc_decision decided = bradovusc_settle(twice, sizeof twice, work, sizeof work, answer, sizeof answer);
+    printf("one search: %" PRIu32 " %" PRIu64 ", %s\n", given.number, given.count, bradovusc_text(given.number));
+    printf("decided: %" PRIu32 " %" PRIu64 ", %s, by search %" PRIu64 "\n", decided.number, decided.count,
+           bradovusc_text(decided.number), decided.search);
+    print_texts(decided.written);
+}
+
 int main(void) {
     sheet[CHARACTER_OF_FIELD_1] = (uint8_t)bradovusc_value('4');
     ask();
@@ -229,5 +248,7 @@ int main(void) {
 
     ask_keypads("one by one", put_one_by_one);
     ask_keypads("by their first letters", put_by_first_letter);
+
+    decide();
     return 0;
 }

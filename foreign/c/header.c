@@ -1,6 +1,6 @@
 /*
  * Tries what bradovusc.h itself defines: the texts of the numbers, the signs, the walks over records and over listed pairs, null
- * pointers of length 0, the script of a sheet, the calls of a catalogue, what is carried over, the version, the lengths of buffers; and
+ * pointers of length 0, deciding, the script of a sheet, the calls of a catalogue, what is carried over, the version, the lengths of buffers; and
  * the places of faults, as it lists them.
  * C99, and C++11 too. Prints what does not hold, and how many checks there were; the exit status is 0 if all hold.
  */
@@ -10,6 +10,7 @@
 
 /* What the header defines calls `watched_clash` and the like here, which look at the pointers and call the library. */
 #define bradovusc_clash watched_clash
+#define bradovusc_decide watched_decide
 #define bradovusc_script watched_script
 #define bradovusc_add watched_add
 #define bradovusc_withdraw watched_withdraw
@@ -19,6 +20,7 @@
 #define bradovusc_spell_open_catalogue watched_spell_open_catalogue
 #include "bradovusc.h"
 #undef bradovusc_clash
+#undef bradovusc_decide
 #undef bradovusc_script
 #undef bradovusc_add
 #undef bradovusc_withdraw
@@ -32,6 +34,8 @@ extern "C" {
 #endif
 uint32_t bradovusc_clash(const uint8_t *sheet, size_t sheet_length, uint8_t *work, size_t work_length, uint8_t *answer,
                          size_t answer_length, uint64_t *told, size_t told_length);
+uint32_t bradovusc_decide(const uint8_t *sheet, size_t sheet_length, uint8_t *work, size_t work_length, uint8_t *answer,
+                          size_t answer_length, uint64_t *told, size_t told_length);
 uint32_t bradovusc_script(const uint8_t *sheet, size_t sheet_length, uint8_t *script, size_t script_length, uint64_t *told,
                           size_t told_length);
 uint32_t bradovusc_add(uint8_t *catalogue, size_t catalogue_length, const uint8_t *rule, size_t rule_length, uint8_t *work,
@@ -65,6 +69,15 @@ uint32_t watched_clash(const uint8_t *sheet, size_t sheet_length, uint8_t *work,
     check(answer != NULL, "the answer buffer's pointer is not null", (long)answer_length);
     check(told != NULL, "the pointer of what is told is not null", (long)told_length);
     return bradovusc_clash(sheet, sheet_length, work, work_length, answer, answer_length, told, told_length);
+}
+
+uint32_t watched_decide(const uint8_t *sheet, size_t sheet_length, uint8_t *work, size_t work_length, uint8_t *answer,
+                        size_t answer_length, uint64_t *told, size_t told_length) {
+    check(sheet != NULL, "the sheet's pointer is not null", (long)sheet_length);
+    check(work != NULL, "the working buffer's pointer is not null", (long)work_length);
+    check(answer != NULL, "the answer buffer's pointer is not null", (long)answer_length);
+    check(told != NULL, "the pointer of what is told is not null", (long)told_length);
+    return bradovusc_decide(sheet, sheet_length, work, work_length, answer, answer_length, told, told_length);
 }
 
 uint32_t watched_script(const uint8_t *sheet, size_t sheet_length, uint8_t *script, size_t script_length, uint64_t *told,
@@ -314,6 +327,50 @@ static void try_null(void) {
     check(bradovusc_clash_or_null(NULL, 0, NULL, 0, NULL, 0, NULL, 0) == 11, "nothing at all, nothing told", 0);
     check(bradovusc_clash_or_null(s, sizeof s, work, sizeof work, NULL, 0, told, 4) == 20, "told as well", 0);
     check(told[0] == 13 && told[1] == 0 && told[2] == 0 && told[3] == 7, "three numbers told, no more", 0);
+}
+
+/* ---- deciding */
+
+static int is_decided(struct bradovusc_decision d, uint32_t number, uint64_t count, uint64_t place, uint64_t written,
+                      uint64_t search) {
+    return d.number == number && d.count == count && d.place == place && d.written == written && d.search == search;
+}
+
+/* Known decisions of the rules: one for each search, one that none decides, faults, null pointers, and what is told. */
+static void try_decide(void) {
+    static const uint8_t apart[] = {'L', 'E', 1, 10, 'R', 'I', 1, 11}; /* A and B */
+    /* field 0 is one of A to G: with 4 behind it and twice; with A behind it and twice */
+    static const uint8_t alike[] = {'P', 'A', 0, 3, 65, 10, 16, 'L', 'E', 2, 64, 4, 'R', 'I', 2, 64, 64};
+    static const uint8_t found[] = {'P', 'A', 0, 3, 65, 10, 16, 'L', 'E', 2, 64, 10, 'R', 'I', 2, 64, 64};
+    /* one of 0 to 6 or one of 0 to 2, twice on both sides */
+    static const uint8_t few[] = {'P', 'A', 0, 7, 67, 65, 0, 6, 65, 0, 2, 'L', 'E', 2, 64, 64, 'R', 'I', 2, 64, 64};
+    static const uint8_t own[] = {'L', 'E', 1, 10, 'R', 'I', 3, 64, 4, 64}; /* A, and field 0, 4, field 0 */
+    static const uint8_t open[] = {'L', 'E', 2, 10, 10, 'R', 'I', 1, 64};   /* AA and field 0 */
+    static const uint8_t one_more[] = {'L', 'E', 0, 'R', 'I', 0, 0};
+    static const uint8_t record[] = {'V', 'A', 0, 1, 0, 10};
+    size_t told_length, i;
+
+    check(is_decided(bradovusc_settle(apart, sizeof apart, work, 184, answer, 8), 1, 1, 0, 0, 1), "decided by 1", 1);
+    check(is_decided(bradovusc_settle(alike, sizeof alike, work, 368, answer, 8), 1, 4, 0, 0, 2), "no clash by 2", 2);
+    memset(answer, 7, 8);
+    check(is_decided(bradovusc_settle(found, sizeof found, work, 1472, answer, 5), 20, 16, 0, 0, 2), "too short", 20);
+    check(answer[0] == 7 && answer[4] == 7, "no byte changed", 20);
+    check(is_decided(bradovusc_settle(found, sizeof found, work, 1472, answer, 8), 0, 16, 0, 6, 2), "clash by 2", 2);
+    check(memcmp(answer, record, sizeof record) == 0 && answer[6] == 7, "the record, and no more", 2);
+    check(is_decided(bradovusc_settle(few, sizeof few, work, 1288, answer, 8), 0, 21, 0, 6, 3), "clash by 3", 3);
+    check(is_decided(bradovusc_settle(own, sizeof own, work, 1104, NULL, 0), 1, 19, 0, 0, 4), "no clash by 4", 4);
+    check(is_decided(bradovusc_settle(open, sizeof open, work, 552, answer, 8), 18, 10, 0, 0, 0), "not decided", 18);
+    check(is_decided(bradovusc_settle(open, sizeof open, NULL, 0, NULL, 0), 18, 0, 0, 0, 0), "no buffers", 18);
+    check(is_decided(bradovusc_settle(one_more, sizeof one_more, NULL, 0, NULL, 0), 12, 0, 6, 0, 0), "a fault", 12);
+    check(is_decided(bradovusc_settle(NULL, 0, NULL, 0, NULL, 0), 11, 0, 0, 0, 0), "nothing at all", 11);
+    for (told_length = 0; told_length <= 5; told_length++) {
+        uint64_t told[] = {7, 7, 7, 7, 7};
+        const uint64_t all_told[] = {16, 0, 6, 2, 7};
+        check(bradovusc_decide(found, sizeof found, work, 1472, answer, 8, told, told_length) == 0, "decided", (long)told_length);
+        for (i = 0; i < 5; i++) {
+            check(told[i] == (i < told_length ? all_told[i] : 7), "an element of what is told", (long)i);
+        }
+    }
 }
 
 /* ---- the places of faults */
@@ -768,6 +825,7 @@ int main(void) {
     try_records();
     try_pairs();
     try_null();
+    try_decide();
     try_places();
     try_script();
     try_longest_script();

@@ -6,14 +6,9 @@
  * so many bytes of script, and a line with the number for a buffer of exactly so many bytes, the number for one of a byte less, and how
  * many bytes of that one changed. Where a byte changed that should not, there is a line that says so, and the reader stops at it.
  */
-#include <inttypes.h>
-#include <stdio.h>
-#include <stdlib.h>
-
-#include "bradovusc.h"
 #include "streams.h"
 
-enum { HEAD = 10, LONGEST_SHEET = 65535, SCRIPT_FILL = 165 };
+enum { SCRIPT_FILL = 165 };
 
 static size_t changed(const uint8_t *bytes, size_t length) {
     size_t found = 0;
@@ -32,7 +27,9 @@ static uint32_t in_length(const uint8_t *sheet, size_t sheet_length, size_t leng
     return number;
 }
 
-static void write_case(const uint8_t *sheet, size_t sheet_length) {
+static void write_case(const struct stream_case *given) {
+    const uint8_t *sheet = given->sheet;
+    size_t sheet_length = given->sheet_length;
     uint8_t *script = lend(BRADOVUSC_SCRIPT_BYTES, SCRIPT_FILL);
     uint64_t told[BRADOVUSC_TOLD];
     uint32_t number = bradovusc_script(sheet, sheet_length, script, BRADOVUSC_SCRIPT_BYTES, told, BRADOVUSC_TOLD);
@@ -51,19 +48,4 @@ static void write_case(const uint8_t *sheet, size_t sheet_length) {
     free(script);
 }
 
-int main(void) {
-    static uint8_t head[HEAD], sheet[LONGEST_SHEET];
-    size_t read;
-    while ((read = fread(head, 1, HEAD, stdin)) == HEAD) {
-        size_t sheet_length = low_first(head + 8, 2);
-        if (fread(sheet, 1, sheet_length, stdin) != sheet_length) {
-            break;
-        }
-        write_case(sheet, sheet_length);
-    }
-    if (read != 0) {
-        fputs("scripts: the stream stops inside a case\n", stderr);
-        return EXIT_FAILURE;
-    }
-    return EXIT_SUCCESS;
-}
+int main(void) { return each_case("scripts", write_case); }

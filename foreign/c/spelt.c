@@ -6,14 +6,9 @@
  * as they were lent, and one by one where not. A line says so where a count is told, or where other lengths give something else: just
  * enough bytes, one less, as many as are always enough.
  */
-#include <inttypes.h>
-#include <stdio.h>
-#include <stdlib.h>
-
-#include "bradovusc.h"
 #include "streams.h"
 
-enum { HEAD = 10, LONGEST_SHEET = 65535, OUT_FILL = 165 };
+enum { OUT_FILL = 165 };
 
 typedef uint32_t (*speller)(const uint8_t *, size_t, uint8_t *, size_t, uint64_t *, size_t);
 
@@ -48,7 +43,9 @@ static void try_lengths(speller spell, const uint8_t *sheet, size_t sheet_length
     free(out);
 }
 
-static void carry_case(const uint8_t *sheet, size_t sheet_length, size_t out_length) {
+static void carry_case(const struct stream_case *given) {
+    const uint8_t *sheet = given->sheet;
+    size_t sheet_length = given->sheet_length, out_length = given->answer_length;
     bool rule = is_rule(sheet, sheet_length);
     speller spell = rule ? bradovusc_spell_open_rule : bradovusc_spell_open;
     uint8_t *out = lend(out_length, OUT_FILL);
@@ -75,19 +72,4 @@ static void carry_case(const uint8_t *sheet, size_t sheet_length, size_t out_len
     free(out);
 }
 
-int main(void) {
-    static uint8_t head[HEAD], sheet[LONGEST_SHEET];
-    size_t read;
-    while ((read = fread(head, 1, HEAD, stdin)) == HEAD) {
-        size_t sheet_length = low_first(head + 8, 2);
-        if (fread(sheet, 1, sheet_length, stdin) != sheet_length) {
-            break;
-        }
-        carry_case(sheet, sheet_length, low_first(head + 4, 4));
-    }
-    if (read != 0) {
-        fputs("spelt: the stream stops inside a case\n", stderr);
-        return EXIT_FAILURE;
-    }
-    return EXIT_SUCCESS;
-}
+int main(void) { return each_case("spelt", carry_case); }

@@ -1,14 +1,17 @@
 /*
- * What the programs that answer a stream share: numbers of several bytes, lent buffers, and how a line says what they hold.
+ * What the programs that answer a stream share: its cases, numbers of several bytes, lent buffers, and how a line says what they hold.
  */
 #ifndef STREAMS_H
 #define STREAMS_H
 
+#include <inttypes.h>
 #include <stdbool.h>
 #include <stdint.h>
 #include <stdio.h>
 #include <stdlib.h>
 #include <string.h>
+
+#include "bradovusc.h"
 
 enum { WORK_FILL = 90 };
 
@@ -57,6 +60,51 @@ static inline void print_work(const uint8_t *work, size_t length) {
     } else {
         print_lent(work, length, WORK_FILL);
     }
+}
+
+/* What a case of a stream asks: the lengths of the lent buffers, and the sheet. */
+struct stream_case {
+    size_t work_length, answer_length, sheet_length;
+    const uint8_t *sheet;
+};
+
+/*
+ * Hands each case on standard input to a function. A case is the length of the working buffer in four bytes, that of the answer buffer in
+ * four, that of the sheet in two (low byte first), and the sheet. The exit status for main: a stream that stops inside a case fails.
+ */
+static inline int each_case(const char *name, void (*answer_case)(const struct stream_case *)) {
+    enum { HEAD = 10, LONGEST_SHEET = 65535 };
+    static uint8_t head[HEAD], sheet[LONGEST_SHEET];
+    size_t read;
+    while ((read = fread(head, 1, HEAD, stdin)) == HEAD) {
+        struct stream_case given = {low_first(head, 4), low_first(head + 4, 4), low_first(head + 8, 2), sheet};
+        if (fread(sheet, 1, given.sheet_length, stdin) != given.sheet_length) {
+            break;
+        }
+        answer_case(&given);
+    }
+    if (read != 0) {
+        fprintf(stderr, "%s: the stream stops inside a case\n", name);
+        return EXIT_FAILURE;
+    }
+    return EXIT_SUCCESS;
+}
+
+/* The line of an answer, but for its end: number, count, place and written length, and every byte of the two buffers. */
+static inline void print_answer(uint32_t number, const uint64_t *told, const uint8_t *answer, size_t answer_length, uint8_t fill,
+                                const uint8_t *work, size_t work_length) {
+    uint64_t written = told[BRADOVUSC_WRITTEN];
+    printf("%" PRIu32 " %" PRIu64 " %" PRIu64 " %" PRIu64, number, told[BRADOVUSC_COUNT], told[BRADOVUSC_PLACE], written);
+    if (written <= answer_length) {
+        fputs(", written", stdout);
+        print_each(answer, written);
+        fputs(", rest", stdout);
+        print_lent(answer + written, answer_length - written, fill);
+    } else {
+        fputs(", more than the answer buffer", stdout);
+        print_each(answer, answer_length);
+    }
+    print_work(work, work_length);
 }
 
 #endif

@@ -5,6 +5,7 @@
 //! sheet.
 
 use crate::catalogue::RULE;
+use crate::decide::{self, By, Decided};
 use crate::spell_open::{rule_into, sheet_into, Spelt};
 use crate::Outcome;
 
@@ -40,6 +41,14 @@ impl Case {
         let mut answer = vec![ANSWER_FILL; self.answer as usize];
         let outcome = answerer(&self.sheet, &mut work, &mut answer);
         After { outcome, answer, work }
+    }
+
+    /// Decides the case on two freshly filled buffers.
+    pub fn decide(&self, by: By) -> AfterDecided {
+        let mut work = vec![WORK_FILL; self.work as usize];
+        let mut answer = vec![ANSWER_FILL; self.answer as usize];
+        let decided = decide::decide(&self.sheet, &mut work, &mut answer, by);
+        AfterDecided { decided, after: After { outcome: decided.outcome, answer, work } }
     }
 
     /// Carries the sheet over into a buffer of the answer buffer's length, or
@@ -89,6 +98,25 @@ impl After {
     /// What the program `clash` prints.
     pub fn lines(&self) -> String {
         crate::lines(&self.outcome, &self.answer)
+    }
+}
+
+/// What was decided and what the two buffers hold afterwards.
+#[derive(Clone, Debug, PartialEq, Eq)]
+pub struct AfterDecided {
+    pub decided: Decided,
+    pub after: After,
+}
+
+impl AfterDecided {
+    /// The line of `After`, and at its end the search's number.
+    pub fn line(&self) -> String {
+        format!("{}, search {}", self.after.line(), self.decided.search)
+    }
+
+    /// What the program `decide` prints.
+    pub fn lines(&self) -> String {
+        decide::lines(&self.decided, &self.after.answer)
     }
 }
 

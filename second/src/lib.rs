@@ -14,6 +14,9 @@
 //! `pattern::Allowed` has its two place sets, and `spell_open` writes the old
 //! meaning out, by which it held the empty text too.
 //!
+//! `decide::decide` goes on searching where `answer` gives up, in the same
+//! working buffer, and so answers more sheets with yes or no.
+//!
 //! `catalogue::add` and `catalogue::withdraw` keep a catalogue of rules of which
 //! no two can make the same label, and `catalogue::recheck` lists the pairs of a
 //! kept one that may; they search by `searched` or by `scan::searched`.
@@ -27,6 +30,7 @@
 pub mod calls;
 pub mod cases;
 pub mod catalogue;
+pub mod decide;
 pub mod fault;
 pub mod make;
 pub mod pattern;
@@ -34,6 +38,7 @@ pub mod printed;
 pub mod scan;
 pub mod search;
 pub mod sheet;
+pub mod shown;
 pub mod situation;
 pub mod smt;
 pub mod spell_open;
@@ -105,7 +110,12 @@ pub fn answer(sheet: &[u8], work: &mut [u8], answer: &mut [u8]) -> Outcome {
         Ok(question) => question,
         Err(fault) => return Outcome::of_fault(fault),
     };
-    let found = search::search(&question, room(work.len()));
+    asked(&question, work, answer)
+}
+
+/// Searches in the room of the working buffer, and writes the answer.
+pub fn asked(question: &Question, work: &mut [u8], answer: &mut [u8]) -> Outcome {
+    let found = search::search(question, room(work.len()));
     // "a working buffer which a search has used ends all zero after every
     // answer"
     work.fill(0);

@@ -1,10 +1,13 @@
 //! Makes cases from a seed: good sheets of all kinds, damaged sheets, rooms
 //! and answer buffers near their bounds. `spaces` makes the ends of labels,
 //! `calls` operations on a catalogue with the same parts, `spelt` sheets and
-//! rules to carry over, `damages` the faults of them all.
+//! rules to carry over, `damages` the faults of them all. `pairs` makes pairs of
+//! rules as storerooms write them, `decided` cases to decide.
 
 pub mod calls;
 mod damages;
+pub mod decided;
+pub mod pairs;
 mod spaces;
 pub mod spelt;
 

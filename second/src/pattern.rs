@@ -11,6 +11,17 @@ pub const CHARACTERS: u8 = 43;
 /// "38 space"
 pub const SPACE: u8 = 38;
 
+/// A set of characters: bit c is the character c.
+pub type CharacterSet = u64;
+
+/// All of them.
+pub const ALL_CHARACTERS: CharacterSet = (1 << CHARACTERS) - 1;
+
+/// The characters of a set, rising.
+pub fn characters(set: CharacterSet) -> impl Iterator<Item = u8> {
+    (0..CHARACTERS).filter(move |&character| set & (1 << character) != 0)
+}
+
 /// A set of places: bit 0 is the start, bit k the k-th leaf of the pattern. A
 /// field without a pattern has one place beside the start: bit 1, after a
 /// character.
@@ -228,6 +239,25 @@ impl Allowed {
                 following & places.takes[usize::from(character)]
             }
         }
+    }
+
+    /// The leaves that take the character. A field without a pattern has one
+    /// leaf, which takes every character.
+    pub fn leaves_taking(&self, character: u8) -> PlaceSet {
+        match self {
+            Allowed::Open => AFTER_A_CHARACTER,
+            Allowed::Pattern(places) => places.takes[usize::from(character)],
+        }
+    }
+
+    /// The characters that each leaf takes, the leaves in their order.
+    pub fn leaves(&self) -> Vec<CharacterSet> {
+        let all = (0..CHARACTERS).fold(0, |all, character| all | self.leaves_taking(character));
+        let taken = |leaf: usize| {
+            let takes = |character: &u8| self.leaves_taking(*character) & (1 << leaf) != 0;
+            (0..CHARACTERS).filter(takes).fold(0, |set, character| set | 1 << character)
+        };
+        members(all).map(taken).collect()
     }
 
     /// "The set may end if some place in it may be the last one of a text".

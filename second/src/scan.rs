@@ -15,7 +15,7 @@
 //!
 //! Bytes 0 to 177 are the situation, the others its way.
 
-use crate::pattern::{Allowed, PlaceSet, CHARACTERS, ONLY_START};
+use crate::pattern::{characters, Allowed, PlaceSet, ONLY_START};
 use crate::search::Ending;
 use crate::sheet::{self, Question, Token, ALL_FIELDS, FIELDS};
 use crate::{
@@ -43,9 +43,14 @@ pub fn answer(sheet: &[u8], work: &mut [u8], answer: &mut [u8]) -> Outcome {
         Ok(question) => question,
         Err(fault) => return Outcome::of_fault(fault),
     };
+    asked(&question, work, answer)
+}
+
+/// Searches in the room of the working buffer, and writes the answer.
+pub fn asked(question: &Question, work: &mut [u8], answer: &mut [u8]) -> Outcome {
     let mut slots = Slots { room: room(work.len()), work, count: 0 };
-    let (number, written) = match search(&question, &mut slots) {
-        Ending::Clash(finish) => write_answer(&question, &slots, finish, answer),
+    let (number, written) = match search(question, &mut slots) {
+        Ending::Clash(finish) => write_answer(question, &slots, finish, answer),
         other => (other.number(), 0),
     };
     let count = slots.count;
@@ -330,7 +335,7 @@ fn search(question: &Question, slots: &mut Slots) -> Ending<usize> {
                 }
             }
             if let (Some(left), Some(right)) = (left, right) {
-                for character in 0..CHARACTERS {
+                for character in characters(question.characters) {
                     if let Some(child) = parent.put(character, (left, right), allowed) {
                         if let Some(ending) = offer(child, taken, character, slots) {
                             return ending;

@@ -70,7 +70,7 @@ pub fn search(question: &Question, room: usize) -> Found {
             // children."
             State::Finished => return clash(question, &entered, taken),
             State::Dead => Vec::new(),
-            State::Open => situation.children(&question.allowed),
+            State::Open => situation.children(question),
         };
         for (child, step) in children {
             // "Each child is trimmed, then: dead is dropped;"

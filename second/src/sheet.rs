@@ -3,7 +3,7 @@
 use std::ops::RangeInclusive;
 
 use crate::fault::{Fault, CUT_SHORT, WRONG_FIELD, WRONG_LENGTH, WRONG_MARK, WRONG_TOKEN};
-use crate::pattern::{Allowed, Pattern, Places, SPACE};
+use crate::pattern::{Allowed, CharacterSet, Pattern, Places, ALL_CHARACTERS, SPACE};
 
 /// Fields 0 to 7, which may stand in a sheet.
 pub const FIELDS: usize = 8;
@@ -61,6 +61,9 @@ pub struct Question {
     pub right: Vec<Token>,
     /// What each field may stand for.
     pub allowed: [Allowed; ALL_FIELDS],
+    /// No place takes a character that is none of these: all of them, but for
+    /// the later searches of `decide`.
+    pub characters: CharacterSet,
 }
 
 impl Question {
@@ -74,7 +77,7 @@ impl Question {
         let hidden = || Allowed::Pattern(Box::new(spaces.clone()));
         let mut allowed = allowed.into_iter();
         let allowed = std::array::from_fn(|_| allowed.next().unwrap_or_else(hidden));
-        Question { left, right, allowed }
+        Question { left, right, allowed, characters: ALL_CHARACTERS }
     }
 }
 

@@ -2,7 +2,7 @@
 
 use std::collections::BTreeMap;
 
-use crate::pattern::{Allowed, PlaceSet, CHARACTERS, ONLY_START};
+use crate::pattern::{characters, Allowed, PlaceSet, ONLY_START};
 use crate::sheet::{Question, Token, ALL_FIELDS};
 
 /// "A situation is the two token lists and the place set of each field still
@@ -79,7 +79,8 @@ impl Situation {
     }
 
     /// The children of an open situation in their order, not yet trimmed.
-    pub fn children(&self, allowed: &[Allowed; ALL_FIELDS]) -> Vec<(Situation, Step)> {
+    pub fn children(&self, question: &Question) -> Vec<(Situation, Step)> {
+        let allowed = &question.allowed;
         let left = self.left.first().copied();
         let right = self.right.first().copied();
         let mut children = Vec::new();
@@ -101,7 +102,7 @@ impl Situation {
         if let (Some(left), Some(right)) = (left, right) {
             // "Where both fronts are one field, this is done once."
             let fronts = if left == right { vec![left] } else { vec![left, right] };
-            for character in 0..CHARACTERS {
+            for character in characters(question.characters) {
                 children.extend(self.put(character, &fronts, allowed));
             }
         }

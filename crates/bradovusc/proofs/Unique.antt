@@ -39,12 +39,16 @@ answer-told (SideTooLong n) answer work = refl
 answer-told (AnswerTooShort n) answer work = refl
 answer-told (TextTooLong n) answer work = refl
 
+-- two answers that tell the same are the same
+pub one-answer : (r r′ : Answer) (a a′ w w′ : List ℕ) → told r a w ≡ told r′ a′ w′ → r ≡ r′
+one-answer r r′ a a′ w w′ same = sym (answer-told r a w) ∙ ap answer-from same ∙ answer-told r′ a′ w′
+
 pub one-result : (sheet work answer : List ℕ) (r r′ : Answer) (a a′ w w′ : List ℕ)
     → told r a w ≡ outcome sheet work answer → told r′ a′ w′ ≡ outcome sheet work answer
     → (r ≡ r′) × (a ≡ a′) × (w ≡ w′)
 one-result sheet work answer r r′ a a′ w w′ e e′ =
     let same = e ∙ sym e′ in (
-      sym (answer-told r a w) ∙ ap answer-from same ∙ answer-told r′ a′ w′,
+      one-answer r r′ a a′ w w′ same,
       ap (λ (o : Outcome). o .answer) same,
       ap (λ (o : Outcome). o .work) same,
     )

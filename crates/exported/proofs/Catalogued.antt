@@ -21,7 +21,7 @@ use Rattle.numbered.specs.declared.Numbers.{Numbers}
 use Rattle.numbered.specs.declared.Totals.{Totals}
 use Rattle.telling.specs.Numbered.{with-numbers}
 use Rattle.exported.specs.Exported.{telling-added, telling-rechecked}
-use Rattle.exported.proofs.Telling.{fault-below}
+use Rattle.asking.proofs.Telling.{fault-below}
 
 -- 34 is the last of request K1's numbers
 pub added-below : (a : Added) → as-numbers a .number < 35

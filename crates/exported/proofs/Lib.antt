@@ -1,3 +1,2 @@
-pub mod Telling
 pub mod Catalogued
 pub mod Scripted

@@ -12,7 +12,7 @@ use Rattle.scripts.specs.declared.Scripted.{Scripted}
 use Rattle.scripts.specs.declared.Scripted.the-variants.{Written, Refused, TooShort}
 use Rattle.telling.specs.Numbered.{with-numbers}
 use Rattle.exported.specs.Exported.{telling-scripted}
-use Rattle.exported.proofs.Telling.{fault-below}
+use Rattle.asking.proofs.Telling.{fault-below}
 
 -- 40 is the last of request K4's numbers
 pub scripted-below : (s : Scripted) → scripted-numbers s .number < 41

@@ -2,15 +2,10 @@
 use Prim.Native.Nat.{ℕ}
 use mathlib.Core.List.{List}
 use lib.ListN.{set}
-use Rattle.paper.specs.Outcome.{Outcome}
 use Rattle.rulebook.specs.Catalogue.{Added}
 use Rattle.rulebook.specs.Recheck.{Rechecked}
 use Rattle.smt.specs.Scripting.{Scripting}
 use Rattle.telling.specs.Numbered.{with-numbers}
-
--- those of an outcome
-abbrev pub telling : List ℕ → Outcome → List ℕ
-telling told o = with-numbers told (o .count) (o .place) (o .written)
 
 -- those of an addition, and a fourth
 abbrev pub telling-added : List ℕ → Added → List ℕ

@@ -7,8 +7,11 @@ ghost use Rattle.rulebook.specs.Catalogue.{adding, withdrawing};
 ghost use Rattle.rulebook.specs.Recheck.{rechecking};
 ghost use Rattle.smt.specs.Scripting.{scripting};
 ghost use Rattle.opened.specs.Spelling.{spelling, rule-spelling, carrying-over};
+ghost use Rattle.deciding.specs.Deciding.{decision};
+ghost use Rattle.asking.specs.Asking.{telling};
+ghost use Rattle.decided.specs.Decided.{telling-decided};
 ghost use Rattle.carried.specs.Carried.{telling-spelt};
-ghost use Rattle.exported.specs.Exported.{telling, telling-added, telling-rechecked, telling-scripted};
+ghost use Rattle.exported.specs.Exported.{telling-added, telling-rechecked, telling-scripted};
 
 // Can the two rules of the sheet make the same label? Returns document 01's number; count, place and written length go into the first three
 // elements of `told`, as many as there is room for.
@@ -24,10 +27,24 @@ pub extern "C" fn bradovusc_clash(
     ensures answer { λ _. ⌜ now (answer .exit) ≡ outcome (now (sheet .entry)) (now (work .entry)) (now (answer .entry)) .answer ⌝ }
     ensures work { λ _. ⌜ now (work .exit) ≡ outcome (now (sheet .entry)) (now (work .entry)) (now (answer .entry)) .work ⌝ }
 {
-    let given = bradovusc::clash(sheet, work, answer);
-    let numbers = answers::in_numbers(given);
-    tell(told, numbers.count, numbers.place, numbers.written);
-    numbers.number as u32
+    asking::sheet(sheet, work, answer, told)
+}
+
+// The same with up to four searches, where `bradovusc_clash` leaves the question open. Returns its number; count, place, written length and the
+// search that decided (1 to 4; 0 where none did) go into the first four elements of `told`, as many as there is room for.
+#[no_mangle]
+pub extern "C" fn bradovusc_decide(
+    sheet: &[u8],
+    work: &mut [u8],
+    answer: &mut [u8],
+    told: &mut [u64],
+) -> u32
+    ensures number { λ r. ⌜ r ≡ decision (now (sheet .entry)) (now (work .entry)) (now (answer .entry)) .outcome .number ⌝ }
+    ensures told { λ _. ⌜ now (told .exit) ≡ telling-decided (now (told .entry)) (decision (now (sheet .entry)) (now (work .entry)) (now (answer .entry))) ⌝ }
+    ensures answer { λ _. ⌜ now (answer .exit) ≡ decision (now (sheet .entry)) (now (work .entry)) (now (answer .entry)) .outcome .answer ⌝ }
+    ensures work { λ _. ⌜ now (work .exit) ≡ decision (now (sheet .entry)) (now (work .entry)) (now (answer .entry)) .outcome .work ⌝ }
+{
+    decided::sheet(sheet, work, answer, told)
 }
 
 // Enters a rule behind the last one of the catalogue if its pair with every rule present is answered 1. Returns request K1's number; count,

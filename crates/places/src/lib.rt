@@ -47,13 +47,17 @@ pub fn when_holds(set: u64, i: usize, other: u64) -> u64
     if (set >> i) % 2 == 1 { other } else { 0 }
 }
 
-// All places that may follow some place of the set. The set after a character is what of these takes it.
+// All places that may follow some place of the set. The set after a character is what of these takes it. Most patterns have few leaves: behind the
+// last place of the set none is looked at.
 pub fn followers(follow: [u64; PLACES], set: u64) -> u64
     ensures { λ r. ⌜ r ≡ followers-of follow set ⌝ }
 {
     let mut r = 0;
     let mut i = 0;
     while i < PLACES {
+        if set >> i == 0 {
+            return r;
+        }
         r = r | when_holds(set, i, follow[i]);
         i += 1;
     }

@@ -21,14 +21,15 @@ pub record Lined : Type 0 where
 abbrev pub lined-as : Filled → List ℕ → List ℕ → List ℕ → Lined
 lined-as said out answer work = record { said = said; out = out; answer = answer; work = work }
 
-abbrev pub lined-of : Outcome → List ℕ → Lined
-lined-of o out = lined-as (Bytes (length (printed-of o))) (in-front (printed-of o) out) (o .answer) (o .work)
+-- where a longest first line and the answer buffer have room, these lines of an outcome; else nothing is asked and nothing changed
+abbrev pub lined-where-room : ℕ → List ℕ → Outcome → List ℕ → List ℕ → List ℕ → Lined
+lined-where-room longest lines o work answer out =
+    cond (leb (longest + length answer) (length out)) (lined-as (Bytes (length lines)) (in-front lines out) (o .answer) (o .work))
+    (lined-as NoRoom out answer work)
 
--- where the longest lines have room, those of the outcome; else nothing is asked and nothing changed
 unfoldable pub lined : List ℕ → List ℕ → List ℕ → List ℕ → Lined
 lined sheet work answer out =
-    cond (leb (longest-first-line + length answer) (length out)) (lined-of (outcome sheet work answer) out)
-    (lined-as NoRoom out answer work)
+    let o = outcome sheet work answer in lined-where-room longest-first-line (printed-of o) o work answer out
 
 -- the program's buffers, shut: open, 65,520 and 4,096 zeros are written out
 unfoldable pub no-work : List ℕ

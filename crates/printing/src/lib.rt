@@ -9,9 +9,9 @@ ghost use Rattle.printing.specs.Lines.{no-work, no-answer, lined-as, lin
 // "`clash` reads the first" 2,048 "bytes of standard input, lends 65,520 bytes of work" (356 situations) "and 4,096 of answer."
 pub const INPUT: usize = 2048;
 
-const WORK: usize = 65520;
+pub const WORK: usize = 65520;
 
-const ANSWER: usize = 4096;
+pub const ANSWER: usize = 4096;
 
 // No later line is longer than its record.
 pub const PRINTED: usize = FIRST_LINE + ANSWER;
@@ -27,13 +27,15 @@ pub fn lines(sheet: &[u8], work: &mut [u8], answer: &mut [u8], out: &mut [u8]) -
     Filled::NoRoom
 }
 
-fn zeroed_work() -> [u8; WORK]
+// The program's working buffer.
+pub fn zeroed_work() -> [u8; WORK]
     ensures { λ r. ⌜ r ≡ no-work ⌝ }
 {
     [0; WORK]
 }
 
-fn zeroed_answer() -> [u8; ANSWER]
+// The program's answer buffer.
+pub fn zeroed_answer() -> [u8; ANSWER]
     ensures { λ r. ⌜ r ≡ no-answer ⌝ }
 {
     [0; ANSWER]

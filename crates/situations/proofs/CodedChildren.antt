@@ -1,5 +1,6 @@
 -- The children of a situation by inner codes are the codes of the paper's children, in the same order:
---   children-agree : children-coded (tables-of q) (situation-code s) ≡ map code-child-of (children (acceptor q) longest-side s), of a codable s
+--   children-agree : children-coded (tables-over among q) (situation-code s) ≡ map code-child-of (children (acceptor-over among q) longest-side s),
+--     of a codable s, whichever characters pass the test `among`
 -- First what the children of the paper are without kinds; then the three groups: the left strike, the right strike, the puts.
 -- Follows from the laws of sides by their codes and of sets as masks.
 use Prim.Native.Nat.{ℕ, _+_, _<_}
@@ -11,13 +12,14 @@ use lib.ListN.{getD, set, length-map}
 use lib.Seq.{set-set, getD-set-other}
 use Rattle.paper.specs.Lists.{upto, any, only, keep, each}
 use Rattle.paper.specs.Numbers.{characters, set-fields, longest-side}
-use Rattle.paper.specs.Places.{PlaceSet, set-after}
+use Rattle.paper.specs.Places.{PlaceSet}
 use Rattle.paper.specs.Search.{Child}
 use Rattle.paper.specs.Equation.{chr, fld, Side}
 use Rattle.paper.specs.Situation.{Acceptor, Situation, Kind, is-finished, is-dead, is-open, Move, strike-left, strike-right, put, trim, kind-of, front-field, front-fields, trimmed, kind, strike, strike-all, put-before, put-before-all, front-may-end, front-takes, open-moves, moves-of, side-above, kept, child-by, children}
-use Rattle.paper.specs.Question.{Question, held-by, acceptor}
+use Rattle.paper.specs.Question.{Question, held-by}
+use Rattle.chosen.specs.Chosen.{acceptor-over}
 use Rattle.paper.proofs.base.Listed.{each-append, each-same, keep-none}
-use Rattle.paper.proofs.base.Tests.{by-bool, true-false, not-true, and-left, and-right, lt-ltb, eqb-true, eqb-same, eqb-false}
+use Rattle.paper.proofs.base.Tests.{by-bool, true-false, not-true, and-left, and-right, eqb-true, eqb-same, eqb-false}
 use Rattle.paper.proofs.base.Lists.{map-append, mem-upto}
 use Rattle.paper.proofs.equations.Moves.{other-front}
 use Rattle.paper.proofs.search.Mapped.{code-child}
@@ -27,7 +29,7 @@ use Rattle.inner.specs.Inner.{field-code, left-struck, right-struck, token-code
 use Rattle.fronts.specs.Fronts.{front-from, set-by}
 use Rattle.inner.specs.Coded.{Coded}
 use Rattle.situations.specs.Children.{dropped, above, made, judged-sides, settle, with-set, struck, put-child, may-end-at, left-strike, right-strike, put-of, as-child, children-coded}
-use Rattle.situations.specs.Coding.{situation-code, tables-of}
+use Rattle.situations.specs.Coding.{situation-code, tables-over}
 use Rattle.situations.proofs.CodedSides.{Known-side, char-not-field, field-is-field, field-of-code, strike-coded, put-in-all, put-coded, trim-coded, kind-dead, dead-coded, front-coded, known-strike, known-put-all}
 use Rattle.situations.proofs.CodedSets.{Codable, set-mask, may-end-coded, front-at, set-by-coded, takes-coded}
 
@@ -105,14 +107,14 @@ module _ {P : Type 0} (A : Acceptor P) where
 abbrev pub code-child-of : Child (Situation PlaceSet) Move → Child Coded ℕ
 code-child-of = code-child situation-code move-code
 
-module _ (q : Question) where
+module _ (among : ℕ → Bool) (q : Question) where
   -- what becomes of a situation that a move made
   abbrev made-by : Move → Situation PlaceSet → List (Child (Situation PlaceSet) Move)
   made-by m t =
-      kept (acceptor q) (kind (acceptor q) (trimmed (acceptor q) t)) (side-above (acceptor q) longest-side (trimmed (acceptor q) t)) m (trimmed (acceptor q) t)
+      kept (acceptor-over among q) (kind (acceptor-over among q) (trimmed (acceptor-over among q) t)) (side-above (acceptor-over among q) longest-side (trimmed (acceptor-over among q) t)) m (trimmed (acceptor-over among q) t)
 
   kept-coded : (k : Kind) (b : Bool) (m : Move) (t : Situation PlaceSet)
-      → as-child (move-code m) (cond (kind-dead k) dropped (cond b above (made (situation-code t)))) ≡ map code-child-of (kept (acceptor q) k b m t)
+      → as-child (move-code m) (cond (kind-dead k) dropped (cond b above (made (situation-code t)))) ≡ map code-child-of (kept (acceptor-over among q) k b m t)
   kept-coded is-finished true m t = refl
   kept-coded is-finished false m t = refl
   kept-coded is-dead b m t = refl
@@ -127,7 +129,7 @@ module _ (q : Question) where
       let r = trim (t .left) (t .right) .r in
       let c = trim-coded (t .left) (t .right) h k in
       rw (c .left, c .right, dead-coded (t .left) (t .right) h k, length-map l token-code, length-map r token-code)
-      (kept-coded (kind-of l r) (side-above (acceptor q) longest-side (trimmed (acceptor q) t)) m (trimmed (acceptor q) t))
+      (kept-coded (kind-of l r) (side-above (acceptor-over among q) longest-side (trimmed (acceptor-over among q) t)) m (trimmed (acceptor-over among q) t))
 
 -- the sides after puts
 module _ {P : Type 0} (A : Acceptor P) (c : ℕ) where
@@ -142,81 +144,81 @@ module _ {P : Type 0} (A : Acceptor P) (c : ℕ) where
   put-all-right (f ∷ fs) s = put-all-right fs (put-before A c f s)
 
 -- what is worked out of a token in front is of that token
-token-at : (q : Question) (s : Situation PlaceSet) (b : ℕ) → front-at q s b .token ≡ b
+token-at : (among : ℕ → Bool) (q : Question) (s : Situation PlaceSet) (b : ℕ) → front-at among q s b .token ≡ b
 unfolding front-from
-token-at q s b = refl
+token-at among q s b = refl
 
-module _ (q : Question) (few : (f : ℕ) → Few (held-by q f)) (s : Situation PlaceSet) (codable : Codable s) where
+module _ (among : ℕ → Bool) (q : Question) (few : (f : ℕ) → Few (held-by q f)) (s : Situation PlaceSet) (codable : Codable s) where
   -- a strike of the field in front of a side, whose set may end
-  strike-child : (m : Move) (side : Side) → Known-side side → front-may-end (acceptor q) s (front-field side) ≡ true
+  strike-child : (m : Move) (side : Side) → Known-side side → front-may-end (acceptor-over among q) s (front-field side) ≡ true
       → as-child (move-code m) (struck (situation-code s) (front (side-code side)))
-      ≡ map code-child-of (made-by q m (strike-all (acceptor q) (front-field side) s))
-  unfolding struck strike acceptor
+      ≡ map code-child-of (made-by among q m (strike-all (acceptor-over among q) (front-field side) s))
+  unfolding struck strike acceptor-over
   strike-child m [] k e = absurd (true-false e refl)
   strike-child m (chr a ∷ side) k e = absurd (true-false e refl)
   strike-child m (fld f ∷ side) k e =
       rw (strike-coded f (s .left) (codable .left), strike-coded f (s .right) (codable .right), field-is-field f (k .0), field-of-code f, set-mask (s .sets) f [])
-      (settle-coded q m (strike (acceptor q) f s) (known-strike f (s .left) (codable .left)) (known-strike f (s .right) (codable .right)))
+      (settle-coded among q m (strike (acceptor-over among q) f s) (known-strike f (s .left) (codable .left)) (known-strike f (s .right) (codable .right)))
 
-  left-coded : as-child left-struck (left-strike (tables-of q .last) (situation-code s))
-      ≡ map code-child-of (left-group (acceptor q) longest-side s)
+  left-coded : as-child left-struck (left-strike (tables-over among q .last) (situation-code s))
+      ≡ map code-child-of (left-group (acceptor-over among q) longest-side s)
   unfolding left-strike child-by
   left-coded =
-      rw (may-end-coded q few s codable (s .left) (codable .left))
-      (by-bool (front-may-end (acceptor q) s (front-field (s .left)))
+      rw (may-end-coded among q few s codable (s .left) (codable .left))
+      (by-bool (front-may-end (acceptor-over among q) s (front-field (s .left)))
       (λ e. rw e (strike-child strike-left (s .left) (codable .left) e))
       (λ e. rw e))
 
   -- the right front is a field whose set may end, and not the left front
   right-ends : (r : Side) → Known-side r
-      → (may-end-at (situation-code s .sets) (tables-of q .last) (front (side-code r)) && not (eqb (front (side-code r)) (front (side-code (s .left)))))
-      ≡ front-may-end (acceptor q) s (other-front (s .left) r)
-  right-ends [] k = rw (may-end-coded q few s codable [] k)
-  right-ends (chr b ∷ r) k = rw (may-end-coded q few s codable (chr b ∷ r) k)
+      → (may-end-at (situation-code s .sets) (tables-over among q .last) (front (side-code r)) && not (eqb (front (side-code r)) (front (side-code (s .left)))))
+      ≡ front-may-end (acceptor-over among q) s (other-front (s .left) r)
+  right-ends [] k = rw (may-end-coded among q few s codable [] k)
+  right-ends (chr b ∷ r) k = rw (may-end-coded among q few s codable (chr b ∷ r) k)
   right-ends (fld g ∷ r) k =
-      rw (may-end-coded q few s codable (fld g ∷ r) k, front-coded g (s .left) (k .0) (codable .left))
+      rw (may-end-coded among q few s codable (fld g ∷ r) k, front-coded g (s .left) (k .0) (codable .left))
       (by-bool (any (eqb g) (front-field (s .left)))
-      (λ e. rw e (and-false (front-may-end (acceptor q) s (g ∷ []))))
-      (λ e. rw e (and-true (front-may-end (acceptor q) s (g ∷ [])))))
+      (λ e. rw e (and-false (front-may-end (acceptor-over among q) s (g ∷ []))))
+      (λ e. rw e (and-true (front-may-end (acceptor-over among q) s (g ∷ [])))))
 
-  right-coded : as-child right-struck (right-strike (tables-of q .last) (situation-code s))
-      ≡ map code-child-of (right-group (acceptor q) longest-side s)
+  right-coded : as-child right-struck (right-strike (tables-over among q .last) (situation-code s))
+      ≡ map code-child-of (right-group (acceptor-over among q) longest-side s)
   unfolding right-strike child-by
   right-coded =
       let ends = right-ends (s .right) (codable .right) in
       rw ends
-      (by-bool (front-may-end (acceptor q) s (other-front (s .left) (s .right)))
-      (λ e. rw e (strike-child strike-right (s .right) (codable .right) (sym (may-end-coded q few s codable (s .right) (codable .right)) ∙ and-left _ _ (ends ∙ e))))
+      (by-bool (front-may-end (acceptor-over among q) s (other-front (s .left) (s .right)))
+      (λ e. rw e (strike-child strike-right (s .right) (codable .right) (sym (may-end-coded among q few s codable (s .right) (codable .right)) ∙ and-left _ _ (ends ∙ e))))
       (λ e. rw e))
 
   -- the set of the token in front after c
   abbrev next-at : ℕ → ℕ → ℕ
-  next-at b c = set-by (front-at q s b) c
+  next-at b c = set-by (front-at among q s b) c
 
   -- the sets after puts: one front field
   sets-one : (c : ℕ) (side : Side) → c < characters → Known-side side
-      → with-set (front (side-code side)) (next-at (front (side-code side)) c) (map mask (s .sets)) ≡ map mask (put-before-all (acceptor q) c (front-field side) s .sets)
+      → with-set (front (side-code side)) (next-at (front (side-code side)) c) (map mask (s .sets)) ≡ map mask (put-before-all (acceptor-over among q) c (front-field side) s .sets)
   unfolding put-before
   sets-one c [] h k = refl
   sets-one c (chr a ∷ side) h k = rw (char-not-field a (k .0))
-  sets-one c (fld f ∷ side) h k = rw (field-is-field f (k .0), set-by-coded q few s codable f c (k .0) h, field-of-code f) (set-mask (s .sets) f _)
+  sets-one c (fld f ∷ side) h k = rw (field-is-field f (k .0), set-by-coded among q few s codable f c (k .0) h, field-of-code f) (set-mask (s .sets) f _)
 
   -- two, which are put before one after the other; the same one once
   sets-two : (c f g : ℕ) (l r : Side) → c < characters → f < set-fields → g < set-fields
       → with-set (field-code + g) (next-at (field-code + g) c) (with-set (field-code + f) (next-at (field-code + f) c) (map mask (s .sets)))
-      ≡ map mask (put-before-all (acceptor q) c (front-fields (fld f ∷ l) (fld g ∷ r)) s .sets)
-  unfolding put-before acceptor
+      ≡ map mask (put-before-all (acceptor-over among q) c (front-fields (fld f ∷ l) (fld g ∷ r)) s .sets)
+  unfolding put-before acceptor-over
   sets-two c f g l r h kf kg =
-      rw (field-is-field f kf, field-is-field g kg, set-by-coded q few s codable f c kf h, set-by-coded q few s codable g c kg h, field-of-code f, field-of-code g)
+      rw (field-is-field f kf, field-is-field g kg, set-by-coded among q few s codable f c kf h, set-by-coded among q few s codable g c kg h, field-of-code f, field-of-code g)
       (by-bool (eqb g f)
-      (λ e. rw (e, eqb-true g f e, set-set (map mask (s .sets)) f (mask (set-after (held-by q f) (getD (s .sets) f []) c))) (set-mask (s .sets) f _))
+      (λ e. rw (e, eqb-true g f e, set-set (map mask (s .sets)) f (mask (acceptor-over among q .set-after f (getD (s .sets) f []) c))) (set-mask (s .sets) f _))
       (λ e.
-      rw (e, getD-set-other (s .sets) f g (set-after (held-by q f) (getD (s .sets) f []) c) [] (eqb-false g f e), set-mask (s .sets) f (set-after (held-by q f) (getD (s .sets) f []) c))
-      (set-mask (set (s .sets) f (set-after (held-by q f) (getD (s .sets) f []) c)) g (set-after (held-by q g) (getD (s .sets) g []) c))))
+      rw (e, getD-set-other (s .sets) f g (acceptor-over among q .set-after f (getD (s .sets) f []) c) [] (eqb-false g f e), set-mask (s .sets) f (acceptor-over among q .set-after f (getD (s .sets) f []) c))
+      (set-mask (set (s .sets) f (acceptor-over among q .set-after f (getD (s .sets) f []) c)) g (acceptor-over among q .set-after g (getD (s .sets) g []) c))))
 
   sets-coded : (c : ℕ) (l r : Side) → c < characters → Known-side l → Known-side r
       → with-set (front (side-code r)) (next-at (front (side-code r)) c) (with-set (front (side-code l)) (next-at (front (side-code l)) c) (map mask (s .sets)))
-      ≡ map mask (put-before-all (acceptor q) c (front-fields l r) s .sets)
+      ≡ map mask (put-before-all (acceptor-over among q) c (front-fields l r) s .sets)
   sets-coded c l [] h k m = rw (append-nil (front-field l)) (sets-one c l h k)
   sets-coded c l (chr b ∷ r) h k m = rw (char-not-field b (m .0), append-nil (front-field l)) (sets-one c l h k)
   sets-coded c [] (fld g ∷ r) h k m = sets-one c (fld g ∷ r) h m
@@ -225,31 +227,31 @@ module _ (q : Question) (few : (f : ℕ) → Few (held-by q f)) (s : Situation P
 
   put-child-coded : (c : ℕ) → c < characters
       → as-child c (put-child (situation-code s) c (next-at (front (side-code (s .left))) c) (next-at (front (side-code (s .right))) c))
-      ≡ map code-child-of (child-by (acceptor q) longest-side s (put c))
+      ≡ map code-child-of (child-by (acceptor-over among q) longest-side s (put c))
   unfolding put-child child-by
   put-child-coded c h =
       let fs = front-fields (s .left) (s .right) in
-      let t = put-before-all (acceptor q) c fs s in
-      let l : put-in-all c fs (s .left) ≡ t .left = sym (put-all-left (acceptor q) c fs s) in
-      let r : put-in-all c fs (s .right) ≡ t .right = sym (put-all-right (acceptor q) c fs s) in
+      let t = put-before-all (acceptor-over among q) c fs s in
+      let l : put-in-all c fs (s .left) ≡ t .left = sym (put-all-left (acceptor-over among q) c fs s) in
+      let r : put-in-all c fs (s .right) ≡ t .right = sym (put-all-right (acceptor-over among q) c fs s) in
       rw (put-coded c (s .left) (s .right) (s .left) (codable .left) (codable .right) (codable .left), put-coded c (s .left) (s .right) (s .right) (codable .left) (codable .right) (codable .right), sets-coded c (s .left) (s .right) h (codable .left) (codable .right), l, r)
-      (settle-coded q (put c) t (rw l at (known-put-all c fs (s .left) h (codable .left))) (rw r at (known-put-all c fs (s .right) h (codable .right))))
+      (settle-coded among q (put c) t (rw l at (known-put-all c fs (s .left) h (codable .left))) (rw r at (known-put-all c fs (s .right) h (codable .right))))
 
   put-of-coded : (c : ℕ) → c < characters
-      → as-child c (put-of (situation-code s) (front-at q s (front (side-code (s .left)))) (front-at q s (front (side-code (s .right)))) c)
-      ≡ map code-child-of (put-group (acceptor q) longest-side s c)
+      → as-child c (put-of (situation-code s) (front-at among q s (front (side-code (s .left)))) (front-at among q s (front (side-code (s .right)))) c)
+      ≡ map code-child-of (put-group (acceptor-over among q) longest-side s c)
   unfolding put-of
   put-of-coded c h =
-      rw (token-at q s (front (side-code (s .left))), token-at q s (front (side-code (s .right))), takes-coded q few s codable (s .left) c h (codable .left), takes-coded q few s codable (s .right) c h (codable .right))
-      (by-bool (front-takes (acceptor q) s c (s .left) && front-takes (acceptor q) s c (s .right))
+      rw (token-at among q s (front (side-code (s .left))), token-at among q s (front (side-code (s .right))), takes-coded among q few s codable (s .left) c h (codable .left), takes-coded among q few s codable (s .right) c h (codable .right))
+      (by-bool (front-takes (acceptor-over among q) s c (s .left) && front-takes (acceptor-over among q) s c (s .right))
       (λ e. rw e (put-child-coded c h))
       (λ e. rw e))
 
   -- The children agree, in their order.
-  pub children-agree : children-coded (tables-of q) (situation-code s) ≡ map code-child-of (children (acceptor q) longest-side s)
-  unfolding children-coded acceptor
+  pub children-agree : children-coded (tables-over among q) (situation-code s) ≡ map code-child-of (children (acceptor-over among q) longest-side s)
+  unfolding children-coded acceptor-over
   children-agree =
       ap₂ _++_ left-coded
       (ap₂ _++_ right-coded
-      (each-same _ (λ (c : ℕ). map code-child-of (put-group (acceptor q) longest-side s c)) (upto characters) (λ c d. put-of-coded c (mem-upto characters d))))
-      ∙ sym (grouped-mapped (acceptor q) code-child-of longest-side s)
+      (each-same _ (λ (c : ℕ). map code-child-of (put-group (acceptor-over among q) longest-side s c)) (upto characters) (λ c d. put-of-coded c (mem-upto characters d))))
+      ∙ sym (grouped-mapped (acceptor-over among q) code-child-of longest-side s)

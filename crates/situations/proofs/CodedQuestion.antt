@@ -1,7 +1,7 @@
 -- The trimmed question by inner codes: the codes of the sides without their equal characters in front, the mask 1 for every field that
 -- stands in them.
 --   marked-stands   : the fields that have a first place set are those that stand
---   question-agrees : situation-code (question (acceptor q) l r) ≡ question-coded (side-code l) (side-code r), of known tokens
+--   question-agrees : situation-code (question (acceptor-over among q) l r) ≡ question-coded (side-code l) (side-code r), of known tokens
 -- Follows from the laws of sides by their codes.
 use Prim.Native.Nat.{ℕ, _+_, _<_}
 use mathlib.Core.Path.{_≡_, refl, sym, ap, ap₂, _∙_}
@@ -14,7 +14,8 @@ use Rattle.paper.specs.Numbers.{set-fields}
 use Rattle.paper.specs.Places.{first-set}
 use Rattle.paper.specs.Equation.{Side, stands-in}
 use Rattle.paper.specs.Situation.{trimmed, question}
-use Rattle.paper.specs.Question.{Question, acceptor}
+use Rattle.paper.specs.Question.{Question}
+use Rattle.chosen.specs.Chosen.{acceptor-over}
 use Rattle.paper.proofs.base.Tests.{eqb-symmetric}
 use Rattle.paper.proofs.base.Lists.{cons-eq, map-append}
 use Rattle.paper.proofs.base.Listed.{getD-map-upto}
@@ -67,9 +68,9 @@ first-masks-agree l r h k =
     (upto set-fields)
 
 -- The trimmed question, from the codes of its sides.
-pub question-agrees : (q : Question) (l r : Side) → Known-side l → Known-side r
-    → situation-code (question (acceptor q) l r) ≡ question-coded (side-code l) (side-code r)
-unfolding question trimmed acceptor question-coded
-question-agrees q l r h k =
+pub question-agrees : (among : ℕ → Bool) (q : Question) (l r : Side) → Known-side l → Known-side r
+    → situation-code (question (acceptor-over among q) l r) ≡ question-coded (side-code l) (side-code r)
+unfolding question trimmed acceptor-over question-coded
+question-agrees among q l r h k =
     let t = trim-coded l r h k in
     λ i. record { left = sym (t .left) i; right = sym (t .right) i; sets = first-masks-agree l r h k i }

@@ -1,31 +1,36 @@
--- Place sets as masks, in a situation: the set of a field, which fields may end, the set after a character, the test of sets.
+-- Place sets as masks, in a situation: the set of a field, which fields may end, the set after a character, the test of sets. And the
+-- tables over some of the characters: `tables-every` says that over every character they are those of the question.
 -- Holds of codable situations, which are those that their codes tell apart: known tokens, a set for each field, rising places below 64;
 -- and of fields with few leaves. Follows from the laws of masks.
 use Prim.Native.Nat.{ℕ, zero, suc, _+_, _<_}
 use native.Mathlib.Omega.{arith}
 use mathlib.Core.Path.{_≡_, refl, ap, ap₂, subst}
-use mathlib.Core.Bool.{true, not, _&&_, or-false}
+use mathlib.Core.Bool.{Bool, true, not, _&&_, cond, or-false}
 use mathlib.Core.List.{List, [], _∷_, map}
+use lib.Bits.{and-zero-r}
 use lib.Dec.{eqb}
 use lib.ListN.{length, getD, set, List·getD-map}
 use lib.Seq.{getD-set-same, getD-set-other}
 use Rattle.paper.specs.Lists.{same-by}
 use Rattle.paper.specs.Numbers.{characters, set-fields}
-use Rattle.paper.specs.Places.{PlaceSet, set-after, same-set}
+use Rattle.paper.specs.Pattern.{Held}
+use Rattle.paper.specs.Places.{PlaceSet, same-set}
 use Rattle.paper.specs.Equation.{chr, fld, Side}
 use Rattle.paper.specs.Situation.{Situation, front-field, set-of, front-may-end, front-takes}
-use Rattle.paper.specs.Question.{Question, held-by, acceptor}
+use Rattle.paper.specs.Question.{Question, held-by}
+use Rattle.chosen.specs.Chosen.{every, acceptor-over}
 use Rattle.paper.proofs.base.Tests.{by-bool, same-tests, lt-ltb, neq-eqb, eq-eqb, eqb-true, eqb-false}
 use Rattle.paper.proofs.base.Lists.{cons-eq}
 use Rattle.paper.proofs.places.PlaceSets.{same-equal, equal-same}
 use Rattle.paper.proofs.base.Listed.{getD-map-upto}
-use Rattle.places.proofs.Masks.{Masked, Few, mask-same, mask-empty, mask-may-end, mask-after, taking-at}
-use Rattle.places.specs.Masks.{mask, follow-masks, taking-masks, last-mask}
+use Rattle.places.proofs.Masks.{Masked, Few, mask-same, mask-empty, mask-may-end, mask-after}
+use Rattle.places.proofs.Filling.{getD-table}
+use Rattle.places.specs.Masks.{mask, follow-masks, taking-mask, taking-masks, last-mask, followers-of}
 use Rattle.inner.specs.Inner.{field-code, no-token, side-code, field-of, front}
 use Rattle.fronts.specs.Fronts.{row-at, front-from, set-by, takes-next}
 use Rattle.fronts.specs.declared.Front.{Front}
 use Rattle.situations.specs.Children.{may-end-at}
-use Rattle.situations.specs.Coding.{situation-code, tables-of}
+use Rattle.situations.specs.Coding.{situation-code, tables-of, taking-over, tables-over}
 use Rattle.situations.proofs.CodedSides.{Known-side, char-not-field, field-is-field, field-of-code}
 
 pub record Codable (s : Situation PlaceSet) : Type 0 where
@@ -61,50 +66,62 @@ same-sets [] (t ∷ m) h k = refl
 same-sets (s ∷ l) [] h k = refl
 same-sets (s ∷ l) (t ∷ m) h k = ap₂ _&&_ (set-coded s t (h 0) (k 0)) (same-sets l m (λ f. h (suc f)) (λ f. k (suc f)))
 
+-- what a character lets through, in the table over some
+pub taking-over-at : (among : ℕ → Bool) (h : Held) (c : ℕ) → c < characters → getD (taking-over among h) c 0 ≡ cond (among c) (taking-mask h c) 0
+unfolding taking-over
+taking-over-at among h = getD-table (λ (c : ℕ). cond (among c) (taking-mask h c) 0) characters
+
+-- Over every character the tables are those of the question.
+pub tables-every : (q : Question) → tables-over every q ≡ tables-of q
+unfolding tables-over tables-of taking-over taking-masks
+tables-every q = refl
+
 -- a field's set, and a token in front
-module _ (q : Question) (s : Situation PlaceSet) where
+module _ (among : ℕ → Bool) (q : Question) (s : Situation PlaceSet) where
   abbrev the-set : ℕ → PlaceSet
-  the-set f = set-of (acceptor q) s f
+  the-set f = set-of (acceptor-over among q) s f
 
   set-at-coded : (f : ℕ) → getD (situation-code s .sets) (field-of (field-code + f)) 0 ≡ mask (the-set f)
-  unfolding acceptor
+  unfolding acceptor-over
   set-at-coded f = rw (field-of-code f) (List·getD-map mask (s .sets) f [])
 
   -- the token in front, with what is worked out once of it
   abbrev pub front-at : ℕ → Front
-  front-at b = front-from (tables-of q .follow) (tables-of q .taking) (situation-code s .sets) b
+  front-at b = front-from (tables-over among q .follow) (tables-over among q .taking) (situation-code s .sets) b
 
-module _ (q : Question) (few : (f : ℕ) → Few (held-by q f)) (s : Situation PlaceSet) (codable : Codable s) where
-  masked-at : (f : ℕ) → Masked (the-set q s f)
-  unfolding acceptor
+module _ (among : ℕ → Bool) (q : Question) (few : (f : ℕ) → Few (held-by q f)) (s : Situation PlaceSet) (codable : Codable s) where
+  masked-at : (f : ℕ) → Masked (the-set among q s f)
+  unfolding acceptor-over
   masked-at f = codable .masked f
 
   -- "a field whose set may end"
   pub may-end-coded : (side : Side) → Known-side side
-      → may-end-at (situation-code s .sets) (tables-of q .last) (front (side-code side)) ≡ front-may-end (acceptor q) s (front-field side)
-  unfolding may-end-at acceptor tables-of
+      → may-end-at (situation-code s .sets) (tables-over among q .last) (front (side-code side)) ≡ front-may-end (acceptor-over among q) s (front-field side)
+  unfolding may-end-at acceptor-over tables-over
   may-end-coded [] k = refl
   may-end-coded (chr a ∷ side) k = rw (char-not-field a (k .0))
   may-end-coded (fld f ∷ side) k =
       let last = getD-map-upto (λ (g : ℕ). last-mask (held-by q g)) 0 set-fields f (k .0) in
-      rw (field-is-field f (k .0), set-at-coded q s f, field-of-code f, last, or-false)
-      (mask-may-end (held-by q f) (the-set q s f) (masked-at f))
+      rw (field-is-field f (k .0), set-at-coded among q s f, field-of-code f, last, or-false)
+      (mask-may-end (held-by q f) (the-set among q s f) (masked-at f))
 
   -- the set after a character
   pub set-by-coded : (f c : ℕ) → f < set-fields → c < characters
-      → set-by (front-at q s (field-code + f)) c ≡ mask (acceptor q .set-after f (the-set q s f) c)
-  unfolding front-from row-at acceptor tables-of
+      → set-by (front-at among q s (field-code + f)) c ≡ mask (acceptor-over among q .set-after f (the-set among q s f) c)
+  unfolding front-from row-at acceptor-over tables-over
   set-by-coded f c h k =
       let follow = getD-map-upto (λ (g : ℕ). follow-masks (held-by q g)) [] set-fields f h in
-      let taking = getD-map-upto (λ (g : ℕ). taking-masks (held-by q g)) [] set-fields f h in
-      rw (set-at-coded q s f, field-of-code f, lt-ltb f set-fields h, follow, taking, taking-at (held-by q f) c k)
-      (mask-after (held-by q f) (the-set q s f) c (few f) (masked-at f))
+      let taking = getD-map-upto (λ (g : ℕ). taking-over among (held-by q g)) [] set-fields f h in
+      rw (set-at-coded among q s f, field-of-code f, lt-ltb f set-fields h, follow, taking, taking-over-at among (held-by q f) c k)
+      (by-bool (among c)
+      (λ e. rw e (mask-after (held-by q f) (the-set among q s f) c (few f) (masked-at f)))
+      (λ e. rw e (and-zero-r (followers-of (follow-masks (held-by q f)) (mask (the-set among q s f))))))
 
   -- "a character in front must be c, and each front field's set after c must not be empty"
   pub takes-coded : (side : Side) (c : ℕ) → c < characters → Known-side side
-      → takes-next (front (side-code side)) (set-by (front-at q s (front (side-code side))) c) c ≡ front-takes (acceptor q) s c side
-  unfolding takes-next acceptor
+      → takes-next (front (side-code side)) (set-by (front-at among q s (front (side-code side))) c) c ≡ front-takes (acceptor-over among q) s c side
+  unfolding takes-next acceptor-over
   takes-coded [] c h k = neq-eqb no-token c (λ e. omega arith)
   takes-coded (chr a ∷ side) c h k = rw (char-not-field a (k .0))
   takes-coded (fld f ∷ side) c h k =
-      rw (field-is-field f (k .0), set-by-coded f c (k .0) h) (ap not (mask-empty (set-after (held-by q f) (the-set q s f) c)))
+      rw (field-is-field f (k .0), set-by-coded f c (k .0) h) (ap not (mask-empty (acceptor-over among q .set-after f (the-set among q s f) c)))

@@ -4,12 +4,14 @@
 use Prim.Native.Nat.{ℕ, _+_, _<_}
 use native.Mathlib.Omega.{arith}
 use mathlib.Core.Path.{_≡_, refl, sym, ap, _∙_}
+use mathlib.Core.Bool.{Bool}
 use mathlib.Core.List.{List, [], _∷_, _++_, map, reverse, reverse-cons, append-nil, append-assoc}
 use Rattle.paper.specs.Numbers.{characters, set-fields, longest-side}
 use Rattle.paper.specs.Places.{PlaceSet}
 use Rattle.paper.specs.Leads.{Leads, start, step}
 use Rattle.paper.specs.Situation.{Acceptor, Situation, Move, strike-left, strike-right, put, trimmed, moved, children}
-use Rattle.paper.specs.Question.{Question, acceptor}
+use Rattle.paper.specs.Question.{Question}
+use Rattle.chosen.specs.Chosen.{acceptor-over}
 use Rattle.paper.specs.Way.{given, text-along}
 use Rattle.paper.proofs.base.Tests.{lt-ltb, eqb-symmetric}
 use Rattle.paper.proofs.base.Lists.{cons-eq}
@@ -59,18 +61,18 @@ pub way-last : (way : List Move) (c : ℕ) (before : List Move) → Known-way wa
 way-last [] c before h k e = absurd (let z : _≡_ {A = ℕ} 0 1 = cc in omega arith)
 way-last (m ∷ way) c before h k e = record { move = m; known = h .0; code = cc; is = cons-eq refl (way-equal way before (h .1) k (cc)) }
 
-module _ (q : Question) where
-  opened-known : {m : Move} (s : Situation PlaceSet) → Opened (acceptor q) s m → Known-move m
-  unfolding acceptor
+module _ (among : ℕ → Bool) (q : Question) where
+  opened-known : {m : Move} (s : Situation PlaceSet) → Opened (acceptor-over among q) s m → Known-move m
+  unfolding acceptor-over
   opened-known s (strikes-left e) = tt
   opened-known s (strikes-right e) = tt
   opened-known s (puts h l r) = h
 
   -- the moves that lead somewhere are known
-  pub way-known : {s t : Situation PlaceSet} {way : List Move} → Leads (children (acceptor q) longest-side) s way t → Known-way way
+  pub way-known : {s t : Situation PlaceSet} {way : List Move} → Leads (children (acceptor-over among q) longest-side) s way t → Known-way way
   way-known start = tt
   way-known (step {t = t} w d) =
-      let (i, e) = child-made (acceptor q) longest-side t d in (opened-known t (move-opened (acceptor q) t i), way-known w)
+      let (i, e) = child-made (acceptor-over among q) longest-side t d in (opened-known t (move-opened (acceptor-over among q) t i), way-known w)
 
 -- the texts that a way spells, from its end
 module _ {P : Type 0} (A : Acceptor P) where
@@ -101,12 +103,12 @@ module _ {P : Type 0} (A : Acceptor P) where
   text-last f limit {s} {way = way} m w = rw (reverse-cons m way, text-snoc f s (reverse way) m, leads-after limit w)
 
 -- what a move gives a field, by its code
-pub given-agrees : (q : Question) (f : ℕ) (s : Situation PlaceSet) (m : Move) → f < set-fields → Codable s → Known-move m
-    → given-coded f (situation-code s) (move-code m) ≡ given (acceptor q) f s m
+pub given-agrees : (among : ℕ → Bool) (q : Question) (f : ℕ) (s : Situation PlaceSet) (m : Move) → f < set-fields → Codable s → Known-move m
+    → given-coded f (situation-code s) (move-code m) ≡ given (acceptor-over among q) f s m
 unfolding given-coded
-given-agrees q f s strike-left b g h = refl
-given-agrees q f s strike-right b g h = refl
-given-agrees q f s (put c) b g h =
+given-agrees among q f s strike-left b g h = refl
+given-agrees among q f s strike-right b g h = refl
+given-agrees among q f s (put c) b g h =
     let x = front (side-code (s .left)) in
     let y = front (side-code (s .right)) in
     let fronts = front-member f (s .left) (s .right) b (g .left) (g .right) in

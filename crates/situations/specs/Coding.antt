@@ -1,13 +1,15 @@
 -- How the code's situations stand for the paper's: a token is its inner code, a place set its mask; and the tables of a question's
--- fields. proofs/ shows that the children and the tests go over.
+-- fields, over all characters or over some alone. proofs/ shows that the children and the tests go over.
 use Prim.Native.Nat.{ℕ}
-use mathlib.Core.List.{map}
+use mathlib.Core.Bool.{Bool, cond}
+use mathlib.Core.List.{List, map}
 use Rattle.paper.specs.Lists.{upto}
-use Rattle.paper.specs.Numbers.{set-fields}
+use Rattle.paper.specs.Numbers.{characters, set-fields}
+use Rattle.paper.specs.Pattern.{Held}
 use Rattle.paper.specs.Places.{PlaceSet}
 use Rattle.paper.specs.Situation.{Situation}
 use Rattle.paper.specs.Question.{Question, held-by}
-use Rattle.places.specs.Masks.{mask, follow-masks, taking-masks, last-mask}
+use Rattle.places.specs.Masks.{mask, table, follow-masks, taking-mask, taking-masks, last-mask}
 use Rattle.inner.specs.Inner.{side-code}
 use Rattle.inner.specs.Coded.{Coded}
 use Rattle.situations.specs.Children.{Tables}
@@ -22,5 +24,18 @@ tables-of q =
     record {
       follow = map (λ (f : ℕ). follow-masks (held-by q f)) (upto set-fields);
       taking = map (λ (f : ℕ). taking-masks (held-by q f)) (upto set-fields);
+      last = map (λ (f : ℕ). last-mask (held-by q f)) (upto set-fields);
+    }
+
+-- for every character that passes the test, the set of places that take it; no place takes another
+unfoldable pub taking-over : (ℕ → Bool) → Held → List ℕ
+taking-over among h = table (λ (c : ℕ). cond (among c) (taking-mask h c) 0) characters
+
+-- the tables of a question over the characters that pass the test
+unfoldable pub tables-over : (ℕ → Bool) → Question → Tables
+tables-over among q =
+    record {
+      follow = map (λ (f : ℕ). follow-masks (held-by q f)) (upto set-fields);
+      taking = map (λ (f : ℕ). taking-over among (held-by q f)) (upto set-fields);
       last = map (λ (f : ℕ). last-mask (held-by q f)) (upto set-fields);
     }

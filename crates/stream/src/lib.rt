@@ -19,6 +19,8 @@ const ANSWER: usize = 4096;
 pub enum Shown {
     // a line: number, count, place and written length, and every byte of the two buffers as they are afterwards
     Bytes,
+    // the same of the decision, and the search that decided
+    Decided,
     // the lines that the program `clash` prints
     Lines,
     // a line: number, place and written length of the sheet's script. Behind number 0 the script, and a line: the number for a buffer of just its
@@ -63,6 +65,7 @@ fn answer_next(sheet: &mut [u8], work: &mut [u8], answer: &mut [u8], shown: Show
 fn answer_case(sheet: &[u8], work: &mut [u8], answer: &mut [u8], shown: Shown) {
     match shown {
         Shown::Bytes => show_bytes(sheet, work, answer),
+        Shown::Decided => show_decided(sheet, work, answer),
         Shown::Lines => show_lines(sheet, work, answer),
         Shown::Scripts => script::show_script(sheet),
         Shown::Spelt => spelt::show_spelt(sheet, answer),
@@ -73,6 +76,17 @@ fn show_bytes(sheet: &[u8], work: &mut [u8], answer: &mut [u8]) {
     let told = answers::in_numbers(bradovusc::clash(sheet, work, answer));
     print_answer(told);
     bytes::print_bytes(work, answer, told.written);
+    print(b"\n");
+}
+
+fn show_decided(sheet: &[u8], work: &mut [u8], answer: &mut [u8]) {
+    let made = decision::decide(sheet, work, answer);
+    let given = made.answer;
+    let told = answers::in_numbers(given);
+    print_answer(told);
+    bytes::print_bytes(work, answer, told.written);
+    print(b", search ");
+    print_number(made.search as usize);
     print(b"\n");
 }
 

@@ -10,8 +10,8 @@ use lib.ListN.{length, getD, take, drop, length-append, length-map, length-drop,
 use lib.Seq.{take-suc, take-nil, drop-nil, drop-drop, getD-drop}
 use Rattle.paper.specs.Printed.{sign, space, newline, value-lines}
 use Rattle.paper.proofs.base.Lists.{map-append}
-use Rattle.writing.specs.Lines.{longest-first-line}
-use Rattle.writing.specs.Writing.{Puts, in-digits, in-decimal, most-digits, numbers-line, value-line, record-head, text-length}
+use Rattle.writing.specs.Lines.{longest-first-line, longest-decided-line}
+use Rattle.writing.specs.Writing.{Puts, in-digits, in-decimal, most-digits, numbers-line, numbers-line-decided, three-numbers, value-line, record-head, text-length}
 use Rattle.writing.proofs.Decimal.{decimal-at-most, byte-at-most}
 use Rattle.writing.proofs.Putting.{puts-none, puts-then}
 
@@ -19,20 +19,35 @@ use Rattle.writing.proofs.Putting.{puts-none, puts-then}
 signs-behind : (p q r : List ℕ) (s e : ℕ) → p ++ (s ∷ q) ++ (s ∷ r) ++ (e ∷ []) ≡ (p ++ (s ∷ [])) ++ (q ++ (s ∷ [])) ++ (r ++ (e ∷ []))
 signs-behind p q r s e = simp append-assoc
 
-pub numbers-line-parts : (number count place : ℕ)
-    → numbers-line number count place
-    ≡ (in-decimal number ++ (space ∷ [])) ++ (in-decimal count ++ (space ∷ [])) ++ (in-decimal place ++ (newline ∷ []))
+more-signs-behind : (p q r t : List ℕ) (s e : ℕ)
+    → p ++ (s ∷ q) ++ (s ∷ r) ++ (s ∷ t) ++ (e ∷ []) ≡ (p ++ (s ∷ [])) ++ (q ++ (s ∷ [])) ++ (r ++ (s ∷ [])) ++ (t ++ (e ∷ []))
+more-signs-behind p q r t s e = simp append-assoc
+
+pub numbers-line-parts : (number count place : ℕ) → numbers-line number count place ≡ three-numbers number count place newline
 unfolding numbers-line in-digits
 numbers-line-parts number count place = signs-behind (in-decimal number) (in-decimal count) (in-decimal place) space newline
+
+pub decided-line-parts : (number count place search : ℕ)
+    → numbers-line-decided number count place search ≡ three-numbers number count place space ++ (in-decimal search ++ (newline ∷ []))
+unfolding numbers-line-decided in-digits
+decided-line-parts number count place search =
+    more-signs-behind (in-decimal number) (in-decimal count) (in-decimal place) (in-decimal search) space newline
 
 -- a number of at most 20 digits, and a sign behind it
 pub number-length : (n s : ℕ) → length (in-decimal n ++ (s ∷ [])) ≤ most-digits + 1
 number-length n s = rw length-append (omega (arith, decimal-at-most n))
 
+pub three-numbers-length : (number count place sign : ℕ) → length (three-numbers number count place sign) ≤ longest-first-line
+three-numbers-length number count place sign =
+    simp length-append (omega (arith, decimal-at-most number, decimal-at-most count, decimal-at-most place))
+
 pub numbers-line-length : (number count place : ℕ) → length (numbers-line number count place) ≤ longest-first-line
-numbers-line-length number count place =
-    rw (numbers-line-parts number count place)
-    (simp length-append (omega (arith, decimal-at-most number, decimal-at-most count, decimal-at-most place)))
+numbers-line-length number count place = rw (numbers-line-parts number count place) (three-numbers-length number count place newline)
+
+pub decided-line-length : (number count place search : ℕ) → length (numbers-line-decided number count place search) ≤ longest-decided-line
+decided-line-length number count place search =
+    rw (decided-line-parts number count place search, length-append (three-numbers number count place space))
+    (omega (arith, three-numbers-length number count place space, number-length search newline))
 
 pub value-line-parts : (f : ℕ) (text : List ℕ) → value-line f text ≡ (in-decimal f ++ (space ∷ [])) ++ map sign text ++ (newline ∷ [])
 unfolding value-line in-digits

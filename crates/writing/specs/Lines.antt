@@ -7,13 +7,17 @@ use lib.Dec.{leb}
 use lib.ListN.{length, take, drop}
 use Rattle.paper.specs.Printed.{value-lines}
 use Rattle.answers.specs.declared.Numbers.{Numbers}
-use Rattle.writing.specs.Writing.{most-digits, numbers-line}
+use Rattle.writing.specs.Writing.{most-digits, numbers-line, numbers-line-decided}
 use Rattle.writing.specs.declared.Filled.{Filled}
 use Rattle.writing.specs.declared.Filled.the-variants.{Bytes, NoRoom}
 
 -- three numbers of at most 20 digits, a sign behind each
 abbrev pub longest-first-line : ℕ
 longest-first-line = 3 * (most-digits + 1)
+
+-- four
+abbrev pub longest-decided-line : ℕ
+longest-decided-line = 4 * (most-digits + 1)
 
 -- the bytes in front of the buffer, the rest unchanged
 abbrev pub in-front : List ℕ → List ℕ → List ℕ
@@ -26,10 +30,18 @@ pub record Prints (l before after : List ℕ) (n : ℕ) : Type 0 where
   pub many : n ≡ length l
   pub within : n ≤ length after
 
+-- a first line, and the lines of so many bytes of an answer buffer
+abbrev pub lines-behind : List ℕ → ℕ → List ℕ → List ℕ
+lines-behind first written answer = first ++ value-lines written (take written answer)
+
 -- the lines of an answer's numbers and its buffer
 abbrev pub lines-of : Numbers → List ℕ → List ℕ
-lines-of told answer =
-    numbers-line (told .number) (told .count) (told .place) ++ value-lines (told .written) (take (told .written) answer)
+lines-of told answer = lines-behind (numbers-line (told .number) (told .count) (told .place)) (told .written) answer
+
+-- the same and the number of the search that decided
+abbrev pub decided-lines-of : Numbers → ℕ → List ℕ → List ℕ
+decided-lines-of told search answer =
+    lines-behind (numbers-line-decided (told .number) (told .count) (told .place) search) (told .written) answer
 
 -- what is said of the lines, and the buffer afterwards
 pub record Put : Type 0 where
@@ -39,9 +51,13 @@ pub record Put : Type 0 where
 abbrev pub put-as : Filled → List ℕ → Put
 put-as said out = record { said = said; out = out }
 
--- where the longest lines have room, those of the answer; else nothing is changed
+-- where a longest first line and the answer buffer have room, these lines; else nothing is changed
+abbrev pub put-where-room : ℕ → List ℕ → List ℕ → List ℕ → Put
+put-where-room longest lines answer out =
+    cond (leb (longest + length answer) (length out)) (put-as (Bytes (length lines)) (in-front lines out)) (put-as NoRoom out)
+
 unfoldable pub put-lines : Numbers → List ℕ → List ℕ → Put
-put-lines told answer out =
-    cond (leb (longest-first-line + length answer) (length out))
-    (put-as (Bytes (length (lines-of told answer))) (in-front (lines-of told answer) out))
-    (put-as NoRoom out)
+put-lines told answer out = put-where-room longest-first-line (lines-of told answer) answer out
+
+unfoldable pub put-decided : Numbers → ℕ → List ℕ → List ℕ → Put
+put-decided told search answer out = put-where-room longest-decided-line (decided-lines-of told search answer) answer out

@@ -5,13 +5,14 @@ use mathlib.Core.List.{List, [], _∷_, _++_, map}
 use lib.ListN.{length, getD}
 use lib.Seq.{sets}
 use Rattle.paper.specs.Printed.{digits, decimal, first-line, sign, space, newline, value-lines}
+use Rattle.deciding.specs.Printed.{decided-line}
 
 -- The bytes l were put into d from `at` on, which is now e; `end` is the place behind them.
 pub record Puts (d e : List ℕ) (at end : ℕ) (l : List ℕ) : Type 0 where
   pub bytes : e ≡ sets d at l
   pub behind : end ≡ at + length l
 
--- The definition's `digits`, `first-line` and each of its lines, shut: open, the 20 digits of a number are written out wherever it stands.
+-- The definition's `digits`, its first lines and each of its other lines, shut: open, the 20 digits of a number are written out wherever it stands.
 unfoldable pub in-digits : ℕ → ℕ → List ℕ
 in-digits k n = digits k n
 
@@ -24,6 +25,15 @@ in-decimal n = in-digits most-digits n
 -- "answer, count and place in decimal, one space between"
 unfoldable pub numbers-line : ℕ → ℕ → ℕ → List ℕ
 numbers-line number count place = first-line number count place
+
+-- the same and the number of the search
+unfoldable pub numbers-line-decided : ℕ → ℕ → ℕ → ℕ → List ℕ
+numbers-line-decided number count place search = decided-line number count place search
+
+-- three numbers, one space between and a sign behind: how both lines begin
+abbrev pub three-numbers : ℕ → ℕ → ℕ → ℕ → List ℕ
+three-numbers number count place sign =
+    (in-decimal number ++ (space ∷ [])) ++ (in-decimal count ++ (space ∷ [])) ++ (in-decimal place ++ (sign ∷ []))
 
 -- "field number, a space, the text as characters"
 unfoldable pub value-line : ℕ → List ℕ → List ℕ

@@ -22,6 +22,25 @@
 //! assert_eq!(texts, ["4", "4"]);
 //! ```
 //!
+//! Where one search gives up, [`decide`] goes on with up to three others, in the same buffers.
+//!
+//! ```
+//! use bradovusc::{answer_bytes, clash, decide, texts, SITUATION_BYTES};
+//!
+//! // KP, a number, - and the number again; and the same with a number that ends in 0.
+//! let sheet = b"PA\x00\x08\x42\x41\x00\x09\x44\x41\x00\x09PA\x01\x06\x42\x44\x41\x00\x09\x00\
+//!     LE\x05\x14\x19\x40\x24\x40RI\x05\x14\x19\x41\x24\x41";
+//! let mut work = [0; 356 * SITUATION_BYTES];
+//! let mut answer = [0; answer_bytes(356)];
+//! assert_eq!(clash(sheet, &mut work, &mut answer).clashes(), None);
+//! let decided = decide(sheet, &mut work, &mut answer);
+//! assert_eq!(decided.clashes(), Some(true));
+//! assert_eq!((decided.answer.count(), decided.search), (413, 2));
+//! let texts: Vec<String> =
+//!     texts(&answer[..decided.answer.written()]).map(|text| text.to_string()).collect();
+//! assert_eq!(texts, ["0", "0"]);
+//! ```
+//!
 //! Of a sheet at fault the place is told, the byte itself.
 //!
 //! ```
@@ -111,6 +130,7 @@
 
 mod carrying;
 mod catalogue;
+mod deciding;
 mod scripts;
 
 pub use carrying::{
@@ -120,6 +140,7 @@ pub use catalogue::{
     add, catalogue_bytes, list_bytes, recheck, withdraw, Added, Pair, Pairs, Rechecked, Withdrawn,
     MOST_RULES, PAIR_BYTES, RULE_BYTES, RULE_FIELDS,
 };
+pub use deciding::{decide, Decision};
 pub use scripts::{script, Scripted, SCRIPT_BYTES};
 
 use std::error::Error;

@@ -4,6 +4,13 @@
 //! - `second WORK ANSWER`: with these lengths of the two buffers
 //! - `second --many [--scan]`: a stream of cases, a line for each
 //! - `second --many --lines`: a stream of cases, what `clash` prints for each
+//! - `second --decide [--scan]`: a stream of cases, a line for each, with the
+//!   number of the search that decided at its end
+//! - `second --decide --lines`: a stream of cases, what `decide` prints for each
+//! - `second --decide --table`: of a stream of cases, how many each search
+//!   decided and the situations spent
+//! - `second --decide --left`: of a stream of cases, those that no search
+//!   decided, as rules
 //! - `second --calls [--scan]`: a stream of operations, a line for each
 //! - `second --calls --lines`: a stream of operations, what `catalogue` prints
 //! - `second --scripts STREAM`: what was printed for a stream of cases, scripts
@@ -23,9 +30,11 @@ use std::process::ExitCode;
 use second::calls::{self, Calls, Operation};
 use second::cases::{Answerer, Case};
 use second::catalogue::{Searcher, HASHING, SCANNING};
+use second::decide::{self, SEARCHES};
 use second::fault::Fault;
 use second::smt::{compare, output, Told};
-use second::{sheet, spell_open};
+use second::{sheet, shown, spell_open};
+use second::{ANSWER_BUFFER_TOO_SHORT, CLASH, NO_CLASH, NO_ROOM, SIDE_TOO_LONG};
 
 /// "the program's 65,520 hold 356; it reads 2,048 bytes of input", and lends
 /// 4,096 bytes of answer.
@@ -41,6 +50,11 @@ fn main() -> ExitCode {
         ["--many"] => many(a_line(second::answer)),
         ["--many", "--scan"] => many(a_line(second::scan::answer)),
         ["--many", "--lines"] => many(|case| case.run(second::answer).lines()),
+        ["--decide"] => many(|case| case.decide(decide::HASHING).line() + "\n"),
+        ["--decide", "--scan"] => many(|case| case.decide(decide::SCANNING).line() + "\n"),
+        ["--decide", "--lines"] => many(|case| case.decide(decide::HASHING).lines()),
+        ["--decide", "--left"] => many(left),
+        ["--decide", "--table"] => table(),
         ["--spelt"] => many(|case| case.spelt() + "\n"),
         ["--spell-open"] => return spelt(spell_open::sheet),
         ["--spell-open-rule"] => return spelt(spell_open::rule),
@@ -70,6 +84,7 @@ fn status(done: io::Result<()>) -> ExitCode {
 
 fn usage() -> ExitCode {
     eprintln!("usage: second | second WORK ANSWER | second --many|--calls [--scan | --lines]");
+    eprintln!("       second --decide [--scan | --lines | --table | --left]");
     eprintln!("       second --scripts STREAM | second --script SHEET");
     eprintln!("       second --spell-open | second --spell-open-rule | second --spelt");
     ExitCode::from(2)
@@ -108,8 +123,8 @@ fn a_line(answerer: Answerer) -> impl Fn(&Case) -> String {
     move |case| case.run(answerer).line() + "\n"
 }
 
-/// A stream of cases.
-fn many(shown: impl Fn(&Case) -> String) -> io::Result<()> {
+/// A stream of cases, and what is shown for each.
+fn many(mut shown: impl FnMut(&Case) -> String) -> io::Result<()> {
     let mut stream = Vec::new();
     io::stdin().lock().read_to_end(&mut stream)?;
     let mut out = BufWriter::new(io::stdout().lock());
@@ -123,6 +138,51 @@ fn many(shown: impl Fn(&Case) -> String) -> io::Result<()> {
         rest = behind;
     }
     out.flush()
+}
+
+/// A case that no search decided: its number and its rules.
+fn left(case: &Case) -> String {
+    let decided = case.decide(decide::HASHING).decided;
+    if decided.search > 0 || !matches!(decided.outcome.number, NO_ROOM | SIDE_TOO_LONG) {
+        return String::new();
+    }
+    format!("{} {:?} {}\n", decided.outcome.number, decided.spent, shown::sheet(&case.sheet))
+}
+
+/// How many sheets each search decided, with clash and with no clash, and the
+/// situations spent.
+fn table() -> io::Result<()> {
+    // By the search that decided; none where the sheet is refused.
+    let mut decided = [0usize; SEARCHES + 1];
+    let mut clashes = [0usize; SEARCHES + 1];
+    let (mut refused, mut spent) = (0usize, [0usize; SEARCHES]);
+    many(|case| {
+        let of = case.decide(decide::HASHING).decided;
+        let search = usize::from(of.search);
+        match of.outcome.number {
+            NO_CLASH | NO_ROOM | SIDE_TOO_LONG => decided[search] += 1,
+            CLASH | ANSWER_BUFFER_TOO_SHORT => {
+                decided[search] += 1;
+                clashes[search] += 1;
+            }
+            _ => refused += 1,
+        }
+        for (sum, more) in spent.iter_mut().zip(of.spent) {
+            *sum += more;
+        }
+        String::new()
+    })?;
+    let mut out = io::stdout().lock();
+    writeln!(out, "search decided clash no-clash situations")?;
+    for search in 1..=SEARCHES {
+        let (all, clash) = (decided[search], clashes[search]);
+        writeln!(out, "{search} {all} {clash} {} {}", all - clash, spent[search - 1])?;
+    }
+    let sheets: usize = decided.iter().sum();
+    let all: usize = spent.iter().sum();
+    let mean = all as f64 / sheets.max(1) as f64;
+    writeln!(out, "not decided {}, refused {refused}", decided[0])?;
+    writeln!(out, "sheets {sheets}, situations {all}, {mean:.1} for each")
 }
 
 /// A stream of operations; what stands before its end is done.

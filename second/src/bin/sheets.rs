@@ -9,12 +9,16 @@
 //! - `sheets --printed`: those whose lines tell wrong printers apart
 //! - `sheets --printed N`: the sheet alone of the N-th of these
 //! - `sheets --pairs`: each pair of the rules of `calls --full`
+//! - `sheets --pairs SEED NUMBER [--twice] [--room ROOM]`: so many pairs of rules
+//!   as storerooms write them, or of those with a field that stands twice; with
+//!   room for so many situations, or for 356
+//! - `sheets --decide SEED NUMBER`: so many cases to decide, made from the seed
 
 use std::io::{self, Write};
 use std::process::ExitCode;
 
 use second::cases::Case;
-use second::make::{case, long, spelt, Dice};
+use second::make::{case, decided, long, pairs, spelt, Dice};
 use second::{printed, storeroom, MOST_ROOM};
 
 fn main() -> ExitCode {
@@ -38,6 +42,14 @@ fn main() -> ExitCode {
             Some(cases) => cases,
             None => return usage(),
         },
+        ["--pairs", seed, number, ref rest @ ..] => match paired(seed, number, rest) {
+            Some(cases) => cases,
+            None => return usage(),
+        },
+        ["--decide", seed, number] => match made(seed, number, decided::case) {
+            Some(cases) => cases,
+            None => return usage(),
+        },
         [seed, number] => match made(seed, number, case) {
             Some(cases) => cases,
             None => return usage(),
@@ -52,10 +64,24 @@ fn main() -> ExitCode {
 }
 
 /// So many cases from a seed.
-fn made(seed: &str, number: &str, case: fn(&mut Dice) -> Case) -> Option<Vec<Case>> {
+fn made(seed: &str, number: &str, case: impl Fn(&mut Dice) -> Case) -> Option<Vec<Case>> {
     let (seed, number) = (seed.parse().ok()?, number.parse::<usize>().ok()?);
     let mut dice = Dice::new(seed);
     Some((0..number).map(|_| case(&mut dice)).collect())
+}
+
+/// So many pairs of rules with room for so many situations.
+fn paired(seed: &str, number: &str, rest: &[&str]) -> Option<Vec<Case>> {
+    let (twice, rest) = match rest {
+        ["--twice", rest @ ..] => (true, rest),
+        rest => (false, rest),
+    };
+    let room = match rest {
+        [] => 356,
+        ["--room", room] => room.parse().ok().filter(|&room| room <= MOST_ROOM)?,
+        _ => return None,
+    };
+    made(seed, number, |dice| pairs::case(dice, twice, room))
 }
 
 /// The long cases for a room.
@@ -83,7 +109,12 @@ fn put(bytes: &[u8]) -> ExitCode {
 }
 
 fn usage() -> ExitCode {
-    eprintln!("usage: sheets [--spelt] SEED NUMBER | sheets --long ROOM [N] | sheets --printed [N] | sheets --pairs");
+    eprintln!(
+        "usage: sheets [--spelt] SEED NUMBER | sheets --long ROOM [N] | sheets --printed [N]"
+    );
+    eprintln!(
+        "       sheets --pairs [SEED NUMBER [--twice] [--room ROOM]] | sheets --decide SEED NUMBER"
+    );
     eprintln!("ROOM is at most 65535");
     ExitCode::from(2)
 }

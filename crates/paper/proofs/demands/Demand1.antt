@@ -72,7 +72,7 @@ module _ (work answer : List ℕ) where
           first-fault = λ x at i. absurd (no-fault x at i);
         }))
 
-    answered-met : (c : ℕ) (x : End (Situation PlaceSet) Move) → Met (answered (hidden q) c x work answer)
+    pub answered-met : (c : ℕ) (x : End (Situation PlaceSet) Move) → Met (answered (hidden q) c x work answer)
     answered-met c (found e) = clash-met c e
     answered-met c used-up = without-met 1 c refl false≢true
     answered-met c no-room = without-met 18 c refl false≢true

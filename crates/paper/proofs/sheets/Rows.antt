@@ -34,7 +34,7 @@ fault-range wrong-token = omega arith
 abbrev pub found-records : Question → Entry (Situation PlaceSet) Move → List ℕ
 found-records q e = records-of q (spelt (hidden q) e)
 
-records-hidden : (q : Question) (e : Entry (Situation PlaceSet) Move) → records (hidden q) e ≡ found-records q e
+pub records-hidden : (q : Question) (e : Entry (Situation PlaceSet) Move) → records (hidden q) e ≡ found-records q e
 unfolding records
 records-hidden q e = ap (each (λ (f : ℕ). value-record f (spelt (hidden q) e f))) (standing-hidden q)
 

@@ -29,7 +29,7 @@ module _ {P : Type 0} (A : Acceptor P) (f : ℕ) where
   given-short s strike-right = omega arith
   given-short s (put c) = length-only (member f (front-fields (s .left) (s .right))) c
 
-  text-short : (s : Situation P) (ms : List Move) → length (text-along A f s ms) ≤ length ms
+  pub text-short : (s : Situation P) (ms : List Move) → length (text-along A f s ms) ≤ length ms
   text-short s [] = omega arith
   text-short s (m ∷ ms) =
       let next = trimmed A (moved A s m) in

@@ -1,7 +1,15 @@
--- `lines` meets its contract: without room nothing is changed, with room the entry is asked. Follows from `no-room` and `with-room`.
-use mathlib.Core.Path.{sym, _∙_}
+-- `lines` meets its contract: without room nothing is changed, with room the entry is asked. Follows from `no-room`, `with-room` and
+-- `printed-lines`.
+use Prim.Native.Nat.{ℕ}
+use mathlib.Core.Path.{sym, ap, _∙_}
+use mathlib.Core.List.{List}
 use borrow.Author.Needs.{needs}
+use Rattle.paper.specs.Outcome.{Outcome, outcome}
+use Rattle.paper.specs.Printed.{printed-of}
+use Rattle.writing.specs.Lines.{longest-first-line, put-lines, put-where-room}
+use Rattle.printing.specs.Lines.{lined}
 use Rattle.printing.proofs.Making.{no-room, with-room}
+use Rattle.printing.proofs.Told.{printed-lines}
 use Rattle.printing.proofs.lines.Statement.{statement}
 use Rattle.printing.proofs.lines.Tie as tie
 
@@ -27,23 +35,32 @@ same-length-3 : tie.Need-same-length-3
 same-length-3 c = search needs
 
 returns : tie.Need-returns
+unfolding lined put-lines
 returns c =
     let at-put = c .before .before in
     let at-numbers = at-put .before .before .before in
     let at-clash = at-numbers .before .before .before .before .before in
     let at-room = at-clash .before .before .before in
     let args = at-room .before .before .before .before .before .before .args in
-    with-room (args .sheet .now) (args .work .now) (args .answer .now) (args .out .now) (at-clash .clash .result)
+    let o = outcome (args .sheet .now) (args .work .now) (args .answer .now) in
+    let whole = at-clash .clash .ensures .0 in
+    let answer′ = at-clash .clash .last .1 .1 .0 in
+    with-room longest-first-line (printed-of o) o (args .work .now) (args .answer .now) (args .out .now)
     (sym (at-room .before .has-room .ensures) ∙ at-room .if1 .taken)
     (at-clash .clash .kept .1 .1 .0)
-    (at-clash .clash .ensures .0)
-    (at-numbers .in-numbers .ensures)
-    (at-put .put-lines .ensures)
+    (ap (λ (x : Outcome). x .answer) whole)
+    (ap (λ (x : Outcome). x .work) whole)
+    (at-put .put-lines .ensures
+    ∙ ap (λ (l : List ℕ). put-where-room longest-first-line l answer′ (args .out .now))
+    (printed-lines (at-clash .clash .result) whole (at-numbers .in-numbers .ensures)))
 
 returns-2 : tie.Need-returns-2
+unfolding lined
 returns-2 c =
     let args = c .before .before .before .before .before .before .args in
-    no-room (args .sheet .now) (args .work .now) (args .answer .now) (args .out .now) (sym (c .before .has-room .ensures) ∙ c .if1 .left)
+    let o = outcome (args .sheet .now) (args .work .now) (args .answer .now) in
+    no-room longest-first-line (printed-of o) o (args .work .now) (args .answer .now) (args .out .now)
+    (sym (c .before .has-room .ensures) ∙ c .if1 .left)
 
 pub lines-spec : {M : Type 1} → statement M
 lines-spec =

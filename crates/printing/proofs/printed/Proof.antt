@@ -1,16 +1,20 @@
--- `printed` meets its contract: the program's part of the input, its buffers, and the lines. Follows from `program-prints`.
+-- `printed` meets its contract: the program's part of the input, its buffers, and the lines. Follows from `program-prints`
+-- and `printed-program`.
 use Prim.Native.Nat.{ℕ, _≤_}
 use native.Mathlib.Nat.{sub-zero}
 use native.Mathlib.Omega.{arith}
-use mathlib.Core.Path.{_≡_, sym, ap, _∙_}
+use mathlib.Core.Path.{_≡_, refl, sym, ap, _∙_}
 use mathlib.Core.Logic.{⊎-elim}
 use lib.ListN.{length, take}
 use lib.Seq.{take-all}
 use borrow.Author.Needs.{needs}
 use Rattle.paper.specs.Numbers.{program-input}
-use Rattle.paper.specs.Printed.{printed}
-use Rattle.writing.specs.Lines.{Prints}
+use Rattle.paper.specs.Outcome.{outcome}
+use Rattle.paper.specs.Printed.{printed-of, printed}
+use Rattle.writing.specs.Lines.{longest-first-line, Prints}
+use Rattle.printing.specs.Lines.{lined, no-work, no-answer}
 use Rattle.printing.proofs.Making.{filled-bytes, program-prints}
+use Rattle.printing.proofs.Told.{printed-program}
 use Rattle.printing.proofs.printed.Statement.{statement}
 use Rattle.printing.proofs.printed.Tie as tie
 
@@ -29,12 +33,16 @@ read c =
 printed-by : (c : tie.After-lines) →
     let a = c .before .before .before .before .before .before .before .before .before .before .args in
     Prints (printed (a .input .now)) (a .out .now) (c .lines .last .1 .1 .1 .0) (filled-bytes (c .lines .result))
+unfolding lined
 printed-by c =
     let at-answer = c .before .before .before .before .before .before in
     let j = at-answer .before .before in
     let a = j .before .before .args in
-    program-prints (a .input .now) (rw sub-zero (read j .1)) (at-answer .before .zeroed-work .ensures) (at-answer .zeroed-answer .ensures)
-    (search needs) (c .lines .ensures)
+    let o = outcome (take program-input (a .input .now)) no-work no-answer in
+    rw (printed-program (a .input .now))
+    (program-prints longest-first-line (printed-of o) o no-work no-answer (a .out .now) refl
+    (search needs)
+    (rw (sub-zero, read j .1, at-answer .before .zeroed-work .ensures, at-answer .zeroed-answer .ensures) at (c .lines .ensures)))
 
 zeroed-work-requires : tie.Need-zeroed-work-requires
 zeroed-work-requires c κs = search needs

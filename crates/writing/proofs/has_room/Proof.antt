@@ -1,26 +1,13 @@
--- `has_room` meets its contract, by whether the first line has room.
-use Prim.Native.Nat.{_+_, _-_, _≤_}
-use native.Mathlib.Omega.{arith}
-use mathlib.Core.Path.{sym}
-use lib.Dec.{leb}
-use Rattle.paper.proofs.base.Tests.{le-leb, lt-leb, leb-true, same-tests}
-use Rattle.writing.specs.Lines.{longest-first-line}
+-- `has_room` meets its contract: the room behind its longest first line.
+use borrow.Author.Needs.{needs}
 use Rattle.writing.proofs.has_room.Statement.{statement}
 use Rattle.writing.proofs.has_room.Tie as tie
 
-returns : tie.Need-returns
-returns c =
-    let a = c .before .args in
-    sym (lt-leb (longest-first-line + a .answer) (a .out) (omega arith))
+room-behind-requires : tie.Need-room-behind-requires
+room-behind-requires c κs = search needs
 
-returns-2 : tie.Need-returns-2
-returns-2 c =
-    let a = c .before .args in
-    let all = longest-first-line + a .answer in
-    let rest = a .out - longest-first-line in
-    same-tests (leb (a .answer) rest) (leb all (a .out))
-    (λ t. le-leb all (a .out) (let h : a .answer ≤ rest = leb-true (a .answer) rest t in omega arith))
-    (λ t. le-leb (a .answer) rest (let h : all ≤ a .out = leb-true all (a .out) t in omega arith))
+returns : tie.Need-returns
+returns c = c .room-behind .ensures
 
 pub has-room-spec : {M : Type 1} → statement M
-has-room-spec = tie.close (tie.spec returns returns-2)
+has-room-spec = tie.close (tie.spec room-behind-requires returns)

@@ -6,7 +6,7 @@ use lib.Dec.{leb}
 use lib.ListN.{length}
 use borrow.Author.Needs.{needs}
 use Rattle.paper.proofs.base.Tests.{leb-true}
-use Rattle.writing.specs.Lines.{longest-first-line}
+use Rattle.writing.specs.Lines.{longest-first-line, lines-of, put-lines}
 use Rattle.writing.proofs.Making.{none-put, all-put}
 use Rattle.writing.proofs.put_lines.Statement.{statement}
 use Rattle.writing.proofs.put_lines.Tie as tie
@@ -27,16 +27,19 @@ same-length : tie.Need-same-length
 same-length c = search needs
 
 returns : tie.Need-returns
+unfolding put-lines
 returns c =
     let p = c .before .before in
     let t = p .before .before in
     let a = t .before .before .before .before .args in
-    all-put (a .told) (a .answer .now) (a .out .now) (room t) (p .lines-put .ensures)
+    all-put longest-first-line (lines-of (a .told) (a .answer .now)) (a .answer .now) (a .out .now) (room t) (p .lines-put .ensures)
 
 returns-2 : tie.Need-returns-2
+unfolding put-lines
 returns-2 c =
     let a = c .before .before .before .before .args in
-    none-put (a .told) (a .answer .now) (a .out .now) (sym (c .before .has-room .ensures) ∙ c .if1 .left)
+    none-put longest-first-line (lines-of (a .told) (a .answer .now)) (a .answer .now) (a .out .now)
+    (sym (c .before .has-room .ensures) ∙ c .if1 .left)
 
 pub put-lines-spec : {M : Type 1} → statement M
 put-lines-spec =

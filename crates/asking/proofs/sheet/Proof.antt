@@ -1,11 +1,11 @@
--- `bradovusc_clash` meets its contract: it hands on what the entry answers. Follows from `Telling`.
+-- `sheet` meets its contract: it hands on what the entry answers. Follows from `Telling`.
 use mathlib.Core.Path.{ap}
 use native.Mathlib.Omega.{arith}
 use borrow.Author.Needs.{needs}
 use Rattle.answers.specs.declared.Numbers.{Numbers}
-use Rattle.exported.proofs.Telling.{number-below, promised}
-use Rattle.exported.proofs.bradovusc_clash.Statement.{statement}
-use Rattle.exported.proofs.bradovusc_clash.Tie as tie
+use Rattle.asking.proofs.Telling.{number-below, promised}
+use Rattle.asking.proofs.sheet.Statement.{statement}
+use Rattle.asking.proofs.sheet.Tie as tie
 
 clash-requires : tie.Need-clash-requires
 clash-requires c κs = search needs
@@ -41,8 +41,8 @@ returns c =
     (at-numbers .in-numbers .ensures)
     (at-tell .tell .ensures)
 
-pub bradovusc-clash-spec : {M : Type 1} → statement M
-bradovusc-clash-spec =
+pub sheet-spec : {M : Type 1} → statement M
+sheet-spec =
     tie.close
     (tie.spec
     clash-requires

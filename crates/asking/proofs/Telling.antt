@@ -11,7 +11,7 @@ use Rattle.answers.specs.declared.Answer.{Answer}
 use Rattle.answers.specs.declared.Answer.the-variants.{Clash, NoClash, Refused, NoRoom, SideTooLong, AnswerTooShort, TextTooLong}
 use Rattle.answers.specs.declared.Numbers.{Numbers}
 use Rattle.telling.specs.Numbered.{with-numbers}
-use Rattle.exported.specs.Exported.{telling}
+use Rattle.asking.specs.Asking.{telling}
 
 pub fault-below : (x : Fault) → fault-number x < 22
 fault-below cut-short = lit< tt

@@ -1,0 +1,25 @@
+// `decide`: reads a question sheet from standard input and prints the decision. What it prints is made, and proved, in `deciding_lines`; here it is
+// read and written. There is no exit status: a failure is told on standard error.
+use deciding_lines::INPUT;
+use deciding_lines::PRINTED;
+use lines::read_first;
+use lines::tell;
+
+fn main() {
+    let mut input = [0u8; INPUT];
+    let got = read_first(&mut input);
+    let n = got.bytes;
+    if got.read {
+        print(&input[0..n]);
+    } else {
+        tell(b"decide: standard input can't be read\n");
+    }
+}
+
+fn print(input: &[u8]) {
+    let mut out = [0u8; PRINTED];
+    let n = deciding_lines::printed(input, &mut out);
+    if !lines::print(&out[0..n]) {
+        tell(b"decide: standard output can't be written\n");
+    }
+}

@@ -1,0 +1,5 @@
+pub mod Attempted
+pub mod Concluding
+pub mod Steps
+pub mod Promised
+pub mod Unique
