@@ -183,7 +183,7 @@ fn lengths_of_buffers() {
     defined("PAIR_BYTES", PAIR_BYTES);
     defined("SCRIPT_BYTES", SCRIPT_BYTES);
     defined("SHEET_BYTES", SHEET_BYTES);
-    assert_eq!(catalogue_bytes(MOST_RULES), 13_728);
+    assert_eq!(catalogue_bytes(MOST_RULES), 26_016);
     assert_eq!([0, 1, 2, 3, MOST_RULES].map(list_bytes), [0, 0, 5, 15, 2_480]);
 }
 

@@ -1,0 +1,172 @@
+"""Bradovusc: can two part-label rules make the same label?
+
+A rule is fixed Code 39 characters with fields between them; a field may have a pattern. Two rules clash when one label can be read by
+both. Spaces at the end of a label are dropped before it is read. The two rules stand on a question sheet:
+
+    >>> from bradovusc import Clash, NoClash, between, choice, decide, sheet, word
+    >>> asked = sheet("LT{0}{0}{1}", "LT{2}", {0: between("0", "9"), 1: choice(word("BR"), word("CH"))})
+    >>> answer = decide(asked).answer
+    >>> if isinstance(answer, Clash):
+    ...     print("they clash:", *(f"{text.field}={text}" for text in answer.texts))
+    ... elif isinstance(answer, NoClash):
+    ...     print("no label can be made by both")
+    ... else:
+    ...     print("no answer:", answer)
+    they clash: 0=0 1=BR 2=00BR
+
+An answer is an object of one of a few classes, with its ``number`` as in the tables of the rules and, as a string, its words. It is no
+truth value. ``clashes`` is true or false, and raises :class:`NotAnswered` where it is not decided: that is never to be read as "no".
+
+The functions are those of the C header, called in the shared library ``libbradovusc.so``, which is for x86-64 Linux. They keep nothing from
+one call to the next and touch nothing but the buffers that they are lent. The interpreter's lock is not held while they work, so that
+threads can ask at the same time; none may touch a buffer that another one has lent. The functions are proved to do what the rules say.
+This package is not: it is tested.
+
+The library is looked for in the file that the environment variable ``BRADOVUSC_LIBRARY`` names; else in this package's folder, in the
+nearest folder above it that is called ``lib``, and where the dynamic linker looks.
+"""
+
+from ._answers import (
+    Added,
+    Answer,
+    AnswerTooShort,
+    CarriedOver,
+    Clash,
+    Decision,
+    Done,
+    Fault,
+    ForeignField,
+    Full,
+    Listed,
+    ListTooShort,
+    NoCatalogue,
+    NoClash,
+    NoRoom,
+    NoRule,
+    NotAnswered,
+    NotApart,
+    OutputTooShort,
+    Pair,
+    Rechecked,
+    Refused,
+    Scripted,
+    ScriptTooShort,
+    SideTooLong,
+    SpeltOpen,
+    Text,
+    TextTooLong,
+    Told,
+    Withdrawn,
+    Written,
+)
+from ._build import ANY, between, choice, many, row, rule, sheet, word
+from ._catalogue import (
+    MOST_RULES,
+    PAIR_BYTES,
+    RULE_FIELDS,
+    add,
+    catalogue_bytes,
+    list_bytes,
+    recheck,
+    spell_open_catalogue,
+    withdraw,
+)
+from ._library import VERSION, LibraryMissing, library
+from ._sheets import (
+    DEFAULT_SITUATIONS,
+    FIELDS,
+    MOST_SITUATIONS,
+    RECORD_HEAD,
+    RULE_BYTES,
+    SCRIPT_BYTES,
+    SHEET_BYTES,
+    SITUATION_BYTES,
+    answer_bytes,
+    clash,
+    decide,
+    script,
+    spell_open,
+    spell_open_rule,
+    texts,
+    work_bytes,
+)
+from ._signs import CHARACTERS, SIGNS, SPACE, sign, signs, value, values
+
+__version__ = VERSION
+
+__all__ = [
+    "ANY",
+    "Added",
+    "Answer",
+    "AnswerTooShort",
+    "CHARACTERS",
+    "CarriedOver",
+    "Clash",
+    "DEFAULT_SITUATIONS",
+    "Decision",
+    "Done",
+    "FIELDS",
+    "Fault",
+    "ForeignField",
+    "Full",
+    "LibraryMissing",
+    "ListTooShort",
+    "Listed",
+    "MOST_RULES",
+    "MOST_SITUATIONS",
+    "NoCatalogue",
+    "NoClash",
+    "NoRoom",
+    "NoRule",
+    "NotAnswered",
+    "NotApart",
+    "OutputTooShort",
+    "PAIR_BYTES",
+    "Pair",
+    "RECORD_HEAD",
+    "RULE_BYTES",
+    "RULE_FIELDS",
+    "Rechecked",
+    "Refused",
+    "SCRIPT_BYTES",
+    "SHEET_BYTES",
+    "SIGNS",
+    "SITUATION_BYTES",
+    "SPACE",
+    "ScriptTooShort",
+    "Scripted",
+    "SideTooLong",
+    "SpeltOpen",
+    "Text",
+    "TextTooLong",
+    "Told",
+    "VERSION",
+    "Withdrawn",
+    "Written",
+    "add",
+    "answer_bytes",
+    "between",
+    "catalogue_bytes",
+    "choice",
+    "clash",
+    "decide",
+    "library",
+    "list_bytes",
+    "many",
+    "recheck",
+    "row",
+    "rule",
+    "script",
+    "sheet",
+    "sign",
+    "signs",
+    "spell_open",
+    "spell_open_catalogue",
+    "spell_open_rule",
+    "texts",
+    "value",
+    "values",
+    "withdraw",
+    "word",
+    "work_bytes",
+]

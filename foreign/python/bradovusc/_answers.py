@@ -1,0 +1,372 @@
+"""What the library answers: a class for each kind of answer, with its number and its words."""
+
+from __future__ import annotations
+
+import enum
+from dataclasses import dataclass
+from typing import ClassVar, NoReturn, Tuple, Union
+
+from ._signs import signs
+
+
+class Fault(enum.Enum):
+    """What is wrong with a sheet or a rule. The value is its number.
+
+    Its place is an offset in the sheet, or in the rule from its ``RU``: that of the byte itself. It is never above the length, but it can
+    be the length, where no byte stands: with ``CUT_SHORT`` always, and with ``NOT_ONE_PATTERN`` if the code runs out where the bytes end.
+    """
+
+    #: It ends too early. The place is its length.
+    CUT_SHORT = 11
+    #: A mark that is unknown or not allowed here, or bytes behind the last side. The place is the first byte of the mark, or the first
+    #: byte behind the side.
+    WRONG_MARK = 12
+    #: A pattern's field is above 7, or not above the field of the pattern before it. The place is the field byte.
+    WRONG_FIELD = 13
+    #: A pattern's length is not 1 to 192, or a side's is above 24. The place is the length byte.
+    WRONG_LENGTH = 14
+    #: The bytes of a pattern are not exactly one pattern. The place is, read from left to right, the first byte that is no code; the lo
+    #: byte of a range if lo is above 42, else the hi byte if that is above 42 or below lo; the first byte left over; where the code runs
+    #: out, the offset behind the pattern's last byte.
+    NOT_ONE_PATTERN = 15
+    #: A pattern has more than 63 leaves. The place is the first byte of the 64th.
+    TOO_MANY_LEAVES = 16
+    #: A side holds a byte that is neither a character nor a field 0 to 7. The place is the first such byte.
+    WRONG_TOKEN = 17
+
+    @property
+    def number(self) -> int:
+        """Its number, 11 to 17."""
+        return int(self.value)
+
+    def __str__(self) -> str:
+        return _FAULTS[self]
+
+
+_FAULTS = {
+    Fault.CUT_SHORT: "cut short",
+    Fault.WRONG_MARK: "a wrong mark, or bytes behind the last side",
+    Fault.WRONG_FIELD: "a wrong field number",
+    Fault.WRONG_LENGTH: "a wrong length",
+    Fault.NOT_ONE_PATTERN: "not one pattern",
+    Fault.TOO_MANY_LEAVES: "a pattern with too many leaves",
+    Fault.WRONG_TOKEN: "a wrong token",
+}
+
+
+class NotAnswered(Exception):
+    """Neither yes nor no: it is not decided whether the rules clash, or the sheet is at fault. ``answer`` says which."""
+
+    def __init__(self, answer: Told) -> None:
+        super().__init__(str(answer))
+        self.answer = answer
+
+
+class Told:
+    """An answer of any kind. It is no truth value, so that "not decided" is never taken for "no"."""
+
+    #: Its words.
+    _words: ClassVar[str]
+    #: Its number, as in the tables of the rules.
+    number: int
+
+    def __str__(self) -> str:
+        return self._words
+
+    def __bool__(self) -> NoReturn:
+        raise TypeError("an answer is neither true nor false: look at its class, its number, or clashes")
+
+
+class _Yes(Told):
+    """The rules clash."""
+
+    @property
+    def clashes(self) -> bool:
+        """True."""
+        return True
+
+
+class _Open(Told):
+    """Neither yes nor no."""
+
+    @property
+    def clashes(self) -> bool:
+        """Raises :class:`NotAnswered`."""
+        raise NotAnswered(self)
+
+
+@dataclass(frozen=True)
+class Text:
+    """What a field holds on the label that a clash found. As a string it is the signs."""
+
+    field: int
+    #: The characters by value, each below 43.
+    values: bytes
+
+    def __str__(self) -> str:
+        return signs(self.values)
+
+
+@dataclass(frozen=True)
+class Clash(_Yes):
+    """0: a label can be made by both rules.
+
+    ``texts`` has what each field holds on it, by rising field. With them one side may have spaces at its end that the other has not.
+    Of a pair of a catalogue no texts are told.
+    """
+
+    #: The situations that were entered.
+    count: int
+    texts: Tuple[Text, ...] = ()
+    #: The bytes that were written to the answer buffer.
+    written: int = 0
+    number = 0
+    _words = "clash"
+
+
+@dataclass(frozen=True)
+class NoClash(Told):
+    """1: no label, however long, and with whatever spaces at its end, can be made by both rules."""
+
+    #: The situations that were entered.
+    count: int
+    number = 1
+    _words = "no clash"
+
+    @property
+    def clashes(self) -> bool:
+        """False."""
+        return False
+
+
+@dataclass(frozen=True)
+class Refused(_Open):
+    """11 to 17: the sheet, or the rule, is at fault."""
+
+    fault: Fault
+    #: The offset of the byte at fault, as :class:`Fault` says.
+    place: int
+
+    @property
+    def number(self) -> int:  # type: ignore[override]
+        """The fault's number."""
+        return self.fault.number
+
+    def __str__(self) -> str:
+        return f"{self.fault}, at offset {self.place}"
+
+
+@dataclass(frozen=True)
+class NoRoom(_Open):
+    """18: neither yes nor no; the working buffer is full. Lend a longer one, though some questions fill any."""
+
+    #: The situations that were entered.
+    count: int
+    number = 18
+    _words = "not decided: no room for a situation"
+
+
+@dataclass(frozen=True)
+class SideTooLong(_Open):
+    """19: neither yes nor no; a side grew above 48 tokens, the hidden field of spaces at its end counted."""
+
+    #: The situations that were entered.
+    count: int
+    number = 19
+    _words = "not decided: a side grew too long"
+
+
+@dataclass(frozen=True)
+class AnswerTooShort(_Yes):
+    """20: the rules clash, but the answer buffer is too short for the texts."""
+
+    #: The situations that were entered.
+    count: int
+    number = 20
+    _words = "clash, but the answer buffer is too short for the texts"
+
+
+@dataclass(frozen=True)
+class TextTooLong(_Yes):
+    """21: the rules clash, but a text is above 65,535 characters. It is proved that this never comes."""
+
+    #: The situations that were entered.
+    count: int
+    number = 21
+    _words = "clash, but a text is too long for its record"
+
+
+#: The answer to a sheet. Each has ``clashes``: true, false, or :class:`NotAnswered` is raised.
+Answer = Union[Clash, NoClash, Refused, NoRoom, SideTooLong, AnswerTooShort, TextTooLong]
+
+
+@dataclass(frozen=True)
+class Decision(Told):
+    """The answer to a sheet, and which search gave it."""
+
+    #: Its count is that of all the searches made.
+    answer: Answer
+    #: The search that decided, 1 to 4; 0 where none did, or where the sheet is at fault.
+    search: int
+
+    @property
+    def number(self) -> int:  # type: ignore[override]
+        """The answer's number."""
+        return self.answer.number
+
+    @property
+    def clashes(self) -> bool:
+        """Whether the rules clash. Raises :class:`NotAnswered` where that is not decided, or the sheet is at fault."""
+        return self.answer.clashes
+
+    def __str__(self) -> str:
+        return str(self.answer)
+
+
+@dataclass(frozen=True)
+class Written(Told):
+    """0: the script, the new sheet or the new rule is written. It stands in the front of the output buffer, too."""
+
+    data: bytes
+    number = 0
+    _words = "done"
+
+
+@dataclass(frozen=True)
+class ScriptTooShort(Told):
+    """40: the output buffer is too short for the script. Not a byte of it is written."""
+
+    number = 40
+    _words = "the output buffer is too short for the script"
+
+
+@dataclass(frozen=True)
+class OutputTooShort(Told):
+    """41: the output buffer is too short for the new sheet or rule. Not a byte of it is written."""
+
+    number = 41
+    _words = "the output buffer is too short for the sheet or the rule"
+
+
+@dataclass(frozen=True)
+class ForeignField(Told):
+    """31: the rule names a field above 3. No place is told."""
+
+    number = 31
+    _words = "a field above 3"
+
+
+@dataclass(frozen=True)
+class Full(Told):
+    """32: 32 rules are there, or the rule's bytes don't fit behind them; of carrying over, the new rules are longer than the buffer."""
+
+    number = 32
+    _words = "no room in the catalogue"
+
+
+@dataclass(frozen=True)
+class NoRule(Told):
+    """33: no rule has that number."""
+
+    number = 33
+    _words = "no rule has that number"
+
+
+@dataclass(frozen=True)
+class NoCatalogue(Told):
+    """34: the buffer is no catalogue."""
+
+    number = 34
+    _words = "the buffer is no catalogue"
+
+
+@dataclass(frozen=True)
+class ListTooShort(Told):
+    """35: the list buffer is too short for all the pairs. None is listed."""
+
+    number = 35
+    _words = "the list buffer is too short for the pairs"
+
+
+@dataclass(frozen=True)
+class Done(Told):
+    """0: the rule is added or withdrawn, or every rule of the catalogue is carried over."""
+
+    number = 0
+    _words = "done"
+
+
+@dataclass(frozen=True)
+class NotApart(Told):
+    """30: the new rule clashes with one that is there, or that is not decided."""
+
+    #: The number of the first such rule.
+    rule: int
+    #: The answer of the two: :class:`Clash`, of which no texts are told, :class:`NoRoom` or :class:`SideTooLong`.
+    pair: Answer
+    number = 30
+
+    def __str__(self) -> str:
+        return f"not apart from a rule of the catalogue: rule {self.rule}, {self.pair}"
+
+
+@dataclass(frozen=True)
+class Pair:
+    """Two rules of a catalogue that can make the same label, or of which that is not decided."""
+
+    #: The lower number of the two; this rule was the left side.
+    lower: int
+    higher: int
+    #: :class:`Clash`, of which no texts are told, :class:`NoRoom` or :class:`SideTooLong`.
+    answer: Answer
+
+    def __str__(self) -> str:
+        return f"rule {self.lower} and rule {self.higher}: {self.answer}"
+
+
+@dataclass(frozen=True)
+class Listed(Told):
+    """0: these pairs are not answered 1, by the lower number, then the higher one.
+
+    Where there are none, no two rules of the catalogue make the same label.
+    """
+
+    pairs: Tuple[Pair, ...]
+    number = 0
+    _words = "done"
+
+
+#: The answer to a sheet that is to be written out.
+Scripted = Union[Written, Refused, ScriptTooShort]
+#: The answer to a rule that is to be added.
+Added = Union[Done, Refused, NotApart, ForeignField, Full, NoCatalogue]
+#: The answer to a rule's number that is to be withdrawn.
+Withdrawn = Union[Done, NoRule, NoCatalogue]
+#: What checking a catalogue again answers.
+Rechecked = Union[Listed, NoCatalogue, ListTooShort]
+#: The answer to a sheet or a rule that is to be carried over.
+SpeltOpen = Union[Written, Refused, ForeignField, OutputTooShort]
+#: The answer to a catalogue that is to be carried over.
+CarriedOver = Union[Done, Full, NoCatalogue]
+
+
+def refused(number: int, place: int) -> Refused:
+    """The refusal with this number."""
+    return Refused(Fault(number), place)
+
+
+def answer(number: int, count: int, place: int, written: int = 0, texts: Tuple[Text, ...] = ()) -> Answer:
+    """The answer with these numbers."""
+    if number == Clash.number:
+        return Clash(count, texts, written)
+    if number == NoClash.number:
+        return NoClash(count)
+    if number == NoRoom.number:
+        return NoRoom(count)
+    if number == SideTooLong.number:
+        return SideTooLong(count)
+    if number == AnswerTooShort.number:
+        return AnswerTooShort(count)
+    if number == TextTooLong.number:
+        return TextTooLong(count)
+    return refused(number, place)

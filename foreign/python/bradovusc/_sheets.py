@@ -1,0 +1,152 @@
+"""Sheets answered, written out as scripts and carried over."""
+
+from __future__ import annotations
+
+from typing import Iterator, Optional, Tuple
+
+from ._answers import (
+    Answer,
+    Clash,
+    Decision,
+    ForeignField,
+    OutputTooShort,
+    Scripted,
+    ScriptTooShort,
+    SpeltOpen,
+    Text,
+    Written,
+    answer,
+    refused,
+)
+from ._library import Lent, Readable, Writable, call
+
+#: A situation of the search takes so many bytes of the working buffer.
+SITUATION_BYTES = 184
+#: Room is counted in whole situations, and there are at most so many.
+MOST_SITUATIONS = 65_535
+#: Where no working buffer is lent, there is room for so many situations.
+DEFAULT_SITUATIONS = 455
+#: A sheet has fields 0 to 7.
+FIELDS = 8
+#: A record of the answer buffer has so many bytes before its text.
+RECORD_HEAD = 5
+#: A good sheet has at most so many bytes. An output buffer of so many is long enough for every sheet that is carried over.
+SHEET_BYTES = 1_622
+#: A good rule of a catalogue has at most so many bytes.
+RULE_BYTES = 813
+#: An output buffer of so many bytes is long enough for the script of every sheet.
+SCRIPT_BYTES = 280_000
+
+
+def work_bytes(situations: int) -> int:
+    """A working buffer of so many bytes has room for so many situations."""
+    return SITUATION_BYTES * situations
+
+
+def answer_bytes(situations: int) -> int:
+    """An answer buffer of so many bytes is always long enough, where there is room for so many situations."""
+    return FIELDS * (RECORD_HEAD + situations)
+
+
+def lent_work(work: Optional[Writable]) -> Lent:
+    """The working buffer, or one with room for :data:`DEFAULT_SITUATIONS`."""
+    return Lent(bytearray(work_bytes(DEFAULT_SITUATIONS)) if work is None else work)
+
+
+def texts(written: Readable) -> Iterator[Text]:
+    """The texts that a clash has written: one for each field that stands in a side, by rising number.
+
+    Bytes that are not a whole record end them.
+    """
+    rest = bytes(written)
+    while len(rest) >= RECORD_HEAD and rest.startswith(b"VA"):
+        end = RECORD_HEAD + int.from_bytes(rest[3:RECORD_HEAD], "little")
+        if len(rest) < end:
+            return
+        yield Text(rest[2], rest[RECORD_HEAD:end])
+        rest = rest[end:]
+
+
+def _asked(name: str, told: int, sheet: Readable, work: Optional[Writable], into: Optional[Writable]) -> Tuple[Answer, int]:
+    """Asks by this function: the answer, and the last number told."""
+    lent = lent_work(work)
+    room = min(lent.length // SITUATION_BYTES, MOST_SITUATIONS)
+    records = Lent(bytearray(answer_bytes(room)) if into is None else into)
+    number, numbers = call(name, bytes(sheet), lent, records, told=told)
+    count, place, written = numbers[:3]
+    found = tuple(texts(records.front(written))) if number == Clash.number else ()
+    return answer(number, count, place, written, found), numbers[-1]
+
+
+def clash(sheet: Readable, work: Optional[Writable] = None, answer: Optional[Writable] = None) -> Answer:
+    """Can the two rules of the sheet make the same label? One search answers, in the room of the working buffer.
+
+    The working buffer has room for one situation for each whole :data:`SITUATION_BYTES`, at most :data:`MOST_SITUATIONS`. It is all zero
+    afterwards, but a sheet at fault leaves it unchanged. Only a clash changes the answer buffer, and only the bytes written. Where no
+    working buffer is lent, there is room for :data:`DEFAULT_SITUATIONS`; where no answer buffer is lent, one that is long enough is made.
+    """
+    return _asked("bradovusc_clash", 3, sheet, work, answer)[0]
+
+
+def decide(sheet: Readable, work: Optional[Writable] = None, answer: Optional[Writable] = None) -> Decision:
+    """Can the two rules of the sheet make the same label? As :func:`clash`, but by up to four searches, until one decides.
+
+    They are made one after the other in the same working buffer: (1) the search of ``clash``; (2) the search over one character of each
+    kind that the sheet tells apart; (3) the search over a few characters, whose clash is one, and whose end says nothing; (4) the search
+    with every standing of a field as a field of its own, whose "no clash" is one, and whose clash says nothing.
+
+    Where ``clash`` decides, or refuses the sheet, this gives the same in every number and byte. Where no search decides, the answer is
+    :class:`NoRoom` or :class:`SideTooLong`, as the first search had it: neither yes nor no. After :class:`AnswerTooShort` the search is
+    told that found the texts. The count is that of all the searches made.
+    """
+    return Decision(*_asked("bradovusc_decide", 4, sheet, work, answer))
+
+
+def script(sheet: Readable, out: Optional[Writable] = None) -> Scripted:
+    """Writes the sheet out as a script for string solvers, such as z3 and cvc5.
+
+    The script is ASCII text in SMT-LIB 2.6, and means the sheet's question: ``sat`` says that the rules clash, ``unsat`` that they don't.
+    Only :class:`Written` changes the buffer, and only the bytes of the script. :data:`SCRIPT_BYTES` are always enough, and so many are
+    taken where no buffer is lent.
+    """
+    lent = Lent(bytearray(SCRIPT_BYTES) if out is None else out)
+    number, (_, place, written) = call("bradovusc_script", bytes(sheet), lent, told=3)
+    if number == Written.number:
+        return Written(lent.front(written))
+    if number == ScriptTooShort.number:
+        return ScriptTooShort()
+    return refused(number, place)
+
+
+def _spelt_open(name: str, old: Readable, out: Optional[Writable], enough: int) -> SpeltOpen:
+    lent = Lent(bytearray(enough) if out is None else out)
+    number, (_, place, written) = call(name, bytes(old), lent, told=3)
+    if number == Written.number:
+        return Written(lent.front(written))
+    if number == ForeignField.number:
+        return ForeignField()
+    if number == OutputTooShort.number:
+        return OutputTooShort()
+    return refused(number, place)
+
+
+def spell_open(sheet: Readable, out: Optional[Writable] = None) -> SpeltOpen:
+    """Carries a sheet from before version 0.6 over.
+
+    Up to version 0.5 a field without a pattern held any text, the empty one included; since 0.6 it holds one character or more. This
+    writes the sheet with the pattern 68 65 0 42 for each field that stands in a side and has none. All else stays byte for byte as it
+    was. It is proved that the new sheet's question has exactly the solutions that the old meaning gave the old sheet.
+
+    Carry a sheet over once, and only one from before 0.6: nothing in its bytes says for which version it was written, and a sheet for 0.6
+    would get another meaning. Only :class:`Written` changes the buffer. :data:`SHEET_BYTES` are always enough. A sheet never gets
+    :class:`ForeignField`.
+    """
+    return _spelt_open("bradovusc_spell_open", sheet, out, SHEET_BYTES)
+
+
+def spell_open_rule(rule: Readable, out: Optional[Writable] = None) -> SpeltOpen:
+    """Carries a rule of a catalogue from before version 0.6 over, as :func:`spell_open` does a sheet.
+
+    It is proved that the new rule makes exactly the labels that the old one made. :data:`RULE_BYTES` are always enough.
+    """
+    return _spelt_open("bradovusc_spell_open_rule", rule, out, RULE_BYTES)

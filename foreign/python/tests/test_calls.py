@@ -1,0 +1,219 @@
+"""The calls: their buffers, what is refused, what each answer is."""
+
+import array
+import contextlib
+import doctest
+import io
+import re
+import textwrap
+import threading
+import unittest
+
+import bradovusc
+from bradovusc import (
+    ANY,
+    AnswerTooShort,
+    Clash,
+    Decision,
+    Done,
+    Fault,
+    ForeignField,
+    Full,
+    Listed,
+    ListTooShort,
+    NoCatalogue,
+    NoClash,
+    NoRoom,
+    NoRule,
+    NotAnswered,
+    NotApart,
+    OutputTooShort,
+    Pair,
+    Refused,
+    ScriptTooShort,
+    Text,
+    Written,
+    rule,
+    sheet,
+    work_bytes,
+)
+from rules_page import TOP
+
+DIGITS = bradovusc.many(bradovusc.between("0", "9"))
+FOUR = sheet("{0}", "{1}", {0: DIGITS, 1: bradovusc.word("4")})
+
+
+class Sheets(unittest.TestCase):
+    def test_a_clash(self):
+        answer = bradovusc.clash(FOUR)
+        self.assertEqual(answer, Clash(13, (Text(0, b"\4"), Text(1, b"\4")), 12))
+        self.assertEqual([str(text) for text in answer.texts], ["4", "4"])
+        self.assertIs(answer.clashes, True)
+        self.assertEqual(str(answer), "clash")
+
+    def test_no_clash(self):
+        answer = bradovusc.clash(sheet("A", "B"))
+        self.assertEqual((answer, answer.number), (NoClash(1), 1))
+        self.assertIs(answer.clashes, False)
+
+    def test_refused(self):
+        answer = bradovusc.clash(FOUR + b"X")
+        self.assertEqual(answer, Refused(Fault.WRONG_MARK, len(FOUR)))
+        self.assertEqual(answer.number, 12)
+        self.assertEqual(str(answer), f"a wrong mark, or bytes behind the last side, at offset {len(FOUR)}")
+
+    def test_neither_yes_nor_no(self):
+        answers = [bradovusc.clash(FOUR, bytearray()), bradovusc.clash(b""), bradovusc.decide(FOUR, bytearray())]
+        self.assertEqual(answers, [NoRoom(0), Refused(Fault.CUT_SHORT, 0), Decision(NoRoom(0), 0)])
+        for answer in answers:
+            with self.assertRaises(NotAnswered) as raised:
+                answer.clashes
+            self.assertEqual(str(raised.exception), str(answer))
+            with self.assertRaises(TypeError):
+                bool(answer)
+        for answer in (bradovusc.clash(FOUR), bradovusc.decide(sheet("A", "B")), bradovusc.withdraw(bytearray(), 0)):
+            with self.assertRaises(TypeError):
+                not answer
+
+    def test_no_room_for_the_texts(self):
+        answer = bytearray(11)
+        self.assertEqual(bradovusc.clash(FOUR, answer=answer), AnswerTooShort(13))
+        self.assertEqual(bradovusc.decide(FOUR, answer=answer), Decision(AnswerTooShort(13), 1))
+        self.assertIs(AnswerTooShort(13).clashes, True)
+        self.assertEqual(answer, bytearray(11))
+
+    def test_buffers_of_several_kinds(self):
+        work = memoryview(bytearray(work_bytes(20)))
+        for given in (FOUR, bytearray(FOUR), memoryview(FOUR), memoryview(bytearray(b"X" + FOUR))[1:]):
+            for lent in (work, array.array("Q", bytes(work_bytes(20))), None):
+                self.assertEqual(bradovusc.clash(given, lent), bradovusc.clash(FOUR))
+        both = bytearray(work_bytes(20) + 30)
+        view = memoryview(both)
+        answer = bradovusc.clash(FOUR, view[: work_bytes(20)], view[work_bytes(20) :])
+        self.assertEqual(both[work_bytes(20) :], b"VA\0\1\0\4VA\1\1\0\4" + bytes(18))
+        self.assertEqual(answer.written, 12)
+
+    def test_buffers_that_are_refused(self):
+        work = bytearray(work_bytes(20))
+        view = memoryview(work)
+        for lent in ((work, work), (view[:100], view[99:]), (view[50:60], view)):
+            with self.assertRaises(ValueError):
+                bradovusc.clash(FOUR, *lent)
+        for lent in (b"", bytes(184), memoryview(bytes(184)), "work", 184, memoryview(work)[::2]):
+            with self.assertRaises(TypeError):
+                bradovusc.clash(FOUR, lent)
+        self.assertEqual(work, bytearray(work_bytes(20)))
+
+    def test_a_buffer_is_held_during_the_call_alone(self):
+        work = bytearray(work_bytes(20))
+        bradovusc.clash(FOUR, work)
+        work.append(0)
+
+    def test_overlapping_in_no_byte(self):
+        work = bytearray(work_bytes(20))
+        view = memoryview(work)
+        self.assertEqual(bradovusc.clash(FOUR, work, view[7:7]), AnswerTooShort(13))
+
+    def test_several_threads(self):
+        answers = []
+
+        def ask():
+            answers.extend(bradovusc.decide(FOUR) for _ in range(20))
+
+        threads = [threading.Thread(target=ask) for _ in range(4)]
+        for thread in threads:
+            thread.start()
+        for thread in threads:
+            thread.join()
+        self.assertEqual(answers, [Decision(bradovusc.clash(FOUR), 1)] * 80)
+
+    def test_scripts(self):
+        said = bradovusc.script(FOUR)
+        self.assertTrue(said.data.startswith(b"; Do two label rules clash?") and said.data.endswith(b"(check-sat)\n"))
+        exact, short = bytearray(len(said.data)), bytearray(len(said.data) - 1)
+        self.assertEqual(bradovusc.script(FOUR, exact), said)
+        self.assertEqual(exact, said.data)
+        self.assertEqual(bradovusc.script(FOUR, short), ScriptTooShort())
+        self.assertEqual(short, bytearray(len(short)))
+        self.assertEqual(bradovusc.script(b"LE"), Refused(Fault.CUT_SHORT, 2))
+
+    def test_carried_over(self):
+        old, new = sheet("{0}4", "4"), sheet("{0}4", "4", {0: ANY})
+        self.assertEqual(bradovusc.spell_open(old), Written(new))
+        self.assertEqual(bradovusc.spell_open(old, bytearray(len(new) - 1)), OutputTooShort())
+        self.assertEqual(bradovusc.spell_open(new), Written(new))
+        self.assertEqual(bradovusc.spell_open_rule(rule("{3}4")), Written(rule("{3}4", {3: ANY})))
+        self.assertEqual(bradovusc.spell_open_rule(rule("{4}4")), ForeignField())
+        self.assertEqual(bradovusc.spell_open_rule(b"RULE\1"), Refused(Fault.CUT_SHORT, 5))
+
+
+class Catalogues(unittest.TestCase):
+    def test_a_catalogue(self):
+        catalogue = bytearray(bradovusc.catalogue_bytes())
+        self.assertEqual(bradovusc.add(catalogue, rule("A")), Done())
+        self.assertEqual(bradovusc.add(catalogue, rule("B{0}", {0: DIGITS})), Done())
+        self.assertEqual(bradovusc.add(catalogue, rule("{0}")), NotApart(0, Clash(10)))
+        self.assertEqual(bradovusc.add(catalogue, rule("{4}")), ForeignField())
+        self.assertEqual(bradovusc.add(catalogue, rule("C"), bytearray()), NotApart(0, NoRoom(0)))
+        self.assertEqual(bradovusc.add(catalogue, b"RULE\1"), Refused(Fault.CUT_SHORT, 5))
+        self.assertEqual(bradovusc.recheck(catalogue), Listed(()))
+        self.assertEqual(bytes(catalogue).rstrip(b"\0"), rule("A") + rule("B{0}", {0: DIGITS}))
+        self.assertEqual(bradovusc.withdraw(catalogue, 2), NoRule())
+        self.assertEqual(bradovusc.withdraw(catalogue, 2**64 - 1), NoRule())
+        for number in (-1, 2**64):
+            with self.assertRaises(ValueError):
+                bradovusc.withdraw(catalogue, number)
+        self.assertEqual(bradovusc.withdraw(catalogue, 0), Done())
+        self.assertEqual(bytes(catalogue).rstrip(b"\0"), rule("B{0}", {0: DIGITS}))
+
+    def test_words_of_not_apart(self):
+        self.assertEqual(str(NotApart(3, NoRoom(7))), "not apart from a rule of the catalogue: rule 3, not decided: no room for a situation")
+
+    def test_full_and_no_catalogue(self):
+        short = bytearray(5)
+        self.assertEqual(bradovusc.add(short, rule("A")), Full())
+        for wrong in (bytearray(b"X"), bytearray(b"RULE\1\x0aX")):
+            before = bytes(wrong)
+            self.assertEqual(bradovusc.add(wrong, rule("A")), NoCatalogue())
+            self.assertEqual(bradovusc.withdraw(wrong, 0), NoCatalogue())
+            self.assertEqual(bradovusc.recheck(wrong), NoCatalogue())
+            self.assertEqual(bradovusc.spell_open_catalogue(wrong), NoCatalogue())
+            self.assertEqual(bytes(wrong), before)
+
+    def test_checked_again(self):
+        catalogue = rule("A") + rule("A ") + rule("B")
+        self.assertEqual(bradovusc.recheck(catalogue), Listed((Pair(0, 1, Clash(6)),)))
+        self.assertEqual(str(Pair(0, 1, Clash(6))), "rule 0 and rule 1: clash")
+        self.assertEqual(bradovusc.recheck(catalogue, list=bytearray(4)), ListTooShort())
+        # without room no pair is decided
+        undecided = Listed(tuple(Pair(lower, higher, NoRoom(0)) for lower, higher in ((0, 1), (0, 2), (1, 2))))
+        self.assertEqual(bradovusc.recheck(catalogue, bytearray(183)), undecided)
+
+    def test_carried_over(self):
+        catalogue = bytearray(rule("A{0}") + rule("B") + bytes(7))
+        self.assertEqual(bradovusc.spell_open_catalogue(catalogue), Full())
+        catalogue.append(0)
+        self.assertEqual(bradovusc.spell_open_catalogue(catalogue), Done())
+        self.assertEqual(catalogue, rule("A{0}", {0: ANY}) + rule("B"))
+
+    def test_empty(self):
+        self.assertEqual(bradovusc.recheck(b""), Listed(()))
+        self.assertEqual(bradovusc.spell_open_catalogue(bytearray()), Done())
+        self.assertEqual(bradovusc.withdraw(bytearray(), 0), NoRule())
+        self.assertEqual(bradovusc.add(bytearray(), rule("A")), Full())
+
+
+class Examples(unittest.TestCase):
+    def test_of_the_package(self):
+        self.assertEqual(doctest.testmod(bradovusc).failed, 0)
+
+    def test_of_the_page(self):
+        page = (TOP / "foreign/README.md").read_text().partition("\n## Python\n")[2]
+        code, prints = re.match(r"\n((?:    .*\n|\n)+)prints `(.*?)`", page).groups()
+        with contextlib.redirect_stdout(io.StringIO()) as printed:
+            exec(textwrap.dedent(code), {})
+        self.assertEqual(printed.getvalue(), prints + "\n")
+
+
+if __name__ == "__main__":
+    unittest.main()

@@ -1,0 +1,124 @@
+//! Asks the library whether two rules make the same label, in room that grows.
+
+use bradovusc::{answer_bytes, Answer, MOST_SITUATIONS, SITUATION_BYTES};
+
+use crate::sides::{sheet, texts, Side, Text};
+
+/// Room that grows begins with so many situations.
+pub const FIRST_ROOM: usize = 455;
+
+/// While nothing is decided, the room becomes so many times what it was.
+const GROWTH: usize = 4;
+
+/// How much room a search has, in situations.
+#[derive(Clone, Copy, Debug, PartialEq, Eq)]
+pub enum Room {
+    /// From [`FIRST_ROOM`] to the most there can be.
+    Growing,
+    /// So much and no more.
+    Fixed(usize),
+}
+
+impl Room {
+    /// What is tried, one after the other.
+    pub fn sizes(self) -> impl Iterator<Item = usize> {
+        let first = match self {
+            Room::Growing => FIRST_ROOM,
+            Room::Fixed(room) => room,
+        };
+        let next = move |&room: &usize| {
+            let grows = self == Room::Growing && room < MOST_SITUATIONS;
+            grows.then(|| (room * GROWTH).min(MOST_SITUATIONS))
+        };
+        std::iter::successors(Some(first), next)
+    }
+}
+
+/// What the library said of two rules.
+#[derive(Clone, Debug)]
+pub struct Asked {
+    /// In the last room that was tried.
+    pub answer: Answer,
+    /// Which search decided, 1 to 4; 0 where none did.
+    pub search: u8,
+    /// The last room that was tried, in situations.
+    pub room: usize,
+    /// The label that both make, if they clash and the library wrote the texts.
+    pub shared: Option<Shared>,
+}
+
+/// A label that two rules make, without spaces at its end.
+#[derive(Clone, Debug)]
+pub struct Shared {
+    pub label: String,
+    /// What the fields of the rules hold on it.
+    pub left: Vec<Text>,
+    pub right: Vec<Text>,
+}
+
+/// The buffers that are lent to the library.
+#[derive(Debug, Default)]
+pub struct Buffers {
+    work: Vec<u8>,
+    answer: Vec<u8>,
+}
+
+impl Buffers {
+    pub fn new() -> Buffers {
+        Buffers::default()
+    }
+
+    /// A working buffer with room for so many situations.
+    pub fn work(&mut self, room: usize) -> &mut [u8] {
+        let bytes = room * SITUATION_BYTES;
+        if self.work.len() < bytes {
+            self.work.resize(bytes, 0);
+        }
+        &mut self.work[..bytes]
+    }
+
+    /// Asks until it is decided, or the room is the most there can be.
+    pub fn ask(&mut self, left: &Side, right: &Side, room: Room) -> Asked {
+        let sheet = sheet(left, right);
+        let mut asked =
+            Asked { answer: Answer::NoRoom { count: 0 }, search: 0, room: 0, shared: None };
+        for room in room.sizes() {
+            asked = self.ask_once(&sheet, room);
+            if !matches!(asked.answer, Answer::NoRoom { .. } | Answer::SideTooLong { .. }) {
+                break;
+            }
+        }
+        if let Some(shared) = &mut asked.shared {
+            shared.label = left.label(&shared.left);
+            debug_assert_eq!(shared.label, right.label(&shared.right));
+        }
+        asked
+    }
+
+    fn ask_once(&mut self, sheet: &[u8], room: usize) -> Asked {
+        let mut answer = std::mem::take(&mut self.answer);
+        answer.resize(answer.len().max(answer_bytes(room)), 0);
+        let decision = bradovusc::decide(sheet, self.work(room), &mut answer);
+        let shared = match decision.answer {
+            Answer::Clash { written, .. } => {
+                let (left, right) = texts(answer.get(..written).unwrap_or_default());
+                Some(Shared { label: String::new(), left, right })
+            }
+            _ => None,
+        };
+        self.answer = answer;
+        Asked { answer: decision.answer, search: decision.search, room, shared }
+    }
+}
+
+#[cfg(test)]
+mod tests {
+    use super::*;
+
+    #[test]
+    fn the_room_grows_fourfold() {
+        assert!(Room::Growing.sizes().eq([455, 1_820, 7_280, 29_120, 65_535]));
+        assert!(Room::Fixed(17).sizes().eq([17]));
+        assert!(Room::Fixed(65_535).sizes().eq([65_535]));
+    }
+}

@@ -1,0 +1,75 @@
+//! Objects in JSON, one a line.
+
+use std::fmt::Write;
+
+/// An object that is being written.
+#[derive(Clone, Debug, Default)]
+pub struct Object {
+    inside: String,
+}
+
+impl Object {
+    pub fn new() -> Object {
+        Object::default()
+    }
+
+    pub fn text(self, key: &str, text: &str) -> Object {
+        self.raw(key, &quoted(text))
+    }
+
+    pub fn number(self, key: &str, number: usize) -> Object {
+        self.raw(key, &number.to_string())
+    }
+
+    pub fn truth(self, key: &str, truth: bool) -> Object {
+        self.raw(key, if truth { "true" } else { "false" })
+    }
+
+    pub fn object(self, key: &str, object: Object) -> Object {
+        self.raw(key, &object.done())
+    }
+
+    fn raw(mut self, key: &str, value: &str) -> Object {
+        if !self.inside.is_empty() {
+            self.inside.push(',');
+        }
+        self.inside += &quoted(key);
+        self.inside.push(':');
+        self.inside += value;
+        self
+    }
+
+    /// The object as text, without a newline.
+    pub fn done(self) -> String {
+        format!("{{{}}}", self.inside)
+    }
+}
+
+/// A text as a JSON string.
+fn quoted(text: &str) -> String {
+    let mut string = String::from('"');
+    for sign in text.chars() {
+        match sign {
+            '"' | '\\' => string.extend(['\\', sign]),
+            '\n' => string += "\\n",
+            // U+2028 and U+2029 end lines for some readers
+            sign if sign.is_control() || ('\u{2028}'..='\u{2029}').contains(&sign) => {
+                let _ = write!(string, "\\u{:04x}", sign as u32);
+            }
+            sign => string.push(sign),
+        }
+    }
+    string + "\""
+}
+
+#[cfg(test)]
+mod tests {
+    use super::*;
+
+    #[test]
+    fn strings_are_escaped() {
+        let object = Object::new().text("a\"b", "c\\d\ne\u{1}é").number("n", 7).truth("t", true);
+        let object = object.object("o", Object::new());
+        assert_eq!(object.done(), r#"{"a\"b":"c\\d\ne\u0001é","n":7,"t":true,"o":{}}"#);
+    }
+}

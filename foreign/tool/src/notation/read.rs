@@ -1,0 +1,109 @@
+//! Reads a file of rules: its lines, and which of them belong together.
+
+use std::collections::HashMap;
+
+use super::cursor::{Cursor, Result};
+use super::Rule;
+use crate::source::{Mistake, Source, Span};
+
+/// The rules of a file, or all mistakes that are found in it: at most one a line.
+pub fn read(source: &Source) -> Result<Vec<Rule>, Vec<Mistake>> {
+    let mut file = File::default();
+    for (number, line) in source.lines() {
+        let comment = line.signs.iter().position(|&sign| sign == '#');
+        let signs = &line.signs[..comment.unwrap_or(line.signs.len())];
+        let mut cursor = Cursor::new(signs, number);
+        let result = match line.broken {
+            Some(column) => {
+                let span = Span { line: number, column, width: 1 };
+                Err(Mistake::new(span, "a byte that is no UTF-8"))
+            }
+            None => file.line(&mut cursor),
+        };
+        file.mistakes.extend(result.err());
+    }
+    if file.mistakes.is_empty() {
+        Ok(file.rules)
+    } else {
+        Err(file.mistakes)
+    }
+}
+
+/// What is read so far.
+#[derive(Default)]
+struct File {
+    rules: Vec<Rule>,
+    /// The lines of the rules, by name.
+    named: HashMap<String, usize>,
+    /// The lines of the last rule's fields, by name.
+    given: HashMap<String, usize>,
+    /// Whether the last rule's template was read. If it was not, nothing is known of its fields.
+    template: bool,
+    /// Whether a line of a rule was met, read or not.
+    begun: bool,
+    mistakes: Vec<Mistake>,
+}
+
+impl File {
+    fn line(&mut self, cursor: &mut Cursor) -> Result<()> {
+        let indented = cursor.skip_blanks();
+        match cursor.next() {
+            None => Ok(()),
+            Some(_) if indented => self.field(cursor),
+            Some(_) => {
+                (self.begun, self.template) = (true, false);
+                self.given.clear();
+                self.rule(cursor)
+            }
+        }
+    }
+
+    /// NAME = TEMPLATE
+    fn rule(&mut self, cursor: &mut Cursor) -> Result<()> {
+        let (name, span) = cursor.name_and_sign("a rule is NAME = TEMPLATE")?;
+        if let Some(line) = self.named.get(&name) {
+            return Err(Mistake::new(span, format!("a second rule {name}"))
+                .hint(format!("the first one is in line {line}")));
+        }
+        let (template, fields) = cursor.template()?;
+        self.template = true;
+        self.named.insert(name.clone(), span.line);
+        self.rules.push(Rule { name, span, template, fields });
+        Ok(())
+    }
+
+    /// NAME = PATTERN, indented
+    fn field(&mut self, cursor: &mut Cursor) -> Result<()> {
+        let start = cursor.here();
+        if !self.begun {
+            return Err(Mistake::new(start, "a field's line before any rule")
+                .hint("a rule's line is not indented; those of its fields stand below it"));
+        }
+        let (name, span) = cursor.name_and_sign("a field's line is NAME = PATTERN")?;
+        if let Some(line) = self.given.get(&name) {
+            return Err(Mistake::new(span, format!("a second line for the field {name}"))
+                .hint(format!("the first one is line {line}")));
+        }
+        self.given.insert(name.clone(), span.line);
+        let last = self.rules.last_mut().filter(|_| self.template);
+        let stands = |rule: &Rule| rule.fields.iter().any(|field| field.name == name);
+        if let Some(rule) = last.as_deref().filter(|rule| !stands(rule)) {
+            let names: Vec<&str> = rule.fields.iter().map(|field| &*field.name).collect();
+            let hint = match &names[..] {
+                [] => {
+                    format!("the rule {} has no fields; a field is written {{{name}}}", rule.name)
+                }
+                names => format!("the rule {} has {}", rule.name, names.join(", ")),
+            };
+            let words = format!("the field {name} does not stand in its rule");
+            return Err(Mistake::new(span, words).hint(hint));
+        }
+        let pattern = cursor.whole_pattern()?;
+        if let Some(rule) = last {
+            for field in rule.fields.iter_mut().filter(|field| field.name == name) {
+                field.pattern = Some(pattern.clone());
+            }
+        }
+        Ok(())
+    }
+}

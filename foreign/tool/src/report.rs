@@ -1,0 +1,222 @@
+//! What the library said, in words or in JSON.
+
+use bradovusc::Answer;
+
+use crate::ask::{Asked, Shared};
+use crate::json::Object;
+use crate::sides::{Side, Text, Title};
+use crate::source::{Mistake, Source};
+use crate::status::{Problem, Status};
+
+/// A side of a situation has at most so many tokens.
+const LONGEST_SIDE: usize = 48;
+
+/// A number with a comma before each three digits.
+pub fn grouped(number: usize) -> String {
+    let digits = number.to_string();
+    let mut text = String::new();
+    for (index, digit) in digits.chars().enumerate() {
+        if index > 0 && (digits.len() - index).is_multiple_of(3) {
+            text.push(',');
+        }
+        text.push(digit);
+    }
+    text
+}
+
+/// A number of things: "1 rule", "2 rules".
+pub fn counted(number: usize, one: &str, many: &str) -> String {
+    format!("{} {}", grouped(number), if number == 1 { one } else { many })
+}
+
+/// How many pairs were answered in which way.
+#[derive(Clone, Copy, Debug, Default, PartialEq, Eq)]
+pub struct Tally {
+    pub clashes: usize,
+    pub not_decided: usize,
+    pub apart: usize,
+}
+
+impl Tally {
+    pub fn count(&mut self, answer: Answer) {
+        match answer.clashes() {
+            Some(true) => self.clashes += 1,
+            Some(false) => self.apart += 1,
+            None => self.not_decided += 1,
+        }
+    }
+
+    pub fn status(self) -> Status {
+        match self {
+            Tally { clashes: 1.., .. } => Status::Clash,
+            Tally { not_decided: 1.., .. } => Status::NotDecided,
+            _ => Status::Good,
+        }
+    }
+
+    /// The last line of what is told about so many rules.
+    pub fn summary(self, rules: usize) -> String {
+        format!(
+            "{}, {}: {}, {} not decided, {} without a clash\n",
+            counted(rules, "rule", "rules"),
+            counted(self.clashes + self.not_decided + self.apart, "pair", "pairs"),
+            counted(self.clashes, "clash", "clashes"),
+            grouped(self.not_decided),
+            grouped(self.apart),
+        )
+    }
+}
+
+/// Two rules and what was said of them, in words.
+pub fn pair_words(left: &Side, right: &Side, asked: &Asked) -> String {
+    let titles = format!("{} and {}", left.title, right.title);
+    match (asked.answer, &asked.shared) {
+        (Answer::NoClash { count }, _) => {
+            let situations = counted(count, "situation", "situations");
+            format!("{titles}: no clash: no label can be made by both ({situations})\n")
+        }
+        (_, Some(shared)) => {
+            let Shared { label, left: on_left, right: on_right } = shared;
+            let fields = [fields_words(left, on_left), fields_words(right, on_right)].concat();
+            format!("{titles} clash: \"{label}\"\n{fields}")
+        }
+        (answer, None) if answer.clashes() == Some(true) => format!("{titles} {answer}\n"),
+        (answer, None) => format!("{titles}: {}\n", not_decided_words(answer, asked.room)),
+    }
+}
+
+/// What was spent on a question that is not decided, in a sentence that is neither yes nor no.
+fn not_decided_words(answer: Answer, room: usize) -> String {
+    let situations = counted(answer.count(), "situation", "situations");
+    let were = if answer.count() == 1 { "was" } else { "were" };
+    let room = grouped(room);
+    match answer {
+        Answer::SideTooLong { .. } => format!(
+            "not decided: a side grew above {LONGEST_SIDE} tokens; {situations} {were} entered, in \
+             room for {room} (19)"
+        ),
+        Answer::NoRoom { .. } => {
+            format!("not decided: room for {room} was not enough; {situations} {were} entered (18)")
+        }
+        other => format!("not decided: {other}"),
+    }
+}
+
+fn fields_words(side: &Side, texts: &[Text]) -> String {
+    let held = |(field, name): &(u8, String)| {
+        let text = texts.iter().find(|text| text.field == *field);
+        text.map(|text| format!("{name} = \"{}\"", text.signs))
+    };
+    let held: Vec<String> = side.fields.iter().filter_map(held).collect();
+    let held = if held.is_empty() { "no fields".to_string() } else { held.join(", ") };
+    format!("  {}: {held}\n", side.title)
+}
+
+/// A rule's name or number under a key.
+pub fn titled(object: Object, key: &str, title: &Title) -> Object {
+    match title {
+        Title::Name(name) => object.text(key, name),
+        Title::Number(number) => object.number(key, *number),
+    }
+}
+
+/// Two rules and what was said of them, as an object.
+pub fn pair_object(left: &Side, right: &Side, asked: &Asked) -> Object {
+    pair_in(Object::new(), left, right, asked)
+}
+
+/// The same behind what an object has already.
+pub fn pair_in(object: Object, left: &Side, right: &Side, asked: &Asked) -> Object {
+    let object = titled(object, "left", &left.title);
+    let object = titled(object, "right", &right.title);
+    let answer = match asked.answer.clashes() {
+        Some(true) => "clash",
+        Some(false) => "no clash",
+        None => "not decided",
+    };
+    let mut object = object
+        .text("answer", answer)
+        .number("number", asked.answer.number() as usize)
+        .number("search", usize::from(asked.search))
+        .number("situations", asked.answer.count())
+        .number("room", asked.room);
+    match asked.answer {
+        Answer::NoRoom { .. } => object = object.text("limit", "room"),
+        Answer::SideTooLong { .. } => object = object.text("limit", "side"),
+        _ => (),
+    }
+    if let Some(shared) = &asked.shared {
+        object = object
+            .text("label", &shared.label)
+            .object("left_fields", fields_object(left, &shared.left))
+            .object("right_fields", fields_object(right, &shared.right));
+    }
+    object
+}
+
+fn fields_object(side: &Side, texts: &[Text]) -> Object {
+    side.fields.iter().fold(Object::new(), |object, (field, name)| {
+        match texts.iter().find(|text| text.field == *field) {
+            Some(text) => object.text(name, &text.signs),
+            None => object,
+        }
+    })
+}
+
+/// Why there is no answer, in words.
+pub fn problem_words(problem: &Problem) -> String {
+    match problem {
+        Problem::Mistakes(source, mistakes) => {
+            let shown: String =
+                mistakes.iter().map(|mistake| source.show(mistake).to_string()).collect();
+            let mistakes = counted(mistakes.len(), "mistake", "mistakes");
+            format!("{shown}{}: {mistakes}; nothing was done\n", source.name)
+        }
+        Problem::Fault(words) | Problem::Failure(words) => format!("bradovusc: {words}\n"),
+    }
+}
+
+/// Why there is no answer, as objects.
+pub fn problem_objects(problem: &Problem) -> String {
+    match problem {
+        Problem::Mistakes(source, mistakes) => {
+            mistakes.iter().map(|mistake| mistake_object(source, mistake).done() + "\n").collect()
+        }
+        Problem::Fault(words) | Problem::Failure(words) => {
+            let status = usize::from(problem.status().number());
+            Object::new().text("error", words).number("status", status).done() + "\n"
+        }
+    }
+}
+
+fn mistake_object(source: &Source, mistake: &Mistake) -> Object {
+    let object = Object::new()
+        .text("mistake", &mistake.words)
+        .text("file", &source.name)
+        .number("line", mistake.span.line)
+        .number("column", mistake.span.column)
+        .number("width", mistake.span.width);
+    match &mistake.hint {
+        Some(hint) => object.text("hint", hint),
+        None => object,
+    }
+}
+
+#[cfg(test)]
+mod tests {
+    use super::*;
+
+    #[test]
+    fn numbers_in_groups() {
+        let texts = [0, 7, 999, 1_000, 65_535, 1_234_567].map(grouped);
+        assert_eq!(texts, ["0", "7", "999", "1,000", "65,535", "1,234,567"]);
+    }
+
+    #[test]
+    fn a_tally_is_a_clash_before_all_else() {
+        let tally = |clashes, not_decided, apart| Tally { clashes, not_decided, apart }.status();
+        assert_eq!(tally(1, 1, 1), Status::Clash);
+        assert_eq!(tally(0, 1, 1), Status::NotDecided);
+        assert_eq!(tally(0, 0, 1), Status::Good);
+    }
+}

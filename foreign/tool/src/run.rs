@@ -1,0 +1,495 @@
+//! The commands.
+
+use std::ffi::OsString;
+use std::fs::File;
+use std::io::{self, Read, Write};
+use std::path::Path;
+
+use bradovusc::{Added, Answer, Rechecked, Scripted, Withdrawn, MOST_RULES, SCRIPT_BYTES};
+
+use crate::ask::{Asked, Buffers};
+use crate::catalogue::{Catalogue, BYTES};
+use crate::compile::judge;
+use crate::json::Object;
+use crate::notation::{self, pattern_text, rule_text, template_text, Rule};
+use crate::parallel::{in_order, processors, Event};
+use crate::progress::Progress;
+use crate::report::{
+    counted, grouped, pair_in, pair_object, pair_words, problem_objects, problem_words, titled,
+    Tally,
+};
+use crate::sides::{sheet, Side, Title};
+use crate::source::Source;
+use crate::status::{Problem, Status};
+use crate::words::{self, Command, Options, USAGE};
+
+/// Where a command reads and writes.
+pub struct Streams<'a> {
+    pub input: &'a mut dyn Read,
+    pub output: &'a mut dyn Write,
+    pub errors: &'a mut dyn Write,
+    /// Whether the errors go to a terminal, where a progress bar may stand.
+    pub terminal: bool,
+}
+
+type Outcome = Result<Status, Problem>;
+
+/// A file of rules may have so many bytes.
+const MOST_FILE: u64 = 16 << 20;
+
+/// Does what the words behind the program's name say.
+pub fn run(words: &[OsString], streams: Streams<'_>) -> Status {
+    let (options, command) = words::read(words);
+    let json = options.json;
+    let mut run = Run { options, streams };
+    let outcome = match command {
+        Ok(command) => run.command(command),
+        Err(words) => Err(Problem::Fault(words)),
+    };
+    let outcome = outcome.and_then(|status| {
+        run.streams.output.flush()?;
+        Ok(status)
+    });
+    outcome.unwrap_or_else(|problem| {
+        let Streams { output, errors, .. } = run.streams;
+        let told = if json {
+            output.write_all(problem_objects(&problem).as_bytes()).and_then(|()| output.flush())
+        } else {
+            // what was said before stands before it
+            let _ = output.flush();
+            Err(io::ErrorKind::Other.into())
+        };
+        if told.is_err() {
+            let _ = errors.write_all(problem_words(&problem).as_bytes());
+            let _ = errors.flush();
+        }
+        problem.status()
+    })
+}
+
+struct Run<'a> {
+    options: Options,
+    streams: Streams<'a>,
+}
+
+impl Run<'_> {
+    fn command(&mut self, command: Command) -> Outcome {
+        match command {
+            Command::Check { file } => self.check(&file),
+            Command::Pair { file, left, right } => self.pair(&file, &left, &right),
+            Command::Add { catalogue, file, rule } => self.add(&catalogue, &file, &rule),
+            Command::Withdraw { catalogue, number } => self.withdraw(&catalogue, number),
+            Command::List { catalogue } => self.list(&catalogue),
+            Command::Recheck { catalogue } => self.recheck(&catalogue),
+            Command::Script { file, left, right } => self.script(&file, &left, &right),
+            Command::Sheet { file, left, right } => self.sheet(&file, &left, &right),
+            Command::Help => self.say(USAGE, || Object::new().text("help", USAGE)),
+            Command::Version => {
+                let version = bradovusc::VERSION;
+                let object = || Object::new().text("version", version);
+                self.say(&format!("bradovusc {version}\n"), object)
+            }
+        }
+    }
+
+    /// Says something in words or as an object.
+    fn say(&mut self, words: &str, object: impl FnOnce() -> Object) -> Outcome {
+        if self.options.json {
+            writeln!(self.streams.output, "{}", object().done())?;
+        } else {
+            self.streams.output.write_all(words.as_bytes())?;
+        }
+        Ok(Status::Good)
+    }
+
+    /// The rules of a file, as the library reads them, all of them taken by it.
+    fn rules(&mut self, path: &Path) -> Result<Vec<Side>, Problem> {
+        let failed = |error| Problem::failed("read", path, &error);
+        let mut bytes = Vec::new();
+        let most = MOST_FILE + 1;
+        if path == Path::new("-") {
+            (&mut *self.streams.input).take(most).read_to_end(&mut bytes).map_err(failed)?;
+        } else {
+            let file = File::open(path).map_err(failed)?;
+            file.take(most).read_to_end(&mut bytes).map_err(failed)?;
+        }
+        if bytes.len() as u64 == most {
+            let words =
+                format!("{} is above {} bytes", path.display(), grouped(MOST_FILE as usize));
+            return Err(Problem::Fault(words));
+        }
+        let source = Source::new(path.display().to_string(), &bytes);
+        judged(source)
+    }
+
+    /// The two rules with these names.
+    fn two(&mut self, path: &Path, left: &str, right: &str) -> Result<[Side; 2], Problem> {
+        let rules = self.rules(path)?;
+        Ok([named(&rules, path, left)?, named(&rules, path, right)?])
+    }
+
+    fn threads(&self) -> usize {
+        self.options.threads.unwrap_or_else(processors)
+    }
+
+    /// Asks of so many pairs, and tells each in its order.
+    fn ask<'s>(
+        &mut self,
+        count: usize,
+        pair: impl Fn(usize) -> (&'s Side, &'s Side) + Sync,
+        mut tell: impl FnMut(&mut dyn Write, &'s Side, &'s Side, &Asked) -> io::Result<()>,
+    ) -> Result<(), Problem> {
+        let (threads, room) = (self.threads(), self.options.room);
+        let Streams { output, errors, terminal, .. } = &mut self.streams;
+        let mut progress = Progress::new(*terminal);
+        let work = |buffers: &mut Buffers, index: usize| {
+            let (left, right) = pair(index);
+            buffers.ask(left, right, room)
+        };
+        let mut told = Vec::new();
+        let result = in_order(count, threads, Buffers::new, work, |event| {
+            match event {
+                Event::Done(done) => {
+                    output.flush()?;
+                    progress.tick(done, count, errors);
+                }
+                Event::Result(index, asked) => {
+                    let (left, right) = pair(index);
+                    tell(&mut told, left, right, &asked)?;
+                    if !told.is_empty() {
+                        progress.clear(errors);
+                        output.write_all(&told)?;
+                        told.clear();
+                    }
+                }
+            }
+            Ok::<(), io::Error>(())
+        });
+        progress.clear(errors);
+        Ok(result?)
+    }
+
+    fn check(&mut self, path: &Path) -> Outcome {
+        let rules = self.rules(path)?;
+        let pairs = Pairs { rules: rules.len() };
+        let (json, mut tally) = (self.options.json, Tally::default());
+        let pair = |index: usize| {
+            let (left, right) = pairs.at(index);
+            (&rules[left], &rules[right])
+        };
+        self.ask(pairs.count(), pair, |to, left, right, asked| {
+            tally.count(asked.answer);
+            match asked.answer {
+                _ if json => writeln!(to, "{}", pair_object(left, right, asked).done()),
+                Answer::NoClash { .. } => Ok(()),
+                _ => to.write_all(pair_words(left, right, asked).as_bytes()),
+            }
+        })?;
+        if !json {
+            self.streams.output.write_all(tally.summary(rules.len()).as_bytes())?;
+        }
+        Ok(tally.status())
+    }
+
+    fn pair(&mut self, path: &Path, left: &str, right: &str) -> Outcome {
+        let [left, right] = self.two(path, left, right)?;
+        let asked = self.ask_one(&left, &right)?;
+        self.say(&pair_words(&left, &right, &asked), || pair_object(&left, &right, &asked))?;
+        Ok(status_of(asked.answer))
+    }
+
+    /// Asks of one pair.
+    fn ask_one(&mut self, left: &Side, right: &Side) -> Result<Asked, Problem> {
+        let mut said = None;
+        self.ask(
+            1,
+            |_| (left, right),
+            |_, _, _, asked| {
+                said = Some(asked.clone());
+                Ok(())
+            },
+        )?;
+        said.ok_or_else(|| Problem::Failure("the search was not made".to_string()))
+    }
+
+    fn script(&mut self, path: &Path, left: &str, right: &str) -> Outcome {
+        let [left, right] = self.two(path, left, right)?;
+        let mut script = vec![0; SCRIPT_BYTES];
+        let written = match bradovusc::script(&sheet(&left, &right), &mut script) {
+            Scripted::Written { bytes } => bytes,
+            other => return Err(Problem::Fault(format!("the library says: {other}"))),
+        };
+        let text = String::from_utf8_lossy(script.get(..written).unwrap_or_default());
+        self.say(&text, || titles(&left, &right).text("script", &text))
+    }
+
+    fn sheet(&mut self, path: &Path, left: &str, right: &str) -> Outcome {
+        let [left, right] = self.two(path, left, right)?;
+        let bytes = sheet(&left, &right);
+        if self.options.json {
+            let digits: String = bytes.iter().map(|byte| format!("{byte:02x}")).collect();
+            return self.say("", || titles(&left, &right).text("sheet", &digits));
+        }
+        self.streams.output.write_all(&bytes)?;
+        Ok(Status::Good)
+    }
+
+    fn bytes(&self) -> usize {
+        self.options.bytes.unwrap_or(BYTES)
+    }
+
+    fn list(&mut self, path: &Path) -> Outcome {
+        let catalogue = Catalogue::read(path, self.bytes())?;
+        let mut used = 0;
+        for entry in &catalogue.entries {
+            let (rule, mut words) = (&entry.rule, rule_text(&entry.rule));
+            for (field, pattern) in &entry.stray {
+                words += &format!("  # {field} = {} (it does not stand)\n", pattern_text(pattern));
+            }
+            self.say(&words, || rule_object(&entry.side.title, rule))?;
+            used += entry.bytes;
+        }
+        if !self.options.json {
+            let (rules, used) = (catalogue.entries.len(), grouped(used));
+            let (rules, all) = (counted(rules, "rule", "rules"), grouped(catalogue.bytes.len()));
+            writeln!(self.streams.output, "# {rules} of {MOST_RULES}, {used} bytes of {all}")?;
+        }
+        Ok(Status::Good)
+    }
+
+    fn withdraw(&mut self, path: &Path, number: usize) -> Outcome {
+        let catalogue = Catalogue::read_to_replace(path, self.bytes())?;
+        let mut bytes = catalogue.bytes.clone();
+        let (rules, name) = (catalogue.entries.len(), path.display());
+        match bradovusc::withdraw(&mut bytes, number) {
+            Withdrawn::Gone => catalogue.replace(&bytes)?,
+            Withdrawn::NoRule => {
+                let rules = counted(rules, "rule", "rules");
+                let words = format!("{name} has no rule {number}: it has {rules}, from 0 on (33)");
+                return Err(Problem::Fault(words));
+            }
+            Withdrawn::NoCatalogue => {
+                return Err(Problem::Fault(format!("{name} is no catalogue (34)")));
+            }
+        }
+        let left = rules.saturating_sub(1);
+        let mut words = format!("rule {number} is withdrawn\n");
+        match left.saturating_sub(number) {
+            0 => (),
+            1 => words += &format!("rule {left} is now rule {number}\n"),
+            _ => {
+                let (next, last) = (number + 1, left - 1);
+                words += &format!("rules {next} to {left} are now rules {number} to {last}\n");
+            }
+        }
+        self.say(&words, || Object::new().number("withdrawn", number).number("rules", left))
+    }
+
+    fn recheck(&mut self, path: &Path) -> Outcome {
+        let catalogue = Catalogue::read(path, self.bytes())?;
+        let entries = &catalogue.entries;
+        let all = Pairs { rules: entries.len() }.count();
+        let room = self.options.room.sizes().next().unwrap_or_default();
+        let mut list = vec![0; bradovusc::list_bytes(MOST_RULES)];
+        let mut buffers = Buffers::new();
+        let pairs = match bradovusc::recheck(&catalogue.bytes, buffers.work(room), &mut list) {
+            Rechecked::Listed(pairs) => {
+                pairs.map(|pair| (pair.lower, pair.higher)).collect::<Vec<_>>()
+            }
+            other => return Err(Problem::Fault(format!("{}: {other}", path.display()))),
+        };
+        // the others are answered 1; these are asked again, for their labels and in more room
+        let (json, mut tally) =
+            (self.options.json, Tally { apart: all - pairs.len(), ..Tally::default() });
+        let pair = |index: usize| {
+            let (lower, higher) = pairs[index];
+            (&entries[lower].side, &entries[higher].side)
+        };
+        self.ask(pairs.len(), pair, |to, left, right, asked| {
+            tally.count(asked.answer);
+            match asked.answer {
+                Answer::NoClash { .. } => Ok(()),
+                _ if json => writeln!(to, "{}", pair_object(left, right, asked).done()),
+                _ => to.write_all(pair_words(left, right, asked).as_bytes()),
+            }
+        })?;
+        if !json {
+            self.streams.output.write_all(tally.summary(entries.len()).as_bytes())?;
+        }
+        Ok(tally.status())
+    }
+
+    fn add(&mut self, path: &Path, file: &Path, rule: &str) -> Outcome {
+        let rules = self.rules(file)?;
+        let side = named(&rules, file, rule)?;
+        let catalogue = match self.options.new {
+            true => Catalogue::empty(path, self.bytes())?,
+            false => Catalogue::read_to_replace(path, self.bytes())?,
+        };
+        let (added, room, bytes) = self.try_to_add(&catalogue.bytes, &side)?;
+        let name = path.display();
+        match added {
+            Added::Entered => {
+                let number = catalogue.entries.len();
+                catalogue.replace(&bytes)?;
+                let object =
+                    || Object::new().truth("added", true).text("name", rule).number("rule", number);
+                self.say(&format!("{rule} is added: rule {number}\n"), object)
+            }
+            Added::NotApart { rule: number, pair } => match catalogue.entries.get(number) {
+                Some(entry) => self.not_added(&entry.side, &side, pair, room),
+                None => Err(Problem::Fault(format!("the library says: {added}"))),
+            },
+            Added::Full => Err(Problem::Fault(format!(
+                "{name} has no room for {rule}: it has {} of at most {MOST_RULES} (32)",
+                counted(catalogue.entries.len(), "rule", "rules")
+            ))),
+            other => Err(Problem::Fault(format!("{name}, {rule}: {other}"))),
+        }
+    }
+
+    /// The catalogue with the rule, if the library adds it, in the room that it took.
+    fn try_to_add(
+        &mut self,
+        before: &[u8],
+        side: &Side,
+    ) -> Result<(Added, usize, Vec<u8>), Problem> {
+        let room = self.options.room;
+        let work = |buffers: &mut Buffers, _: usize| {
+            let (mut bytes, record) = (before.to_vec(), side.record());
+            let (mut added, mut last) = (Added::NoCatalogue, 0);
+            for room in room.sizes() {
+                added = bradovusc::add(&mut bytes, &record, buffers.work(room));
+                last = room;
+                let pair = if let Added::NotApart { pair, .. } = added { Some(pair) } else { None };
+                if pair.is_none_or(|pair| pair.clashes().is_some()) {
+                    break;
+                }
+            }
+            (added, last, bytes)
+        };
+        let Streams { errors, terminal, .. } = &mut self.streams;
+        let mut progress = Progress::new(*terminal);
+        let mut result = None;
+        in_order(1, 1, Buffers::new, work, |event| {
+            match event {
+                Event::Done(done) => progress.tick(done, 1, errors),
+                Event::Result(_, added) => result = Some(added),
+            }
+            Ok::<(), Problem>(())
+        })?;
+        progress.clear(errors);
+        result.ok_or_else(|| Problem::Failure("the search was not made".to_string()))
+    }
+
+    /// A rule that is not added, for its pair with a rule that is there.
+    fn not_added(&mut self, there: &Side, new: &Side, pair: Answer, room: usize) -> Outcome {
+        // the library's catalogue goes by the first search alone, and writes no texts
+        let by_all = self.ask_one(there, new)?;
+        let own = Asked { answer: pair, search: 0, room, shared: None };
+        let known = by_all.answer.clashes();
+        let asked = if known == Some(true) { &by_all } else { &own };
+        let mut words = format!("{} is not added\n{}", new.title, pair_words(there, new, asked));
+        let mut object = pair_in(Object::new().truth("added", false), there, new, asked);
+        if known == Some(false) {
+            words += "  a catalogue goes by the first search alone; by all of them these two don't clash\n";
+            object = object.text("by_all_searches", "no clash");
+        }
+        self.say(&words, || object)?;
+        Ok(status_of(asked.answer))
+    }
+}
+
+/// The status of one answer.
+fn status_of(answer: Answer) -> Status {
+    let mut tally = Tally::default();
+    tally.count(answer);
+    tally.status()
+}
+
+/// The rules of a source as the library reads them.
+pub fn judged(source: Source) -> Result<Vec<Side>, Problem> {
+    let rules = match notation::read(&source) {
+        Ok(rules) => rules,
+        Err(mistakes) => return Err(Problem::Mistakes(source, mistakes)),
+    };
+    let (mut sides, mut mistakes) = (Vec::new(), Vec::new());
+    for rule in &rules {
+        match judge(rule) {
+            Ok(side) => sides.push(side),
+            Err(mistake) => mistakes.push(mistake),
+        }
+    }
+    if mistakes.is_empty() {
+        Ok(sides)
+    } else {
+        mistakes.sort_by_key(|mistake| mistake.span);
+        Err(Problem::Mistakes(source, mistakes))
+    }
+}
+
+/// The rule with this name.
+fn named(rules: &[Side], path: &Path, name: &str) -> Result<Side, Problem> {
+    let title = Title::Name(name.to_string());
+    let found = rules.iter().find(|side| side.title == title).cloned();
+    found.ok_or_else(|| {
+        let file = path.display();
+        let names: Vec<String> = rules.iter().map(|side| side.title.to_string()).collect();
+        let names = match &names[..] {
+            [] => "it has none".to_string(),
+            few if few.len() <= 20 => format!("it has {}", few.join(", ")),
+            many => format!("it has {}", counted(many.len(), "rule", "rules")),
+        };
+        Problem::Fault(format!("{file} has no rule '{name}'; {names}"))
+    })
+}
+
+fn titles(left: &Side, right: &Side) -> Object {
+    titled(titled(Object::new(), "left", &left.title), "right", &right.title)
+}
+
+/// A rule of a catalogue in the notation, as an object.
+fn rule_object(title: &Title, rule: &Rule) -> Object {
+    let fields = rule.fields.iter().fold(Object::new(), |object, field| match &field.pattern {
+        Some(pattern) => object.text(&field.name, &pattern_text(pattern)),
+        None => object,
+    });
+    let object = titled(Object::new(), "rule", title);
+    object.text("template", &template_text(rule)).object("fields", fields)
+}
+
+/// All pairs of so many rules: those of the first one, then those of the second one, and so on.
+struct Pairs {
+    rules: usize,
+}
+
+impl Pairs {
+    fn count(&self) -> usize {
+        self.rules * self.rules.saturating_sub(1) / 2
+    }
+
+    /// The numbers of the two rules of a pair.
+    fn at(&self, index: usize) -> (usize, usize) {
+        let (mut left, mut rest) = (0, index);
+        while left + 1 < self.rules && rest >= self.rules - 1 - left {
+            rest -= self.rules - 1 - left;
+            left += 1;
+        }
+        (left, left + 1 + rest)
+    }
+}
+
+#[cfg(test)]
+mod tests {
+    use super::*;
+
+    #[test]
+    fn pairs_in_their_order() {
+        for rules in 0..9 {
+            let pairs = Pairs { rules };
+            let wanted =
+                (0..rules).flat_map(|left| (left + 1..rules).map(move |right| (left, right)));
+            assert!((0..pairs.count()).map(|index| pairs.at(index)).eq(wanted));
+        }
+    }
+}

@@ -1,0 +1,94 @@
+//! How long a storeroom's rules take: seconds by the clock, and seconds of all processors together.
+//! Not run by itself: `cargo test --release --test measure -- --ignored --nocapture`.
+
+mod common;
+
+use std::fs;
+use std::path::Path;
+use std::process::Command;
+use std::time::Instant;
+
+use common::{program, program_in, Folder};
+
+fn storeroom() -> String {
+    let path = Path::new(env!("CARGO_MANIFEST_DIR")).join("examples/storeroom.rules");
+    fs::read_to_string(path).unwrap()
+}
+
+/// 50 families of ten rules: fixed characters in front, as labels mostly have, then numbers, finishes
+/// and open fields. In each tenth family one rule takes everything.
+fn five_hundred() -> String {
+    let mut text = String::new();
+    for family in 0..50 {
+        let letters = ["ABCDEFGHIJ", "KLMNP"];
+        let sign = |of: &str, index: usize| of.chars().nth(index).unwrap();
+        let front = format!("{}{}", sign(letters[0], family % 10), sign(letters[1], family / 10));
+        let last = if family % 10 == 0 { "{rest}" } else { "\\s{rest}" };
+        text += &format!(
+            "{front}0 = {front}{{size}}{{finish}}\n  size = [0-9]{{2}}\n  finish = BR|CH|SS|SN|PB\n\
+             {front}1 = {front}-{{n}}\n  n = [0-9]{{4}}\n\
+             {front}2 = {front}/{{colour}}/{{n}}\n  colour = [A-Z]{{2,3}}\n  n = [0-9]+\n\
+             {front}3 = {front}R{{n}}-{{n}}\n  n = [0-9]+\n\
+             {front}4 = {front}X{{rest}}\n\
+             {front}5 = {front}.{{length}}.{{part}}\n  length = [0-9]+\n  part = [05]\n\
+             {front}6 = {front}Y{{name}}{{n}}\n  name = [A-Z]{{1,8}}\n  n = [0-9]*\n\
+             {front}7 = {front}%{{serial}}\n  serial = [0-9A-F]{{6}}\n\
+             {front}8 = {front}+{{a}}+{{b}}\n  a = [0-9A-Z]+\n\
+             {front}9 = {front}{last}\n"
+        );
+    }
+    text
+}
+
+/// Does the calls, one a line, and prints both times and the last line that was said.
+fn timed(folder: &Folder, calls: &str, what: &str) {
+    let script = calls.lines().map(|words| format!("\"$@\" {words} >said 2>&1\n"));
+    let script: String = script.chain(["times\n".to_string()]).collect();
+    let begun = Instant::now();
+    let output = Command::new("sh")
+        .args(["-c", &script, "sh"])
+        .args(program())
+        .current_dir(&folder.0)
+        .output()
+        .unwrap();
+    let (took, times) = (begun.elapsed(), String::from_utf8(output.stdout).unwrap());
+    // the second line has those of the calls: user and system
+    let spent = times.lines().last().unwrap_or_default().replace(' ', " + ");
+    let said = fs::read_to_string(folder.0.join("said")).unwrap();
+    println!(
+        "{:8.2} s, {spent}: {what}: {}",
+        took.as_secs_f64(),
+        said.lines().last().unwrap_or("")
+    );
+}
+
+#[test]
+fn the_storeroom_s_rules_are_apart() {
+    let folder = Folder::new("storeroom");
+    fs::write(folder.0.join("storeroom.rules"), storeroom()).unwrap();
+    let said = program_in(&folder.0, &["check", "storeroom.rules"]);
+    assert_eq!(said.text(), "32 rules, 496 pairs: 0 clashes, 0 not decided, 496 without a clash\n");
+}
+
+#[test]
+#[ignore = "a measure"]
+fn measure() {
+    let folder = Folder::new("measure");
+    fs::write(folder.0.join("storeroom.rules"), storeroom()).unwrap();
+    fs::write(folder.0.join("many.rules"), five_hundred()).unwrap();
+    fs::write(folder.0.join("none.rules"), "").unwrap();
+    for words in ["check none.rules", "check storeroom.rules", "check many.rules"] {
+        timed(&folder, words, words);
+    }
+    let rules = storeroom();
+    let names =
+        rules.lines().filter(|line| line.starts_with(|sign: char| sign.is_ascii_lowercase()));
+    let add = |(number, line): (usize, &str)| {
+        let (name, new) =
+            (line.split(' ').next().unwrap(), if number == 0 { "--new " } else { "" });
+        format!("add {new}stock.cat storeroom.rules {name}\n")
+    };
+    timed(&folder, &names.enumerate().map(add).collect::<String>(), "add, 32 times");
+    timed(&folder, "recheck stock.cat", "recheck stock.cat");
+    assert_eq!(program_in(&folder.0, &["recheck", "stock.cat"]).status, 0);
+}
