@@ -99,9 +99,9 @@
 // 97  RE  nothing is changed
 //     CA  parcels with another mark
 // 98  SO  34: no catalogue to carry over
-use lines::tell;
 use operations::How;
 use operations::Shown;
+use print_out::tell;
 
 fn main() {
     let ended = operations::run(Shown::Lines);

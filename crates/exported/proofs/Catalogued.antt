@@ -5,23 +5,23 @@ use mathlib.Core.List.{List}
 use native.Mathlib.Omega.{arith}
 use lib.Dec.{lit<}
 use lib.ListN.{set}
-use Rattle.rulebook.specs.Catalogue as Catalogue
-use Rattle.rulebook.specs.Recheck as Recheck
-use Rattle.answers.specs.Faults.{fault-of}
-use Rattle.storeroom.specs.Told.{told-added, told-withdrawn}
-use Rattle.storeroom.specs.declared.Added.{Added}
-use Rattle.storeroom.specs.declared.Added.the-variants.{Entered, Refused, NotApart, ForeignField, Full, NoCatalogue}
-use Rattle.storeroom.specs.declared.Withdrawn.{Withdrawn}
-use Rattle.storeroom.specs.declared.Withdrawn.the-variants as Withdrawn-as
-use Rattle.recheck.specs.Told.{told-rechecked}
-use Rattle.recheck.specs.declared.Rechecked.{Rechecked}
-use Rattle.recheck.specs.declared.Rechecked.the-variants as Rechecked-as
-use Rattle.numbered.specs.Numbered.{as-numbers, number-of-withdrawn, as-totals}
-use Rattle.numbered.specs.declared.Numbers.{Numbers}
-use Rattle.numbered.specs.declared.Totals.{Totals}
-use Rattle.telling.specs.Numbered.{with-numbers}
+use Rattle.paper_catalogue.specs.Catalogue as Catalogue
+use Rattle.paper_catalogue.specs.Recheck as Recheck
+use Rattle.base_answers.specs.Faults.{fault-of}
+use Rattle.catalogue_add.specs.Told.{told-added, told-withdrawn}
+use Rattle.catalogue_add.specs.declared.Added.{Added}
+use Rattle.catalogue_add.specs.declared.Added.the-variants.{Entered, Refused, NotApart, ForeignField, Full, NoCatalogue}
+use Rattle.catalogue_add.specs.declared.Withdrawn.{Withdrawn}
+use Rattle.catalogue_add.specs.declared.Withdrawn.the-variants as Withdrawn-as
+use Rattle.catalogue_recheck.specs.Told.{told-rechecked}
+use Rattle.catalogue_recheck.specs.declared.Rechecked.{Rechecked}
+use Rattle.catalogue_recheck.specs.declared.Rechecked.the-variants as Rechecked-as
+use Rattle.catalogue_numbers.specs.Numbered.{as-numbers, number-of-withdrawn, as-totals}
+use Rattle.catalogue_numbers.specs.declared.Numbers.{Numbers}
+use Rattle.catalogue_numbers.specs.declared.Totals.{Totals}
+use Rattle.c_tell.specs.Numbered.{with-numbers}
 use Rattle.exported.specs.Exported.{telling-added, telling-rechecked}
-use Rattle.asking.proofs.Telling.{fault-below}
+use Rattle.c_clash.proofs.Telling.{fault-below}
 
 -- 34 is the last of request K1's numbers
 pub added-below : (a : Added) → as-numbers a .number < 35

@@ -4,15 +4,15 @@ use mathlib.Core.Path.{_≡_, ap, _∙_}
 use mathlib.Core.List.{List}
 use native.Mathlib.Omega.{arith}
 use lib.Dec.{lit<}
-use Rattle.smt.specs.Scripting.{Scripting}
-use Rattle.answers.specs.Faults.{fault-of}
-use Rattle.answers.specs.declared.Numbers.{Numbers}
-use Rattle.scripts.specs.Told.{scripted-numbers, told-scripted}
-use Rattle.scripts.specs.declared.Scripted.{Scripted}
-use Rattle.scripts.specs.declared.Scripted.the-variants.{Written, Refused, TooShort}
-use Rattle.telling.specs.Numbered.{with-numbers}
+use Rattle.paper_script.specs.Scripting.{Scripting}
+use Rattle.base_answers.specs.Faults.{fault-of}
+use Rattle.base_answers.specs.declared.Numbers.{Numbers}
+use Rattle.script_sheet.specs.Told.{scripted-numbers, told-scripted}
+use Rattle.script_sheet.specs.declared.Scripted.{Scripted}
+use Rattle.script_sheet.specs.declared.Scripted.the-variants.{Written, Refused, TooShort}
+use Rattle.c_tell.specs.Numbered.{with-numbers}
 use Rattle.exported.specs.Exported.{telling-scripted}
-use Rattle.asking.proofs.Telling.{fault-below}
+use Rattle.c_clash.proofs.Telling.{fault-below}
 
 -- 40 is the last of request K4's numbers
 pub scripted-below : (s : Scripted) → scripted-numbers s .number < 41

@@ -2,10 +2,10 @@
 use Prim.Native.Nat.{ℕ}
 use mathlib.Core.List.{List}
 use lib.ListN.{set}
-use Rattle.rulebook.specs.Catalogue.{Added}
-use Rattle.rulebook.specs.Recheck.{Rechecked}
-use Rattle.smt.specs.Scripting.{Scripting}
-use Rattle.telling.specs.Numbered.{with-numbers}
+use Rattle.paper_catalogue.specs.Catalogue.{Added}
+use Rattle.paper_catalogue.specs.Recheck.{Rechecked}
+use Rattle.paper_script.specs.Scripting.{Scripting}
+use Rattle.c_tell.specs.Numbered.{with-numbers}
 
 -- those of an addition, and a fourth
 abbrev pub telling-added : List ℕ → Added → List ℕ

@@ -1,7 +1,7 @@
 // Operations as they stand on standard input: a mark of two letters, then numbers, low byte first, and bytes.
 use crate::How;
 use libc::STDIN_FILENO;
-use lines::low_first;
+use print_out::low_first;
 ghost use Prim.Native.Nat.{_≤_};
 ghost use lib.ListN.{length};
 

@@ -8,13 +8,13 @@ use input::read_bytes;
 use input::read_mark;
 use input::read_number;
 use input::read_rule;
-use lines::WORK;
-use lines::WORK_FILL;
-use lines::fill;
 use output::print_added;
 use output::print_carried;
 use output::print_rechecked;
 use output::print_withdrawn;
+use print_out::WORK;
+use print_out::WORK_FILL;
+use print_out::fill;
 ghost use Prim.Native.Nat.{_≤_};
 
 // the longest rule that two bytes can tell
@@ -144,7 +144,7 @@ fn add(rule: &mut [u8], catalogue: &mut [u8], work: &mut [u8], shown: Shown) -> 
         return How::Stopped;
     }
     fill(work, WORK_FILL);
-    let told = numbered::added(storeroom::add(catalogue, &rule[0..n], work));
+    let told = catalogue_numbers::added(catalogue_add::add(catalogue, &rule[0..n], work));
     print_added(told, catalogue, work, shown)
 }
 
@@ -154,7 +154,7 @@ fn withdraw(catalogue: &mut [u8], shown: Shown) -> How {
     if !rule.there {
         return How::Stopped;
     }
-    let told = numbered::withdrawn(storeroom::withdraw(catalogue, rule.number));
+    let told = catalogue_numbers::withdrawn(catalogue_add::withdraw(catalogue, rule.number));
     print_withdrawn(told, catalogue, shown)
 }
 
@@ -171,13 +171,13 @@ fn check_again(catalogue: &[u8], work: &mut [u8], list: &mut [u8], shown: Shown)
 fn list_pairs(catalogue: &[u8], work: &mut [u8], list: &mut [u8], shown: Shown) -> How {
     fill(work, WORK_FILL);
     fill(list, LIST_FILL);
-    let told = numbered::rechecked(recheck::recheck(catalogue, work, list));
+    let told = catalogue_numbers::rechecked(catalogue_recheck::recheck(catalogue, work, list));
     print_rechecked(told, list, catalogue, work, shown)
 }
 
 // `SO`
 fn carry(catalogue: &mut [u8], shown: Shown) -> How {
-    let told = spell_open::number(spell_open::catalogue(catalogue));
+    let told = carry_open::number(carry_open::catalogue(catalogue));
     print_carried(told, catalogue, shown)
 }
 

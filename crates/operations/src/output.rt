@@ -2,14 +2,14 @@
 use crate::How;
 use crate::Shown;
 use crate::least;
-use lines::low_first;
-use lines::print;
-use lines::print_each;
-use lines::print_number;
-use lines::print_work;
-use numbered::Numbers;
-use numbered::Totals;
-use recheck::PAIR_BYTES;
+use catalogue_numbers::Numbers;
+use catalogue_numbers::Totals;
+use catalogue_recheck::PAIR_BYTES;
+use print_out::low_first;
+use print_out::print;
+use print_out::print_each;
+use print_out::print_number;
+use print_out::print_work;
 ghost use Prim.Native.Nat.{_+_, _≤_};
 ghost use lib.ListN.{length};
 

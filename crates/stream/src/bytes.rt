@@ -1,9 +1,9 @@
 // Every byte of the two buffers: those written to the answer buffer one by one, the others as `lines` has them.
 use crate::case::ANSWER_FILL;
-use lines::print;
-use lines::print_each;
-use lines::print_lent;
-use lines::print_work;
+use print_out::print;
+use print_out::print_each;
+use print_out::print_lent;
+use print_out::print_work;
 
 pub fn print_bytes(work: &[u8], answer: &[u8], written: usize) {
     print_answer_bytes(answer, written);

@@ -1,9 +1,9 @@
 // A case of a stream: the length of the working buffer and that of the answer buffer in four bytes each, the sheet's length in two, all
 // low first, and the sheet.
 use libc::STDIN_FILENO;
-use lines::WORK_FILL;
-use lines::fill;
-use lines::low_first;
+use print_out::WORK_FILL;
+use print_out::fill;
+use print_out::low_first;
 ghost use lib.ListN.{length};
 ghost use Rattle.stream.specs.Case.{Within};
 

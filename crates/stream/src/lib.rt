@@ -4,13 +4,13 @@ mod case;
 mod script;
 mod spelt;
 
-use answers::Numbers;
-use lines::WORK;
-use lines::print;
-use lines::print_number;
-use printing::FIRST_LINE;
-use printing::Filled;
-use printing::PRINTED;
+use base_answers::Numbers;
+use print_clash::FIRST_LINE;
+use print_clash::Filled;
+use print_clash::PRINTED;
+use print_out::WORK;
+use print_out::print;
+use print_out::print_number;
 
 // "65,520 bytes of work" (356 situations) "and 4,096 of answer"
 const ANSWER: usize = 4096;
@@ -73,16 +73,16 @@ fn answer_case(sheet: &[u8], work: &mut [u8], answer: &mut [u8], shown: Shown) {
 }
 
 fn show_bytes(sheet: &[u8], work: &mut [u8], answer: &mut [u8]) {
-    let told = answers::in_numbers(bradovusc::clash(sheet, work, answer));
+    let told = base_answers::in_numbers(search_clash::clash(sheet, work, answer));
     print_answer(told);
     bytes::print_bytes(work, answer, told.written);
     print(b"\n");
 }
 
 fn show_decided(sheet: &[u8], work: &mut [u8], answer: &mut [u8]) {
-    let made = decision::decide(sheet, work, answer);
+    let made = decide_sheet::decide(sheet, work, answer);
     let given = made.answer;
-    let told = answers::in_numbers(given);
+    let told = base_answers::in_numbers(given);
     print_answer(told);
     bytes::print_bytes(work, answer, told.written);
     print(b", search ");
@@ -100,7 +100,7 @@ fn show_lines(sheet: &[u8], work: &mut [u8], answer: &mut [u8]) {
 }
 
 fn print_lines(sheet: &[u8], work: &mut [u8], answer: &mut [u8], out: &mut [u8]) {
-    let made = printing::lines(sheet, work, answer, out);
+    let made = print_clash::lines(sheet, work, answer, out);
     match made {
         Filled::Bytes(n) => {
             if n <= out.len() {

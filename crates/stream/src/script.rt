@@ -1,11 +1,11 @@
 // A sheet's script, and how the same sheet is answered where the buffer is just long enough, and where a byte is missing.
-use answers::Numbers;
-use lines::fill;
-use lines::print;
-use lines::print_number;
+use base_answers::Numbers;
+use print_out::fill;
+use print_out::print;
+use print_out::print_number;
 ghost use Prim.Native.Nat.{_≤_};
 
-// No script is longer: `enough`, which `scripts::script` promises.
+// No script is longer: `enough`, which `script_sheet::script` promises.
 const SCRIPT: usize = 280000;
 
 // The byte with which the buffer is filled before each call.
@@ -60,7 +60,7 @@ fn show_changed(sheet: &[u8], out: &mut [u8]) {
 
 fn answered(sheet: &[u8], out: &mut [u8]) -> Numbers {
     fill(out, FILL);
-    scripts::in_numbers(scripts::script(sheet, out))
+    script_sheet::in_numbers(script_sheet::script(sheet, out))
 }
 
 // How many bytes are not as they were filled.

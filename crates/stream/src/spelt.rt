@@ -1,10 +1,10 @@
 // A sheet carried over, or a rule: what begins with `RU` is one.
 use crate::bytes::print_answer_bytes;
-use answers::Numbers;
-use lines::print;
-use lines::print_number;
-use sides::Cursor;
-use sides::Mark;
+use base_answers::Numbers;
+use print_out::print;
+use print_out::print_number;
+use read_side::Cursor;
+use read_side::Mark;
 
 pub fn show_spelt(sheet: &[u8], out: &mut [u8]) {
     let told = answered(sheet, out);
@@ -20,7 +20,7 @@ pub fn show_spelt(sheet: &[u8], out: &mut [u8]) {
 fn answered(sheet: &[u8], out: &mut [u8]) -> Numbers {
     let start = Cursor { at: 0 };
     if start.next_is(sheet, Mark::RU) {
-        return spell_open::in_numbers(spell_open::rule(sheet, out));
+        return carry_open::in_numbers(carry_open::rule(sheet, out));
     }
-    spell_open::in_numbers(spell_open::sheet(sheet, out))
+    carry_open::in_numbers(carry_open::sheet(sheet, out))
 }

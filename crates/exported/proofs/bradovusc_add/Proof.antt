@@ -2,7 +2,7 @@
 use mathlib.Core.Path.{ap}
 use native.Mathlib.Omega.{arith}
 use borrow.Author.Needs.{needs}
-use Rattle.numbered.specs.declared.Numbers.{Numbers}
+use Rattle.catalogue_numbers.specs.declared.Numbers.{Numbers}
 use Rattle.exported.proofs.Catalogued.{added-below, added-promised}
 use Rattle.exported.proofs.bradovusc_add.Statement.{statement}
 use Rattle.exported.proofs.bradovusc_add.Tie as tie

@@ -2,7 +2,7 @@
 use mathlib.Core.Path.{ap}
 use native.Mathlib.Omega.{arith}
 use borrow.Author.Needs.{needs}
-use Rattle.numbered.specs.declared.Totals.{Totals}
+use Rattle.catalogue_numbers.specs.declared.Totals.{Totals}
 use Rattle.exported.proofs.Catalogued.{rechecked-below, rechecked-promised}
 use Rattle.exported.proofs.bradovusc_recheck.Statement.{statement}
 use Rattle.exported.proofs.bradovusc_recheck.Tie as tie

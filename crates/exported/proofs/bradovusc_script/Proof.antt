@@ -2,7 +2,7 @@
 use mathlib.Core.Path.{ap}
 use native.Mathlib.Omega.{arith}
 use borrow.Author.Needs.{needs}
-use Rattle.answers.specs.declared.Numbers.{Numbers}
+use Rattle.base_answers.specs.declared.Numbers.{Numbers}
 use Rattle.exported.proofs.Scripted.{scripted-below, scripted-promised}
 use Rattle.exported.proofs.bradovusc_script.Statement.{statement}
 use Rattle.exported.proofs.bradovusc_script.Tie as tie
