@@ -1,4 +1,4 @@
-// `clash`: reads a question sheet from standard input and prints the answer. What it prints is made, and proved, in `printing`; here it is
+// `clash`: reads a question sheet from standard input and prints the answer. What it prints is made, and proved, in `print_clash`; here it is
 // read and written. There is no exit status: a failure is told on standard error.
 use print_clash::INPUT;
 use print_clash::PRINTED;

@@ -1,4 +1,4 @@
-// `decide`: reads a question sheet from standard input and prints the decision. What it prints is made, and proved, in `deciding_lines`; here it is
+// `decide`: reads a question sheet from standard input and prints the decision. What it prints is made, and proved, in `print_decide`; here it is
 // read and written. There is no exit status: a failure is told on standard error.
 use print_decide::INPUT;
 use print_decide::PRINTED;

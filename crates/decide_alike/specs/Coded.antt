@@ -1,6 +1,6 @@
 -- Characters alike, few characters, and tables cut to some characters, by inner codes and masks. The mask of a character in a field's row of the
 -- tables is the set of places that take it: equal masks say that every leaf takes both or neither.
--- Everything here is a step between the code and the definitions of the crate `deciding`; proofs/Ties.antt ties it to them.
+-- Everything here is a step between the code and the definitions of the crate `paper_decide`; proofs/Ties.antt ties it to them.
 use Prim.Native.Nat.{ℕ, zero, suc, _+_}
 use mathlib.Core.Bool.{Bool, true, false, cond, _&&_, _||_, not}
 use mathlib.Core.List.{List, [], _++_, map}

@@ -1,7 +1,7 @@
 -- One of the searches tells the outcome of a question's search over its characters:
 --   attempt-told : told-end (attempted over ..) (attempted-buffer ..) (cleared work)
 --     ≡ answered (hidden q) (count-of st) (how-of st) work answer, where st is the search of `hidden q` over the characters, in the room of work
--- for the sides and the tables of the question, as a sheet that asks it has them. Follows from `run-told-over` and the ties of `alike`.
+-- for the sides and the tables of the question, as a sheet that asks it has them. Follows from `run-told-over` and the ties of `decide_alike`.
 use Prim.Native.Nat.{ℕ, _+_}
 use native.Mathlib.Omega.{arith}
 use mathlib.Core.Path.{_≡_, refl, sym, ap, _∙_}

@@ -1,5 +1,5 @@
 -- Any two results that the promise of deciding allows are equal: the answer, the search, the answer buffer and the working buffer. Follows from an
--- answer being told by its outcome (`one-answer` of `bradovusc`).
+-- answer being told by its outcome (`one-answer` of `search_clash`).
 use Prim.Native.Nat.{ℕ}
 use mathlib.Core.Path.{_≡_, sym, ap, _∙_}
 use mathlib.Core.List.{List}

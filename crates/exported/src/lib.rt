@@ -1,6 +1,4 @@
 // The library for other languages: functions on slices and numbers.
-use c_tell::put;
-use c_tell::tell;
 ghost use mathlib.Core.Path.{_≡_};
 ghost use Rattle.paper.specs.Outcome.{outcome};
 ghost use Rattle.paper_catalogue.specs.Catalogue.{adding, withdrawing};
@@ -11,7 +9,8 @@ ghost use Rattle.paper_decide.specs.Deciding.{decision};
 ghost use Rattle.c_clash.specs.Asking.{telling};
 ghost use Rattle.c_decide.specs.Decided.{telling-decided};
 ghost use Rattle.c_carry.specs.Carried.{telling-spelt};
-ghost use Rattle.exported.specs.Exported.{telling-added, telling-rechecked, telling-scripted};
+ghost use Rattle.c_script.specs.Scripted.{telling-scripted};
+ghost use Rattle.c_catalogue.specs.Catalogued.{telling-added, telling-rechecked};
 
 // Can the two rules of the sheet make the same label? Returns document 01's number; count, place and written length go into the first three
 // elements of `told`, as many as there is room for.
@@ -61,11 +60,7 @@ pub extern "C" fn bradovusc_add(
     ensures catalogue { λ _. ⌜ now (catalogue .exit) ≡ adding (now (catalogue .entry)) (now (rule .entry)) (now (work .entry)) .catalogue ⌝ }
     ensures work { λ _. ⌜ now (work .exit) ≡ adding (now (catalogue .entry)) (now (rule .entry)) (now (work .entry)) .work ⌝ }
 {
-    let added = catalogue_add::add(catalogue, rule, work);
-    let numbers = catalogue_numbers::added(added);
-    tell(told, numbers.count, numbers.place, numbers.rule);
-    put(told, 3, numbers.answer);
-    numbers.number as u32
+    c_catalogue::add(catalogue, rule, work, told)
 }
 
 // Withdraws the rule with this number and closes the gap. Returns request K1's number.
@@ -74,8 +69,7 @@ pub extern "C" fn bradovusc_withdraw(catalogue: &mut [u8], number: usize) -> u32
     ensures number { λ r. ⌜ r ≡ withdrawing (now (catalogue .entry)) number .number ⌝ }
     ensures catalogue { λ _. ⌜ now (catalogue .exit) ≡ withdrawing (now (catalogue .entry)) number .catalogue ⌝ }
 {
-    let withdrawn = catalogue_add::withdraw(catalogue, number);
-    catalogue_numbers::withdrawn(withdrawn) as u32
+    c_catalogue::withdraw(catalogue, number)
 }
 
 // Lists the pairs of the catalogue's rules that are not answered 1, by lower, then higher number, five bytes each: lower, higher, answer, count
@@ -93,11 +87,7 @@ pub extern "C" fn bradovusc_recheck(
     ensures list { λ _. ⌜ now (list .exit) ≡ rechecking (now (catalogue .entry)) (now (work .entry)) (now (list .entry)) .list ⌝ }
     ensures work { λ _. ⌜ now (work .exit) ≡ rechecking (now (catalogue .entry)) (now (work .entry)) (now (list .entry)) .work ⌝ }
 {
-    let rechecked = catalogue_recheck::recheck(catalogue, work, list);
-    let totals = catalogue_numbers::rechecked(rechecked);
-    put(told, 0, totals.pairs);
-    put(told, 1, totals.written);
-    totals.number as u32
+    c_catalogue::recheck(catalogue, work, list, told)
 }
 
 // Writes the sheet out as a script for string solvers. Returns request K4's number; count (which is 0), place and written length go into the first
@@ -108,10 +98,7 @@ pub extern "C" fn bradovusc_script(sheet: &[u8], script: &mut [u8], told: &mut [
     ensures told { λ _. ⌜ now (told .exit) ≡ telling-scripted (now (told .entry)) (scripting (now (sheet .entry)) (now (script .entry))) ⌝ }
     ensures script { λ _. ⌜ now (script .exit) ≡ scripting (now (sheet .entry)) (now (script .entry)) .script ⌝ }
 {
-    let scripted = script_sheet::script(sheet, script);
-    let numbers = script_sheet::in_numbers(scripted);
-    tell(told, 0, numbers.place, numbers.written);
-    numbers.number as u32
+    c_script::sheet(sheet, script, told)
 }
 
 // Writes the sheet with 68 65 0 42 for every standing field without a pattern. Returns request K5's number; count (which is 0), place and written

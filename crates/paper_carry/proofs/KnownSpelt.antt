@@ -8,7 +8,7 @@ use Rattle.paper.specs.Sheet.{marked, pattern-record, side-record, read-end, ma
 use Rattle.paper.specs.Rule.{rule-front, read-rule, foreign-field}
 use Rattle.paper.specs.Saying.{sheet-saying}
 use Rattle.paper_catalogue.specs.Catalogue.{form}
-use Rattle.paper.proofs.known.Known.{PA, LE, RI}
+use Rattle.paper.proofs.known.KnownSheet.{PA, LE, RI}
 use Rattle.paper_carry.specs.Opened.{rule-open}
 use Rattle.paper_carry.specs.Spelling.{spelling-told, spelling, rule-spelling, CarriedOver, rules-open, carrying-over}
 

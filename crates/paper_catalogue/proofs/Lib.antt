@@ -10,6 +10,5 @@ pub mod Adding
 pub mod Withdrawing
 pub mod Apart
 pub mod Rechecked
--- known catalogues: the checker computes them
-pub mod KnownCatalogue
-pub mod KnownRechecks
+-- known calls that an edit needs: the checker computes them
+pub mod KnownFew

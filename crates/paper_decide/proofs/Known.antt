@@ -17,7 +17,7 @@ use Rattle.paper.specs.Way.{search-from, texts-of}
 use Rattle.paper.specs.Question.{Question, hidden, acceptor}
 use Rattle.paper.specs.Sheet.{marked, pattern-record, side-record, read-end, marked-side, next-is, read-sheet}
 use Rattle.paper.specs.Outcome.{room-of, searched, standing, value-record, records, some-text-too-long, clash, count-of, how-of}
-use Rattle.paper.proofs.known.Known.{PA, LE, RI}
+use Rattle.paper.proofs.known.KnownSheet.{PA, LE, RI}
 use Rattle.paper_chosen.specs.Chosen.{acceptor-over, searched-over}
 use Rattle.paper_decide.specs.Alike.{alike-in, fixed, standing-fields, alike, is-least, least-ones}
 use Rattle.paper_decide.specs.Few.{choice, chosen-for, few, is-few}

@@ -20,8 +20,8 @@ use Rattle.paper.specs.Question.{acceptor}
 use Rattle.paper.specs.Sheet.{marked, pattern-record, side-record, read-end, marked-side, next-is, read-sheet}
 use Rattle.paper.specs.Outcome.{Outcome, outcome, room-of, searched, standing, value-record, records, some-text-too-long, clash, count-of, how-of}
 use Rattle.paper.specs.Printed.{decimal, printed-of, printed}
-use Rattle.paper.proofs.known.Known.{PA, LE, RI, sheet-S}
-use Rattle.paper.proofs.known.KnownLengths.{program-room}
+use Rattle.paper.proofs.known.KnownSheet.{PA, LE, RI, sheet-S}
+use Rattle.paper_vectors.proofs.KnownLengths.{program-room}
 use Rattle.paper.proofs.sheets.AnswerRoom.{answer-enough}
 
 abbrev ascii : String → List ℕ

@@ -1,4 +1,4 @@
--- The lines of a decision for a sheet and three lent buffers: what becomes of the buffers. What is printed is `Printed` of `deciding`.
+-- The lines of a decision for a sheet and three lent buffers: what becomes of the buffers. What is printed is `Printed` of `paper_decide`.
 use Prim.Native.Nat.{ℕ}
 use mathlib.Core.List.{List}
 use Rattle.paper_decide.specs.Deciding.{decision}

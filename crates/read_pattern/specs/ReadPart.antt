@@ -1,4 +1,4 @@
--- What the private functions that read a pattern's bytes promise: the step between the code and the definitions of `Masks` (`places`).
+-- What the private functions that read a pattern's bytes promise: the step between the code and the definitions of `Masks` (`base_places`).
 --   Not-read n r          r tells that there is none, and how many bytes are left from the one at fault on
 --   Reads p starts rest o r
 --                         r tells of the pattern p, whose first leaf is the place o and behind which the bytes `rest` are left

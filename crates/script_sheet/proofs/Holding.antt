@@ -2,7 +2,7 @@
 --   spelt-spaces : a hidden field
 --   spelt-open   : a field without a pattern
 --   spelt-body   : a field with one: the bytes that stand in the sheet
--- Follows from where a field's pattern stands (`Standing` of `bodies`), and from the spelling of good patterns (`Patterns` of `terms`).
+-- Follows from where a field's pattern stands (`Standing` of `read_bodies`), and from the spelling of good patterns (`Patterns` of `script_terms`).
 use Prim.Native.Nat.{ℕ, _-_, _≤_, _<_}
 use native.Mathlib.Omega.{arith}
 use mathlib.Core.Path.{_≡_, sym, subst}
