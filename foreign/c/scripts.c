@@ -1,6 +1,6 @@
 /*
- * Writes the sheets of a stream of cases on standard input out as scripts, as the program `many_scripts` does; `second --scripts` reads
- * them.
+ * Writes the sheets of a stream of cases on standard input out as scripts, as the program `test_sheets` does in a part `SC`; `second
+ * --scripts` reads them.
  *
  * A case is as for many.c; of it only the sheet counts. For each there is a line with number, place and written length; after number 0
  * so many bytes of script, and a line with the number for a buffer of exactly so many bytes, the number for one of a byte less, and how

@@ -206,7 +206,8 @@ impl After {
         }
     }
 
-    /// What the program `calls` prints: every byte of the lent buffers too.
+    /// What the program `catalogue` prints after `SH`: every byte of the lent
+    /// buffers too.
     pub fn line(&self) -> String {
         let mut line = self.told();
         if let Call::Recheck { list, .. } = &self.call {

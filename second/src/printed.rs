@@ -1,5 +1,5 @@
-//! Cases whose lines tell wrong printers apart: the stored cases of the crate
-//! `printed_many`, and as the first one the stored sheet of `clash`.
+//! Cases whose lines tell wrong printers apart: the stored cases of a part
+//! of the crate `test_sheets`, and as the first one the stored sheet of `clash`.
 
 use crate::cases::Case;
 use crate::write::{field, many, patterns, row, sheet, text, values};

@@ -3,19 +3,19 @@
 // failure is told on standard error, and nothing is written.
 //
 // The stored sheet: field 0 is a digit and stands on both sides; fields 1 and 3 stand without a pattern; field 2 has a pattern and doesn't stand.
-use answers::Fault;
-use failures::refuse;
-use lines::read_first;
-use lines::tell;
-use sides::Cursor;
-use sides::Mark;
-use spell_open::CarriedOver;
-use spell_open::SpeltOpen;
+use base_answers::Fault;
+use carry_open::CarriedOver;
+use carry_open::SpeltOpen;
+use print_failures::refuse;
+use print_out::read_first;
+use print_out::tell;
+use read_side::Cursor;
+use read_side::Mark;
 
 // more than a catalogue of 32 of the longest rules has
 const INPUT: usize = 65536;
 
-// No sheet and no rule is longer: `enough`, which `spell_open::sheet` and `spell_open::rule` promise.
+// No sheet and no rule is longer: `enough`, which `carry_open::sheet` and `carry_open::rule` promise.
 const LONGEST: usize = 1622;
 
 fn main() {
@@ -40,7 +40,7 @@ fn carry(bytes: &mut [u8]) {
 }
 
 fn carry_sheet(sheet: &[u8], out: &mut [u8]) {
-    let spelt = spell_open::sheet(sheet, out);
+    let spelt = carry_open::sheet(sheet, out);
     match spelt {
         SpeltOpen::Refused { fault, place } => refuse(b"carry_over", fault, place),
         _ => show(spelt, out),
@@ -49,7 +49,7 @@ fn carry_sheet(sheet: &[u8], out: &mut [u8]) {
 
 // What is no rule by itself may be a catalogue.
 fn carry_rule(rule: &mut [u8], out: &mut [u8]) {
-    let spelt = spell_open::rule(rule, out);
+    let spelt = carry_open::rule(rule, out);
     match spelt {
         SpeltOpen::Refused { fault, place } => carry_catalogue(rule, fault, place),
         _ => show(spelt, out),
@@ -57,7 +57,7 @@ fn carry_rule(rule: &mut [u8], out: &mut [u8]) {
 }
 
 fn carry_catalogue(catalogue: &mut [u8], fault: Fault, place: usize) {
-    let carried = spell_open::catalogue(catalogue);
+    let carried = carry_open::catalogue(catalogue);
     match carried {
         CarriedOver::Done => print(catalogue),
         CarriedOver::Full => tell(b"carry_over: 32: the rules no longer fit the catalogue\n"),
@@ -67,7 +67,7 @@ fn carry_catalogue(catalogue: &mut [u8], fault: Fault, place: usize) {
 
 // What was written, or why nothing was.
 fn show(spelt: SpeltOpen, out: &[u8]) {
-    let told = spell_open::in_numbers(spelt);
+    let told = carry_open::in_numbers(spelt);
     let n = told.written;
     if told.number == 31 {
         tell(b"carry_over: 31: the rule names a field above 3\n");
@@ -77,7 +77,7 @@ fn show(spelt: SpeltOpen, out: &[u8]) {
 }
 
 fn print(bytes: &[u8]) {
-    if !lines::print(bytes) {
+    if !print_out::print(bytes) {
         tell(b"carry_over: standard output can't be written\n");
     }
 }

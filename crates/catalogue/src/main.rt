@@ -1,8 +1,11 @@
 // `catalogue`: does the operations on standard input to a catalogue, and prints a line for each rule that is added or withdrawn, for each pair
 // that checking again lists, and for each time that the rules are carried over. There is no exit status: a failure is told on standard error.
 //
-// The stored operations are those of a storeroom, as the second program's `calls --storeroom` writes them, and the stored lines are those of
-// its `second --calls --lines`. In front stands the number of the line; `CA` and `WO` print none. A rule is entered where no answer is named.
+// After `SH` and 1 each line has every byte of the lent buffers too.
+//
+// The first stored operations are those of a storeroom, as the second program's `calls --storeroom` writes them, and the stored lines are those
+// of its `second --calls --lines`. In front stands the number of the line; `CA`, `WO` and `SH` print none. A rule is entered where no answer is
+// named.
 //
 //  1  AD  the mortice latch is rule 0: `LT`, two digits, a finish of `BR`, `CH` or `SS`
 //  2  AD  the rim latch is rule 1: `RL`, two digits, a hand `L` or `R`
@@ -99,12 +102,81 @@
 // 97  RE  nothing is changed
 //     CA  parcels with another mark
 // 98  SO  34: no catalogue to carry over
-use lines::tell;
-use operations::How;
-use operations::Shown;
+//
+//     SH  every byte from here on
+//     CA  8,192 zero bytes, as at the start
+//     WO  356 situations
+//
+// Then come those that the second program's `calls 1 4000` makes: 4,000 additions, withdrawals, checks and carryings over, among them each number
+// and, with 30, each answer of a pair. Its `second --calls` prints the same lines. tools/compare tries fresh ones.
+mod input;
+mod output;
+
+use input::Mark;
+use input::read_bytes;
+use input::read_mark;
+use input::read_number;
+use input::read_rule;
+use output::print_added;
+use output::print_carried;
+use output::print_rechecked;
+use output::print_withdrawn;
+use print_out::WORK;
+use print_out::WORK_FILL;
+use print_out::fill;
+use print_out::tell;
+ghost use Prim.Native.Nat.{_≤_};
+
+// the longest rule that two bytes can tell
+const RULE: usize = 65535;
+
+const CATALOGUE: usize = 8192;
+
+// 356 situations
+const FIRST_WORK: usize = 65520;
+
+// more than the 496 pairs of 32 rules
+const LIST: usize = 2560;
+
+// each byte of the list before a call
+const LIST_FILL: u8 = 165;
+
+// What is printed of a call.
+pub enum Shown {
+    // a line with what it tells, and one for each pair that is listed
+    Lines,
+    // the same, and every byte of the lent buffers as they are afterwards
+    Bytes,
+}
+
+// How far the operations are.
+pub enum How {
+    // there may be more of them
+    Going,
+    // all are done
+    Done,
+    // the next one is cut short, has another mark or asks for more than is allowed
+    Stopped,
+    // standard input can't be read
+    NotRead,
+    // standard output can't be written
+    NotWritten,
+}
+
+// How far they are, what is printed, and how much of each buffer is lent to a call.
+pub struct State {
+    pub how: How,
+    pub shown: Shown,
+    pub catalogue: usize,
+    pub work: usize,
+}
 
 fn main() {
-    let ended = operations::run(Shown::Lines);
+    let mut rule = [0u8; RULE];
+    let mut catalogue = [0u8; CATALOGUE];
+    let mut work = [0u8; WORK];
+    let mut list = [0u8; LIST];
+    let ended = run_each(&mut rule, &mut catalogue, &mut work, &mut list);
     match ended {
         How::Going => {}
         How::Done => {}
@@ -112,4 +184,188 @@ fn main() {
         How::NotRead => tell(b"catalogue: standard input can't be read\n"),
         How::NotWritten => tell(b"catalogue: standard output can't be written\n"),
     }
+}
+
+// A proved loop has to end, and nothing says that a stream does: the turns are counted down from a number that no run uses up.
+fn run_each(rule: &mut [u8], catalogue: &mut [u8], work: &mut [u8], list: &mut [u8]) -> How {
+    let mut state = State {
+        how: How::Going,
+        shown: Shown::Lines,
+        catalogue: CATALOGUE,
+        work: FIRST_WORK,
+    };
+    let mut turns = u64::MAX;
+    while turns > 0 && is_going(state) {
+        state = run_next(rule, catalogue, work, list, state);
+        turns -= 1;
+    }
+    let how = state.how;
+    how
+}
+
+fn is_going(state: State) -> bool {
+    let how = state.how;
+    match how {
+        How::Going => true,
+        _ => false,
+    }
+}
+
+fn run_next(
+    rule: &mut [u8],
+    catalogue: &mut [u8],
+    work: &mut [u8],
+    list: &mut [u8],
+    state: State,
+) -> State {
+    let shown = state.shown;
+    let catalogue_len = least(state.catalogue, catalogue.len());
+    let work_len = least(state.work, work.len());
+    let mark = read_mark();
+    match mark {
+        Mark::Add => with(
+            add(
+                rule,
+                &mut catalogue[0..catalogue_len],
+                &mut work[0..work_len],
+                shown,
+            ),
+            state,
+        ),
+        Mark::Withdraw => with(withdraw(&mut catalogue[0..catalogue_len], shown), state),
+        Mark::Catalogue => new_catalogue(catalogue, state),
+        Mark::Work => new_work(work.len(), state),
+        Mark::Show => new_shown(state),
+        Mark::Recheck => with(
+            check_again(
+                &catalogue[0..catalogue_len],
+                &mut work[0..work_len],
+                list,
+                shown,
+            ),
+            state,
+        ),
+        Mark::Carry => with(carry(&mut catalogue[0..catalogue_len], shown), state),
+        Mark::None(how) => with(how, state),
+    }
+}
+
+// `AD`: a length in two bytes, so many bytes.
+fn add(rule: &mut [u8], catalogue: &mut [u8], work: &mut [u8], shown: Shown) -> How {
+    let read = read_rule(rule);
+    let n = read.number;
+    if !read.there {
+        return How::Stopped;
+    }
+    fill(work, WORK_FILL);
+    let told = catalogue_numbers::added(catalogue_add::add(catalogue, &rule[0..n], work));
+    print_added(told, catalogue, work, shown)
+}
+
+// `WI`: a rule's number in one byte.
+fn withdraw(catalogue: &mut [u8], shown: Shown) -> How {
+    let rule = read_number(1, 255);
+    if !rule.there {
+        return How::Stopped;
+    }
+    let told = catalogue_numbers::withdrawn(catalogue_add::withdraw(catalogue, rule.number));
+    print_withdrawn(told, catalogue, shown)
+}
+
+// `RE`: the list's length in two bytes.
+fn check_again(catalogue: &[u8], work: &mut [u8], list: &mut [u8], shown: Shown) -> How {
+    let length = read_number(2, list.len());
+    if !length.there {
+        return How::Stopped;
+    }
+    let n = length.number;
+    list_pairs(catalogue, work, &mut list[0..n], shown)
+}
+
+fn list_pairs(catalogue: &[u8], work: &mut [u8], list: &mut [u8], shown: Shown) -> How {
+    fill(work, WORK_FILL);
+    fill(list, LIST_FILL);
+    let told = catalogue_numbers::rechecked(catalogue_recheck::recheck(catalogue, work, list));
+    print_rechecked(told, list, catalogue, work, shown)
+}
+
+// `SO`
+fn carry(catalogue: &mut [u8], shown: Shown) -> How {
+    let told = carry_open::number(carry_open::catalogue(catalogue));
+    print_carried(told, catalogue, shown)
+}
+
+// `CA`: the catalogue's length and that of its front in two bytes each, the front. The rest are zeros.
+fn new_catalogue(catalogue: &mut [u8], state: State) -> State {
+    let length = read_number(2, catalogue.len());
+    let catalogue_len = length.number;
+    let front = read_number(2, catalogue_len);
+    let front_len = front.number;
+    if !length.there {
+        return with(How::Stopped, state);
+    }
+    if !front.there {
+        return with(How::Stopped, state);
+    }
+    if !read_bytes(&mut catalogue[0..front_len]) {
+        return with(How::Stopped, state);
+    }
+    fill(&mut catalogue[front_len..catalogue_len], 0);
+    let shown = state.shown;
+    State {
+        how: How::Going,
+        shown,
+        catalogue: catalogue_len,
+        work: state.work,
+    }
+}
+
+// `WO`: the working buffer's length in four bytes.
+fn new_work(most: usize, state: State) -> State {
+    let length = read_number(4, most);
+    if !length.there {
+        return with(How::Stopped, state);
+    }
+    let shown = state.shown;
+    State {
+        how: How::Going,
+        shown,
+        catalogue: state.catalogue,
+        work: length.number,
+    }
+}
+
+// `SH`: 0 for lines, 1 for every byte, in one byte.
+fn new_shown(state: State) -> State {
+    let bytes = read_number(1, 1);
+    if !bytes.there {
+        return with(How::Stopped, state);
+    }
+    let shown = shown_by(bytes.number == 1);
+    State {
+        how: How::Going,
+        shown,
+        catalogue: state.catalogue,
+        work: state.work,
+    }
+}
+
+fn shown_by(bytes: bool) -> Shown {
+    if bytes { Shown::Bytes } else { Shown::Lines }
+}
+
+fn with(how: How, state: State) -> State {
+    let shown = state.shown;
+    State {
+        how,
+        shown,
+        catalogue: state.catalogue,
+        work: state.work,
+    }
+}
+
+fn least(a: usize, b: usize) -> usize
+    ensures { λ r. ⌜ r ≤ b ⌝ }
+{
+    if a < b { a } else { b }
 }

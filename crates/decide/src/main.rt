@@ -1,9 +1,9 @@
-// `decide`: reads a question sheet from standard input and prints the decision. What it prints is made, and proved, in `deciding_lines`; here it is
+// `decide`: reads a question sheet from standard input and prints the decision. What it prints is made, and proved, in `print_decide`; here it is
 // read and written. There is no exit status: a failure is told on standard error.
-use deciding_lines::INPUT;
-use deciding_lines::PRINTED;
-use lines::read_first;
-use lines::tell;
+use print_decide::INPUT;
+use print_decide::PRINTED;
+use print_out::read_first;
+use print_out::tell;
 
 fn main() {
     let mut input = [0u8; INPUT];
@@ -18,8 +18,8 @@ fn main() {
 
 fn print(input: &[u8]) {
     let mut out = [0u8; PRINTED];
-    let n = deciding_lines::printed(input, &mut out);
-    if !lines::print(&out[0..n]) {
+    let n = print_decide::printed(input, &mut out);
+    if !print_out::print(&out[0..n]) {
         tell(b"decide: standard output can't be written\n");
     }
 }

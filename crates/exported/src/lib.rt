@@ -1,17 +1,16 @@
 // The library for other languages: functions on slices and numbers.
-use telling::put;
-use telling::tell;
 ghost use mathlib.Core.Path.{_≡_};
 ghost use Rattle.paper.specs.Outcome.{outcome};
-ghost use Rattle.rulebook.specs.Catalogue.{adding, withdrawing};
-ghost use Rattle.rulebook.specs.Recheck.{rechecking};
-ghost use Rattle.smt.specs.Scripting.{scripting};
-ghost use Rattle.opened.specs.Spelling.{spelling, rule-spelling, carrying-over};
-ghost use Rattle.deciding.specs.Deciding.{decision};
-ghost use Rattle.asking.specs.Asking.{telling};
-ghost use Rattle.decided.specs.Decided.{telling-decided};
-ghost use Rattle.carried.specs.Carried.{telling-spelt};
-ghost use Rattle.exported.specs.Exported.{telling-added, telling-rechecked, telling-scripted};
+ghost use Rattle.paper_catalogue.specs.Catalogue.{adding, withdrawing};
+ghost use Rattle.paper_catalogue.specs.Recheck.{rechecking};
+ghost use Rattle.paper_script.specs.Scripting.{scripting};
+ghost use Rattle.paper_carry.specs.Spelling.{spelling, rule-spelling, carrying-over};
+ghost use Rattle.paper_decide.specs.Deciding.{decision};
+ghost use Rattle.c_clash.specs.Asking.{telling};
+ghost use Rattle.c_decide.specs.Decided.{telling-decided};
+ghost use Rattle.c_carry.specs.Carried.{telling-spelt};
+ghost use Rattle.c_script.specs.Scripted.{telling-scripted};
+ghost use Rattle.c_catalogue.specs.Catalogued.{telling-added, telling-rechecked};
 
 // Can the two rules of the sheet make the same label? Returns document 01's number; count, place and written length go into the first three
 // elements of `told`, as many as there is room for.
@@ -27,7 +26,7 @@ pub extern "C" fn bradovusc_clash(
     ensures answer { λ _. ⌜ now (answer .exit) ≡ outcome (now (sheet .entry)) (now (work .entry)) (now (answer .entry)) .answer ⌝ }
     ensures work { λ _. ⌜ now (work .exit) ≡ outcome (now (sheet .entry)) (now (work .entry)) (now (answer .entry)) .work ⌝ }
 {
-    asking::sheet(sheet, work, answer, told)
+    c_clash::sheet(sheet, work, answer, told)
 }
 
 // The same with up to four searches, where `bradovusc_clash` leaves the question open. Returns its number; count, place, written length and the
@@ -44,7 +43,7 @@ pub extern "C" fn bradovusc_decide(
     ensures answer { λ _. ⌜ now (answer .exit) ≡ decision (now (sheet .entry)) (now (work .entry)) (now (answer .entry)) .outcome .answer ⌝ }
     ensures work { λ _. ⌜ now (work .exit) ≡ decision (now (sheet .entry)) (now (work .entry)) (now (answer .entry)) .outcome .work ⌝ }
 {
-    decided::sheet(sheet, work, answer, told)
+    c_decide::sheet(sheet, work, answer, told)
 }
 
 // Enters a rule behind the last one of the catalogue if its pair with every rule present is answered 1. Returns request K1's number; count,
@@ -61,11 +60,7 @@ pub extern "C" fn bradovusc_add(
     ensures catalogue { λ _. ⌜ now (catalogue .exit) ≡ adding (now (catalogue .entry)) (now (rule .entry)) (now (work .entry)) .catalogue ⌝ }
     ensures work { λ _. ⌜ now (work .exit) ≡ adding (now (catalogue .entry)) (now (rule .entry)) (now (work .entry)) .work ⌝ }
 {
-    let added = storeroom::add(catalogue, rule, work);
-    let numbers = numbered::added(added);
-    tell(told, numbers.count, numbers.place, numbers.rule);
-    put(told, 3, numbers.answer);
-    numbers.number as u32
+    c_catalogue::add(catalogue, rule, work, told)
 }
 
 // Withdraws the rule with this number and closes the gap. Returns request K1's number.
@@ -74,8 +69,7 @@ pub extern "C" fn bradovusc_withdraw(catalogue: &mut [u8], number: usize) -> u32
     ensures number { λ r. ⌜ r ≡ withdrawing (now (catalogue .entry)) number .number ⌝ }
     ensures catalogue { λ _. ⌜ now (catalogue .exit) ≡ withdrawing (now (catalogue .entry)) number .catalogue ⌝ }
 {
-    let withdrawn = storeroom::withdraw(catalogue, number);
-    numbered::withdrawn(withdrawn) as u32
+    c_catalogue::withdraw(catalogue, number)
 }
 
 // Lists the pairs of the catalogue's rules that are not answered 1, by lower, then higher number, five bytes each: lower, higher, answer, count
@@ -93,11 +87,7 @@ pub extern "C" fn bradovusc_recheck(
     ensures list { λ _. ⌜ now (list .exit) ≡ rechecking (now (catalogue .entry)) (now (work .entry)) (now (list .entry)) .list ⌝ }
     ensures work { λ _. ⌜ now (work .exit) ≡ rechecking (now (catalogue .entry)) (now (work .entry)) (now (list .entry)) .work ⌝ }
 {
-    let rechecked = recheck::recheck(catalogue, work, list);
-    let totals = numbered::rechecked(rechecked);
-    put(told, 0, totals.pairs);
-    put(told, 1, totals.written);
-    totals.number as u32
+    c_catalogue::recheck(catalogue, work, list, told)
 }
 
 // Writes the sheet out as a script for string solvers. Returns request K4's number; count (which is 0), place and written length go into the first
@@ -108,10 +98,7 @@ pub extern "C" fn bradovusc_script(sheet: &[u8], script: &mut [u8], told: &mut [
     ensures told { λ _. ⌜ now (told .exit) ≡ telling-scripted (now (told .entry)) (scripting (now (sheet .entry)) (now (script .entry))) ⌝ }
     ensures script { λ _. ⌜ now (script .exit) ≡ scripting (now (sheet .entry)) (now (script .entry)) .script ⌝ }
 {
-    let scripted = scripts::script(sheet, script);
-    let numbers = scripts::in_numbers(scripted);
-    tell(told, 0, numbers.place, numbers.written);
-    numbers.number as u32
+    c_script::sheet(sheet, script, told)
 }
 
 // Writes the sheet with 68 65 0 42 for every standing field without a pattern. Returns request K5's number; count (which is 0), place and written
@@ -122,7 +109,7 @@ pub extern "C" fn bradovusc_spell_open(sheet: &[u8], out: &mut [u8], told: &mut 
     ensures told { λ _. ⌜ now (told .exit) ≡ telling-spelt (now (told .entry)) (spelling (now (sheet .entry)) (now (out .entry))) ⌝ }
     ensures out { λ _. ⌜ now (out .exit) ≡ spelling (now (sheet .entry)) (now (out .entry)) .out ⌝ }
 {
-    carried::sheet(sheet, out, told)
+    c_carry::sheet(sheet, out, told)
 }
 
 // Writes the rule of a catalogue likewise.
@@ -132,7 +119,7 @@ pub extern "C" fn bradovusc_spell_open_rule(rule: &[u8], out: &mut [u8], told: &
     ensures told { λ _. ⌜ now (told .exit) ≡ telling-spelt (now (told .entry)) (rule-spelling (now (rule .entry)) (now (out .entry))) ⌝ }
     ensures out { λ _. ⌜ now (out .exit) ≡ rule-spelling (now (rule .entry)) (now (out .entry)) .out ⌝ }
 {
-    carried::rule(rule, out, told)
+    c_carry::rule(rule, out, told)
 }
 
 // Carries every rule of the catalogue over, in its own buffer. Returns request K5's number.
@@ -141,5 +128,5 @@ pub extern "C" fn bradovusc_spell_open_catalogue(catalogue: &mut [u8]) -> u32
     ensures number { λ r. ⌜ r ≡ carrying-over (now (catalogue .entry)) .number ⌝ }
     ensures catalogue { λ _. ⌜ now (catalogue .exit) ≡ carrying-over (now (catalogue .entry)) .catalogue ⌝ }
 {
-    carried::catalogue(catalogue)
+    c_carry::catalogue(catalogue)
 }

@@ -1,6 +1,6 @@
 -- what every layer uses
 pub mod base
--- known sheets and vectors: the checker computes them
+-- what a known sheet is, and those that an edit needs: the checker computes them
 pub mod known
 -- the search over any situations
 pub mod search

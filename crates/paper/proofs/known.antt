@@ -1,3 +1,2 @@
-pub mod Known
-pub mod KnownLengths
-pub mod KnownBounds
+pub mod KnownSheet
+pub mod KnownFew

@@ -7,11 +7,11 @@ use lib.Dec.{leb}
 use lib.ListN.{length}
 use Rattle.paper.specs.Sheet.{Reading, refused, asked, read-sheet}
 use Rattle.paper.proofs.base.Tests.{cond-by, leb-true}
-use Rattle.smt.specs.Script.{script}
-use Rattle.smt.specs.Scripting.{Scripting, scripting-of, scripting}
-use Rattle.scripts.specs.Told.{told-scripted}
-use Rattle.scripts.specs.declared.Scripted.{Scripted}
-use Rattle.scripts.specs.declared.Scripted.the-variants.{Written}
+use Rattle.paper_script.specs.Script.{script}
+use Rattle.paper_script.specs.Scripting.{Scripting, scripting-of, scripting}
+use Rattle.script_sheet.specs.Told.{told-scripted}
+use Rattle.script_sheet.specs.declared.Scripted.{Scripted}
+use Rattle.script_sheet.specs.declared.Scripted.the-variants.{Written}
 
 fits-of : (out : List ℕ) (r : Reading) → scripting-of r out .written ≤ length out
 fits-of out (refused x at) = omega arith

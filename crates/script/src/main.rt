@@ -3,15 +3,15 @@
 //
 // The stored sheet: left `K`, field 0, `-4`, field 0, field 2; right `K7`, field 1, `.$`. Field 0 is `LT`, or a digit and any of the values 34 to 38
 // (`YZ-. `); field 2 is empty or `$`; field 1 is open. The pattern of field 4, which stands in neither side, is left out.
-use failures::refuse;
-use lines::read_first;
-use lines::tell;
-use scripts::Scripted;
+use print_failures::refuse;
+use print_out::read_first;
+use print_out::tell;
+use script_sheet::Scripted;
 
 // As `clash` does: it "reads the first" 2,048 "bytes of standard input".
 const INPUT: usize = 2048;
 
-// No script is longer: `enough`, which `scripts::script` promises.
+// No script is longer: `enough`, which `script_sheet::script` promises.
 const SCRIPT: usize = 280000;
 
 fn main() {
@@ -31,7 +31,7 @@ fn write_out(sheet: &[u8]) {
 }
 
 fn write_in(sheet: &[u8], out: &mut [u8]) {
-    let scripted = scripts::script(sheet, out);
+    let scripted = script_sheet::script(sheet, out);
     match scripted {
         Scripted::Written { bytes } => print(&out[0..bytes]),
         Scripted::Refused { fault, place } => refuse(b"script", fault, place),
@@ -41,7 +41,7 @@ fn write_in(sheet: &[u8], out: &mut [u8]) {
 }
 
 fn print(script: &[u8]) {
-    if !lines::print(script) {
+    if !print_out::print(script) {
         tell(b"script: standard output can't be written\n");
     }
 }

@@ -120,7 +120,7 @@ fn the_longest() {
     assert_eq!(says(&text, &sheet::read(&sheet).unwrap()), Ok(()));
 }
 
-/// What `many_scripts` prints for a sheet.
+/// What `test_sheets` prints for a sheet of a part `SC`.
 fn output(sheet: &[u8]) -> Vec<u8> {
     let (given, text) = written(sheet, SCRIPT_BYTES);
     let line = format!("{} {} {}\n", given.number(), given.place(), given.written());

@@ -23,7 +23,7 @@ use Rattle.paper.proofs.places.Reachable.{reachable-first, reachable-af
 use Rattle.paper.proofs.plain.Plain.{plain-count, plain-has-room, plain-not-long}
 use Rattle.paper.proofs.sheets.Asked.{AsksGood, sheet-good}
 use Rattle.paper.proofs.sheets.Hidden.{hidden-known, hidden-short, hidden-plain}
-use Rattle.paper.proofs.known.Known.{sheet-S}
+use Rattle.paper.proofs.known.KnownSheet.{sheet-S}
 use Rattle.paper.proofs.sheets.Rows.{Row, faulty, has-no-room, is-too-long, in-row, good-outcome}
 
 -- For every reading whose question is good, and all buffers.

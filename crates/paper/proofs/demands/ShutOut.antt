@@ -25,7 +25,7 @@ use Rattle.paper.specs.Sheet.{marked, pattern-record, side-record, Readi
 use Rattle.paper.specs.Outcome.{Outcome, outcome, room-of, searched, standing, value-record, records, some-text-too-long, cleared, clash, count-of, how-of}
 use Rattle.paper.specs.Demands.{Good, end-of, Solved, texts-found, records-of, Clash, Demand2}
 use Rattle.paper.proofs.base.Tests.{le-leb}
-use Rattle.paper.proofs.known.Known.{sheet-S}
+use Rattle.paper.proofs.known.KnownSheet.{sheet-S}
 use Rattle.paper.proofs.sheets.Rows.{by-reading}
 use Rattle.paper.proofs.demands.Demand2.{sheet-demand-2}
 use Rattle.paper.proofs.demands.Demand3.{question-S, sheet-S-asks}

@@ -1,0 +1,22 @@
+-- The code's faults and the paper's: the same seven, under the same names.
+use Rattle.paper.specs.Sheet.{Fault, cut-short, wrong-mark, wrong-field, wrong-length, not-one-pattern, too-many-leaves, wrong-token}
+use Rattle.base_answers.specs.declared.Fault as Code
+use Rattle.base_answers.specs.declared.Fault.the-variants.{CutShort, WrongMark, WrongField, WrongLength, NotOnePattern, TooManyLeaves, WrongToken}
+
+abbrev pub fault-of : Code.Fault → Fault
+fault-of CutShort = cut-short
+fault-of WrongMark = wrong-mark
+fault-of WrongField = wrong-field
+fault-of WrongLength = wrong-length
+fault-of NotOnePattern = not-one-pattern
+fault-of TooManyLeaves = too-many-leaves
+fault-of WrongToken = wrong-token
+
+abbrev pub as-fault : Fault → Code.Fault
+as-fault cut-short = CutShort
+as-fault wrong-mark = WrongMark
+as-fault wrong-field = WrongField
+as-fault wrong-length = WrongLength
+as-fault not-one-pattern = NotOnePattern
+as-fault too-many-leaves = TooManyLeaves
+as-fault wrong-token = WrongToken

@@ -1,0 +1,77 @@
+// Places: a place set is a 64-bit mask. Its lowest bit is the start, the others are the leaves in the order of reading.
+ghost use mathlib.Core.Path.{_≡_};
+ghost use mathlib.Core.Bool.{cond};
+ghost use Prim.Native.Nat.{ℕ};
+ghost use lib.Dec.{eqb};
+ghost use Rattle.paper.specs.Pattern.{some-text};
+ghost use Rattle.base_places.specs.Masks.{mask-of, in-mask, followers-of};
+ghost use Rattle.base_places.specs.WorkedOut.{worked-out};
+
+// "63 leaves, which with the start make 64 places".
+pub const PLACES: usize = 64;
+
+// "Code 39, by value": 0 to 42.
+pub const CHARACTERS: usize = 43;
+
+// Every place; every place but the start; and the place behind the start of an open field.
+const ALL: u64 = 0xFFFF_FFFF_FFFF_FFFF;
+
+const NOT_THE_START: u64 = 0xFFFF_FFFF_FFFF_FFFE;
+
+const BEHIND_START: u64 = 2;
+
+// What is worked out once of a pattern.
+pub struct PlaceTables {
+    // for every place the places that may follow
+    pub follow: [u64; PLACES],
+    // for every character the places that take it
+    pub taking: [u64; CHARACTERS],
+    // the places that may be the last one: "the start may, if the pattern takes the empty text"
+    pub last: u64,
+}
+
+// The set that holds the place i alone; no place, where i is none.
+pub fn place(i: usize) -> u64
+    ensures { λ r. ⌜ r ≡ mask-of (λ (q : ℕ). eqb i q) ⌝ }
+{
+    if i < PLACES { 1 << i } else { 0 }
+}
+
+// The other set, if the place i stands in the first one; else no place.
+pub fn when_holds(set: u64, i: usize, other: u64) -> u64
+    ensures { λ r. ⌜ r ≡ cond (in-mask set i) other 0 ⌝ }
+{
+    if PLACES <= i {
+        return 0;
+    }
+    if (set >> i) % 2 == 1 { other } else { 0 }
+}
+
+// All places that may follow some place of the set. The set after a character is what of these takes it. Most patterns have few leaves: behind the
+// last place of the set none is looked at.
+pub fn followers(follow: [u64; PLACES], set: u64) -> u64
+    ensures { λ r. ⌜ r ≡ followers-of follow set ⌝ }
+{
+    let mut r = 0;
+    let mut i = 0;
+    while i < PLACES {
+        if set >> i == 0 {
+            return r;
+        }
+        r = r | when_holds(set, i, follow[i]);
+        i += 1;
+    }
+    r
+}
+
+// "A field without a pattern shall now hold one character or more. It then has two reachable place sets": its start, which may not be the last
+// one, and one place behind it, which follows both.
+pub fn open_tables() -> PlaceTables
+    ensures { λ r. ⌜ r ≡ worked-out some-text ⌝ }
+{
+    PlaceTables {
+        follow: [BEHIND_START; PLACES],
+        taking: [ALL; CHARACTERS],
+        last: NOT_THE_START,
+    }
+}

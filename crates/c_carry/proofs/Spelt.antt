@@ -1,0 +1,50 @@
+-- What the answers of carrying over and their numbers say of its definitions. Follows from the definitions of the answers.
+use Prim.Native.Nat.{ℕ, _<_}
+use native.Mathlib.Omega.{arith}
+use mathlib.Core.Path.{_≡_, ap, _∙_}
+use mathlib.Core.List.{List}
+use lib.Dec.{lit<}
+use Rattle.paper_carry.specs.Spelling.{Spelling}
+use Rattle.paper_carry.specs.Spelling as Spelling
+use Rattle.paper_carry.proofs.Promised.{fault-between}
+use Rattle.base_answers.specs.Faults.{fault-of}
+use Rattle.base_answers.specs.declared.Numbers.{Numbers}
+use Rattle.carry_open.specs.Told.{spelt-numbers, told-spelt, carried-number, told-carried}
+use Rattle.carry_open.specs.declared.SpeltOpen.{SpeltOpen}
+use Rattle.carry_open.specs.declared.SpeltOpen.the-variants.{Written, Refused, ForeignField, TooShort}
+use Rattle.carry_open.specs.declared.CarriedOver.{CarriedOver}
+use Rattle.carry_open.specs.declared.CarriedOver.the-variants.{Done, Full, NoCatalogue}
+use Rattle.c_tell.specs.Numbered.{with-numbers}
+use Rattle.c_carry.specs.Carried.{telling-spelt}
+
+-- 41 is the last of request K5's numbers
+pub spelt-below : (s : SpeltOpen) → spelt-numbers s .number < 42
+spelt-below (Written bytes) = lit< tt
+spelt-below (Refused x at) = let (low, high) = fault-between (fault-of x) in omega arith
+spelt-below ForeignField = lit< tt
+spelt-below TooShort = lit< tt
+
+pub carried-below : (c : CarriedOver) → carried-number c < 35
+carried-below Done = lit< tt
+carried-below Full = lit< tt
+carried-below NoCatalogue = lit< tt
+
+-- an answer that tells what was written, with its numbers named and written
+pub spelt-promised :
+    (s : SpeltOpen) (numbers : Numbers) {out : List ℕ} {o : Spelling} (before : List ℕ) {after : List ℕ} → told-spelt s out ≡ o
+    → numbers ≡ spelt-numbers s
+    → after ≡ with-numbers before 0 (numbers .place) (numbers .written)
+    → (numbers .number ≡ o .number) × ((after ≡ telling-spelt before o) × (out ≡ o .out))
+spelt-promised s numbers before whole named written = (
+  ap (λ (n : Numbers). n .number) named ∙ ap (λ (o : Spelling). o .number) whole,
+  (
+    written ∙ ap (λ (n : Numbers). with-numbers before 0 (n .place) (n .written)) named ∙ ap (telling-spelt before) whole,
+    ap (λ (o : Spelling). o .out) whole,
+  ),
+)
+
+-- and one that tells what became of a catalogue
+pub carried-promised : (c : CarriedOver) (n : ℕ) {catalogue : List ℕ} {o : Spelling.CarriedOver} → told-carried c catalogue ≡ o
+    → n ≡ carried-number c → (n ≡ o .number) × (catalogue ≡ o .catalogue)
+carried-promised c n whole named =
+    (named ∙ ap (λ (o : Spelling.CarriedOver). o .number) whole, ap (λ (o : Spelling.CarriedOver). o .catalogue) whole)

@@ -1,9 +1,0 @@
--- What a caller in another language is told beside the number.
-use Prim.Native.Nat.{ℕ}
-use mathlib.Core.List.{List}
-use Rattle.opened.specs.Spelling.{Spelling}
-use Rattle.telling.specs.Numbered.{with-numbers}
-
--- of carrying over, which has no count
-abbrev pub telling-spelt : List ℕ → Spelling → List ℕ
-telling-spelt told s = with-numbers told 0 (s .place) (s .written)

@@ -1,0 +1,80 @@
+-- `sheet` meets its contract, by what reading the sheet tells and by what is put of it (`Whole`, `Answered`).
+use native.Mathlib.Omega.{arith}
+use mathlib.Core.Path.{_≡_, ap}
+use denote.Ref.{now}
+use lib.ListN.{length}
+use Rattle.paper.specs.Saying.{sheet-saying}
+use Rattle.base_codes.specs.declared.Situation.{Situation}
+use Rattle.search_trim.specs.Trimming.{question-coded}
+use Rattle.read_sheet.specs.declared.Sheet.{Sheet}
+use Rattle.read_sheet.proofs.Told.{Asking, sheet-asks}
+use Rattle.paper_carry.specs.Opened.{spelt-open}
+use Rattle.paper_carry.proofs.Carried.{sheet-fits}
+use Rattle.carry_open.specs.Told.{put-whole}
+use Rattle.carry_open.proofs.Whole.{sheet-whole}
+use Rattle.carry_open.proofs.Answered.{and-promised, sheet-at-fault, sheet-put}
+use borrow.Author.Needs.{needs}
+use Rattle.carry_open.proofs.sheet.Statement.{statement}
+use Rattle.carry_open.proofs.sheet.Tie as tie
+
+read-requires : tie.Need-read-requires
+read-requires c κs = search needs
+
+enum-known-found : tie.Need-enum-known-found
+enum-known-found c = search needs
+
+returns : tie.Need-returns
+returns c =
+    let r = c .before .before .before in
+    and-promised _ _ _ (sheet-at-fault _ _ _ (r .read .ensures) _ (c .before .found .given .1))
+
+enum-told : tie.Need-enum-told
+enum-told c = search needs
+
+question-requires : tie.Need-question-requires
+question-requires c κs = search needs
+
+-- the question that was read
+abbrev read-at : tie.After-sets → tie.After-read
+read-at s = s .before .before .before .before .before .before
+
+asking : (s : tie.After-sets) → let r = read-at s in Asking (now (r .before .before .before .args .sheet)) (r .read .result)
+asking s = let r = read-at s in sheet-asks _ _ (r .read .ensures) (s .before .before .before .before .enum-told .given .1)
+
+-- what is put of it
+whole : (s : tie.After-sets) →
+    put-whole (now (read-at s .before .before .before .args .sheet)) 0 (s .before .question .result .sets)
+    ≡ sheet-saying (spelt-open (asking s .question))
+unfolding question-coded
+whole s =
+    let a = asking s in
+    sheet-whole _ (a .question) (a .good) _ _ _ (ap (λ (x : Sheet). x .left) (a .is)) (ap (λ (x : Sheet). x .right) (a .is))
+    (ap (λ (x : Situation). x .sets) (s .before .question .ensures))
+
+write-out-requires : tie.Need-write-out-requires
+write-out-requires c κs =
+    let s = c .before in
+    let r = read-at s in
+    (omega arith, omega (arith, ap length (whole s), sheet-fits _ (asking s .question) (asking s .good)))
+
+same-length : tie.Need-same-length
+same-length c = search needs
+
+returns-2 : tie.Need-returns-2
+returns-2 c =
+    let w = c .before .before in
+    let s = w .before .before in
+    and-promised _ _ _ (sheet-put _ _ (asking s .question) (asking s .good) _ (whole s) _ (w .write-out .ensures))
+
+pub sheet-spec : {M : Type 1} → statement M
+sheet-spec =
+    tie.close
+    (tie.spec
+    read-requires
+    enum-known-found
+    returns
+    enum-told
+    question-requires
+    write-out-requires
+    same-length
+    returns-2)

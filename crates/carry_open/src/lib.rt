@@ -1,0 +1,215 @@
+// Old sheets, rules and catalogues carried over: "Sheets and catalogue rules that relied on the old meaning must carry 68 65 0 42 written out".
+use base_answers::Fault;
+use base_answers::Found;
+use base_answers::Numbers;
+use base_codes::FIELDS;
+use base_codes::LONGEST_SIDE;
+use base_codes::NO_TOKEN;
+use base_put::put_all;
+use catalogue_form::CATALOGUE_RULES;
+ghost use mathlib.Core.Path.{_≡_};
+ghost use mathlib.Core.List.{[]};
+ghost use Prim.Native.Nat.{_≤_};
+ghost use lib.ListN.{length, replicate};
+ghost use Rattle.base_codes.specs.Inner.{tokens, padded};
+ghost use Rattle.base_put.specs.Counted.{last-place, Counted};
+ghost use Rattle.search_trim.specs.Trimming.{first-masks};
+ghost use Rattle.catalogue_form.specs.Kept.{Of-form};
+ghost use Rattle.paper_carry.specs.Spelling.{put-into, spelling, rule-spelling, rules-open, carrying-over, longest-rules, Promised, RulePromised, CataloguePromised};
+ghost use Rattle.carry_open.specs.Told.{spelt-numbers, told-spelt, carried-number, told-carried, put-whole};
+
+// "the mark `RU`"
+const RULE_MARK: usize = 2;
+
+// the most bytes that the rules of a catalogue have: 32 times a mark, four patterns of 192 bytes and a side of 24 tokens
+const LONGEST_RULES: usize = CATALOGUE_RULES * (RULE_MARK + 4 * 196 + 27);
+
+// The answer to a sheet or a rule that is to be carried over. specs/Told.antt gives each its numbers.
+pub enum SpeltOpen {
+    // 0: so many bytes stand in front of the buffer
+    Written { bytes: usize },
+    // 11 to 17: the sheet or the rule is at fault
+    Refused { fault: Fault, place: usize },
+    // 31: the rule names a field above 3
+    ForeignField,
+    // 41: the output buffer is too short
+    TooShort,
+}
+
+// The answer to a catalogue that is to be carried over in its own buffer.
+pub enum CarriedOver {
+    // 0: every rule is
+    Done,
+    // 32: the records would no longer fit
+    Full,
+    // 34: the buffer is no catalogue
+    NoCatalogue,
+}
+
+// Writes the sheet with 68 65 0 42 for every standing field without a pattern.
+pub fn sheet(sheet: &[u8], out: &mut [u8]) -> SpeltOpen
+    ensures whole { λ r. ⌜ told-spelt r (now (out .exit)) ≡ spelling (now (sheet .entry)) (now (out .entry)) ⌝ }
+    ensures promised { λ r. ⌜ Promised (now (sheet .entry)) (now (out .entry)) (told-spelt r (now (out .exit))) ⌝ }
+{
+    let question = read_sheet::read(sheet);
+    let found = question.found;
+    if let Found::Refused(fault) = found {
+        return SpeltOpen::Refused {
+            fault,
+            place: question.place,
+        };
+    }
+    let left = question.left;
+    let right = question.right;
+    let first = search_trim::question(left, right);
+    let sets = first.sets;
+    write_out(sheet, 0, sets, out)
+}
+
+// Writes the rule likewise.
+pub fn rule(rule: &[u8], out: &mut [u8]) -> SpeltOpen
+    ensures whole { λ r. ⌜ told-spelt r (now (out .exit)) ≡ rule-spelling (now (rule .entry)) (now (out .entry)) ⌝ }
+    ensures promised { λ r. ⌜ RulePromised (now (rule .entry)) (now (out .entry)) (told-spelt r (now (out .exit))) ⌝ }
+{
+    let read = read_rule::read(rule);
+    let found = read.found;
+    if let Found::Refused(fault) = found {
+        return SpeltOpen::Refused {
+            fault,
+            place: read.place,
+        };
+    }
+    let foreign = read.foreign;
+    if foreign {
+        return SpeltOpen::ForeignField;
+    }
+    let side = read.side;
+    let sets = rule_sets(side);
+    write_out(rule, RULE_MARK, sets, out)
+}
+
+// Carries every rule of the catalogue over, in its own buffer.
+pub fn catalogue(catalogue: &mut [u8]) -> CarriedOver
+    ensures whole { λ r. ⌜ told-carried r (now (catalogue .exit)) ≡ carrying-over (now (catalogue .entry)) ⌝ }
+    ensures promised { λ r. ⌜ CataloguePromised (now (catalogue .entry)) (told-carried r (now (catalogue .exit))) ⌝ }
+{
+    let kept = catalogue_form::find(catalogue, 0);
+    if !kept.good {
+        return CarriedOver::NoCatalogue;
+    }
+    let mut bytes = no_bytes();
+    let n = put_rules(catalogue, kept.rules, &mut bytes);
+    if catalogue.len() < n {
+        return CarriedOver::Full;
+    }
+    catalogue_bytes::put(catalogue, 0, &bytes[0..n]);
+    CarriedOver::Done
+}
+
+// An answer in numbers.
+pub fn in_numbers(s: SpeltOpen) -> Numbers
+    ensures { λ r. ⌜ r ≡ spelt-numbers s ⌝ }
+{
+    match s {
+        SpeltOpen::Written { bytes } => Numbers {
+            number: 0,
+            count: 0,
+            place: 0,
+            written: bytes,
+        },
+        SpeltOpen::Refused { fault, place } => Numbers {
+            number: base_answers::number(fault) as usize,
+            count: 0,
+            place,
+            written: 0,
+        },
+        SpeltOpen::ForeignField => only(31),
+        SpeltOpen::TooShort => only(41),
+    }
+}
+
+fn only(number: usize) -> Numbers
+    ensures { λ r. ⌜ r ≡ record { number = number; count = 0; place = 0; written = 0 } ⌝ }
+{
+    Numbers {
+        number,
+        count: 0,
+        place: 0,
+        written: 0,
+    }
+}
+
+// The number of an answer to a catalogue.
+pub fn number(c: CarriedOver) -> usize
+    ensures { λ r. ⌜ r ≡ carried-number c ⌝ }
+{
+    match c {
+        CarriedOver::Done => 0,
+        CarriedOver::Full => 32,
+        CarriedOver::NoCatalogue => 34,
+    }
+}
+
+// The bytes in front of the patterns, then the records: as far as there is room, and the place behind them.
+fn put_whole(out: &mut [u8], at: usize, s: &[u8], from: usize, sets: [u64; FIELDS]) -> usize
+    requires { ⌜ from ≤ length (now s) ⌝ }
+    ensures { λ r. ⌜ Counted (now (out .entry)) (now (out .exit)) at r (put-whole (now (s .entry)) from sets) ⌝ }
+{
+    let behind = put_all(out, at, &s[0..from]);
+    carry_records::put_from(out, behind, s, from, sets)
+}
+
+// Puts them into the buffer, if they fit.
+fn write_out(s: &[u8], from: usize, sets: [u64; FIELDS], out: &mut [u8]) -> SpeltOpen
+    requires { ⌜ (from ≤ length (now s)) × (length (put-whole (now s) from sets) ≤ last-place) ⌝ }
+    ensures { λ r. ⌜ told-spelt r (now (out .exit)) ≡ put-into (put-whole (now (s .entry)) from sets) (now (out .entry)) ⌝ }
+{
+    let length = put_whole(&mut out[0..0], 0, s, from, sets);
+    if out.len() < length {
+        return SpeltOpen::TooShort;
+    }
+    let bytes = put_whole(out, 0, s, from, sets);
+    SpeltOpen::Written { bytes }
+}
+
+// The first place sets of a rule: of the fields that stand in its side.
+fn rule_sets(side: [u8; LONGEST_SIDE]) -> [u64; FIELDS]
+    ensures { λ r. ⌜ r ≡ first-masks (tokens side) ⌝ }
+{
+    let none = no_side();
+    let first = search_trim::question(side, none);
+    let sets = first.sets;
+    sets
+}
+
+fn no_side() -> [u8; LONGEST_SIDE]
+    ensures { λ r. ⌜ r ≡ padded [] ⌝ }
+{
+    [NO_TOKEN; LONGEST_SIDE]
+}
+
+fn no_bytes() -> [u8; LONGEST_RULES]
+    ensures { λ r. ⌜ r ≡ replicate longest-rules 0 ⌝ }
+{
+    [0; LONGEST_RULES]
+}
+
+// The records of all rules, one behind the other.
+fn put_rules(catalogue: &[u8], count: usize, bytes: &mut [u8]) -> usize
+    requires { ⌜ Of-form (now catalogue) count ⌝ }
+    ensures { λ r. ⌜ ((x : Of-form (now (catalogue .entry)) count) → Counted (now (bytes .entry)) (now (bytes .exit)) 0 r (rules-open (x .rules-present))) ⌝ }
+{
+    let mut end = 0;
+    let mut at = 0;
+    let mut i = 0;
+    while i < count {
+        let present = read_rule::front(&catalogue[at..]);
+        let next = at + present.bytes;
+        let side = present.side;
+        let sets = rule_sets(side);
+        end = put_whole(bytes, end, &catalogue[at..next], RULE_MARK, sets);
+        at = next;
+        i += 1;
+    }
+    end
+}

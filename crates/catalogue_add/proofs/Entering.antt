@@ -1,0 +1,106 @@
+-- What adding and withdrawing come to, by what was read and asked on the way. Follows from the definitions of `adding` and `withdrawing` by the
+-- tests that they make.
+use Prim.Native.Nat.{ℕ, zero, suc, _+_, _≤_, _<_}
+use native.Mathlib.Omega.{arith}
+use mathlib.Core.Path.{_≡_, refl, sym, _∙_}
+use mathlib.Core.Bool.{Bool, true, false}
+use mathlib.Core.List.{List, [], _∷_, map}
+use lib.ListN.{length, getD}
+use Rattle.paper.specs.Sheet.{Fault, fault-number, faulty, records}
+use Rattle.paper.specs.Rule.{Rule, read-rule, foreign-field}
+use Rattle.paper_catalogue.specs.Catalogue.{Present, no-catalogue, rules, form, used, is-full, not-entered, adding, withdrawing, withdrawn-from}
+use Rattle.paper_catalogue.specs.Catalogue as Catalogue
+use Rattle.paper_catalogue.specs.Calls.{present-at}
+use Rattle.paper.proofs.base.Tests.{lt-ltb}
+use Rattle.paper_catalogue.proofs.Form.{offset-of, rule-fits, record-inside}
+use Rattle.paper_catalogue.proofs.Withdrawing.{leaves}
+use Rattle.catalogue_form.specs.Kept.{record-at, record-bytes}
+use Rattle.catalogue_form.specs.declared.Kept.{Kept}
+use Rattle.catalogue_form.proofs.Told.{Rules}
+use Rattle.catalogue_bytes.specs.Moving.{put-at, closed-at}
+use Rattle.catalogue_bytes.proofs.Within.{is-put, is-closed}
+use Rattle.catalogue_pair.specs.declared.Pair.{Pair}
+use Rattle.read_rule.specs.declared.Rule as Code
+use Rattle.catalogue_add.specs.declared.Asked.the-variants.{Apart, NotApart}
+use Rattle.catalogue_add.specs.Told.{full-of, Pairs-asked, Ready}
+use Rattle.catalogue_add.specs.Told as Told
+use Rattle.catalogue_add.specs.declared.Added.the-variants as Added
+
+-- 32, by what was read
+pub full-is : (k : Kept) (l : List Present) (c bytes : List ℕ) (b : Bool) → k .rules ≡ length l → k .used ≡ used l
+    → b ≡ full-of k (length bytes) (length c) → is-full l bytes c ≡ b
+full-is k l c bytes b e f h = sym (h ∙ rw (e, f))
+
+module _ (c bytes work : List ℕ) where
+  pub adds-to-none : form c ≡ no-catalogue → not-entered 34 0 c work ≡ adding c bytes work
+  unfolding adding
+  adds-to-none e = rw e
+
+  module _ (l : List Present) (e : form c ≡ rules l) where
+    pub adds-fault : (x : Fault) (at : ℕ) → read-rule bytes ≡ faulty x at → not-entered (fault-number x) at c work ≡ adding c bytes work
+    unfolding adding
+    adds-fault x at f = rw (e, f)
+
+    module _ (r : Rule) (n : ℕ) (f : read-rule bytes ≡ records r n) where
+      pub adds-foreign : foreign-field r ≡ true → not-entered 31 0 c work ≡ adding c bytes work
+      unfolding adding
+      adds-foreign h = rw (e, f, h)
+
+      pub adds-full : foreign-field r ≡ false → is-full l bytes c ≡ true → not-entered 32 0 c work ≡ adding c bytes work
+      unfolding adding
+      adds-full h k = rw (e, f, h, k)
+
+module _ {c bytes : List ℕ} {kept : Kept} {new : Code.Rule} (x : Ready c bytes kept new) (work after : List ℕ) where
+  is-read : read-rule bytes ≡ records (x .asks .rule) (x .asks .its-bytes)
+  is-read = rw (← x .same-bytes) (x .asks .is-read)
+
+  pub adds-rule : Pairs-asked (x .asks .rules-present) (x .asks .rule) work after Apart → (catalogue : List ℕ) → catalogue ≡ put-at (kept .used) bytes c
+      → Told.told-added Added.Entered catalogue after ≡ adding c bytes work
+  unfolding adding
+  adds-rule a catalogue e =
+      let put = is-put (used (x .asks .rules-present)) bytes c (rule-fits c (x .asks .of-form) bytes (x .room)) in
+      rw (e, x .used, put, x .asks .of-form, is-read, x .asks .own, x .room, ← a .pairs, a .after-work)
+
+  pub adds-not : (i : ℕ) (p : Pair) → Pairs-asked (x .asks .rules-present) (x .asks .rule) work after (NotApart i p)
+      → Told.told-added (Added.NotApart i p) c after ≡ adding c bytes work
+  unfolding adding
+  adds-not i p a = rw (x .asks .of-form, is-read, x .asks .own, x .room, ← a .pairs, a .after-work)
+
+-- Withdrawing.
+module _ (c : List ℕ) (i : ℕ) where
+  pub takes-from-none : form c ≡ no-catalogue → _≡_ {A = Catalogue.Withdrawn} (record { number = 34; catalogue = c }) (withdrawing c i)
+  unfolding withdrawing
+  takes-from-none e = rw e
+
+  -- no rule has the number
+  none-there : (at : ℕ) (l : List Present) (n : ℕ) → length l ≤ n → _≡_ {A = Catalogue.Withdrawn} (record { number = 33; catalogue = c }) (withdrawn-from at l n c)
+  none-there at [] n h = refl
+  none-there at (r ∷ l) zero h = absurd (omega arith)
+  none-there at (r ∷ l) (suc n) h = none-there (at + r .bytes) l n (omega arith)
+
+  pub takes-none : (l : List Present) → form c ≡ rules l → length l ≤ i
+      → _≡_ {A = Catalogue.Withdrawn} (record { number = 33; catalogue = c }) (withdrawing c i)
+  unfolding withdrawing
+  takes-none l e h = rw e (none-there 0 l i h)
+
+  at-is : (l : List Present) → i < length l → record-at l i ≡ offset-of l i
+  unfolding record-at
+  at-is l h = rw (lt-ltb i (length l) h)
+
+  bytes-at : (l : List Present) (n : ℕ) → n < length l → getD (map (λ (r : Present). r .bytes) l) n 0 ≡ present-at l n .bytes
+  bytes-at [] n h = absurd (omega arith)
+  bytes-at (r ∷ l) zero h = refl
+  bytes-at (r ∷ l) (suc n) h = bytes-at l n (omega arith)
+
+  bytes-are : (l : List Present) → i < length l → record-bytes l i ≡ present-at l i .bytes
+  unfolding record-bytes
+  bytes-are l h = bytes-at l i h
+
+  pub takes-one : (k : Kept) (x : Rules i (form c) k) → i < k .rules → (catalogue : List ℕ) → catalogue ≡ closed-at (k .at) (k .bytes) c
+      → _≡_ {A = Catalogue.Withdrawn} (record { number = 0; catalogue = catalogue }) (withdrawing c i)
+  takes-one k x h catalogue e =
+      let l = x .rules-present in
+      let there : i < length l = omega (arith, x .counted) in
+      let closed = is-closed (offset-of l i) (present-at l i .bytes) c (record-inside c (x .is) i there) in
+      rw (e, x .its-at, x .its-bytes, at-is l there, bytes-are l there, closed)
+      (sym (leaves c i (record { rules-present = l; of-form = x .is; there = there })))

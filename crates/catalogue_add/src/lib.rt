@@ -1,0 +1,133 @@
+// A catalogue of label rules in one lent buffer: a rule goes in only if it clashes with none that is there.
+use base_answers::Fault;
+use base_answers::Found;
+use catalogue_form::CATALOGUE_RULES;
+use catalogue_form::Kept;
+use catalogue_pair::Pair;
+use read_rule::Rule;
+ghost use mathlib.Core.Path.{_≡_};
+ghost use Rattle.paper_catalogue.specs.Catalogue.{adding, withdrawing};
+ghost use Rattle.catalogue_add.specs.Told.{told-added, told-withdrawn, full-of, Ready-to-ask, Ready, Pairs-asked};
+
+// The answer to a new rule. specs/Told.antt gives each its number, count, place, rule's number and pair's answer.
+pub enum Added {
+    // 0: its record stands behind the last one
+    Entered,
+    // 11 to 17: the rule is at fault
+    Refused { fault: Fault, place: usize },
+    // 30: its pair with the rule of this number is not answered 1
+    NotApart { rule: usize, pair: Pair },
+    // 31: it names a field above 3
+    ForeignField,
+    // 32: 32 rules stand, or its bytes don't fit
+    Full,
+    // 34: the buffer is no catalogue
+    NoCatalogue,
+}
+
+// The answer to a withdrawal.
+pub enum Withdrawn {
+    // 0: the rule is gone and the gap is closed
+    Gone,
+    // 33: no rule has that number
+    NoRule,
+    // 34: the buffer is no catalogue
+    NoCatalogue,
+}
+
+// Enters a rule behind the last one if its pair with every rule present is answered 1.
+pub fn add(catalogue: &mut [u8], bytes: &[u8], work: &mut [u8]) -> Added
+    ensures { λ r. ⌜ told-added r (now (catalogue .exit)) (now (work .exit)) ≡ adding (now (catalogue .entry)) (now (bytes .entry)) (now (work .entry)) ⌝ }
+{
+    let kept = catalogue_form::find(catalogue, 0);
+    if !kept.good {
+        return Added::NoCatalogue;
+    }
+    let new = read_rule::read(bytes);
+    let found = new.found;
+    if let Found::Refused(fault) = found {
+        return Added::Refused {
+            fault,
+            place: new.place,
+        };
+    }
+    if new.foreign {
+        return Added::ForeignField;
+    }
+    if is_full(kept, bytes.len(), catalogue.len()) {
+        return Added::Full;
+    }
+    enter(catalogue, kept, bytes, new, work)
+}
+
+// "32 if 32 rules stand or the record's bytes don't fit"
+fn is_full(kept: Kept, bytes: usize, room: usize) -> bool
+    ensures { λ r. ⌜ r ≡ full-of kept bytes room ⌝ }
+{
+    if CATALOGUE_RULES <= kept.rules {
+        return true;
+    }
+    if room < bytes {
+        return true;
+    }
+    room - bytes < kept.used
+}
+
+// "A new rule is entered exactly if its pair with every rule present gives answer 1."
+fn enter(catalogue: &mut [u8], kept: Kept, bytes: &[u8], new: Rule, work: &mut [u8]) -> Added
+    requires { ⌜ Ready (now catalogue) (now bytes) kept new ⌝ }
+    ensures { λ r. ⌜ told-added r (now (catalogue .exit)) (now (work .exit)) ≡ adding (now (catalogue .entry)) (now (bytes .entry)) (now (work .entry)) ⌝ }
+{
+    let asked = ask_all(catalogue, kept.rules, new, work);
+    match asked {
+        Asked::NotApart { rule, pair } => Added::NotApart { rule, pair },
+        Asked::Apart => {
+            catalogue_bytes::put(catalogue, kept.used, bytes);
+            Added::Entered
+        }
+    }
+}
+
+// What the pairs with the rules present gave.
+pub enum Asked {
+    Apart,
+    NotApart { rule: usize, pair: Pair },
+}
+
+// Asks the pairs of the rules present with a new one, by rising number, up to the first that is not answered 1.
+fn ask_all(catalogue: &[u8], count: usize, new: Rule, work: &mut [u8]) -> Asked
+    requires { ⌜ Ready-to-ask (now catalogue) count (new .side) (new .fields) ⌝ }
+    ensures { λ r. ⌜ ((x : Ready-to-ask (now (catalogue .entry)) count (new .side) (new .fields)) → Pairs-asked (x .rules-present) (x .rule) (now (work .entry)) (now (work .exit)) r) ⌝ }
+{
+    let right = new.side;
+    let second = new.fields;
+    let mut at = 0;
+    let mut i = 0;
+    while i < count {
+        let present = read_rule::front(&catalogue[at..]);
+        let left = present.side;
+        let first = present.fields;
+        let pair = catalogue_pair::ask(left, right, first, second, work);
+        if catalogue_pair::answer(pair) != 1 {
+            return Asked::NotApart { rule: i, pair };
+        }
+        at += present.bytes;
+        i += 1;
+    }
+    Asked::Apart
+}
+
+// Withdraws the rule with this number: "withdrawing closes the gap".
+pub fn withdraw(catalogue: &mut [u8], number: usize) -> Withdrawn
+    ensures { λ r. ⌜ told-withdrawn r (now (catalogue .exit)) ≡ withdrawing (now (catalogue .entry)) number ⌝ }
+{
+    let kept = catalogue_form::find(catalogue, number);
+    if !kept.good {
+        return Withdrawn::NoCatalogue;
+    }
+    if kept.rules <= number {
+        return Withdrawn::NoRule;
+    }
+    catalogue_bytes::close(catalogue, kept.at, kept.bytes);
+    Withdrawn::Gone
+}

@@ -1,0 +1,118 @@
+// A kept catalogue checked again: its pairs are all searched, and those not answered 1 are listed.
+use catalogue_pair::Pair;
+use read_rule::Rule;
+ghost use mathlib.Core.Path.{_≡_};
+ghost use lib.ListN.{length, replicate};
+ghost use Rattle.paper_catalogue.specs.Recheck.{rechecking};
+ghost use Rattle.print_lines.specs.Writing.{Puts};
+ghost use Rattle.catalogue_recheck.specs.Told.{told-rechecked, bytes-of, Fits, Ready-to-list, With-listed, longest-list, All-listed};
+ghost use Rattle.catalogue_form.specs.Kept.{Of-form};
+
+// The lower number, the higher, the answer, the count in two bytes.
+pub const PAIR_BYTES: usize = 5;
+
+// The 496 pairs of 32 rules.
+const LONGEST_LIST: usize = 496 * PAIR_BYTES;
+
+// What checking again gives. specs/Told.antt gives each its number.
+pub enum Rechecked {
+    // 0: so many pairs stand in front of the list, in so many bytes
+    Listed { pairs: usize, written: usize },
+    // 35: the list is too short for all of them
+    TooShort,
+    // 34: the buffer is no catalogue
+    NoCatalogue,
+}
+
+// Lists the pairs that are not answered 1, by lower, then higher number, each in five bytes.
+pub fn recheck(catalogue: &[u8], work: &mut [u8], list: &mut [u8]) -> Rechecked
+    ensures { λ r. ⌜ told-rechecked r (now (list .exit)) (now (work .exit)) ≡ rechecking (now (catalogue .entry)) (now (work .entry)) (now (list .entry)) ⌝ }
+{
+    let kept = catalogue_form::find(catalogue, 0);
+    if !kept.good {
+        return Rechecked::NoCatalogue;
+    }
+    let mut bytes = no_bytes();
+    let n = list_all(catalogue, kept.rules, work, &mut bytes);
+    if list.len() < n {
+        return Rechecked::TooShort;
+    }
+    catalogue_bytes::put(list, 0, &bytes[0..n]);
+    Rechecked::Listed {
+        pairs: n / PAIR_BYTES,
+        written: n,
+    }
+}
+
+fn no_bytes() -> [u8; LONGEST_LIST]
+    ensures { λ r. ⌜ r ≡ replicate longest-list 0 ⌝ }
+{
+    [0; LONGEST_LIST]
+}
+
+// Puts every pair of the rules that is not answered 1 in front of the bytes, and tells how many bytes that makes.
+fn list_all(catalogue: &[u8], count: usize, work: &mut [u8], bytes: &mut [u8]) -> usize
+    requires catalogue { ⌜ Of-form (now catalogue) count ⌝ }
+    requires bytes { ⌜ length (now bytes) ≡ longest-list ⌝ }
+    ensures { λ r. ⌜ ((x : Of-form (now (catalogue .entry)) count) → All-listed (x .rules-present) (now (work .entry)) (now (work .exit)) (now (bytes .entry)) (now (bytes .exit)) r) ⌝ }
+{
+    let mut at = 0;
+    let mut i = 0;
+    let mut n = 0;
+    while i < count {
+        let rule = read_rule::front(&catalogue[at..]);
+        at += rule.bytes;
+        n = list_with(catalogue, count, i, rule, at, work, bytes, n);
+        i += 1;
+    }
+    n
+}
+
+// Puts the pairs of a rule with those behind it, which stand from the offset on, behind the first n bytes.
+fn list_with(
+    catalogue: &[u8],
+    count: usize,
+    lower: usize,
+    rule: Rule,
+    from: usize,
+    work: &mut [u8],
+    bytes: &mut [u8],
+    n: usize,
+) -> usize
+    requires { ⌜ Ready-to-list (now catalogue) count lower (rule .side) (rule .fields) from (now work) (now bytes) n ⌝ }
+    ensures { λ r. ⌜ ((x : Ready-to-list (now (catalogue .entry)) count lower (rule .side) (rule .fields) from (now (work .entry)) (now (bytes .entry)) n) → With-listed (x .standing .rules-present) lower (now (work .entry)) (now (work .exit)) (now (bytes .entry)) (now (bytes .exit)) n r) ⌝ }
+{
+    let left = rule.side;
+    let first = rule.fields;
+    let mut at = from;
+    let mut j = lower + 1;
+    let mut end = n;
+    while j < count {
+        let other = read_rule::front(&catalogue[at..]);
+        let right = other.side;
+        let second = other.fields;
+        let pair = catalogue_pair::ask(left, right, first, second, work);
+        end = put_pair(bytes, end, lower, j, pair);
+        at += other.bytes;
+        j += 1;
+    }
+    end
+}
+
+// Puts a pair that is not answered 1 behind the first n bytes, and tells how many there are then.
+fn put_pair(bytes: &mut [u8], n: usize, lower: usize, higher: usize, pair: Pair) -> usize
+    requires { ⌜ Fits (now bytes) n lower higher pair ⌝ }
+    ensures { λ r. ⌜ Puts (now (bytes .entry)) (now (bytes .exit)) n r (bytes-of lower higher pair) ⌝ }
+{
+    let answer = catalogue_pair::answer(pair);
+    if answer == 1 {
+        return n;
+    }
+    let count = catalogue_pair::count(pair);
+    bytes[n] = lower as u8;
+    bytes[n + 1] = higher as u8;
+    bytes[n + 2] = answer as u8;
+    bytes[n + 3] = (count % 256) as u8;
+    bytes[n + 4] = (count / 256) as u8;
+    n + PAIR_BYTES
+}

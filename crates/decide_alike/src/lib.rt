@@ -1,0 +1,383 @@
+// Which characters are searched: the least ones of those alike, and a few of these; and the tables in which no place takes another character.
+use base_codes::FIELD_CODE;
+use base_codes::FIELDS;
+use base_codes::LONGEST_SIDE;
+use base_codes::NO_TOKEN;
+use base_places::CHARACTERS;
+use base_places::PLACES;
+use base_places::when_holds;
+ghost use mathlib.Core.Bool.{cond, _&&_, _||_, not};
+ghost use mathlib.Core.List.{_++_};
+ghost use mathlib.Core.Path.{_≡_};
+ghost use Prim.Native.Nat.{_<_};
+ghost use lib.Dec.{eqb};
+ghost use Rattle.paper.specs.Lists.{member};
+ghost use Rattle.paper.specs.Numbers.{characters};
+ghost use Rattle.base_places.specs.Masks.{in-mask};
+ghost use Rattle.base_codes.specs.Inner.{tokens};
+ghost use Rattle.decide_alike.specs.Coded.{fixed-coded, standing-coded, same-places, alike-coded, is-least-coded, least-from, least-coded};
+ghost use Rattle.decide_alike.specs.Coded.{first-taken, free-coded, choice-coded, chosen-at, chosen-within, chosen-coded, some-coded, few-from, few-coded, cut-row, cut-coded};
+
+// Does the token stand in the side?
+fn stands(side: [u8; LONGEST_SIDE], token: u8) -> bool
+    ensures { λ r. ⌜ r ≡ member token (tokens side) ⌝ }
+{
+    let mut i: usize = 0;
+    while i < LONGEST_SIDE {
+        let x = side[i];
+        if x == NO_TOKEN {
+            return false;
+        }
+        if token == x {
+            return true;
+        }
+        i += 1;
+    }
+    false
+}
+
+// Does it stand in either side?
+fn stands_in_either(left: [u8; LONGEST_SIDE], right: [u8; LONGEST_SIDE], token: u8) -> bool
+    ensures { λ r. ⌜ r ≡ member token (tokens left ++ tokens right) ⌝ }
+{
+    if stands(left, token) {
+        return true;
+    }
+    stands(right, token)
+}
+
+// The characters that stand fixed in a side.
+fn fixed_ones(left: [u8; LONGEST_SIDE], right: [u8; LONGEST_SIDE]) -> [bool; CHARACTERS]
+    ensures { λ r. ⌜ r ≡ fixed-coded (tokens left ++ tokens right) ⌝ }
+{
+    let mut fixed = [false; CHARACTERS];
+    let mut c: usize = 0;
+    while c < CHARACTERS {
+        fixed[c] = stands_in_either(left, right, c as u8);
+        c += 1;
+    }
+    fixed
+}
+
+// The fields that stand.
+fn standing_fields(left: [u8; LONGEST_SIDE], right: [u8; LONGEST_SIDE]) -> [bool; FIELDS]
+    ensures { λ r. ⌜ r ≡ standing-coded (tokens left ++ tokens right) ⌝ }
+{
+    let mut standing = [false; FIELDS];
+    let mut f: usize = 0;
+    while f < FIELDS {
+        standing[f] = stands_in_either(left, right, FIELD_CODE + f as u8);
+        f += 1;
+    }
+    standing
+}
+
+// Are the masks of two characters the same in a field, if it stands?
+fn same_masks(stands: bool, a: u64, b: u64) -> bool
+    ensures { λ r. ⌜ r ≡ (not stands || eqb a b) ⌝ }
+{
+    if stands { a == b } else { true }
+}
+
+// Does every leaf of every standing field take both or neither?
+fn same_places(
+    standing: [bool; FIELDS],
+    taking: [[u64; CHARACTERS]; FIELDS],
+    a: usize,
+    b: usize,
+) -> bool
+    requires { ⌜ (a < characters) × (b < characters) ⌝ }
+    ensures { λ r. ⌜ r ≡ same-places standing taking a b ⌝ }
+{
+    let mut field: usize = 0;
+    while field < FIELDS {
+        if !same_masks(standing[field], taking[field][a], taking[field][b]) {
+            return false;
+        }
+        field += 1;
+    }
+    true
+}
+
+// "Two characters are alike on a sheet if neither is a fixed character of a side and every leaf of every standing field takes both or neither."
+fn alike(
+    fixed: [bool; CHARACTERS],
+    standing: [bool; FIELDS],
+    taking: [[u64; CHARACTERS]; FIELDS],
+    a: usize,
+    b: usize,
+) -> bool
+    requires { ⌜ (a < characters) × (b < characters) ⌝ }
+    ensures { λ r. ⌜ r ≡ alike-coded fixed standing taking a b ⌝ }
+{
+    if fixed[a] {
+        return false;
+    }
+    if fixed[b] {
+        return false;
+    }
+    same_places(standing, taking, a, b)
+}
+
+// Is no smaller character alike?
+fn is_least(
+    fixed: [bool; CHARACTERS],
+    standing: [bool; FIELDS],
+    taking: [[u64; CHARACTERS]; FIELDS],
+    c: usize,
+) -> bool
+    requires { ⌜ c < characters ⌝ }
+    ensures { λ r. ⌜ r ≡ is-least-coded fixed standing taking c ⌝ }
+{
+    let mut a: usize = 0;
+    while a < c {
+        if alike(fixed, standing, taking, a, c) {
+            return false;
+        }
+        a += 1;
+    }
+    true
+}
+
+fn least_from(
+    fixed: [bool; CHARACTERS],
+    standing: [bool; FIELDS],
+    taking: [[u64; CHARACTERS]; FIELDS],
+) -> [bool; CHARACTERS]
+    ensures { λ r. ⌜ r ≡ least-from fixed standing taking ⌝ }
+{
+    let mut least = [false; CHARACTERS];
+    let mut c: usize = 0;
+    while c < CHARACTERS {
+        least[c] = is_least(fixed, standing, taking, c);
+        c += 1;
+    }
+    least
+}
+
+// The least ones of those alike, of the sides and of what each field's places take.
+pub fn least_ones(
+    left: [u8; LONGEST_SIDE],
+    right: [u8; LONGEST_SIDE],
+    taking: [[u64; CHARACTERS]; FIELDS],
+) -> [bool; CHARACTERS]
+    ensures { λ r. ⌜ r ≡ least-coded (tokens left) (tokens right) taking ⌝ }
+{
+    let fixed = fixed_ones(left, right);
+    let standing = standing_fields(left, right);
+    least_from(fixed, standing, taking)
+}
+
+// Is it one of these, and does the place p, one of its mask, take it?
+fn is_taken(among: bool, mask: u64, p: usize) -> bool
+    ensures { λ r. ⌜ r ≡ (among && in-mask mask p) ⌝ }
+{
+    if among {
+        when_holds(mask, p, 1) == 1
+    } else {
+        false
+    }
+}
+
+// The first of these that the place p takes; behind the last character, where it takes none.
+fn first_taken(among: [bool; CHARACTERS], row: [u64; CHARACTERS], p: usize) -> usize
+    ensures { λ r. ⌜ r ≡ first-taken among row p ⌝ }
+{
+    let mut c: usize = 0;
+    while c < CHARACTERS {
+        if is_taken(among[c], row[c], p) {
+            return c;
+        }
+        c += 1;
+    }
+    c
+}
+
+fn is_free(least: bool, fixed: bool) -> bool
+    ensures { λ r. ⌜ r ≡ (least && not fixed) ⌝ }
+{
+    if least { !fixed } else { false }
+}
+
+// The least ones that stand fixed in no side.
+fn free_ones(fixed: [bool; CHARACTERS], least: [bool; CHARACTERS]) -> [bool; CHARACTERS]
+    ensures { λ r. ⌜ r ≡ free-coded fixed least ⌝ }
+{
+    let mut free = [false; CHARACTERS];
+    let mut c: usize = 0;
+    while c < CHARACTERS {
+        free[c] = is_free(least[c], fixed[c]);
+        c += 1;
+    }
+    free
+}
+
+// "the least of the least ones that it takes and that stands fixed in no side, or where there is none the least that it takes"
+fn choice(
+    free: [bool; CHARACTERS],
+    least: [bool; CHARACTERS],
+    row: [u64; CHARACTERS],
+    p: usize,
+) -> usize
+    ensures { λ r. ⌜ r ≡ choice-coded free least row p ⌝ }
+{
+    let c = first_taken(free, row, p);
+    if c < CHARACTERS {
+        return c;
+    }
+    first_taken(least, row, p)
+}
+
+// "for each leaf .. that takes none chosen so far"
+fn chosen_at(
+    free: [bool; CHARACTERS],
+    least: [bool; CHARACTERS],
+    row: [u64; CHARACTERS],
+    p: usize,
+    mut chosen: [bool; CHARACTERS],
+) -> [bool; CHARACTERS]
+    ensures { λ r. ⌜ r ≡ chosen-at free least row p chosen ⌝ }
+{
+    let has = first_taken(chosen, row, p);
+    if has < CHARACTERS {
+        return chosen;
+    }
+    let c = choice(free, least, row, p);
+    if c < CHARACTERS {
+        chosen[c] = true;
+    }
+    chosen
+}
+
+// With those chosen for the places of a field.
+fn chosen_within(
+    free: [bool; CHARACTERS],
+    least: [bool; CHARACTERS],
+    row: [u64; CHARACTERS],
+    earlier: [bool; CHARACTERS],
+) -> [bool; CHARACTERS]
+    ensures { λ r. ⌜ r ≡ chosen-within free least row earlier ⌝ }
+{
+    let mut chosen = earlier;
+    let mut p: usize = 0;
+    while p < PLACES {
+        let with_more = chosen_at(free, least, row, p, chosen);
+        chosen = with_more;
+        p += 1;
+    }
+    chosen
+}
+
+// "fields rising": of those that stand
+fn chosen_of(
+    free: [bool; CHARACTERS],
+    least: [bool; CHARACTERS],
+    stands: bool,
+    row: [u64; CHARACTERS],
+    chosen: [bool; CHARACTERS],
+) -> [bool; CHARACTERS]
+    ensures { λ r. ⌜ r ≡ cond stands (chosen-within free least row chosen) chosen ⌝ }
+{
+    if stands {
+        return chosen_within(free, least, row, chosen);
+    }
+    chosen
+}
+
+fn chosen_ones(
+    free: [bool; CHARACTERS],
+    least: [bool; CHARACTERS],
+    standing: [bool; FIELDS],
+    taking: [[u64; CHARACTERS]; FIELDS],
+) -> [bool; CHARACTERS]
+    ensures { λ r. ⌜ r ≡ chosen-coded free least standing taking ⌝ }
+{
+    let mut chosen = [false; CHARACTERS];
+    let mut f: usize = 0;
+    while f < FIELDS {
+        let row = taking[f];
+        let with_more = chosen_of(free, least, standing[f], row, chosen);
+        chosen = with_more;
+        f += 1;
+    }
+    chosen
+}
+
+// "where nothing is chosen, the least of all"
+fn some(mut chosen: [bool; CHARACTERS]) -> [bool; CHARACTERS]
+    ensures { λ r. ⌜ r ≡ some-coded chosen ⌝ }
+{
+    let mut c: usize = 0;
+    while c < CHARACTERS {
+        if chosen[c] {
+            return chosen;
+        }
+        c += 1;
+    }
+    chosen[0] = true;
+    chosen
+}
+
+fn few_from(
+    fixed: [bool; CHARACTERS],
+    standing: [bool; FIELDS],
+    taking: [[u64; CHARACTERS]; FIELDS],
+) -> [bool; CHARACTERS]
+    ensures { λ r. ⌜ r ≡ few-from fixed standing taking ⌝ }
+{
+    let least = least_from(fixed, standing, taking);
+    let free = free_ones(fixed, least);
+    let chosen = chosen_ones(free, least, standing, taking);
+    some(chosen)
+}
+
+// A few of the least ones, one at least for each leaf of a standing field.
+pub fn few(
+    left: [u8; LONGEST_SIDE],
+    right: [u8; LONGEST_SIDE],
+    taking: [[u64; CHARACTERS]; FIELDS],
+) -> [bool; CHARACTERS]
+    ensures { λ r. ⌜ r ≡ few-coded (tokens left) (tokens right) taking ⌝ }
+{
+    let fixed = fixed_ones(left, right);
+    let standing = standing_fields(left, right);
+    few_from(fixed, standing, taking)
+}
+
+// The mask, or no place.
+fn mask_if(among: bool, mask: u64) -> u64
+    ensures { λ r. ⌜ r ≡ cond among mask 0 ⌝ }
+{
+    if among { mask } else { 0 }
+}
+
+// What a field's places take of these.
+fn cut(among: [bool; CHARACTERS], row: [u64; CHARACTERS]) -> [u64; CHARACTERS]
+    ensures { λ r. ⌜ r ≡ cut-row among row ⌝ }
+{
+    let mut masks = [0u64; CHARACTERS];
+    let mut c: usize = 0;
+    while c < CHARACTERS {
+        masks[c] = mask_if(among[c], row[c]);
+        c += 1;
+    }
+    masks
+}
+
+// "tables in which no place takes another character"
+pub fn only_taking(
+    taking: [[u64; CHARACTERS]; FIELDS],
+    among: [bool; CHARACTERS],
+) -> [[u64; CHARACTERS]; FIELDS]
+    ensures { λ r. ⌜ r ≡ cut-coded taking among ⌝ }
+{
+    let mut tables = [[0u64; CHARACTERS]; FIELDS];
+    let mut f: usize = 0;
+    while f < FIELDS {
+        let row = taking[f];
+        let masks = cut(among, row);
+        tables[f] = masks;
+        f += 1;
+    }
+    tables
+}

@@ -1,0 +1,57 @@
+-- `answered` meets its contract: each arm gives the answer of its variant. Assumes nothing.
+use borrow.Author.Needs.{needs}
+use Rattle.decide_sheet.proofs.answered.Statement.{statement}
+use Rattle.decide_sheet.proofs.answered.Tie as tie
+
+enum-known-ended : tie.Need-enum-known-ended
+enum-known-ended c = search needs
+
+enum-told : tie.Need-enum-told
+enum-told c = search needs
+
+enum-told-2 : tie.Need-enum-told-2
+enum-told-2 c = search needs
+
+enum-told-3 : tie.Need-enum-told-3
+enum-told-3 c = search needs
+
+enum-told-4 : tie.Need-enum-told-4
+enum-told-4 c = search needs
+
+enum-told-5 : tie.Need-enum-told-5
+enum-told-5 c = search needs
+
+returns : tie.Need-returns
+returns c = rw (c .before .ended .given .1)
+
+returns-2 : tie.Need-returns-2
+returns-2 c = rw (c .enum-told .given .1)
+
+returns-3 : tie.Need-returns-3
+returns-3 c = rw (c .enum-told2 .given .1)
+
+returns-4 : tie.Need-returns-4
+returns-4 c = rw (c .enum-told3 .given .1)
+
+returns-5 : tie.Need-returns-5
+returns-5 c = rw (c .enum-told4 .given .1)
+
+returns-6 : tie.Need-returns-6
+returns-6 c = rw (c .enum-told5 .given .1)
+
+pub answered-spec : {M : Type 1} → statement M
+answered-spec =
+    tie.close
+    (tie.spec
+    enum-known-ended
+    enum-told
+    enum-told-2
+    enum-told-3
+    enum-told-4
+    enum-told-5
+    returns
+    returns-2
+    returns-3
+    returns-4
+    returns-5
+    returns-6)

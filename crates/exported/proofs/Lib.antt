@@ -1,2 +1,0 @@
-pub mod Catalogued
-pub mod Scripted

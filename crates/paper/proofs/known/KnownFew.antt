@@ -1,0 +1,38 @@
+-- The known sheets that an edit of `paper` needs: what no theorem of `paper` says, the place of a wrong token, how many bytes a situation takes, how
+-- many leaves a pattern may have. The checker computes them. All other known sheets stand in `paper_vectors` (`Known`), since each edit of `paper`
+-- pays for what is computed here.
+use Prim.Native.Nat.{ℕ}
+use mathlib.Core.Path.{_≡_, refl}
+use mathlib.Core.List.{List, [], _∷_, _++_, map}
+use lib.ListN.{replicate}
+use Rattle.paper.specs.Places.{set-after, may-end}
+use Rattle.paper.specs.Written.{judge}
+use Rattle.paper.specs.Search.{enter, offer, take-next, search}
+use Rattle.paper.specs.Situation.{trimmed, strike, put-before, open-moves, child-by, children, question}
+use Rattle.paper.specs.Way.{search-from, texts-of}
+use Rattle.paper.specs.Question.{acceptor}
+use Rattle.paper.specs.Sheet.{marked, pattern-record, side-record, read-end, marked-side, next-is, read-sheet}
+use Rattle.paper.specs.Outcome.{outcome, room-of, searched, standing, value-record, records, some-text-too-long, clash, count-of, how-of}
+use Rattle.paper.proofs.known.KnownSheet.{Known, answer-row, fault-row, got, wanted, PA, LE, RI, A}
+
+-- a pattern of a field that stands in neither side: only judged
+abbrev pub judged-only : List ℕ → List ℕ
+judged-only p = PA 0 p ++ LE [] ++ RI []
+
+-- n + 1 leaves, the operator n times in front
+abbrev pub leaves-by : ℕ → ℕ → List ℕ
+leaves-by operator n = replicate n operator ++ 0 ∷ replicate n 0
+
+abbrev few-sheets : List Known
+few-sheets =
+    -- a byte that is no token, behind one
+    fault-row (LE (A ∷ 43 ∷ [])) 17 4 ∷
+    -- both sides empty, a byte less than one situation
+    answer-row (LE [] ++ RI []) 183 20 18 0 [] ∷
+    -- 64 leaves
+    fault-row (judged-only (leaves-by 66 63)) 16 130 ∷
+    []
+
+pub few-sheets-met : map got few-sheets ≡ map wanted few-sheets
+unfolding set-after may-end judge enter offer take-next search trimmed strike put-before open-moves child-by children question search-from texts-of acceptor marked pattern-record side-record read-end marked-side next-is read-sheet outcome room-of searched standing value-record records some-text-too-long clash count-of how-of
+few-sheets-met = refl

@@ -1,0 +1,68 @@
+-- Known sheets, rules and catalogues carried over: the checker computes them.
+use Prim.Native.Nat.{ℕ}
+use mathlib.Core.Path.{_≡_, refl}
+use mathlib.Core.List.{List, [], _∷_, _++_, map}
+use lib.ListN.{replicate}
+use Rattle.paper.specs.Written.{judge}
+use Rattle.paper.specs.Sheet.{marked, pattern-record, side-record, read-end, marked-side, next-is, read-sheet}
+use Rattle.paper.specs.Rule.{rule-front, read-rule, foreign-field}
+use Rattle.paper.specs.Saying.{sheet-saying}
+use Rattle.paper_catalogue.specs.Catalogue.{form}
+use Rattle.paper.proofs.known.KnownSheet.{PA, LE, RI}
+use Rattle.paper_carry.specs.Opened.{rule-open}
+use Rattle.paper_carry.specs.Spelling.{spelling-told, spelling, rule-spelling, CarriedOver, rules-open, carrying-over}
+
+-- 68 65 0 42
+abbrev any : List ℕ
+any = 68 ∷ 65 ∷ 0 ∷ 42 ∷ []
+
+abbrev digit : List ℕ
+digit = 65 ∷ 0 ∷ 9 ∷ []
+
+abbrev RU : List ℕ
+RU = 82 ∷ 85 ∷ []
+
+abbrev lent : ℕ → List ℕ
+lent n = replicate n 165
+
+-- field 1 stands on the left and field 3 on the right, without a pattern; field 0 has one and stands; field 2 has one and doesn't
+abbrev old : List ℕ
+old = PA 0 digit ++ PA 2 (10 ∷ []) ++ LE (64 ∷ 65 ∷ 36 ∷ []) ++ RI (64 ∷ 67 ∷ [])
+
+abbrev new : List ℕ
+new = PA 0 digit ++ PA 1 any ++ PA 2 (10 ∷ []) ++ PA 3 any ++ LE (64 ∷ 65 ∷ 36 ∷ []) ++ RI (64 ∷ 67 ∷ [])
+
+-- written with a byte to spare; just fitting; a byte too short; nothing to add; a fault
+sheets-known :
+    spelling old (lent 40) ∷ spelling old (lent 39) ∷ spelling old (lent 38) ∷ spelling new (lent 39) ∷ spelling (PA 8 digit) (lent 1) ∷ []
+    ≡ spelling-told 0 0 39 (new ++ 165 ∷ []) ∷ spelling-told 0 0 39 new ∷ spelling-told 41 0 0 (lent 38) ∷ spelling-told 0 0 39 new
+    ∷ spelling-told 13 2 0 (lent 1) ∷ []
+unfolding judge marked pattern-record side-record read-end marked-side next-is read-sheet sheet-saying spelling
+sheets-known = refl
+
+-- a rule's fields 0 and 2 stand without a pattern, field 1 has one
+abbrev old-rule : List ℕ
+old-rule = RU ++ PA 1 digit ++ LE (64 ∷ 65 ∷ 66 ∷ [])
+
+abbrev new-rule : List ℕ
+new-rule = RU ++ PA 0 any ++ PA 1 digit ++ PA 2 any ++ LE (64 ∷ 65 ∷ 66 ∷ [])
+
+-- a field above 3 is told before a short buffer, and behind a fault
+rules-known :
+    rule-spelling old-rule (lent 31) ∷ rule-spelling old-rule (lent 30) ∷ rule-spelling (RU ++ LE (68 ∷ [])) [] ∷ rule-spelling (RU ++ LE (68 ∷ []) ++ 0 ∷ []) []
+    ∷ []
+    ≡ spelling-told 0 0 31 new-rule ∷ spelling-told 41 0 0 (lent 30) ∷ spelling-told 31 0 0 [] ∷ spelling-told 12 6 0 [] ∷ []
+unfolding judge marked pattern-record side-record marked-side next-is rule-front read-rule foreign-field rule-open rule-spelling
+rules-known = refl
+
+abbrev carried : ℕ → List ℕ → CarriedOver
+carried number catalogue = record { number = number; catalogue = catalogue }
+
+-- two rules and room for both; a byte less; no catalogue; an empty one
+catalogues-known :
+    map carrying-over
+    ((old-rule ++ RU ++ LE (10 ∷ []) ++ replicate 17 0) ∷ (old-rule ++ RU ++ LE (10 ∷ []) ++ replicate 15 0) ∷ (RU ++ 0 ∷ []) ∷ (0 ∷ 0 ∷ []) ∷ [])
+    ≡ carried 0 (new-rule ++ RU ++ LE (10 ∷ []) ++ 0 ∷ []) ∷ carried 32 (old-rule ++ RU ++ LE (10 ∷ []) ++ replicate 15 0) ∷ carried 34 (RU ++ 0 ∷ [])
+    ∷ carried 0 (0 ∷ 0 ∷ []) ∷ []
+unfolding judge marked pattern-record side-record marked-side next-is rule-front foreign-field form rule-open rules-open carrying-over
+catalogues-known = refl

@@ -1,0 +1,168 @@
+-- Known scripts: the checker computes two, reads the first back and one in another layout, and refuses others. And known answers: a buffer that
+-- fits exactly, one of a byte less, and a sheet that is cut short.
+use Prim.Native.Nat.{ℕ}
+use mathlib.Core.Path.{_≡_, refl}
+use mathlib.Core.List.{List, [], _∷_, _++_, map}
+use lib.ListN.{replicate}
+use Rattle.paper.specs.Pattern.{char, range, leaf, empty, then, either, many, some-text, pattern}
+use Rattle.paper.specs.Equation.{chr, fld}
+use Rattle.paper.specs.Question.{Question}
+use Rattle.paper_script.specs.Language.{to-re, concat, union, star}
+use Rattle.paper_script.specs.Bytes.{bytes}
+use Rattle.paper_script.specs.Reader.{code-point, constant, set-logic, declare-const, in-re, equal, check-sat, no-script, commands, read-script}
+use Rattle.paper.specs.Sheet.{read-sheet, read-end, marked-side, side-record, next-is, marked}
+use Rattle.paper_script.specs.Script.{one-character, choice, field-lines, all-standing, equation, script}
+use Rattle.paper_script.specs.Scripting.{scripting-told, scripting}
+
+-- `LT`x and x`4`, where x is 0, or Z or -, or ., any number of times
+abbrev latch : Question
+latch =
+    record {
+      left = chr 21 ∷ chr 29 ∷ fld 0 ∷ [];
+      right = fld 0 ∷ chr 4 ∷ [];
+      held =
+          pattern (many (either (leaf (char 0)) (either (then (leaf (range 35 36)) empty) (leaf (range 37 37)))))
+          ∷ some-text ∷ [];
+    }
+
+script-of-latch : script latch
+    ≡ bytes "; Do two label rules clash? sat: they do. unsat: they don't.\n"
+    ++ bytes "; Fields 8 and 9 are the spaces at the end of the left and the right label.\n"
+    ++ bytes "(set-logic QF_S)\n"
+    ++ bytes "; field 0\n(declare-const f0 String)\n"
+    ++ bytes "(assert (str.in_re f0 (re.* (re.union (str.to_re \"0\") "
+    ++ bytes "(re.union (re.++ (re.union (str.to_re \"Z\") (str.to_re \"-\")) (str.to_re \"\")) (str.to_re \".\"))))))\n"
+    ++ bytes "; field 8\n(declare-const f8 String)\n(assert (str.in_re f8 (re.* (str.to_re \" \"))))\n"
+    ++ bytes "; field 9\n(declare-const f9 String)\n(assert (str.in_re f9 (re.* (str.to_re \" \"))))\n"
+    ++ bytes "(assert (= (str.++ \"LT\" f0 f8) (str.++ f0 \"4\" f9)))\n(check-sat)\n"
+unfolding one-character choice field-lines all-standing equation script
+script-of-latch = refl
+
+latch-read : read-script (script latch)
+    ≡ commands (
+    set-logic (bytes "QF_S")
+    ∷ declare-const (bytes "f0")
+    ∷ in-re (bytes "f0")
+    (star (union (to-re (bytes "0")) (union (concat (union (to-re (bytes "Z")) (to-re (bytes "-"))) (to-re [])) (to-re (bytes ".")))))
+    ∷ declare-const (bytes "f8")
+    ∷ in-re (bytes "f8") (star (to-re (bytes " ")))
+    ∷ declare-const (bytes "f9")
+    ∷ in-re (bytes "f9") (star (to-re (bytes " ")))
+    ∷ equal (map code-point (bytes "LT") ++ (constant (bytes "f0") ∷ constant (bytes "f8") ∷ []))
+    (constant (bytes "f0") ∷ code-point 52 ∷ constant (bytes "f9") ∷ [])
+    ∷ check-sat
+    ∷ [])
+unfolding one-character choice field-lines all-standing equation script read-script
+latch-read = refl
+
+-- nothing, and x, a space and `Z`, where x is open
+abbrev blank : Question
+blank =
+    record {
+      left = [];
+      right = fld 2 ∷ chr 38 ∷ chr 35 ∷ [];
+      held = pattern empty ∷ some-text ∷ some-text ∷ [];
+    }
+
+script-of-blank : script blank
+    ≡ bytes "; Do two label rules clash? sat: they do. unsat: they don't.\n"
+    ++ bytes "; Fields 8 and 9 are the spaces at the end of the left and the right label.\n"
+    ++ bytes "(set-logic QF_S)\n"
+    ++ bytes "; field 2\n(declare-const f2 String)\n"
+    ++ bytes "(assert (str.in_re f2 (re.++ (re.union"
+    ++ bytes " (str.to_re \"0\") (str.to_re \"1\") (str.to_re \"2\") (str.to_re \"3\") (str.to_re \"4\")"
+    ++ bytes " (str.to_re \"5\") (str.to_re \"6\") (str.to_re \"7\") (str.to_re \"8\") (str.to_re \"9\")"
+    ++ bytes " (str.to_re \"A\") (str.to_re \"B\") (str.to_re \"C\") (str.to_re \"D\") (str.to_re \"E\")"
+    ++ bytes " (str.to_re \"F\") (str.to_re \"G\") (str.to_re \"H\") (str.to_re \"I\") (str.to_re \"J\")"
+    ++ bytes " (str.to_re \"K\") (str.to_re \"L\") (str.to_re \"M\") (str.to_re \"N\") (str.to_re \"O\")"
+    ++ bytes " (str.to_re \"P\") (str.to_re \"Q\") (str.to_re \"R\") (str.to_re \"S\") (str.to_re \"T\")"
+    ++ bytes " (str.to_re \"U\") (str.to_re \"V\") (str.to_re \"W\") (str.to_re \"X\") (str.to_re \"Y\")"
+    ++ bytes " (str.to_re \"Z\") (str.to_re \"-\") (str.to_re \".\") (str.to_re \" \") (str.to_re \"$\")"
+    ++ bytes " (str.to_re \"/\") (str.to_re \"+\") (str.to_re \"%\")"
+    ++ bytes ") (re.* (re.union"
+    ++ bytes " (str.to_re \"0\") (str.to_re \"1\") (str.to_re \"2\") (str.to_re \"3\") (str.to_re \"4\")"
+    ++ bytes " (str.to_re \"5\") (str.to_re \"6\") (str.to_re \"7\") (str.to_re \"8\") (str.to_re \"9\")"
+    ++ bytes " (str.to_re \"A\") (str.to_re \"B\") (str.to_re \"C\") (str.to_re \"D\") (str.to_re \"E\")"
+    ++ bytes " (str.to_re \"F\") (str.to_re \"G\") (str.to_re \"H\") (str.to_re \"I\") (str.to_re \"J\")"
+    ++ bytes " (str.to_re \"K\") (str.to_re \"L\") (str.to_re \"M\") (str.to_re \"N\") (str.to_re \"O\")"
+    ++ bytes " (str.to_re \"P\") (str.to_re \"Q\") (str.to_re \"R\") (str.to_re \"S\") (str.to_re \"T\")"
+    ++ bytes " (str.to_re \"U\") (str.to_re \"V\") (str.to_re \"W\") (str.to_re \"X\") (str.to_re \"Y\")"
+    ++ bytes " (str.to_re \"Z\") (str.to_re \"-\") (str.to_re \".\") (str.to_re \" \") (str.to_re \"$\")"
+    ++ bytes " (str.to_re \"/\") (str.to_re \"+\") (str.to_re \"%\")"
+    ++ bytes ")))))\n"
+    ++ bytes "; field 8\n(declare-const f8 String)\n(assert (str.in_re f8 (re.* (str.to_re \" \"))))\n"
+    ++ bytes "; field 9\n(declare-const f9 String)\n(assert (str.in_re f9 (re.* (str.to_re \" \"))))\n"
+    ++ bytes "(assert (= f8 (str.++ f2 \" Z\" f9)))\n(check-sat)\n"
+unfolding one-character choice field-lines all-standing equation script
+script-of-blank = refl
+
+-- Another layout: other blanks, comments elsewhere, more arguments, a quotation mark in a literal, a parenthesis and a semicolon in another.
+abbrev crowded : List ℕ
+crowded =
+    bytes "(set-logic\tQF_S);the logic\n\r(declare-const x String)(declare-const y1\n  String )"
+    ++ bytes "( assert(str.in_re x(re.union(str.to_re \"A\")(str.to_re ; a \"comment\" (\n \"B\"\"\")"
+    ++ bytes " (re.++ (str.to_re \"\") (re.* (str.to_re \"CD\"))(str.to_re \"E\")))))"
+    ++ bytes "(assert (= \"a\"\"b\"(str.++ x \"\" y1 \"(;)\")))\n\n(check-sat); no line feed behind this"
+
+crowded-read : read-script crowded
+    ≡ commands (
+    set-logic (bytes "QF_S")
+    ∷ declare-const (bytes "x")
+    ∷ declare-const (bytes "y1")
+    ∷ in-re (bytes "x")
+    (union (union (to-re (bytes "A")) (to-re (bytes "B\""))) (concat (concat (to-re []) (star (to-re (bytes "CD")))) (to-re (bytes "E"))))
+    ∷ equal (map code-point (bytes "a\"b")) (constant (bytes "x") ∷ constant (bytes "y1") ∷ map code-point (bytes "(;)"))
+    ∷ check-sat
+    ∷ [])
+unfolding read-script
+crowded-read = refl
+
+-- What is not read.
+abbrev garbled-scripts : List (List ℕ)
+garbled-scripts =
+    -- a union, and a sum, of one
+    bytes "(assert (str.in_re f0 (re.union (str.to_re \"A\"))))"
+    ∷ bytes "(assert (= f0 (str.++ f1)))"
+    -- an escape, as a text, as a term and in a sum
+    ∷ bytes "(assert (str.in_re f0 (str.to_re \"\\u{41}\")))"
+    ∷ bytes "(assert (= \"\\u{41}\"))"
+    ∷ bytes "(assert (= f0 (str.++ f1 \"\\u{41}\")))"
+    -- another operator, term, relation, sort and command
+    ∷ bytes "(assert (str.in_re f0 (re.inter (str.to_re \"A\") (str.to_re \"B\"))))"
+    ∷ bytes "(assert (= f0 (str.at f1 f2)))"
+    ∷ bytes "(assert (str.prefixof f0 (str.to_re \"A\")))"
+    ∷ bytes "(declare-const f0 Int)"
+    ∷ bytes "(get-model)"
+    -- a constant for a text, and a text for a word
+    ∷ bytes "(assert (str.in_re f0 (str.to_re f1)))"
+    ∷ bytes "(\"check-sat\")"
+    -- a parenthesis too few or too many; the end in a word, behind a text and in a text
+    ∷ bytes "(assert (= f0 (str.at))"
+    ∷ bytes "(assert (= f0 (str.++ f1))))"
+    ∷ bytes "(check-sat x"
+    ∷ bytes "(check-sat))"
+    ∷ bytes "(check-sat)x"
+    ∷ bytes "(check-sat)\"A\""
+    ∷ bytes "(check-sat\""
+    ∷ bytes "(check-sat)\"A"
+    ∷ []
+
+none-read : map read-script garbled-scripts ≡ replicate 20 no-script
+unfolding read-script
+none-read = refl
+
+-- the sheet of two empty sides, whose script has 351 bytes
+abbrev empty-sides : List ℕ
+empty-sides = 76 ∷ 69 ∷ 0 ∷ 82 ∷ 73 ∷ 0 ∷ []
+
+exact-room : scripting empty-sides (replicate 351 0) ≡ scripting-told 0 0 351 (script (record { left = []; right = []; held = replicate 8 some-text }))
+unfolding one-character choice field-lines all-standing equation script scripting read-sheet read-end marked-side side-record next-is marked
+exact-room = refl
+
+one-less : scripting empty-sides (replicate 350 1) ≡ scripting-told 40 0 0 (replicate 350 1)
+unfolding one-character choice field-lines all-standing equation script scripting read-sheet read-end marked-side side-record next-is marked
+one-less = refl
+
+cut-short : scripting (76 ∷ 69 ∷ []) [] ≡ scripting-told 11 2 0 []
+unfolding scripting read-sheet read-end marked-side side-record next-is marked
+cut-short = refl

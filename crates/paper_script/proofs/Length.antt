@@ -1,0 +1,188 @@
+-- How long the script of a question is.
+--   expression-length : leaves-take characters p → 4 * length (expression p) + 48 ≤ 710 * (length (pattern-code p) + 1)
+--   script-length     : Sayable q → length (script q) ≤ longest-script
+--   script-fits       : read-sheet s ≡ asked q → length (script q) ≤ longest-script
+--   held-own, held-hidden : what a field of the question with hidden fields may hold
+-- A choice of all the characters has most bytes for its three bytes of code. Follows by induction on the pattern and on the side.
+use Prim.Native.Nat.{ℕ, suc, _+_, _*_, _-_, _≤_, _<_}
+use native.Mathlib.Omega.{arith}
+use mathlib.Core.Path.{_≡_, refl, ap, _∙_}
+use mathlib.Core.Bool.{Bool, true, false, cond}
+use mathlib.Core.List.{List, [], _∷_, _++_, map, List·Memᴰ, List·Memᴰ·head, List·Memᴰ·tail}
+use lib.Dec.{leb, ltb, eqb}
+use lib.ListN.{length, length-append, length-map, List·getD-append}
+use Rattle.paper.specs.Lists.{from, upto, keep, each}
+use Rattle.paper.specs.Numbers.{characters, fields, hidden-left, hidden-right, set-fields}
+use Rattle.paper.specs.Numbers as Numbers
+use Rattle.paper.specs.Pattern.{char, range, Pattern, leaf, empty, then, either, many, Held, some-text, pattern}
+use Rattle.paper.specs.Taken.{LeafTakes, leaves-take}
+use Rattle.paper.specs.Equation.{chr, fld, Side, stands-in}
+use Rattle.paper.specs.Question.{Question, held-by, any-spaces, hidden}
+use Rattle.paper.specs.Printed.{space}
+use Rattle.paper.specs.Sheet.{asked, read-sheet}
+use Rattle.paper.specs.Saying.{pattern-code}
+use Rattle.paper.proofs.base.Tests.{by-bool, cond-by, both-true, leb-false, le-leb, ltb-true, ltb-false, eqb-true, eqb-false}
+use Rattle.paper.proofs.base.Lists.{length-from, mem-upto}
+use Rattle.paper.proofs.base.Listed.{getD-map-upto}
+use Rattle.paper.proofs.places.Judged.{range-takes}
+use Rattle.paper.proofs.sheets.Asked.{GoodHeld}
+use Rattle.paper.proofs.saying.Saying.{ShortCode, Sayable}
+use Rattle.paper_script.specs.Bytes.{bytes}
+use Rattle.paper_script.specs.Script.{one-character, next-character, choice, expression, some-characters, expression-of, digit, field-lines}
+use Rattle.paper_script.specs.Script.{arguments-of, side-term, heading, all-standing, equation, script, longest-script}
+use Rattle.paper.proofs.saying.Sayable.{sheet-sayable}
+
+-- A character, a range.
+character-length : (c : ℕ) → length (one-character c) ≡ 15
+unfolding one-character
+character-length c = refl
+
+characters-length : (l : List ℕ) → length (each next-character l) ≡ 16 * length l
+characters-length [] = refl
+characters-length (c ∷ l) =
+    omega (arith, length-append (one-character c) (each next-character l), character-length c, characters-length l)
+
+-- a choice of all the characters is the longest
+choice-length : (lo hi : ℕ) → LeafTakes characters (range lo hi) → length (choice lo hi) ≤ 698
+unfolding choice
+choice-length lo hi h =
+    cond-by (λ (s : List ℕ). length s ≤ 698) (leb hi lo)
+    (λ _. omega (arith, character-length lo))
+    (λ e.
+    let rises = leb-false hi lo e in
+    let high = h .character hi (both-true (le-leb lo hi (omega arith)) (le-leb hi hi (omega arith))) in
+    let l = from lo (suc hi - lo) in
+    omega (arith, length-append (each next-character l) (bytes ")"), characters-length l, length-from lo (suc hi - lo)))
+
+-- A pattern, by the length of its code.
+abbrev Bounded : Pattern → Type 0
+Bounded p = 4 * length (expression p) + 48 ≤ 710 * (length (pattern-code p) + 1)
+
+two-length : (a b : List ℕ) → length ((a ++ (space ∷ b)) ++ bytes ")") ≡ length a + length b + 2
+two-length a b = omega (arith, length-append (a ++ (space ∷ b)) (bytes ")"), length-append a (space ∷ b))
+
+two-bounded : (a b : Pattern) → Bounded a → Bounded b
+    → 4 * (10 + length ((expression a ++ (space ∷ expression b)) ++ bytes ")")) + 48 ≤ 710 * (1 + length (pattern-code a ++ pattern-code b) + 1)
+two-bounded a b h k = omega (arith, two-length (expression a) (expression b), length-append (pattern-code a) (pattern-code b))
+
+pub expression-length : (p : Pattern) → leaves-take characters p
+    → 4 * length (expression p) + 48 ≤ 710 * (length (pattern-code p) + 1)
+expression-length (leaf (char c)) h = omega (arith, character-length c)
+expression-length (leaf (range lo hi)) h = omega (arith, choice-length lo hi h)
+expression-length empty h = omega arith
+expression-length (then a b) h =
+    omega (arith, two-bounded a b (expression-length a (h .0)) (expression-length b (h .1)))
+expression-length (either a b) h =
+    omega (arith, two-bounded a b (expression-length a (h .0)) (expression-length b (h .1)))
+expression-length (many a) h = omega (arith, length-append (expression a) (bytes ")"), expression-length a h)
+
+-- What a field may hold, and its lines.
+held-length : (h : Held) → GoodHeld h → ShortCode h → length (expression-of h) ≤ 34245
+held-length some-text good short =
+    let all-of = range-takes 0 (characters - 1) (omega arith) (omega arith) in
+    omega (arith, expression-length some-characters (all-of, all-of))
+held-length (pattern p) good short = omega (arith, expression-length p (good .0))
+
+lines-length : (f : ℕ) (h : Held) → length (field-lines f h) ≡ 61 + length (expression-of h)
+unfolding field-lines
+lines-length f h = omega (arith, length-append (expression-of h) (bytes "))\n"))
+
+-- a hidden field's lines are short
+spaces-length : length (expression-of any-spaces) ≡ 22
+spaces-length = omega (arith, length-append (one-character Numbers.space) (bytes ")"), character-length Numbers.space)
+
+abbrev most : ℕ → ℕ
+most f = cond (ltb f fields) 34306 83
+
+module _ (q : Question) where
+  pub held-own : (f : ℕ) → f < fields → held-by (hidden q) f ≡ held-by q f
+  held-own f h =
+      List·getD-append (map (held-by q) (upto fields)) (any-spaces ∷ any-spaces ∷ []) some-text f
+      (rw (length-map (upto fields) (held-by q)) h)
+      ∙ getD-map-upto (held-by q) some-text fields f h
+
+  pub held-hidden : (f : ℕ) → fields ≤ f → f < set-fields → held-by (hidden q) f ≡ any-spaces
+  held-hidden f h k =
+      by-bool (eqb f hidden-left)
+      (λ e. ap (held-by (hidden q)) (eqb-true f hidden-left e))
+      (λ (e : eqb f hidden-left ≡ false).
+      let other = eqb-false f hidden-left e in
+      let it : f ≡ hidden-right = omega arith in
+      ap (held-by (hidden q)) it)
+
+  field-length : Sayable q → (f : ℕ) → f < set-fields → length (field-lines f (held-by (hidden q) f)) ≤ most f
+  field-length h f k =
+      cond-by (λ (n : ℕ). length (field-lines f (held-by (hidden q) f)) ≤ n) (ltb f fields)
+      (λ e. rw (held-own f (ltb-true f fields e))
+      (omega (arith, lines-length f (held-by q f), held-length (held-by q f) (h .good .held .good f) (h .codes f))))
+      (λ e. rw (held-hidden f (ltb-false f fields e) k) (omega (arith, lines-length f any-spaces, spaces-length)))
+
+-- The lines of the fields that stand: not more than those of all of them.
+abbrev total : List ℕ → ℕ
+total [] = 0
+total (f ∷ fs) = most f + total fs
+
+kept-length : (lines : ℕ → List ℕ) (stands : ℕ → Bool) (fs : List ℕ) → ((f : ℕ) → List·Memᴰ f fs → length (lines f) ≤ most f)
+    → length (each lines (keep stands fs)) ≤ total fs
+kept-length lines stands [] h = omega arith
+kept-length lines stands (f ∷ fs) h =
+    let others = kept-length lines stands fs (λ g d. h g (List·Memᴰ·tail d)) in
+    by-bool (stands f)
+    (λ e. rw e (omega (arith, length-append (lines f) (each lines (keep stands fs)), h f (List·Memᴰ·head refl), others)))
+    (λ e. rw e (omega (arith, others)))
+
+-- A side: four bytes for each token, and one where a literal is open.
+abbrev mark : Bool → ℕ
+mark false = 0
+mark true = 1
+
+arguments-length : (is-open : Bool) (side : Side) → length (arguments-of is-open side) ≤ 4 * length side + mark is-open
+arguments-length false [] = omega arith
+arguments-length true [] = omega arith
+arguments-length false (chr c ∷ side) = omega (arith, arguments-length true side)
+arguments-length true (chr c ∷ side) = omega (arith, arguments-length true side)
+arguments-length false (fld f ∷ side) = omega (arith, arguments-length false side)
+arguments-length true (fld f ∷ side) = omega (arith, arguments-length false side)
+
+term-length : (side : Side) (f : ℕ) → length (side-term side f) ≤ 4 * length side + 11
+term-length [] f = omega arith
+term-length (t ∷ side) f =
+    let a = arguments-of false (t ∷ side) in
+    omega (arith, length-append (a ++ bytes " f") (digit f ∷ bytes ")"), length-append a (bytes " f"), arguments-length false (t ∷ side))
+
+equation-length : (left right : Side) → length (equation left right) ≤ 4 * length left + 4 * length right + 49
+unfolding equation
+equation-length left right =
+    let l = side-term left hidden-left in
+    let r = side-term right hidden-right in
+    omega (
+      arith,
+      length-append (l ++ (space ∷ r)) (bytes "))\n(check-sat)\n"),
+      length-append l (space ∷ r),
+      term-length left hidden-left,
+      term-length right hidden-right,
+    )
+
+heading-length : length heading ≡ 154
+heading-length = refl
+
+pub script-length : (q : Question) → Sayable q → length (script q) ≤ longest-script
+unfolding script all-standing
+script-length q h =
+    let lines : ℕ → List ℕ = λ (f : ℕ). field-lines f (held-by (hidden q) f) in
+    let standing = all-standing (hidden q) in
+    let end = equation (q .left) (q .right) in
+    omega (
+      arith,
+      length-append (heading ++ each lines standing) end,
+      length-append heading (each lines standing),
+      heading-length,
+      kept-length lines (λ (f : ℕ). stands-in f (hidden q .left ++ hidden q .right)) (upto set-fields)
+          (λ f d. field-length q h f (mem-upto set-fields d)),
+      equation-length (q .left) (q .right),
+      h .good .left .short,
+      h .good .right .short,
+    )
+
+pub script-fits : (s : List ℕ) (q : Question) → read-sheet s ≡ asked q → length (script q) ≤ longest-script
+script-fits s q e = script-length q (sheet-sayable s q e)

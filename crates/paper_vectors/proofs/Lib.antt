@@ -1,0 +1,8 @@
+-- known sheets
+pub mod Known
+pub mod KnownBounds
+pub mod KnownLengths
+pub mod KnownPrinted
+-- known calls of a catalogue
+pub mod KnownCatalogue
+pub mod KnownRechecks

@@ -1,0 +1,156 @@
+-- Laws of the lines: what each is put together from, how long it can be, and how the records are walked. Follows from the definitions of
+-- `Printed`.
+use Prim.Native.Nat.{ℕ, zero, suc, _+_, _*_, _-_, _≤_, _<_, min}
+use native.Mathlib.Nat.{zero-min, suc-min-suc, min-le-left, min-le-right, add-sub-cancel-left}
+use native.Mathlib.Numerals.{add-one}
+use native.Mathlib.Omega.{arith}
+use mathlib.Core.Path.{_≡_, refl, sym, ap, _∙_}
+use mathlib.Core.List.{List, [], _∷_, _++_, map, append-assoc, append-nil}
+use lib.ListN.{length, getD, take, drop, length-append, length-map, length-drop, length-take}
+use lib.Seq.{take-suc, take-nil, drop-nil, drop-drop, getD-drop}
+use Rattle.paper.specs.Printed.{sign, space, newline, value-lines}
+use Rattle.paper.proofs.base.Lists.{map-append}
+use Rattle.print_lines.specs.Lines.{longest-first-line, longest-decided-line}
+use Rattle.print_lines.specs.Writing.{Puts, in-digits, in-decimal, most-digits, numbers-line, numbers-line-decided, three-numbers, value-line, record-head, text-length}
+use Rattle.print_lines.proofs.Decimal.{decimal-at-most, byte-at-most}
+use Rattle.print_lines.proofs.Putting.{puts-none, puts-then}
+
+-- a sign behind each part, or before the next
+signs-behind : (p q r : List ℕ) (s e : ℕ) → p ++ (s ∷ q) ++ (s ∷ r) ++ (e ∷ []) ≡ (p ++ (s ∷ [])) ++ (q ++ (s ∷ [])) ++ (r ++ (e ∷ []))
+signs-behind p q r s e = simp append-assoc
+
+more-signs-behind : (p q r t : List ℕ) (s e : ℕ)
+    → p ++ (s ∷ q) ++ (s ∷ r) ++ (s ∷ t) ++ (e ∷ []) ≡ (p ++ (s ∷ [])) ++ (q ++ (s ∷ [])) ++ (r ++ (s ∷ [])) ++ (t ++ (e ∷ []))
+more-signs-behind p q r t s e = simp append-assoc
+
+pub numbers-line-parts : (number count place : ℕ) → numbers-line number count place ≡ three-numbers number count place newline
+unfolding numbers-line in-digits
+numbers-line-parts number count place = signs-behind (in-decimal number) (in-decimal count) (in-decimal place) space newline
+
+pub decided-line-parts : (number count place search : ℕ)
+    → numbers-line-decided number count place search ≡ three-numbers number count place space ++ (in-decimal search ++ (newline ∷ []))
+unfolding numbers-line-decided in-digits
+decided-line-parts number count place search =
+    more-signs-behind (in-decimal number) (in-decimal count) (in-decimal place) (in-decimal search) space newline
+
+-- a number of at most 20 digits, and a sign behind it
+pub number-length : (n s : ℕ) → length (in-decimal n ++ (s ∷ [])) ≤ most-digits + 1
+number-length n s = rw length-append (omega (arith, decimal-at-most n))
+
+pub three-numbers-length : (number count place sign : ℕ) → length (three-numbers number count place sign) ≤ longest-first-line
+three-numbers-length number count place sign =
+    simp length-append (omega (arith, decimal-at-most number, decimal-at-most count, decimal-at-most place))
+
+pub numbers-line-length : (number count place : ℕ) → length (numbers-line number count place) ≤ longest-first-line
+numbers-line-length number count place = rw (numbers-line-parts number count place) (three-numbers-length number count place newline)
+
+pub decided-line-length : (number count place search : ℕ) → length (numbers-line-decided number count place search) ≤ longest-decided-line
+decided-line-length number count place search =
+    rw (decided-line-parts number count place search, length-append (three-numbers number count place space))
+    (omega (arith, three-numbers-length number count place space, number-length search newline))
+
+pub value-line-parts : (f : ℕ) (text : List ℕ) → value-line f text ≡ (in-decimal f ++ (space ∷ [])) ++ map sign text ++ (newline ∷ [])
+unfolding value-line in-digits
+value-line-parts f text = ap (λ (l : List ℕ). l ++ (newline ∷ [])) (sym (append-assoc (in-decimal f) (space ∷ []) (map sign text)))
+
+-- no line is longer than its record
+pub value-line-length : (f : ℕ) (text : List ℕ) → f < 256 → length (value-line f text) ≤ record-head + length text
+value-line-length f text h = rw (value-line-parts f text) (simp (length-append, length-map) (omega (arith, byte-at-most f h)))
+
+-- one character more
+pub signs-more : (text : List ℕ) (i : ℕ) → i < length text → map sign (take (i + 1) text) ≡ map sign (take i text) ++ (sign (getD text i 0) ∷ [])
+signs-more text i h = rw (add-one, take-suc text i 0, map-append sign)
+
+-- a part that would go past the end goes to the end
+pub take-min : (n : ℕ) (l : List ℕ) → take (min n (length l)) l ≡ take n l
+take-min zero l = rw zero-min
+take-min (suc n) [] = take-nil (min (suc n) 0)
+take-min (suc n) (x ∷ l) = rw suc-min-suc (ap (λ (t : List ℕ). x ∷ t) (take-min n l))
+
+drop-min : (n : ℕ) (l : List ℕ) → drop (min n (length l)) l ≡ drop n l
+drop-min zero l = rw zero-min
+drop-min (suc n) [] = drop-nil (min (suc n) 0)
+drop-min (suc n) (x ∷ l) = rw suc-min-suc (drop-min n l)
+
+-- too few bytes for a record
+no-record : (n : ℕ) (s : List ℕ) → length s < record-head → value-lines n s ≡ []
+no-record zero s h = refl
+no-record (suc n) [] h = refl
+no-record (suc n) (v ∷ []) h = refl
+no-record (suc n) (v ∷ a ∷ []) h = refl
+no-record (suc n) (v ∷ a ∷ f ∷ []) h = refl
+no-record (suc n) (v ∷ a ∷ f ∷ low ∷ []) h = refl
+no-record (suc n) (v ∷ a ∷ f ∷ low ∷ high ∷ s) h = absurd (omega arith)
+
+one-record : (n : ℕ) (s : List ℕ) → record-head ≤ length s →
+    let len = getD s 3 0 + 256 * getD s 4 0 in
+    value-lines (suc n) s ≡ value-line (getD s 2 0) (take len (drop record-head s)) ++ value-lines n (drop len (drop record-head s))
+unfolding value-line
+one-record n [] h = absurd (omega arith)
+one-record n (v ∷ []) h = absurd (omega arith)
+one-record n (v ∷ a ∷ []) h = absurd (omega arith)
+one-record n (v ∷ a ∷ f ∷ []) h = absurd (omega arith)
+one-record n (v ∷ a ∷ f ∷ low ∷ []) h = absurd (omega arith)
+one-record n (v ∷ a ∷ f ∷ low ∷ high ∷ s) h = refl
+
+-- the text of the record at `from`
+abbrev pub text : List ℕ → ℕ → List ℕ
+text s from = take (text-length s from) (drop (from + record-head) s)
+
+-- as the code takes it: the part from behind the head to behind the text
+pub text-part : (s : List ℕ) (from n : ℕ) → n ≡ text-length s from
+    → take (from + record-head + n - (from + record-head)) (drop (from + record-head) s) ≡ text s from
+text-part s from n e = rw (add-sub-cancel-left, e)
+
+pub text-within : (s : List ℕ) (from : ℕ) → from + record-head ≤ length s → from + record-head + text-length s from ≤ length s
+text-within s from h = omega (arith, min-le-right (getD s (from + 3) 0 + 256 * getD s (from + 4) 0) (length s - (from + record-head)))
+
+pub text-long : (s : List ℕ) (from n : ℕ) → n ≡ text-length s from → length (text s from) ≤ n
+text-long s from n e = rw (length-take, e) (min-le-left (text-length s from) (length (drop (from + record-head) s)))
+
+record-at : (s : List ℕ) (from n : ℕ) → from + record-head ≤ length s
+    → value-lines (suc n) (drop from s)
+    ≡ value-line (getD s (from + 2) 0) (text s from) ++ value-lines n (drop (from + record-head + text-length s from) s)
+record-at s from n h =
+    one-record n (drop from s) (simp length-drop (omega arith))
+    ∙ rw (
+      getD-drop from s 2 0,
+      getD-drop from s 3 0,
+      getD-drop from s 4 0,
+      drop-drop record-head from s,
+      ← drop-drop (text-length s from) (from + record-head) s,
+      ← length-drop (from + record-head) s,
+      take-min,
+      drop-min,
+    )
+
+-- Some of the lines of `whole` were put, those of the records from `from` on are left.
+pub record Underway (whole records d e : List ℕ) (at from end : ℕ) : Type 0 where
+  pub lines : List ℕ
+  pub left : ℕ
+  pub enough : length records ≤ from + left
+  pub puts : Puts d e at end lines
+  pub rest : lines ++ value-lines left (drop from records) ≡ whole
+
+module _ {records d : List ℕ} {at : ℕ} where
+  pub none-put : (n : ℕ) → length records ≤ n → Underway (value-lines n records) records d d at 0 at
+  none-put n h = record { lines = []; left = n; enough = omega arith; puts = puts-none; rest = refl }
+
+  module _ {whole e : List ℕ} {from end : ℕ} (u : Underway whole records d e at from end) where
+    pub one-put : {f : List ℕ} {end′ : ℕ} → from + record-head ≤ length records
+        → Puts e f end end′ (value-line (getD records (from + 2) 0) (text records from))
+        → Underway whole records d f at (from + record-head + text-length records from) end′
+    one-put h p =
+        let more : suc (u .left - 1) ≡ u .left = omega (arith, u .enough) in
+        record {
+          lines = u .lines ++ value-line (getD records (from + 2) 0) (text records from);
+          left = u .left - 1;
+          enough = omega (arith, u .enough);
+          puts = puts-then (u .puts) p;
+          rest =
+              append-assoc (u .lines) (value-line (getD records (from + 2) 0) (text records from)) _
+              ∙ rw (← record-at records from (u .left - 1) h, more) (u .rest);
+        }
+
+    pub all-put : length records < from + record-head → Puts d e at end whole
+    all-put h = rw (← u .rest, no-record (u .left) (drop from records) (simp length-drop (omega arith)), append-nil) (u .puts)

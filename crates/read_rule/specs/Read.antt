@@ -1,0 +1,41 @@
+-- What reading a rule hands on: the fault with its place, or how many bytes it has, whether it names a field above 3, its side by inner
+-- codes and what is worked out of its fields' patterns.
+use Prim.Native.Nat.{ℕ, _+_}
+use mathlib.Core.Bool.{Bool, false, _&&_, not}
+use mathlib.Core.List.{[], map}
+use lib.Dec.{leb, eqb}
+use lib.ListN.{replicate}
+use Rattle.paper.specs.Numbers.{fields, rule-fields}
+use Rattle.paper.specs.Pattern.{some-text}
+use Rattle.paper.specs.Rule.{foreign-field}
+use Rattle.paper.specs.Rule as Paper
+use Rattle.paper.specs.Sheet.{Records, faulty, records}
+use Rattle.base_codes.specs.Inner.{field-code, no-token, side-code, padded}
+use Rattle.base_places.specs.WorkedOut.{worked-out}
+use Rattle.base_answers.specs.Faults.{as-fault}
+use Rattle.base_answers.specs.declared.Found.the-variants.{NoFault, Refused}
+use Rattle.read_rule.specs.declared.Rule.{Rule}
+
+-- the inner code of a field above 3
+abbrev pub foreign-code : ℕ → Bool
+foreign-code b = leb (field-code + rule-fields) b && not (eqb b no-token)
+
+abbrev pub rule-of : Records Paper.Rule → Rule
+rule-of (faulty x at) =
+    record {
+      found = Refused (as-fault x);
+      place = at;
+      bytes = 0;
+      foreign = false;
+      side = padded [];
+      fields = replicate fields (worked-out some-text);
+    }
+rule-of (records r next) =
+    record {
+      found = NoFault;
+      place = 0;
+      bytes = next;
+      foreign = foreign-field r;
+      side = padded (side-code (r .side));
+      fields = map worked-out (r .fields .held);
+    }

@@ -1,0 +1,104 @@
+-- `held` meets its contract: the bytes that are spelt are those of what the field may hold (`Holding`).
+use Rattle.script_sheet.proofs.Holding.{spelt-spaces, spelt-open, spelt-body}
+use borrow.Author.Needs.{needs}
+use Rattle.script_sheet.proofs.memberships.held.Statement.{statement}
+use Rattle.script_sheet.proofs.memberships.held.Tie as tie
+
+sub-expression : tie.Need-sub-expression
+sub-expression c = search needs
+
+part-expression-start : tie.Need-part-expression-start
+part-expression-start c = search needs
+
+part-expression-end : tie.Need-part-expression-end
+part-expression-end c = search needs
+
+expression-requires : tie.Need-expression-requires
+expression-requires c κs = search needs
+
+same-length : tie.Need-same-length
+same-length c = search needs
+
+returns : tie.Need-returns
+returns c = λ q e.
+    let told = c .before .before in
+    let test = told .before .before .before .before in
+    let start = test .before .before .before in
+    rw (spelt-spaces q (start .args .f) (test .if1 .taken) (start .pre)) (told .expression .ensures)
+
+find-requires : tie.Need-find-requires
+find-requires c κs = search needs
+
+sub-expression-2 : tie.Need-sub-expression-2
+sub-expression-2 c = search needs
+
+part-expression-start-2 : tie.Need-part-expression-start-2
+part-expression-start-2 c = search needs
+
+part-expression-end-2 : tie.Need-part-expression-end-2
+part-expression-end-2 c = search needs
+
+expression-requires-2 : tie.Need-expression-requires-2
+expression-requires-2 c κs = search needs
+
+same-length-2 : tie.Need-same-length-2
+same-length-2 c = search needs
+
+returns-2 : tie.Need-returns-2
+returns-2 c = λ q e.
+    let told = c .before .before in
+    let test = told .before .before .before .before in
+    let found = test .before in
+    let less = found .before in
+    let start = less .before .before .before in
+    rw (spelt-open q (start .args .sheet .now) e (start .args .f) (less .if1 .left) (found .find .result) (found .find .ensures .0) (test .if2 .taken))
+    (told .expression2 .ensures)
+
+sub-expression-3 : tie.Need-sub-expression-3
+sub-expression-3 c = search needs
+
+part-expression-start-3 : tie.Need-part-expression-start-3
+part-expression-start-3 c = search needs
+
+part-expression-end-3 : tie.Need-part-expression-end-3
+part-expression-end-3 c = search needs
+
+expression-requires-3 : tie.Need-expression-requires-3
+expression-requires-3 c κs = search needs
+
+same-length-3 : tie.Need-same-length-3
+same-length-3 c = search needs
+
+returns-3 : tie.Need-returns-3
+returns-3 c = λ q e.
+    let told = c .before .before in
+    let test = told .before .before .before in
+    let found = test .before in
+    let less = found .before in
+    let start = less .before .before .before in
+    rw (spelt-body q (start .args .sheet .now) e (start .args .f) (less .if1 .left) (found .find .result) (found .find .ensures .0) (test .if2 .left))
+    (told .expression3 .ensures)
+
+pub held-spec : {M : Type 1} → statement M
+held-spec =
+    tie.close
+    (tie.spec
+    sub-expression
+    part-expression-start
+    part-expression-end
+    expression-requires
+    same-length
+    returns
+    find-requires
+    sub-expression-2
+    part-expression-start-2
+    part-expression-end-2
+    expression-requires-2
+    same-length-2
+    returns-2
+    sub-expression-3
+    part-expression-start-3
+    part-expression-end-3
+    expression-requires-3
+    same-length-3
+    returns-3)

@@ -1,0 +1,23 @@
+-- `expression` meets its contract: the spelling from the first byte on, with as many turns as there are bytes.
+use native.Mathlib.Omega.{arith}
+use lib.ListN.{length}
+use borrow.Author.Needs.{needs}
+use Rattle.script_terms.specs.Spelt.{spelt}
+use Rattle.script_terms.proofs.expression.Statement.{statement}
+use Rattle.script_terms.proofs.expression.Tie as tie
+
+spell-requires : tie.Need-spell-requires
+spell-requires c κs = search needs
+
+same-length : tie.Need-same-length
+same-length c = search needs
+
+returns : tie.Need-returns
+unfolding spelt
+returns c =
+    let told = c .before .before in
+    let a = told .before .before .before .before .args in
+    told .spell .ensures (length (a .pattern .now)) (omega arith) .puts
+
+pub expression-spec : {M : Type 1} → statement M
+expression-spec = tie.close (tie.spec spell-requires same-length returns)

@@ -1,0 +1,55 @@
+-- The expression at an offset of a pattern's bytes, operator first as they stand, and the offset behind it: for all bytes. Of the bytes of a good
+-- pattern it is the pattern's expression (`Patterns.spelt-judged` of the proofs).
+use Prim.Native.Nat.{ℕ, zero, suc, _+_}
+use mathlib.Core.Path.{_≡_}
+use mathlib.Core.Bool.{cond}
+use mathlib.Core.List.{List, []}
+use lib.Dec.{leb, ltb, eqb}
+use lib.ListN.{length, getD}
+use Rattle.paper.specs.Numbers.{empty-code, range-code, then-code, or-code, many-code}
+use Rattle.paper_script.specs.Bytes.{bytes}
+use Rattle.paper_script.specs.Script.{one-character, choice, two, any-number}
+use Rattle.base_put.specs.Counted.{Counted}
+use Rattle.script_terms.specs.declared.Spelt.{Spelt}
+
+pub record Spelling : Type 0 where
+  pub put : List ℕ
+  pub next : ℕ
+
+abbrev pub spelling : List ℕ → ℕ → Spelling
+spelling put next = record { put = put; next = next }
+
+-- `65 lo hi`; nothing where the bytes run out
+abbrev pub range-spelling : List ℕ → ℕ → Spelling
+range-spelling s i =
+    cond (ltb (length s) (i + 3)) (spelling [] (length s)) (spelling (choice (getD s (i + 1) 0) (getD s (i + 2) 0)) (i + 3))
+
+-- what is no operator
+abbrev pub single-spelling : List ℕ → ℕ → Spelling
+single-spelling s i =
+    cond (eqb (getD s i 0) range-code) (range-spelling s i)
+    (cond (eqb (getD s i 0) empty-code) (spelling (bytes "(str.to_re \"\")") (i + 1)) (spelling (one-character (getD s i 0)) (i + 1)))
+
+abbrev pub spelt-at : ℕ → List ℕ → ℕ → Spelling
+spelt-at zero s i = spelling [] i
+spelt-at (suc n) s i =
+    let a = spelt-at n s (i + 1) in
+    let b = spelt-at n s (a .next) in
+    cond (leb (length s) i) (spelling [] i)
+    (cond (eqb (getD s i 0) many-code) (spelling (any-number (a .put)) (a .next))
+    (cond (eqb (getD s i 0) then-code) (spelling (two (bytes "(re.++ ") (a .put) (b .put)) (b .next))
+    (cond (eqb (getD s i 0) or-code) (spelling (two (bytes "(re.union ") (a .put) (b .put)) (b .next))
+    (single-spelling s i))))
+
+-- from the first byte on
+unfoldable pub spelt : List ℕ → List ℕ
+spelt s = spelt-at (length s) s 0 .put
+
+-- the operator of two expressions, by its code
+abbrev pub opened : ℕ → List ℕ
+opened b = cond (eqb b then-code) (bytes "(re.++ ") (bytes "(re.union ")
+
+-- what was put into d from `at` on, and is told, is this spelling
+pub record Spells (d e : List ℕ) (at : ℕ) (r : Spelt) (x : Spelling) : Type 0 where
+  pub puts : Counted d e at (r .end) (x .put)
+  pub goes-on : r .next ≡ x .next

@@ -1,0 +1,80 @@
+// The fronts of a situation: what is worked out once of a token in front, and which characters both fronts take.
+use base_codes::FIELD_CODE;
+use base_codes::FIELDS;
+use base_codes::NO_TOKEN;
+use base_codes::field_of;
+use base_places::CHARACTERS;
+use base_places::PLACES;
+ghost use mathlib.Core.Bool.{_&&_};
+ghost use mathlib.Core.List.{[]};
+ghost use mathlib.Core.Path.{_≡_};
+ghost use lib.ListN.{getD};
+ghost use Rattle.base_places.specs.Masks.{followers-of};
+ghost use Rattle.base_codes.specs.Inner.{field-of};
+ghost use Rattle.search_fronts.specs.Fronts.{row-at, front-from, takes-next};
+
+// A token in front with what is worked out once of it for all characters: the places that may follow those of its field's set, and what
+// each character lets through.
+pub struct Front {
+    pub token: u8,
+    pub followers: u64,
+    pub row: [u64; CHARACTERS],
+}
+
+// The places that may follow those of the set of the field with the token b.
+fn gather(sets: [u64; FIELDS], b: u8, follow: &[[u64; PLACES]; FIELDS]) -> u64
+    ensures { λ r. ⌜ r ≡ followers-of (getD (now (follow .entry)) (field-of b) []) (getD sets (field-of b) 0) ⌝ }
+{
+    let f = field_of(b);
+    if f < FIELDS {
+        let masks = follow[f];
+        return base_places::followers(masks, sets[f]);
+    }
+    0
+}
+
+// What each character lets through in the field with the token b.
+fn row(b: u8, taking: &[[u64; CHARACTERS]; FIELDS]) -> [u64; CHARACTERS]
+    ensures { λ r. ⌜ r ≡ row-at (now (taking .entry)) b ⌝ }
+{
+    let f = field_of(b);
+    if f < FIELDS { taking[f] } else { taking[0] }
+}
+
+// What is worked out once of a token in front.
+pub fn front_with(
+    token: u8,
+    sets: [u64; FIELDS],
+    follow: &[[u64; PLACES]; FIELDS],
+    taking: &[[u64; CHARACTERS]; FIELDS],
+) -> Front
+    ensures { λ r. ⌜ r ≡ front-from (now (follow .entry)) (now (taking .entry)) sets token ⌝ }
+{
+    let followers = gather(sets, token, follow);
+    let row = row(token, taking);
+    Front {
+        token,
+        followers,
+        row,
+    }
+}
+
+// "a character in front must be c, and each front field's set after c must not be empty"
+fn takes(b: u8, next: u64, c: u8) -> bool
+    ensures { λ r. ⌜ r ≡ takes-next b next c ⌝ }
+{
+    if b < FIELD_CODE {
+        b == c
+    } else if b == NO_TOKEN {
+        b == c
+    } else {
+        next != 0
+    }
+}
+
+// Do both tokens in front take c, where the sets of their fields after c are m and n?
+pub fn both_take(a: u8, m: u64, b: u8, n: u64, c: u8) -> bool
+    ensures { λ r. ⌜ r ≡ (takes-next a m c && takes-next b n c) ⌝ }
+{
+    takes(a, m, c) && takes(b, n, c)
+}

@@ -1,0 +1,55 @@
+-- What is searched is the question with its hidden fields:
+--   codes-are-tokens : the codes of a side whose tokens have place sets are tokens
+--   side-back     : a good side is read back from its codes
+--   side-behind   : a good side with a field behind it is read back from the codes of the side, with the field's code put behind them
+--   fields-behind : what is worked out of a question's own fields, and behind it twice what is worked out of any spaces, is what is worked out of
+--                   the fields of the question with its hidden fields
+-- The first follows by induction on the side: the code of a token that has a place set is no 255. The second is computed.
+use Prim.Native.Nat.{ℕ, _+_, _<_}
+use native.Mathlib.Omega.{arith}
+use mathlib.Core.Path.{_≡_, refl, sym, ap, _∙_}
+use mathlib.Core.Bool.{true}
+use mathlib.Core.List.{List, [], _∷_, _++_, map, List·Memᴰ, List·Memᴰ·head, List·Memᴰ·tail}
+use lib.ListN.{length, take, length-append, length-map}
+use lib.Seq.{take-all}
+use Rattle.paper.specs.Lists.{all, upto}
+use Rattle.paper.specs.Numbers.{fields, set-fields, longest-side}
+use Rattle.paper.specs.Equation.{Token, chr, fld, Side}
+use Rattle.paper.specs.Question.{Question, held-by, any-spaces, hidden}
+use Rattle.paper.proofs.base.Tests.{neq-eqb, false-not, both-true}
+use Rattle.paper.proofs.base.Lists.{map-append}
+use Rattle.paper.proofs.sheets.Asked.{GoodSide}
+use Rattle.paper.proofs.sheets.Hidden.{HasSet, in-range-has-set, has-sets-with}
+use Rattle.base_places.specs.WorkedOut.{worked-out}
+use Rattle.base_codes.specs.Inner.{field-code, no-token, is-token, token-code, side-code, tokens, padded}
+use Rattle.base_codes.proofs.Tokens.{tokens-padded}
+use Rattle.search_hidden.specs.Behind.{side-with}
+
+code-is-token : (t : Token) → HasSet t → is-token (token-code t) ≡ true
+code-is-token (chr c) h = false-not (neq-eqb c no-token (λ e. omega arith))
+code-is-token (fld f) h = false-not (neq-eqb (token-code (fld f)) no-token (λ e. omega arith))
+
+pub codes-are-tokens : (side : Side) → ((t : Token) → List·Memᴰ t side → HasSet t) → all is-token (side-code side) ≡ true
+codes-are-tokens [] h = refl
+codes-are-tokens (t ∷ side) h =
+    both-true (code-is-token t (h t (List·Memᴰ·head refl))) (codes-are-tokens side (λ u d. h u (List·Memᴰ·tail d)))
+
+pub side-back : (side : Side) → GoodSide side → tokens (padded (side-code side)) ≡ side-code side
+side-back side g = tokens-padded (side-code side) (codes-are-tokens side (λ t d. in-range-has-set t (g .tokens t d)))
+
+module _ (side : Side) (g : GoodSide side) (f : ℕ) (h : f < set-fields) where
+  with-code : side-code side ++ ((field-code + f) ∷ []) ≡ side-code (side ++ (fld f ∷ []))
+  with-code = sym (map-append token-code side (fld f ∷ []))
+
+  pub side-behind : tokens (side-with (field-code + f) (padded (side-code side))) ≡ side-code (side ++ (fld f ∷ []))
+  side-behind =
+      let long : length (side-code side ++ ((field-code + f) ∷ [])) < longest-side =
+      omega (arith, length-append (side-code side) ((field-code + f) ∷ []), length-map side token-code, g .short) in
+      ap (λ (l : List ℕ). tokens (padded (take longest-side (l ++ ((field-code + f) ∷ []))))) (side-back side g)
+      ∙ ap (λ (l : List ℕ). tokens (padded l)) (take-all longest-side (side-code side ++ ((field-code + f) ∷ [])) (omega arith) ∙ with-code)
+      ∙ tokens-padded (side-code (side ++ (fld f ∷ []))) (codes-are-tokens (side ++ (fld f ∷ [])) (has-sets-with side f g h))
+
+pub fields-behind : (q : Question)
+    → map (λ (f : ℕ). worked-out (held-by q f)) (upto fields) ++ (worked-out any-spaces ∷ worked-out any-spaces ∷ [])
+    ≡ map (λ (f : ℕ). worked-out (held-by (hidden q) f)) (upto set-fields)
+fields-behind q = refl

@@ -1,0 +1,64 @@
+-- `puts_before` tests the step, then the two fronts. Follows from the tests and from the laws of fronts.
+use Prim.Native.Nat.{_+_}
+use borrow.Author.Tests.{lt-ltb, le-ltb, eq-eqb, ne-eqb}
+use Rattle.paper.specs.Numbers.{characters}
+use Rattle.base_codes.specs.Inner.{field-code, front}
+use Rattle.search_children.specs.Children.{given-coded}
+use Rattle.search_run.specs.Slots.{slot-at}
+use Rattle.search_run.proofs.slots.Seen.{left-front-held, right-front-held}
+use borrow.Author.Needs.{needs}
+use Rattle.search_run.proofs.records.puts_before.Statement.{statement}
+use Rattle.search_run.proofs.records.puts_before.Tie as tie
+
+returns : tie.Need-returns
+unfolding given-coded
+returns c w = rw (le-ltb (c .before .args .step) characters (c .if1 .taken))
+
+mul-at : tie.Need-mul-at
+mul-at c = search needs
+
+shared-slice-read-if2 : tie.Need-shared-slice-read-if2
+shared-slice-read-if2 c = search needs
+
+add-if2 : tie.Need-add-if2
+add-if2 c = search needs
+
+returns-2 : tie.Need-returns-2
+unfolding given-coded
+returns-2 c w =
+    let at = c .before .before in
+    let args = at .before .args in
+    let left = left-front-held (w .holds) (args .i) (w .entered) in
+    rw (lt-ltb (args .step) characters (at .if1 .left), ← left, eq-eqb _ (field-code + args .f) (c .if2 .taken))
+
+add-result : tie.Need-add-result
+add-result c = search needs
+
+shared-slice-read-result : tie.Need-shared-slice-read-result
+shared-slice-read-result c = search needs
+
+add-result-2 : tie.Need-add-result-2
+add-result-2 c = search needs
+
+returns-3 : tie.Need-returns-3
+unfolding given-coded
+returns-3 c w =
+    let at = c .before .before .before in
+    let args = at .before .args in
+    let left = left-front-held (w .holds) (args .i) (w .entered) in
+    let right = right-front-held (w .holds) (args .i) (w .entered) in
+    rw (lt-ltb (args .step) characters (at .if1 .left), ← left, ne-eqb _ (field-code + args .f) (c .before .if2 .left), ← right)
+
+pub puts-before-spec : {M : Type 1} → statement M
+puts-before-spec =
+    tie.close
+    (tie.spec
+    returns
+    mul-at
+    shared-slice-read-if2
+    add-if2
+    returns-2
+    add-result
+    shared-slice-read-result
+    add-result-2
+    returns-3)

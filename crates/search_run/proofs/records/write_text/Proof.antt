@@ -1,0 +1,119 @@
+-- `write_text` stores the characters that the steps of the way put before the field, the last one first. The loop's invariant: the text
+-- at the present slot and what is stored already make the text; its length is the place. The slot's number falls.
+use Prim.Native.Nat.{_+_, _-_, _≤_, _<_}
+use native.Mathlib.Omega.{arith}
+use mathlib.Core.Path.{_≡_, _∙_}
+use mathlib.Core.List.{_++_, append-nil}
+use lib.ListN.{length, drop, length-set}
+use lib.Seq.{drop-length}
+use borrow.Author.Needs.{needs}
+use Rattle.search_run.specs.Records.{Way-to, Steps-back, text-at}
+use Rattle.search_run.proofs.records.Text.{way-back, length-put, text-kept, stored-before}
+use Rattle.search_run.proofs.records.write_text.Statement.{statement}
+use Rattle.search_run.proofs.records.write_text.Tie as tie
+
+abbrev Inv-loop : tie.InvT-loop
+Inv-loop out₀ work last f at₀ i₀ out at i =
+    (i ≤ last)
+    × (length out ≡ length out₀)
+    × (at ≤ length out)
+    × ((w : Way-to work last) →
+    (at ≡ length (text-at (w .slots) i f)) × (text-at (w .slots) i f ++ drop at out ≡ text-at (w .slots) last f))
+
+abbrev μ-loop : tie.MeasureT-loop
+μ-loop out₀ work last f at₀ i₀ out at i = i
+
+loop-holds : tie.Need-loop-holds Inv-loop μ-loop
+loop-holds c = (
+  search needs,
+  search needs,
+  search needs,
+  λ w. (
+    c .before .before .pre .1 .1 w,
+    rw (drop-length (c .before .before .args .out .now)) (append-nil (text-at (w .slots) (c .before .before .args .last) (c .before .before .args .f))),
+  ),
+)
+
+step-back-requires : tie.Need-step-back-requires Inv-loop μ-loop
+step-back-requires c κs =
+    let at = c .before in
+    (way-back (at .loop .i) (at .loop .inv .0) (at .before .before .before .pre .0), (c .loop-test .taken, at .before .before .before .pre .1 .0))
+
+-- the step back, of each way to the last slot
+stepped : (c : tie.After-step-back Inv-loop μ-loop)
+    (w : Way-to (c .before .before .before .before .before .args .work .now) (c .before .before .before .before .before .args .last))
+    → Steps-back (w .slots) (c .before .before .loop .i) (c .before .before .before .before .before .args .f) (c .step-back .result)
+stepped c w = c .step-back .ensures (way-back (c .before .before .loop .i) (c .before .before .loop .inv .0) w)
+
+-- a character that was put has a place
+place : (c : tie.Then1 Inv-loop μ-loop) → 0 < c .before .before .before .loop .at
+place c =
+    let at = c .before .before .before in
+    let w = at .before .before .before .pre .0 in
+    omega (arith, at .loop .inv .3 w .0, length-put (stepped (c .before) w) (c .if1 .taken))
+
+sub-at : tie.Need-sub-at Inv-loop μ-loop
+sub-at c = omega (arith, place c)
+
+slice-write-out : tie.Need-slice-write-out Inv-loop μ-loop
+slice-write-out c = omega (arith, place c)
+
+loop-less : tie.Need-loop-less Inv-loop μ-loop
+loop-less c = stepped (c .before) (c .before .before .before .before .before .before .pre .0) .falls
+
+loop-again : tie.Need-loop-again Inv-loop μ-loop
+loop-again c =
+    let at = c .before .before .before in
+    let k = place c in
+    let p = stepped (c .before) (at .before .before .before .pre .0) .falls in
+    let n : at .loop .at - 1 + 1 ≡ at .loop .at = omega arith in (
+      omega (arith, at .loop .inv .0),
+      simp length-set (at .loop .inv .1),
+      simp length-set (omega (arith, at .loop .inv .2)),
+      λ w. (
+        omega (arith, at .loop .inv .3 w .0, length-put (stepped (c .before) w) (c .if1 .taken)),
+        stored-before (stepped (c .before) w) (at .loop .out) (at .loop .at - 1) (c .if1 .taken) (omega (arith, at .loop .inv .2))
+            ∙ rw n (at .loop .inv .3 w .1),
+      ),
+    )
+
+loop-less-2 : tie.Need-loop-less-2 Inv-loop μ-loop
+loop-less-2 c = stepped (c .before) (c .before .before .before .before .before .before .pre .0) .falls
+
+loop-again-2 : tie.Need-loop-again-2 Inv-loop μ-loop
+loop-again-2 c =
+    let at = c .before .before .before in
+    let p = stepped (c .before) (at .before .before .before .pre .0) .falls in (
+      omega (arith, at .loop .inv .0),
+      at .loop .inv .1,
+      at .loop .inv .2,
+      λ w.
+          rw (← text-kept (stepped (c .before) w) (c .if1 .left)) (at .loop .inv .3 w),
+    )
+
+same-length : tie.Need-same-length Inv-loop μ-loop
+same-length c = search needs
+
+returns : tie.Need-returns Inv-loop μ-loop
+returns c w =
+    let at = c .before in
+    let z : at .loop .i ≡ 0 = omega arith in
+    let e : at .loop .at ≡ 0 = rw z at (at .loop .inv .3 w .0) in
+    rw (z, e) at (at .loop .inv .3 w .1)
+
+pub write-text-spec : {M : Type 1} → statement M
+write-text-spec =
+    tie.close
+    (tie.spec
+    Inv-loop
+    μ-loop
+    loop-holds
+    step-back-requires
+    sub-at
+    slice-write-out
+    loop-less
+    loop-again
+    loop-less-2
+    loop-again-2
+    same-length
+    returns)

@@ -1,0 +1,53 @@
+// The tables of the fields in the form in which the search holds them: for each field its masks, by its number.
+use base_codes::FIELDS;
+use base_places::CHARACTERS;
+use base_places::PLACES;
+use base_places::PlaceTables;
+ghost use mathlib.Core.Path.{_≡_};
+ghost use mathlib.Core.List.{map};
+ghost use Rattle.search_tables.specs.Tables.{follow-of, taking-of, last-of};
+
+// "For every field and every place, the set of places that may follow".
+pub fn follow_sets(fields: [PlaceTables; FIELDS]) -> [[u64; PLACES]; FIELDS]
+    ensures { λ r. ⌜ r ≡ map follow-of fields ⌝ }
+{
+    let mut sets = [[0; PLACES]; FIELDS];
+    let mut f = 0;
+    while f < FIELDS {
+        let tables = fields[f];
+        let follow = tables.follow;
+        sets[f] = follow;
+        f += 1;
+    }
+    sets
+}
+
+// For every field and every character the set of places that take it.
+pub fn taking_sets(fields: [PlaceTables; FIELDS]) -> [[u64; CHARACTERS]; FIELDS]
+    ensures { λ r. ⌜ r ≡ map taking-of fields ⌝ }
+{
+    let mut sets = [[0; CHARACTERS]; FIELDS];
+    let mut f = 0;
+    while f < FIELDS {
+        let tables = fields[f];
+        let taking = tables.taking;
+        sets[f] = taking;
+        f += 1;
+    }
+    sets
+}
+
+// For every field the set of places that may be the last one of a text.
+pub fn last_sets(fields: [PlaceTables; FIELDS]) -> [u64; FIELDS]
+    ensures { λ r. ⌜ r ≡ map last-of fields ⌝ }
+{
+    let mut sets = [0; FIELDS];
+    let mut f = 0;
+    while f < FIELDS {
+        let tables = fields[f];
+        let last = tables.last;
+        sets[f] = last;
+        f += 1;
+    }
+    sets
+}

@@ -1,0 +1,230 @@
+// `test_sheets`: tries the library on many sheets. Standard input is a sequence of parts: a mark, the number of the cases, and so many cases. The
+// mark says what is done with each case and what is printed of it (part.rt); a case is a sheet and the lengths of its buffers (case.rt). The
+// program ends where the input does, and also before a part or a case that is cut short, has another mark or asks for more than is lent here.
+//
+// The stored parts are these seven; tools/part frames a part. The second program prints the same lines, but for those of the scripts, which it
+// reads. tools/compare tries fresh parts.
+//
+// 1. `BY`: the known sheets of document 01
+//
+// The buffers are lent full of bytes that are not zero. x is field 0, y field 1; the room is 356 situations and the answer buffer 4,096 bytes
+// where nothing else is said. `second --many` prints the same.
+//
+//  1  both sides empty
+//  2  `A` and `B`
+//  3  x and `A`, open
+//  4  xA and Bx, open
+//  5  the same, x with pattern 68 65 0 42
+//  6  xx and `AA`, open
+//  7  xx and `A`, open
+//  8  `AB`x`B` and x`B`y, open
+//  9  x`A` and `B`yx, open
+// 10  24 times x and `AA`, open, room 4
+// 11  empty sheet
+// 12  both sides empty and one more byte
+// 13  xA and Bx, open, no room: 183 bytes of work
+// 14  sheet S
+// 15  sheet S, an answer buffer of 11 bytes
+// 16  sheet S, room 12
+// 17  `LT4` and `LT4` with a space
+// 18  24 times x and `AA`, open, room 2
+// 19  `KP`x and `KPS`y, x one of a keypad maker's 40 finishes, those with the same first letter together: 53 leaves
+// 20  the same, the 40 finishes one by one: 80 leaves
+// 21  `KP`x and `KPGD`, x one of the 40 finishes, as in 22 and 23
+// 22  `KP`x and `KPGS`, which is none of them
+// 23  `KP`x and `KP`y, both of them
+//
+// 2. `BY`: sheets at each fault and at the ends of what is allowed
+//
+// Each is lent 65,520 bytes of work and 4,096 of answer. `second --many` prints the same.
+//
+//   1 to  28  11: a record that ends behind each of its bytes, the first record and a later one
+//  29 to  44  12: an unknown mark, a mark that is not allowed there, bytes behind `RI`
+//  45 to  53  13: a field above 7, a field that does not rise, and either with a further fault behind it
+//  54 to  62  14: a pattern of 0, 193 and 255 bytes, a side of 25 and 255 tokens
+//  63 to  80  15: a byte that is no code, an operator without its parts, lo above hi, hi 43, a byte left over
+//  81 to  85  16: 64 and 96 leaves, in the first pattern and in a later one, of a field that stands and of one that does not
+//  86 to  94  17: 43, 63, 72 and 255 in either side
+//  95 to 104  good sheets: both sides empty, 24 tokens a side, a pattern for each field, one of 63 leaves, one of 192 bytes, 191 deep
+// 105 to 166  x with a pattern and y open: each operator under the others, ranges, 63 leaves, and patterns with a fault
+// 167 to 198  the place of a fault: the rows of docs/RULES.md, section 5, that do not stand above
+// 199 to 214  15 in a later pattern, at the sheet's end and in 192 bytes: lo above 42, with hi and without, hi below lo, a byte left over
+// 215 to 225  16: as many ranges as fit among 64 leaves, the 64th a range, under stars, behind 64, the last of 192 bytes
+// 226 to 237  15 where there are 64 leaves: behind the 64th, at it, before it
+// 238 to 241  17: the last of 24 tokens, the first of several that are none
+// 242 to 246  a choice of 40 characters, and one of 23 behind it, which makes 63 leaves
+// 247 to 253  32 leaves, 97 bytes, 63 leaves in 192 bytes; 193 bytes in a later pattern, with 64 leaves, and without a code; the 192nd missing
+// 254 to 258  the longest sheet, 1,622 bytes; a byte less, a byte more, its last pattern a byte longer, with a leaf more
+//
+// 3. `LI`: what the program `clash` prints
+//
+// What the second program's `sheets --printed` makes. `second --many --lines` prints the same.
+//
+//  1        the sheet that `clash` is run on: 356 situations, texts of 294 characters, the last one empty
+//  2        sheet S
+//  3        a text of all 43 characters
+//  4, 5     texts of 255 and of 256 characters
+//  6        eight fields, every second text empty
+//  7, 8     no field; and `LT4` and `LT4` with a space
+//  9        texts that end in spaces, one of them of spaces alone
+// 10        no clash
+// 11, 12    no room: after 356 situations, and for the first
+// 13        a side above 48 tokens
+// 14, 15    an answer buffer of 11 bytes, too short, and one of 12
+// 16, 17    11: an empty sheet, and eight patterns alone
+// 18, 19    12: a byte behind `RI`, and a wrong mark behind seven patterns
+// 20 to 24  13, 14, 15, 16, 17, some places above 255
+//
+// 4. `BY`: sheets by chance
+//
+// What the second program's `sheets 1 20000` makes. `second --many` prints the same.
+//
+// 5. `DE`: sheets to decide
+//
+// What the second program's `sheets --decide 7 1500` makes: pairs of rules and small sheets, in rooms that are often just what the deciding
+// search needs, or one less; every search decides some, and some are not decided, refused, or have an answer buffer that is too short. `second
+// --decide` prints the same.
+//
+// 6. `SC`: sheets written out as scripts
+//
+// What the second program's `sheets 4 60` makes; 26 of its sheets are refused. `second --scripts` reads what is printed.
+//
+// 7. `SP`: sheets and rules carried over
+//
+// What the second program's `sheets --spelt 6 1500` makes. `second --spelt` prints the same.
+mod bytes;
+mod case;
+mod part;
+mod script;
+mod spelt;
+
+use base_answers::Numbers;
+use part::Part;
+use part::Shown;
+use print_clash::FIRST_LINE;
+use print_clash::Filled;
+use print_clash::PRINTED;
+use print_out::WORK;
+use print_out::print;
+use print_out::print_number;
+
+// "65,520 bytes of work" (356 situations) "and 4,096 of answer"
+const ANSWER: usize = 4096;
+
+fn main() {
+    let mut sheet = [0u8; case::SHEET];
+    let mut work = [0u8; WORK];
+    let mut answer = [0u8; ANSWER];
+    answer_parts(&mut sheet, &mut work, &mut answer);
+}
+
+// A proved loop has to end, and nothing says that the input does: the turns are counted down from a number that no run uses up.
+fn answer_parts(sheet: &mut [u8], work: &mut [u8], answer: &mut [u8]) {
+    let mut turns = u64::MAX;
+    while turns > 0 && answer_part(sheet, work, answer) {
+        turns -= 1;
+    }
+}
+
+// Whether there was a part, with all its cases.
+fn answer_part(sheet: &mut [u8], work: &mut [u8], answer: &mut [u8]) -> bool {
+    let part = part::next();
+    match part {
+        Part::Cases { shown, number } => answer_each(sheet, work, answer, shown, number) == 0,
+        Part::None => false,
+    }
+}
+
+// How many of so many cases were not there.
+fn answer_each(
+    sheet: &mut [u8],
+    work: &mut [u8],
+    answer: &mut [u8],
+    shown: Shown,
+    number: usize,
+) -> usize {
+    let mut left = number;
+    while left > 0 && answer_next(sheet, work, answer, shown) {
+        left -= 1;
+    }
+    left
+}
+
+// Whether there was a case.
+fn answer_next(sheet: &mut [u8], work: &mut [u8], answer: &mut [u8], shown: Shown) -> bool {
+    let case = case::next(sheet, work, answer);
+    let sheet_len = case.sheet;
+    let work_len = case.work;
+    let answer_len = case.answer;
+    if case.there {
+        answer_case(
+            &sheet[0..sheet_len],
+            &mut work[0..work_len],
+            &mut answer[0..answer_len],
+            shown,
+        );
+    }
+    case.there
+}
+
+fn answer_case(sheet: &[u8], work: &mut [u8], answer: &mut [u8], shown: Shown) {
+    match shown {
+        Shown::Bytes => show_bytes(sheet, work, answer),
+        Shown::Decided => show_decided(sheet, work, answer),
+        Shown::Lines => show_lines(sheet, work, answer),
+        Shown::Scripts => script::show_script(sheet),
+        Shown::Spelt => spelt::show_spelt(sheet, answer),
+    }
+}
+
+fn show_bytes(sheet: &[u8], work: &mut [u8], answer: &mut [u8]) {
+    let told = base_answers::in_numbers(search_clash::clash(sheet, work, answer));
+    print_answer(told);
+    bytes::print_bytes(work, answer, told.written);
+    print(b"\n");
+}
+
+fn show_decided(sheet: &[u8], work: &mut [u8], answer: &mut [u8]) {
+    let made = decide_sheet::decide(sheet, work, answer);
+    let given = made.answer;
+    let told = base_answers::in_numbers(given);
+    print_answer(told);
+    bytes::print_bytes(work, answer, told.written);
+    print(b", search ");
+    print_number(made.search as usize);
+    print(b"\n");
+}
+
+// The lines, with just the room that the longest need.
+fn show_lines(sheet: &[u8], work: &mut [u8], answer: &mut [u8]) {
+    let mut out = [0u8; PRINTED];
+    let room = FIRST_LINE + answer.len();
+    if room <= PRINTED {
+        print_lines(sheet, work, answer, &mut out[0..room]);
+    }
+}
+
+fn print_lines(sheet: &[u8], work: &mut [u8], answer: &mut [u8], out: &mut [u8]) {
+    let made = print_clash::lines(sheet, work, answer, out);
+    match made {
+        Filled::Bytes(n) => {
+            if n <= out.len() {
+                print(&out[0..n]);
+            }
+        }
+        Filled::NoRoom => {
+            print(b"no room\n");
+        }
+    }
+}
+
+// Number, count, place and written length.
+fn print_answer(told: Numbers) {
+    print_number(told.number);
+    print(b" ");
+    print_number(told.count);
+    print(b" ");
+    print_number(told.place);
+    print(b" ");
+    print_number(told.written);
+}
