@@ -2,7 +2,7 @@
 ghost use mathlib.Core.Path.{_≡_};
 ghost use Rattle.paper.specs.Sheet.{fault-number};
 ghost use Rattle.base_answers.specs.Faults.{fault-of};
-ghost use Rattle.base_answers.specs.Told.{as-numbers, answer-of};
+ghost use Rattle.base_answers.specs.AnswerNumbers.{how-number, number-in-pair, how-written, as-numbers};
 
 // "The first fault met decides."
 pub enum Fault {
@@ -37,52 +37,90 @@ pub enum Found {
 }
 
 // How a search ends.
-pub enum Ended {
-    // the answer buffer holds a text for each field standing in the sides
-    Clash { count: usize, written: usize },
-    // no label can be read by both rules
-    NoClash { count: usize },
-    // no room for a situation
-    NoRoom { count: usize },
-    // a side above 48 tokens
-    SideTooLong { count: usize },
-    // a clash, but the answer buffer is too short for the texts
-    AnswerTooShort { count: usize },
-    // a clash, but a text is above 65,535 characters
-    TextTooLong { count: usize },
+pub enum How {
+    // 0: the answer buffer holds a text for each field standing in the sides
+    Clash { written: usize },
+    // 1: no label can be read by both rules
+    NoClash,
+    // 18: no room for a situation
+    NoRoom,
+    // 19: a side above 48 tokens
+    SideTooLong,
+    // 20: a clash, but the answer buffer is too short for the texts
+    AnswerTooShort,
+    // 21: a clash, but a text is above 65,535 characters
+    TextTooLong,
+}
+
+// How it ended, and the situations entered.
+pub struct Ended {
+    pub how: How,
+    pub count: usize,
 }
 
 // The answer to a sheet. specs/Told.antt gives each its number, count, place and written length.
 pub enum Answer {
-    // 0: the answer buffer holds a text for each field standing in the sides
-    Clash { count: usize, written: usize },
-    // 1: no label can be read by both rules
-    NoClash { count: usize },
+    Searched { ended: Ended },
     // 11 to 17: the sheet is at fault
     Refused { fault: Fault, place: usize },
-    // 18: no room for a situation
-    NoRoom { count: usize },
-    // 19: a side above 48 tokens
-    SideTooLong { count: usize },
-    // 20: a clash, but the answer buffer is too short for the texts
-    AnswerTooShort { count: usize },
-    // 21: a clash, but a text is above 65,535 characters
-    TextTooLong { count: usize },
 }
 
-// The answer by how the search ended.
-pub fn answer_of(ended: Ended) -> Answer
-    ensures { λ r. ⌜ r ≡ answer-of ended ⌝ }
+// From this number on a clash was found, and not all that tells of it is written.
+const ANSWER_TOO_SHORT: usize = 20;
+
+// The number of a search's end.
+pub fn how_number(how: How) -> usize
+    ensures { λ r. ⌜ r ≡ how-number how ⌝ }
 {
-    match ended {
-        Ended::Clash { count, written } => Answer::Clash { count, written },
-        Ended::NoClash { count } => Answer::NoClash { count },
-        Ended::NoRoom { count } => Answer::NoRoom { count },
-        Ended::SideTooLong { count } => Answer::SideTooLong { count },
-        Ended::AnswerTooShort { count } => Answer::AnswerTooShort { count },
-        Ended::TextTooLong { count } => Answer::TextTooLong { count },
+    match how {
+        How::Clash { written: _ } => 0,
+        How::NoClash => 1,
+        How::NoRoom => 18,
+        How::SideTooLong => 19,
+        How::AnswerTooShort => ANSWER_TOO_SHORT,
+        How::TextTooLong => 21,
     }
 }
+
+// Its number in a pair: "a pair's texts are not written, so it can't give 20".
+pub fn pair_number(how: How) -> usize
+    ensures { λ r. ⌜ r ≡ number-in-pair how ⌝ }
+{
+    let number = how_number(how);
+    if number < ANSWER_TOO_SHORT { number } else { 0 }
+}
+
+// The answer bytes written.
+fn how_written(how: How) -> usize
+    ensures { λ r. ⌜ r ≡ how-written how ⌝ }
+{
+    match how {
+        How::Clash { written } => written,
+        How::NoClash => 0,
+        How::NoRoom => 0,
+        How::SideTooLong => 0,
+        How::AnswerTooShort => 0,
+        How::TextTooLong => 0,
+    }
+}
+
+// The numbers of what the requests refuse.
+// K1: "30 for a pair not answered 1"
+pub const NOT_APART: usize = 30;
+// "31 for a field above 3"
+pub const FOREIGN_FIELD: usize = 31;
+// "32 if 32 rules stand or the record's bytes don't fit"
+pub const CATALOGUE_FULL: usize = 32;
+// "33 if no rule has that number"
+pub const NO_RULE: usize = 33;
+// "34 for a buffer not of this form"
+pub const NO_CATALOGUE: usize = 34;
+// the list of pairs checked again does not fit
+pub const LIST_TOO_SHORT: usize = 35;
+// K4: "40 if the output buffer is too short"
+pub const SCRIPT_TOO_SHORT: usize = 40;
+// K8: "41 if the buffer is too short"
+pub const SHEET_TOO_SHORT: usize = 41;
 
 // An answer in document 01's numbers.
 pub struct Numbers {
@@ -107,12 +145,10 @@ pub fn in_numbers(a: Answer) -> Numbers
     ensures { λ r. ⌜ r ≡ as-numbers a ⌝ }
 {
     match a {
-        Answer::Clash { count, written } => numbers_of(0, count, 0, written),
-        Answer::NoClash { count } => numbers_of(1, count, 0, 0),
+        Answer::Searched { ended } => {
+            let how = ended.how;
+            numbers_of(how_number(how), ended.count, 0, how_written(how))
+        }
         Answer::Refused { fault, place } => numbers_of(number(fault) as usize, 0, place, 0),
-        Answer::NoRoom { count } => numbers_of(18, count, 0, 0),
-        Answer::SideTooLong { count } => numbers_of(19, count, 0, 0),
-        Answer::AnswerTooShort { count } => numbers_of(20, count, 0, 0),
-        Answer::TextTooLong { count } => numbers_of(21, count, 0, 0),
     }
 }

@@ -13,7 +13,7 @@ use Rattle.paper.specs.Lists.{all}
 use Rattle.paper.specs.Numbers.{longest-side}
 use Rattle.paper.proofs.base.Lists.{cons-eq}
 use Rattle.paper.proofs.base.Tests.{cond-by, both-true, and-left, and-right, not-is-true, false-not, eqb-true}
-use Rattle.base_codes.specs.Inner.{no-token, is-token, front, tokens, padded}
+use Rattle.base_codes.specs.Inner.{no-token, is-code, front, tokens, padded}
 use Rattle.base_codes.specs.Coded.{none}
 
 -- as many bytes as there are tokens
@@ -41,23 +41,23 @@ none-tokens [] h = absurd (omega arith)
 none-tokens (b ∷ l) h =
     cond-by (λ (t : List ℕ). none t ≡ eqb b no-token) (eqb b no-token) (λ e. sym e) (λ e. sym e)
 
-pub all-tokens : (l : List ℕ) → all is-token (tokens l) ≡ true
+pub all-tokens : (l : List ℕ) → all is-code (tokens l) ≡ true
 all-tokens [] = refl
 all-tokens (b ∷ l) =
-    cond-by (λ (t : List ℕ). all is-token t ≡ true) (eqb b no-token) (λ _. refl) (λ e. both-true (false-not e) (all-tokens l))
+    cond-by (λ (t : List ℕ). all is-code t ≡ true) (eqb b no-token) (λ _. refl) (λ e. both-true (false-not e) (all-tokens l))
 
 -- the tokens of a padded side
 tokens-behind : (n : ℕ) → tokens (replicate n no-token) ≡ []
 tokens-behind zero = refl
 tokens-behind (suc n) = refl
 
-tokens-before : (n : ℕ) (l : List ℕ) → all is-token l ≡ true → tokens (l ++ replicate n no-token) ≡ l
+tokens-before : (n : ℕ) (l : List ℕ) → all is-code l ≡ true → tokens (l ++ replicate n no-token) ≡ l
 tokens-before n [] h = tokens-behind n
 tokens-before n (b ∷ l) h =
-    let e : eqb b no-token ≡ false = not-is-true (and-left (is-token b) (all is-token l) h) in
-    rw (e, tokens-before n l (and-right (is-token b) (all is-token l) h))
+    let e : eqb b no-token ≡ false = not-is-true (and-left (is-code b) (all is-code l) h) in
+    rw (e, tokens-before n l (and-right (is-code b) (all is-code l) h))
 
-pub tokens-padded : (l : List ℕ) → all is-token l ≡ true → tokens (padded l) ≡ l
+pub tokens-padded : (l : List ℕ) → all is-code l ≡ true → tokens (padded l) ≡ l
 tokens-padded l h = tokens-before (longest-side - length l) l h
 
 -- The tokens of a side, from a byte on: that byte and those behind it, or none.

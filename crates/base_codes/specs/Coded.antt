@@ -8,7 +8,7 @@ use lib.Dec.{eqb}
 use lib.ListN.{length}
 use Rattle.paper.specs.Lists.{all, same-by}
 use Rattle.paper.specs.Numbers.{set-fields, longest-side}
-use Rattle.base_codes.specs.Inner.{is-token, tokens, padded}
+use Rattle.base_codes.specs.Inner.{is-code, tokens, padded}
 use Rattle.base_codes.specs.declared.Situation.{Situation}
 
 -- the two token lists, and the place sets by field; the set of a field that is gone is 0
@@ -42,5 +42,5 @@ pub record Short (s : Coded) : Type 0 where
   pub left : length (s .left) ≤ longest-side
   pub right : length (s .right) ≤ longest-side
   pub sets : length (s .sets) ≡ set-fields
-  pub left-tokens : all is-token (s .left) ≡ true
-  pub right-tokens : all is-token (s .right) ≡ true
+  pub left-tokens : all is-code (s .left) ≡ true
+  pub right-tokens : all is-code (s .right) ≡ true

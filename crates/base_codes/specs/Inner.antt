@@ -37,14 +37,14 @@ move-code strike-left = left-struck
 move-code strike-right = right-struck
 move-code (put c) = c
 
-abbrev pub is-token : ℕ → Bool
-is-token b = not (eqb b no-token)
+abbrev pub is-code : ℕ → Bool
+is-code b = not (eqb b no-token)
 
 abbrev pub is-char : ℕ → Bool
 is-char b = ltb b field-code
 
-abbrev pub is-field : ℕ → Bool
-is-field b = leb field-code b && ltb b no-token
+abbrev pub is-field-code : ℕ → Bool
+is-field-code b = leb field-code b && ltb b no-token
 
 -- the number of the field with this token
 abbrev pub field-of : ℕ → ℕ

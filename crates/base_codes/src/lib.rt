@@ -5,7 +5,6 @@ ghost use Prim.Native.Nat.{_≤_};
 ghost use lib.ListN.{length, take};
 ghost use Rattle.paper.specs.Numbers.{longest-side};
 ghost use Rattle.base_codes.specs.Inner.{field-of, tokens};
-ghost use Rattle.base_codes.specs.Coded.{finished-coded, denoted};
 
 // the token of field 0
 pub const FIELD_CODE: u8 = 192;
@@ -62,11 +61,4 @@ pub struct Situation {
     pub left: [u8; LONGEST_SIDE],
     pub right: [u8; LONGEST_SIDE],
     pub sets: [u64; FIELDS],
-}
-
-// "finished (both sides empty)"
-pub fn is_finished(s: Situation) -> bool
-    ensures { λ r. ⌜ r ≡ finished-coded (denoted s) ⌝ }
-{
-    s.left[0] == NO_TOKEN && s.right[0] == NO_TOKEN
 }

@@ -1,11 +1,20 @@
 // The question: both sides, what is worked out of each field's pattern, and where that pattern stands.
+use base_codes::FIELD_CODE;
+use base_codes::FIELDS;
 use base_codes::LONGEST_SIDE;
+use base_codes::NO_TOKEN;
 use base_codes::SHEET_FIELDS;
 use base_places::PlaceTables;
 ghost use mathlib.Core.Path.{_≡_};
-ghost use lib.ListN.{replicate};
-ghost use Rattle.paper.specs.Numbers.{fields};
-ghost use Rattle.base_question.specs.Bodies.{nowhere};
+ghost use Prim.Native.Nat.{_≤_};
+ghost use lib.Dec.{eqb};
+ghost use lib.ListN.{length};
+ghost use Rattle.paper.specs.Lists.{only};
+ghost use Rattle.paper.specs.Numbers.{longest-side};
+ghost use Rattle.base_codes.specs.Inner.{tokens};
+ghost use Rattle.base_question.specs.Bodies.{no-bodies};
+ghost use Rattle.base_question.specs.Asked.{no-question};
+ghost use Rattle.base_question.specs.Standings.{count, standing-times};
 
 // A side by inner codes: it ends at its first 255.
 pub type Side = [u8; LONGEST_SIDE];
@@ -27,11 +36,67 @@ pub struct Question {
 
 // No pattern stands anywhere.
 pub fn no_bodies() -> [Body; SHEET_FIELDS]
-    ensures { λ r. ⌜ r ≡ replicate fields nowhere ⌝ }
+    ensures { λ r. ⌜ r ≡ no-bodies ⌝ }
 {
     let none = Body {
         start: 0,
         length: 0,
     };
     [none; SHEET_FIELDS]
+}
+
+// Nothing is asked: no tokens, and every field is open.
+pub fn no_question() -> Question
+    ensures { λ r. ⌜ r ≡ no-question ⌝ }
+{
+    let open = base_places::open_tables();
+    let fields = [open; SHEET_FIELDS];
+    let bodies = no_bodies();
+    Question {
+        left: [NO_TOKEN; LONGEST_SIDE],
+        right: [NO_TOKEN; LONGEST_SIDE],
+        fields,
+        bodies,
+    }
+}
+
+// How often each field stands in the two sides, the hidden fields among them.
+pub fn standings(left: Side, right: Side) -> [usize; FIELDS]
+    ensures { λ r. ⌜ r ≡ standing-times left right ⌝ }
+{
+    let mut counts: [usize; FIELDS] = [0; FIELDS];
+    let mut f: usize = 0;
+    while f < FIELDS {
+        let token = FIELD_CODE + f as u8;
+        counts[f] = times(left, token) + times(right, token);
+        f += 1;
+    }
+    counts
+}
+
+// How many tokens of a side are this one.
+fn times(side: Side, token: u8) -> usize
+    ensures { λ r. ⌜ (r ≤ longest-side) × (r ≡ count token (tokens side)) ⌝ }
+{
+    let mut n: usize = 0;
+    let mut i: usize = 0;
+    while i < LONGEST_SIDE {
+        let b = side[i];
+        if b == NO_TOKEN {
+            return n;
+        }
+        n += one_if(b, token);
+        i += 1;
+    }
+    n
+}
+
+// 1 for the token itself, 0 for any other.
+fn one_if(b: u8, token: u8) -> usize
+    ensures { λ r. ⌜ (r ≤ 1) × (r ≡ length (only (eqb token b) b)) ⌝ }
+{
+    if token == b {
+        return 1;
+    }
+    0
 }

@@ -6,15 +6,15 @@ use mathlib.Core.List.{List}
 use lib.Dec.{lit<}
 use Rattle.paper_carry.specs.Spelling.{Spelling}
 use Rattle.paper_carry.specs.Spelling as Spelling
-use Rattle.paper_carry.proofs.Promised.{fault-between}
+use Rattle.paper_carry.proofs.CarryPromised.{fault-between}
 use Rattle.base_answers.specs.Faults.{fault-of}
 use Rattle.base_answers.specs.declared.Numbers.{Numbers}
-use Rattle.carry_open.specs.Told.{spelt-numbers, told-spelt, carried-number, told-carried}
+use Rattle.carry_open.specs.CarriedOver.{spelt-numbers, told-spelt, carried-number, told-carried}
 use Rattle.carry_open.specs.declared.SpeltOpen.{SpeltOpen}
 use Rattle.carry_open.specs.declared.SpeltOpen.the-variants.{Written, Refused, ForeignField, TooShort}
 use Rattle.carry_open.specs.declared.CarriedOver.{CarriedOver}
 use Rattle.carry_open.specs.declared.CarriedOver.the-variants.{Done, Full, NoCatalogue}
-use Rattle.c_tell.specs.Numbered.{with-numbers}
+use Rattle.c_tell.specs.ToldNumbers.{with-numbers}
 use Rattle.c_carry.specs.Carried.{telling-spelt}
 
 -- 41 is the last of request K5's numbers

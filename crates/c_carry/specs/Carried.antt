@@ -2,7 +2,7 @@
 use Prim.Native.Nat.{ℕ}
 use mathlib.Core.List.{List}
 use Rattle.paper_carry.specs.Spelling.{Spelling}
-use Rattle.c_tell.specs.Numbered.{with-numbers}
+use Rattle.c_tell.specs.ToldNumbers.{with-numbers}
 
 -- of carrying over, which has no count
 abbrev pub telling-spelt : List ℕ → Spelling → List ℕ

@@ -4,7 +4,7 @@ use mathlib.Core.List.{List}
 use lib.ListN.{set}
 use Rattle.paper_catalogue.specs.Catalogue.{Added}
 use Rattle.paper_catalogue.specs.Recheck.{Rechecked}
-use Rattle.c_tell.specs.Numbered.{with-numbers}
+use Rattle.c_tell.specs.ToldNumbers.{with-numbers}
 
 -- of an addition, in four elements
 abbrev pub telling-added : List ℕ → Added → List ℕ

@@ -2,7 +2,7 @@
 use Prim.Native.Nat.{ℕ}
 use mathlib.Core.List.{List}
 use Rattle.paper.specs.Outcome.{Outcome}
-use Rattle.c_tell.specs.Numbered.{with-numbers}
+use Rattle.c_tell.specs.ToldNumbers.{with-numbers}
 
 -- those of an outcome
 abbrev pub telling : List ℕ → Outcome → List ℕ

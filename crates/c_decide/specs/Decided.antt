@@ -3,7 +3,7 @@ use Prim.Native.Nat.{ℕ}
 use mathlib.Core.List.{List}
 use lib.ListN.{set}
 use Rattle.paper_decide.specs.Deciding.{Decision}
-use Rattle.c_tell.specs.Numbered.{with-numbers}
+use Rattle.c_tell.specs.ToldNumbers.{with-numbers}
 
 -- of a decision: count, place and written length, and the search
 abbrev pub telling-decided : List ℕ → Decision → List ℕ

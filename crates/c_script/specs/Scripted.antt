@@ -2,7 +2,7 @@
 use Prim.Native.Nat.{ℕ}
 use mathlib.Core.List.{List}
 use Rattle.paper_script.specs.Scripting.{Scripting}
-use Rattle.c_tell.specs.Numbered.{with-numbers}
+use Rattle.c_tell.specs.ToldNumbers.{with-numbers}
 
 -- of writing a script, which has no count
 abbrev pub telling-scripted : List ℕ → Scripting → List ℕ

@@ -1,7 +1,7 @@
 // What a caller in another language is told beside the number: elements of a lent slice, as many as there is room for.
 ghost use mathlib.Core.Path.{_≡_};
 ghost use lib.ListN.{set};
-ghost use Rattle.c_tell.specs.Numbered.{with-numbers};
+ghost use Rattle.c_tell.specs.ToldNumbers.{with-numbers};
 
 // Three numbers into the first three elements.
 pub fn tell(told: &mut [u64], count: usize, place: usize, third: usize)

@@ -1,4 +1,4 @@
-pub mod Whole
-pub mod Answered
+pub mod CarriedWhole
+pub mod CarryAnswered
 pub mod RulesPut
-pub mod Unique
+pub mod OneCarrying

@@ -13,19 +13,24 @@ use Rattle.paper_catalogue.specs.Catalogue.{Present}
 use Rattle.paper_catalogue.specs.Calls.{present-at, rule-at}
 use Rattle.paper_catalogue.proofs.Local.{rule-bounds}
 use Rattle.paper_catalogue.proofs.Form.{offset-of, read-at}
-use Rattle.base_codes.specs.Inner.{tokens}
-use Rattle.search_trim.specs.Trimming.{first-masks}
-use Rattle.read_rule.specs.Read.{rule-of}
+use Rattle.base_codes.specs.Inner.{padded}
+use Rattle.base_question.specs.Standings.{standing-times}
+use Rattle.read_fields.specs.Bodies.{bodies-in}
+use Rattle.read_fields.specs.Walk.{fields-of}
+use Rattle.read_fields.specs.declared.Fields.{Fields}
+use Rattle.read_rule.specs.RuleRead.{rule-of}
 use Rattle.read_rule.specs.declared.Rule.{Rule}
+use Rattle.read_rule.proofs.RuleParts.{patterns-of}
+use Rattle.read_rule.proofs.RulePatterns.{front-stands}
 use Rattle.catalogue_form.specs.Kept.{Of-form}
-use Rattle.catalogue_form.proofs.Standing.{in-front, standing-good, standing-is, next-place}
+use Rattle.catalogue_form.proofs.RulesStanding.{in-front, standing-good, standing-is, next-place}
 use Rattle.paper_carry.specs.Opened.{rule-open}
 use Rattle.paper_carry.specs.Spelling.{rules-open}
 use Rattle.paper_carry.proofs.SaidBack.{rule-said-back}
 use Rattle.base_put.specs.Counted.{Counted}
 use Rattle.base_put.proofs.Counting.{counted-none, counted-then}
-use Rattle.carry_open.specs.Told.{put-whole}
-use Rattle.carry_open.proofs.Whole.{rule-whole}
+use Rattle.carry_open.specs.CarriedOver.{put-whole}
+use Rattle.carry_open.proofs.CarriedWhole.{have-bytes, rule-whole}
 
 -- before the rule with the number i, which stands at the offset
 pub record Putting (l : List Present) (before bytes : List ℕ) (end at i : ℕ) : Type 0 where
@@ -49,9 +54,9 @@ module _ {catalogue : List ℕ} {count : ℕ} (x : Of-form catalogue count) wher
         let none = drop-of-length-le l {i = i} h in
         subst (Counted before bytes 0 end) (sym (g .all ∙ rw none (append-nil (g .done)))) (g .counted)
 
-    module _ (h : i < length l) (present : Rule) (p : present ≡ rule-of (rule-front (drop at catalogue))) where
+    module _ (h : i < length l) (present : Rule) (stands : present ≡ rule-of (rule-front (drop at catalogue))) where
       is : present ≡ rule-of (records (rule-at l i) (present-at l i .bytes))
-      is = standing-is catalogue (x .of-form) i h at (g .place) present p
+      is = standing-is catalogue (x .of-form) i h at (g .place) present stands
 
       its-bytes : present .bytes ≡ present-at l i .bytes
       its-bytes = ap (λ (r : Rule). r .bytes) is
@@ -66,20 +71,27 @@ module _ {catalogue : List ℕ} {count : ℕ} (x : Of-form catalogue count) wher
             let (low, high) = rule-bounds (drop at catalogue) reads in
             omega (arith, ap length e, length-take-le (present .bytes) (drop at catalogue) (omega (arith, its-bytes, high)), its-bytes)
 
-        pub put-one : (sets : List ℕ) → sets ≡ first-masks (tokens (present .side)) → put-whole part 2 sets ≡ rule-open (rule-at l i)
-        put-one sets s =
-            rule-whole (rule-at l i) (standing-good catalogue (x .of-form) i h) part
-            (rule-said-back (drop at catalogue) reads ∙ sym (e ∙ ap (λ (n : ℕ). take n (drop at catalogue)) its-bytes))
-            (present .side) sets (ap (λ (r : Rule). r .side) is) s
+        -- by what is read of its patterns' records, and by how often its fields stand
+        module _ (p : Fields) (k : p ≡ fields-of (bodies-in (drop at catalogue) 2) (patterns-of (drop at catalogue)))
+            (counts : List ℕ) (c : counts ≡ standing-times (present .side) (padded [])) where
+          put-one : put-whole part 2 (p .bodies) counts ≡ rule-open (rule-at l i)
+          put-one =
+              let r = rule-at l i in
+              let good = standing-good catalogue (x .of-form) i h in
+              rule-whole r good part
+              (rule-said-back (drop at catalogue) reads ∙ sym (e ∙ ap (λ (n : ℕ). take n (drop at catalogue)) its-bytes))
+              (present .side) (ap (λ (r : Rule). r .side) is) (p .bodies)
+              (have-bytes (drop at catalogue) (r .fields .held) (p .bodies) (good .held .each-field) (front-stands (drop at catalogue) reads p k))
+              counts c
 
-        pub put-more : (sets : List ℕ) → sets ≡ first-masks (tokens (present .side)) → (after : List ℕ) (next : ℕ)
-            → Counted bytes after end next (put-whole part 2 sets) → Putting l before after next (at + present .bytes) (i + 1)
-        unfolding rules-open
-        put-more sets s after next c =
-            record {
-              done = g .done ++ rule-open (rule-at l i);
-              below = omega arith;
-              place = next-place catalogue (x .of-form) i h at (g .place) present p;
-              all = rw (add-one i) (g .all ∙ rw (in-front l i h) (sym (append-assoc (g .done) (rule-open (rule-at l i)) (rules-open (drop (suc i) l)))));
-              counted = counted-then (g .counted) (subst (Counted bytes after end next) (put-one sets s) c);
-            }
+          pub put-more : (after : List ℕ) (next : ℕ) → Counted bytes after end next (put-whole part 2 (p .bodies) counts)
+              → Putting l before after next (at + present .bytes) (i + 1)
+          unfolding rules-open
+          put-more after next put =
+              record {
+                done = g .done ++ rule-open (rule-at l i);
+                below = omega arith;
+                place = next-place catalogue (x .of-form) i h at (g .place) present stands;
+                all = rw (add-one i) (g .all ∙ rw (in-front l i h) (sym (append-assoc (g .done) (rule-open (rule-at l i)) (rules-open (drop (suc i) l)))));
+                counted = counted-then (g .counted) (subst (Counted bytes after end next) put-one put);
+              }

@@ -1,22 +1,29 @@
 // Old sheets, rules and catalogues carried over: "Sheets and catalogue rules that relied on the old meaning must carry 68 65 0 42 written out".
+use base_answers::CATALOGUE_FULL;
+use base_answers::FOREIGN_FIELD;
 use base_answers::Fault;
 use base_answers::Found;
+use base_answers::NO_CATALOGUE;
 use base_answers::Numbers;
+use base_answers::SHEET_TOO_SHORT;
 use base_codes::FIELDS;
 use base_codes::LONGEST_SIDE;
 use base_codes::NO_TOKEN;
+use base_codes::SHEET_FIELDS;
 use base_put::put_all;
+use base_question::Body;
 use catalogue_form::CATALOGUE_RULES;
+use read_side::Cursor;
 ghost use mathlib.Core.Path.{_≡_};
 ghost use mathlib.Core.List.{[]};
 ghost use Prim.Native.Nat.{_≤_};
 ghost use lib.ListN.{length, replicate};
-ghost use Rattle.base_codes.specs.Inner.{tokens, padded};
+ghost use Rattle.base_codes.specs.Inner.{padded};
 ghost use Rattle.base_put.specs.Counted.{last-place, Counted};
-ghost use Rattle.search_trim.specs.Trimming.{first-masks};
+ghost use Rattle.base_question.specs.Standings.{standing-times};
 ghost use Rattle.catalogue_form.specs.Kept.{Of-form};
-ghost use Rattle.paper_carry.specs.Spelling.{put-into, spelling, rule-spelling, rules-open, carrying-over, longest-rules, Promised, RulePromised, CataloguePromised};
-ghost use Rattle.carry_open.specs.Told.{spelt-numbers, told-spelt, carried-number, told-carried, put-whole};
+ghost use Rattle.paper_carry.specs.Spelling.{put-into, spelling, rule-spelling, rules-open, carrying-over, longest-rules, CarryPromised, RulePromised, CataloguePromised};
+ghost use Rattle.carry_open.specs.CarriedOver.{spelt-numbers, told-spelt, carried-number, told-carried, put-whole};
 
 // "the mark `RU`"
 const RULE_MARK: usize = 2;
@@ -49,21 +56,22 @@ pub enum CarriedOver {
 // Writes the sheet with 68 65 0 42 for every standing field without a pattern.
 pub fn sheet(sheet: &[u8], out: &mut [u8]) -> SpeltOpen
     ensures whole { λ r. ⌜ told-spelt r (now (out .exit)) ≡ spelling (now (sheet .entry)) (now (out .entry)) ⌝ }
-    ensures promised { λ r. ⌜ Promised (now (sheet .entry)) (now (out .entry)) (told-spelt r (now (out .exit))) ⌝ }
+    ensures promised { λ r. ⌜ CarryPromised (now (sheet .entry)) (now (out .entry)) (told-spelt r (now (out .exit))) ⌝ }
 {
-    let question = read_sheet::read(sheet);
-    let found = question.found;
+    let read = read_sheet::read(sheet);
+    let found = read.found;
     if let Found::Refused(fault) = found {
         return SpeltOpen::Refused {
             fault,
-            place: question.place,
+            place: read.place,
         };
     }
+    let question = read.question;
     let left = question.left;
     let right = question.right;
-    let first = search_trim::question(left, right);
-    let sets = first.sets;
-    write_out(sheet, 0, sets, out)
+    let bodies = question.bodies;
+    let counts = base_question::standings(left, right);
+    write_out(sheet, 0, bodies, counts, out)
 }
 
 // Writes the rule likewise.
@@ -84,8 +92,10 @@ pub fn rule(rule: &[u8], out: &mut [u8]) -> SpeltOpen
         return SpeltOpen::ForeignField;
     }
     let side = read.side;
-    let sets = rule_sets(side);
-    write_out(rule, RULE_MARK, sets, out)
+    let patterns = read_fields::read(rule, Cursor { at: RULE_MARK });
+    let bodies = patterns.bodies;
+    let counts = rule_counts(side);
+    write_out(rule, RULE_MARK, bodies, counts, out)
 }
 
 // Carries every rule of the catalogue over, in its own buffer.
@@ -123,8 +133,8 @@ pub fn in_numbers(s: SpeltOpen) -> Numbers
             place,
             written: 0,
         },
-        SpeltOpen::ForeignField => only(31),
-        SpeltOpen::TooShort => only(41),
+        SpeltOpen::ForeignField => only(FOREIGN_FIELD),
+        SpeltOpen::TooShort => only(SHEET_TOO_SHORT),
     }
 }
 
@@ -145,41 +155,52 @@ pub fn number(c: CarriedOver) -> usize
 {
     match c {
         CarriedOver::Done => 0,
-        CarriedOver::Full => 32,
-        CarriedOver::NoCatalogue => 34,
+        CarriedOver::Full => CATALOGUE_FULL,
+        CarriedOver::NoCatalogue => NO_CATALOGUE,
     }
 }
 
 // The bytes in front of the patterns, then the records: as far as there is room, and the place behind them.
-fn put_whole(out: &mut [u8], at: usize, s: &[u8], from: usize, sets: [u64; FIELDS]) -> usize
+fn put_whole(
+    out: &mut [u8],
+    at: usize,
+    s: &[u8],
+    from: usize,
+    bodies: [Body; SHEET_FIELDS],
+    counts: [usize; FIELDS],
+) -> usize
     requires { ⌜ from ≤ length (now s) ⌝ }
-    ensures { λ r. ⌜ Counted (now (out .entry)) (now (out .exit)) at r (put-whole (now (s .entry)) from sets) ⌝ }
+    ensures { λ r. ⌜ Counted (now (out .entry)) (now (out .exit)) at r (put-whole (now (s .entry)) from bodies counts) ⌝ }
 {
     let behind = put_all(out, at, &s[0..from]);
-    carry_records::put_from(out, behind, s, from, sets)
+    carry_records::put_from(out, behind, s, from, bodies, counts)
 }
 
 // Puts them into the buffer, if they fit.
-fn write_out(s: &[u8], from: usize, sets: [u64; FIELDS], out: &mut [u8]) -> SpeltOpen
-    requires { ⌜ (from ≤ length (now s)) × (length (put-whole (now s) from sets) ≤ last-place) ⌝ }
-    ensures { λ r. ⌜ told-spelt r (now (out .exit)) ≡ put-into (put-whole (now (s .entry)) from sets) (now (out .entry)) ⌝ }
+fn write_out(
+    s: &[u8],
+    from: usize,
+    bodies: [Body; SHEET_FIELDS],
+    counts: [usize; FIELDS],
+    out: &mut [u8],
+) -> SpeltOpen
+    requires { ⌜ (from ≤ length (now s)) × (length (put-whole (now s) from bodies counts) ≤ last-place) ⌝ }
+    ensures { λ r. ⌜ told-spelt r (now (out .exit)) ≡ put-into (put-whole (now (s .entry)) from bodies counts) (now (out .entry)) ⌝ }
 {
-    let length = put_whole(&mut out[0..0], 0, s, from, sets);
+    let length = put_whole(&mut out[0..0], 0, s, from, bodies, counts);
     if out.len() < length {
         return SpeltOpen::TooShort;
     }
-    let bytes = put_whole(out, 0, s, from, sets);
+    let bytes = put_whole(out, 0, s, from, bodies, counts);
     SpeltOpen::Written { bytes }
 }
 
-// The first place sets of a rule: of the fields that stand in its side.
-fn rule_sets(side: [u8; LONGEST_SIDE]) -> [u64; FIELDS]
-    ensures { λ r. ⌜ r ≡ first-masks (tokens side) ⌝ }
+// How often each field stands in the side of a rule.
+fn rule_counts(side: [u8; LONGEST_SIDE]) -> [usize; FIELDS]
+    ensures { λ r. ⌜ r ≡ standing-times side (padded []) ⌝ }
 {
     let none = no_side();
-    let first = search_trim::question(side, none);
-    let sets = first.sets;
-    sets
+    base_question::standings(side, none)
 }
 
 fn no_side() -> [u8; LONGEST_SIDE]
@@ -206,8 +227,10 @@ fn put_rules(catalogue: &[u8], count: usize, bytes: &mut [u8]) -> usize
         let present = read_rule::front(&catalogue[at..]);
         let next = at + present.bytes;
         let side = present.side;
-        let sets = rule_sets(side);
-        end = put_whole(bytes, end, &catalogue[at..next], RULE_MARK, sets);
+        let patterns = read_fields::read(&catalogue[at..], Cursor { at: RULE_MARK });
+        let bodies = patterns.bodies;
+        let counts = rule_counts(side);
+        end = put_whole(bytes, end, &catalogue[at..next], RULE_MARK, bodies, counts);
         at = next;
         i += 1;
     }

@@ -11,56 +11,51 @@ use mathlib.Core.List.{List, [], _++_, append-assoc}
 use lib.Dec.{ltb, eqb}
 use lib.ListN.{length, getD, drop}
 use Rattle.paper.specs.Numbers.{fields}
-use Rattle.paper.specs.Sheet.{byte-at, bytes-left, PA, next-is}
+use Rattle.paper.specs.Sheet.{bytes-left}
 use Rattle.paper.proofs.base.Tests.{cond-by, ltb-false}
 use Rattle.base_put.specs.Counted.{Counted}
 use Rattle.base_put.proofs.Counting.{counted-none, counted-then}
-use Rattle.read_bodies.proofs.Sought.{mark-left}
-use Rattle.carry_records.specs.Opening.{record-at, field-put, from-field, opened-from}
+use Rattle.base_question.specs.declared.Body.{Body}
+use Rattle.carry_records.specs.Opening.{record-length, field-put, bytes-of, from-field, opened-from}
 
 abbrev Inside : List ℕ → ℕ → ℕ → Type 0
 Inside s at n = (n ≡ 0 → ⊥) → at + n ≤ length s
 
-pub record-within : (s : List ℕ) (at f : ℕ) → Inside s at (record-at s at f)
-unfolding record-at
-record-within s at f =
-    let n = byte-at s (at + 3) in
-    cond-by (Inside s at) (next-is PA s at)
-    (λ m. cond-by (Inside s at) (ltb (bytes-left s at) 4) (λ _ z. absurd (z refl))
-    (λ _. cond-by (Inside s at) (eqb (byte-at s (at + 2)) f)
+pub record-within : (s : List ℕ) (at n : ℕ) → Inside s at (record-length s at n)
+unfolding record-length
+record-within s at n =
+    cond-by (Inside s at) (eqb n 0) (λ _ z. absurd (z refl))
     (λ _. cond-by (Inside s at) (ltb (bytes-left s at) (4 + n)) (λ _ z. absurd (z refl))
-    (λ there z. omega (arith, mark-left s at m, ltb-false (bytes-left s at) (4 + n) there)))
-    (λ _ z. absurd (z refl))))
-    (λ _ z. absurd (z refl))
+    (λ there z. omega (arith, ltb-false (bytes-left s at) (4 + n) there)))
 
 -- the fields before f are put, and what is put for the others comes behind
-pub record Going (before out : List ℕ) (at end : ℕ) (s : List ℕ) (from next f : ℕ) (sets : List ℕ) : Type 0 where
+pub record Going (before out : List ℕ) (at end : ℕ) (s : List ℕ) (from next f : ℕ) (bodies : List Body) (counts : List ℕ) : Type 0 where
   pub put : List ℕ
   pub counted : Counted before out at end put
-  pub left : (n : ℕ) → n + f ≡ fields → put ++ from-field n s next f sets ≡ opened-from s from sets
+  pub left : (n : ℕ) → n + f ≡ fields → put ++ from-field n s next f bodies counts ≡ opened-from s from bodies counts
 
-pub going-start : (out : List ℕ) (at : ℕ) (s : List ℕ) (from : ℕ) (sets : List ℕ) → Going out out at at s from from 0 sets
+pub going-start : (out : List ℕ) (at : ℕ) (s : List ℕ) (from : ℕ) (bodies : List Body) (counts : List ℕ) → Going out out at at s from from 0 bodies counts
 unfolding opened-from
-going-start out at s from sets =
+going-start out at s from bodies counts =
     record {
       put = [];
       counted = counted-none;
-      left = λ n e. ap (λ (k : ℕ). from-field k s from 0 sets) (sym (add-zero n) ∙ e);
+      left = λ n e. ap (λ (k : ℕ). from-field k s from 0 bodies counts) (sym (add-zero n) ∙ e);
     }
 
-module _ {before out : List ℕ} {at end : ℕ} {s : List ℕ} {from next f : ℕ} {sets : List ℕ} (g : Going before out at end s from next f sets) where
-  pub going-on : (after : List ℕ) (behind further : ℕ) → Counted out after end behind (field-put s next f (getD sets f 0))
-      → further ≡ next + record-at s next f → Going before after at behind s from further (f + 1) sets
+module _ {before out : List ℕ} {at end : ℕ} {s : List ℕ} {from next f : ℕ} {bodies : List Body} {counts : List ℕ} (g : Going before out at end s from next f bodies counts) where
+  pub going-on : (after : List ℕ) (behind further : ℕ) → Counted out after end behind (field-put s next f (bytes-of bodies f) (getD counts f 0))
+      → further ≡ next + record-length s next (bytes-of bodies f) → Going before after at behind s from further (f + 1) bodies counts
   going-on after behind further c e =
-      let one = field-put s next f (getD sets f 0) in
+      let one = field-put s next f (bytes-of bodies f) (getD counts f 0) in
       record {
         put = g .put ++ one;
         counted = counted-then (g .counted) c;
         left = λ n k.
-            rw (e, add-one f) (append-assoc (g .put) one (from-field n s (next + record-at s next f) (suc f) sets) ∙ g .left (suc n) (omega arith));
+            rw (e, add-one f) (append-assoc (g .put) one (from-field n s (next + record-length s next (bytes-of bodies f)) (suc f) bodies counts) ∙ g .left (suc n) (omega arith));
       }
 
   pub going-ends : f ≡ fields → (after : List ℕ) (behind : ℕ) → Counted out after end behind (drop next s)
-      → Counted before after at behind (opened-from s from sets)
+      → Counted before after at behind (opened-from s from bodies counts)
   going-ends e after behind c =
       subst (Counted before after at behind) (g .left 0 (omega arith)) (counted-then (g .counted) c)

@@ -1,5 +1,5 @@
--- Records with 68 65 0 42 written out, from the bytes of what was read: for all bytes. What it has to do with the question of a good sheet, and with a
--- rule, is proved (`Opened`).
+-- Records with 68 65 0 42 written out, from the bytes of what was read, by where the fields' patterns stand in them and by how often each field
+-- does: for all bytes. What it has to do with the question of a good sheet, and with a rule, is proved (`FromSaid`).
 use Prim.Native.Nat.{ℕ, zero, suc, _+_}
 use mathlib.Core.Bool.{Bool, cond, not}
 use mathlib.Core.List.{List, [], _++_}
@@ -7,34 +7,37 @@ use lib.Dec.{ltb, eqb}
 use lib.ListN.{getD, drop}
 use Rattle.paper.specs.Numbers.{fields}
 use Rattle.paper.specs.Pattern.{pattern}
-use Rattle.paper.specs.Sheet.{byte-at, bytes-left, body, PA, next-is}
+use Rattle.paper.specs.Sheet.{bytes-left, body}
 use Rattle.paper.specs.Saying.{pattern-saying}
 use Rattle.paper_carry.specs.Opened.{written-out}
+use Rattle.base_question.specs.Bodies.{nowhere}
+use Rattle.base_question.specs.declared.Body.{Body}
 
--- how many bytes the record of the field has, if it stands at the offset; else 0
-unfoldable pub record-at : List ℕ → ℕ → ℕ → ℕ
-record-at s at f =
-    cond (next-is PA s at)
-    (cond (ltb (bytes-left s at) 4) 0
-    (cond (eqb (byte-at s (at + 2)) f) (cond (ltb (bytes-left s at) (4 + byte-at s (at + 3))) 0 (4 + byte-at s (at + 3))) 0))
-    0
+-- how many bytes the record of a pattern of so many has, if they are there from the offset on; 0 where there is no pattern
+unfoldable pub record-length : List ℕ → ℕ → ℕ → ℕ
+record-length s at n = cond (eqb n 0) 0 (cond (ltb (bytes-left s at) (4 + n)) 0 (4 + n))
 
--- the record that is added for a field which stands: one with a first place set
+-- the record that is added for a field which stands
 abbrev pub missing : ℕ → ℕ → List ℕ
-missing f set = cond (eqb set 0) [] (pattern-saying f (pattern written-out))
+missing f count = cond (eqb count 0) [] (pattern-saying f (pattern written-out))
 
 -- what is put for a field: its record, or the one that is missing
-unfoldable pub field-put : List ℕ → ℕ → ℕ → ℕ → List ℕ
-field-put s at f set = cond (eqb (record-at s at f) 0) (missing f set) (body s at (record-at s at f))
+unfoldable pub field-put : List ℕ → ℕ → ℕ → ℕ → ℕ → List ℕ
+field-put s at f n count = cond (eqb (record-length s at n) 0) (missing f count) (body s at (record-length s at n))
+
+-- how many bytes the field's pattern has
+abbrev pub bytes-of : List Body → ℕ → ℕ
+bytes-of bodies f = getD bodies f nowhere .length
 
 -- the records of n fields, from f on, and all that is left behind them
-abbrev pub from-field : ℕ → List ℕ → ℕ → ℕ → List ℕ → List ℕ
-from-field zero s at f sets = drop at s
-from-field (suc n) s at f sets = field-put s at f (getD sets f 0) ++ from-field n s (at + record-at s at f) (suc f) sets
+abbrev pub from-field : ℕ → List ℕ → ℕ → ℕ → List Body → List ℕ → List ℕ
+from-field zero s at f bodies counts = drop at s
+from-field (suc n) s at f bodies counts =
+    field-put s at f (bytes-of bodies f) (getD counts f 0) ++ from-field n s (at + record-length s at (bytes-of bodies f)) (suc f) bodies counts
 
-unfoldable pub opened-from : List ℕ → ℕ → List ℕ → List ℕ
-opened-from s from sets = from-field fields s from 0 sets
+unfoldable pub opened-from : List ℕ → ℕ → List Body → List ℕ → List ℕ
+opened-from s from bodies counts = from-field fields s from 0 bodies counts
 
--- the fields that have a first place set
-abbrev pub marked : List ℕ → ℕ → Bool
-marked sets f = not (eqb (getD sets f 0) 0)
+-- the fields that stand, by how often each does
+abbrev pub stands : List ℕ → ℕ → Bool
+stands counts f = not (eqb (getD counts f 0) 0)

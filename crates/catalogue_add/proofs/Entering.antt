@@ -16,14 +16,14 @@ use Rattle.paper_catalogue.proofs.Form.{offset-of, rule-fits, record-inside}
 use Rattle.paper_catalogue.proofs.Withdrawing.{leaves}
 use Rattle.catalogue_form.specs.Kept.{record-at, record-bytes}
 use Rattle.catalogue_form.specs.declared.Kept.{Kept}
-use Rattle.catalogue_form.proofs.Told.{Rules}
+use Rattle.catalogue_form.proofs.FormFound.{Rules}
 use Rattle.catalogue_bytes.specs.Moving.{put-at, closed-at}
 use Rattle.catalogue_bytes.proofs.Within.{is-put, is-closed}
 use Rattle.catalogue_pair.specs.declared.Pair.{Pair}
 use Rattle.read_rule.specs.declared.Rule as Code
 use Rattle.catalogue_add.specs.declared.Asked.the-variants.{Apart, NotApart}
-use Rattle.catalogue_add.specs.Told.{full-of, Pairs-asked, Ready}
-use Rattle.catalogue_add.specs.Told as Told
+use Rattle.catalogue_add.specs.Addition.{full-of, Pairs-asked, Ready}
+use Rattle.catalogue_add.specs.Addition as Told
 use Rattle.catalogue_add.specs.declared.Added.the-variants as Added
 
 -- 32, by what was read

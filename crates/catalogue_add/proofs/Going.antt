@@ -15,15 +15,15 @@ use Rattle.paper.proofs.base.Tests.{eq-eqb, neq-eqb}
 use Rattle.paper_catalogue.proofs.Form.{offset-of}
 use Rattle.paper_catalogue.proofs.GoodRule.{new-good}
 use Rattle.base_places.specs.declared.PlaceTables.{PlaceTables}
-use Rattle.read_rule.specs.Read.{rule-of}
+use Rattle.read_rule.specs.RuleRead.{rule-of}
 use Rattle.read_rule.specs.declared.Rule as Code
-use Rattle.catalogue_form.proofs.Standing.{in-front, standing-good, standing-is, next-place}
-use Rattle.catalogue_pair.specs.Ask.{pair-of, pair-ended, number-of}
+use Rattle.catalogue_form.proofs.RulesStanding.{in-front, standing-good, standing-is, next-place}
+use Rattle.catalogue_pair.specs.Ask.{pair-of, pair-ended}
 use Rattle.catalogue_pair.specs.declared.Pair.{Pair}
 use Rattle.catalogue_pair.proofs.Asking.{Pair-told}
 use Rattle.catalogue_pair.proofs.InRoom.{told-in-room}
 use Rattle.catalogue_add.specs.declared.Asked.the-variants.{Apart, NotApart}
-use Rattle.catalogue_add.specs.Told.{Ready-to-ask, Pairs-asked}
+use Rattle.catalogue_add.specs.Addition.{Ready-to-ask, Pairs-asked}
 
 pub record Going (l : List Present) (new : Rule) (lent work : List ℕ) (at i : ℕ) : Type 0 where
   pub below : i ≤ length l
@@ -75,24 +75,24 @@ module _ {catalogue : List ℕ} {count : ℕ} {side : List ℕ} {fields : List P
           (record { good = new-good (x .bytes) (x .is-read) (x .own); side-is = x .side-is; fields-are = x .fields-are })
           work lent same-length pair a
 
-      module _ (answer : ℕ) (n : answer ≡ number-of pair) (after : List ℕ) (w : after ≡ replicate (length work) 0) where
+      module _ (after : List ℕ) (w : after ≡ replicate (length work) 0) where
         cleared-lent : after ≡ cleared lent
         cleared-lent = w ∙ rw same-length
 
-        pub going-more : answer ≡ 1 → Going (x .rules-present) (x .rule) lent after (at + present .bytes) (i + 1)
+        pub going-more : pair .answer ≡ 1 → Going (x .rules-present) (x .rule) lent after (at + present .bytes) (i + 1)
         going-more e =
             record {
               below = omega arith;
               place = next-place catalogue (x .of-form) i h at (g .place) present p;
-              pairs = g .pairs ∙ rw (in-front (x .rules-present) i h, ← told .answer, eq-eqb (number-of pair) 1 (sym n ∙ e), add-one i);
+              pairs = g .pairs ∙ rw (in-front (x .rules-present) i h, ← told .answer, eq-eqb (pair .answer) 1 e, add-one i);
               behind = cleared-lent ∙ sym (rw (add-one i) (some-behind (x .rules-present) i lent h));
             }
 
-        pub going-stops : (answer ≡ 1 → ⊥) → Pairs-asked (x .rules-present) (x .rule) lent after (NotApart i pair)
+        pub going-stops : (pair .answer ≡ 1 → ⊥) → Pairs-asked (x .rules-present) (x .rule) lent after (NotApart i pair)
         going-stops d =
             record {
               pairs =
                   sym (g .pairs
-                  ∙ rw (in-front (x .rules-present) i h, ← told .answer, ← told .count, neq-eqb (number-of pair) 1 (λ e. d (n ∙ e))));
+                  ∙ rw (in-front (x .rules-present) i h, ← told .answer, ← told .count, neq-eqb (pair .answer) 1 d));
               after-work = cleared-lent ∙ sym (all-behind (x .rules-present) i lent h);
             }

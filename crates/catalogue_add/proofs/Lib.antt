@@ -1,3 +1,3 @@
 pub mod Going
 pub mod Entering
-pub mod Unique
+pub mod OneAddition

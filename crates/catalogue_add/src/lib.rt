@@ -7,7 +7,7 @@ use catalogue_pair::Pair;
 use read_rule::Rule;
 ghost use mathlib.Core.Path.{_≡_};
 ghost use Rattle.paper_catalogue.specs.Catalogue.{adding, withdrawing};
-ghost use Rattle.catalogue_add.specs.Told.{told-added, told-withdrawn, full-of, Ready-to-ask, Ready, Pairs-asked};
+ghost use Rattle.catalogue_add.specs.Addition.{told-added, told-withdrawn, full-of, Ready-to-ask, Ready, Pairs-asked};
 
 // The answer to a new rule. specs/Told.antt gives each its number, count, place, rule's number and pair's answer.
 pub enum Added {
@@ -108,7 +108,7 @@ fn ask_all(catalogue: &[u8], count: usize, new: Rule, work: &mut [u8]) -> Asked
         let left = present.side;
         let first = present.fields;
         let pair = catalogue_pair::ask(left, right, first, second, work);
-        if catalogue_pair::answer(pair) != 1 {
+        if pair.answer != 1 {
             return Asked::NotApart { rule: i, pair };
         }
         at += present.bytes;

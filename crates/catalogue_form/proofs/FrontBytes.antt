@@ -15,9 +15,9 @@ use Rattle.paper.proofs.base.Tests.{by-bool, le-leb, lt-leb, leb-false}
 use Rattle.paper_catalogue.proofs.Local.{rule-bounds}
 use Rattle.base_answers.specs.declared.Fault.{Fault}
 use Rattle.base_answers.specs.declared.Found.the-variants.{NoFault, Refused}
-use Rattle.read_rule.specs.Read.{rule-of}
+use Rattle.read_rule.specs.RuleRead.{rule-of}
 use Rattle.read_rule.specs.declared.Rule as Code
-use Rattle.read_rule.proofs.Told.{rule-fault, rule-stands}
+use Rattle.read_rule.proofs.RuleStruct.{rule-fault, rule-stands}
 use Rattle.catalogue_form.specs.Kept.{front-bytes}
 
 module _ (n : ℕ) (s : List ℕ) where

@@ -1,5 +1,5 @@
 pub mod FrontBytes
 pub mod OneMore
 pub mod Reached
-pub mod Told
-pub mod Standing
+pub mod FormFound
+pub mod RulesStanding

@@ -27,12 +27,12 @@ kept-of i no-catalogue = record { good = false; rules = 0; used = 0; at = 0; byt
 kept-of i (rules l) = record { good = true; rules = length l; used = used l; at = record-at l i; bytes = record-bytes l i }
 
 -- how many bytes the rule at the front has, if it passes its own checks and one may stand behind so many; else 0
-abbrev pub stands-in : Records Rule → ℕ
-stands-in (faulty x at) = 0
-stands-in (records r next) = cond (foreign-field r) 0 next
+abbrev pub front-length : Records Rule → ℕ
+front-length (faulty x at) = 0
+front-length (records r next) = cond (foreign-field r) 0 next
 
 abbrev pub front-bytes : ℕ → List ℕ → ℕ
-front-bytes n s = cond (leb catalogue-rules n) 0 (stands-in (rule-front s))
+front-bytes n s = cond (leb catalogue-rules n) 0 (front-length (rule-front s))
 
 -- the catalogue is of its form, and so many rules stand in it
 pub record Of-form (catalogue : List ℕ) (count : ℕ) : Type 0 where

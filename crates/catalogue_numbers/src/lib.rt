@@ -1,9 +1,15 @@
 // The answers of a catalogue in the numbers of requests K1 and K3.
+use base_answers::CATALOGUE_FULL;
+use base_answers::FOREIGN_FIELD;
+use base_answers::LIST_TOO_SHORT;
+use base_answers::NO_CATALOGUE;
+use base_answers::NO_RULE;
+use base_answers::NOT_APART;
 use catalogue_add::Added;
 use catalogue_add::Withdrawn;
 use catalogue_recheck::Rechecked;
 ghost use mathlib.Core.Path.{_≡_};
-ghost use Rattle.catalogue_numbers.specs.Numbered.{as-numbers, number-of-withdrawn, as-totals};
+ghost use Rattle.catalogue_numbers.specs.CatalogueNumbers.{numbers-of-added, number-of-withdrawn, as-totals};
 
 // What adding a rule tells. Each is 0 where nothing is said of it.
 pub struct Numbers {
@@ -16,21 +22,21 @@ pub struct Numbers {
 }
 
 pub fn added(a: Added) -> Numbers
-    ensures { λ r. ⌜ r ≡ as-numbers a ⌝ }
+    ensures { λ r. ⌜ r ≡ numbers-of-added a ⌝ }
 {
     match a {
         Added::Entered => refusal(0, 0),
         Added::Refused { fault, place } => refusal(base_answers::number(fault) as usize, place),
         Added::NotApart { rule, pair } => Numbers {
-            number: 30,
-            count: catalogue_pair::count(pair),
+            number: NOT_APART,
+            count: pair.count,
             place: 0,
             rule,
-            answer: catalogue_pair::answer(pair),
+            answer: pair.answer,
         },
-        Added::ForeignField => refusal(31, 0),
-        Added::Full => refusal(32, 0),
-        Added::NoCatalogue => refusal(34, 0),
+        Added::ForeignField => refusal(FOREIGN_FIELD, 0),
+        Added::Full => refusal(CATALOGUE_FULL, 0),
+        Added::NoCatalogue => refusal(NO_CATALOGUE, 0),
     }
 }
 
@@ -51,8 +57,8 @@ pub fn withdrawn(w: Withdrawn) -> usize
 {
     match w {
         Withdrawn::Gone => 0,
-        Withdrawn::NoRule => 33,
-        Withdrawn::NoCatalogue => 34,
+        Withdrawn::NoRule => NO_RULE,
+        Withdrawn::NoCatalogue => NO_CATALOGUE,
     }
 }
 
@@ -73,8 +79,8 @@ pub fn rechecked(r: Rechecked) -> Totals
             pairs,
             written,
         },
-        Rechecked::TooShort => none_listed(35),
-        Rechecked::NoCatalogue => none_listed(34),
+        Rechecked::TooShort => none_listed(LIST_TOO_SHORT),
+        Rechecked::NoCatalogue => none_listed(NO_CATALOGUE),
     }
 }
 

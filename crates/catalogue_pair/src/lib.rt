@@ -1,27 +1,20 @@
 // A pair of rules: "the present rule is the left side, the new one the right, with its fields as 4 to 7". No text is written.
 use base_answers::Ended;
 use base_codes::FIELD_CODE;
-use base_codes::HIDDEN_LEFT;
-use base_codes::HIDDEN_RIGHT;
 use base_codes::LONGEST_SIDE;
 use base_codes::SHEET_FIELDS;
 use base_places::PlaceTables;
+use base_question::Question;
 use read_rule::RULE_FIELDS;
 ghost use mathlib.Core.Path.{_≡_};
 ghost use mathlib.Core.List.{map};
 ghost use lib.ListN.{length, replicate};
-ghost use Rattle.catalogue_pair.specs.Ask.{moved-code, pair-of, joined, pair-ended, number-of, count-of};
+ghost use Rattle.catalogue_pair.specs.Ask.{moved-code, pair-of, joined, pair-question, pair-ended};
 
-// What a pair is answered.
-pub enum Pair {
-    // 0: a label can be made by both rules
-    Clash { count: usize },
-    // 1: no label can be made by both
-    NoClash { count: usize },
-    // 18: no room for a situation
-    NoRoom { count: usize },
-    // 19: a side above 48 tokens
-    SideTooLong { count: usize },
+// What a pair is answered, and the situations entered.
+pub struct Pair {
+    pub answer: usize,
+    pub count: usize,
 }
 
 // The codes from that of field 0 on whose field can be moved up.
@@ -38,30 +31,41 @@ pub fn ask(
     ensures answer { λ r. ⌜ r ≡ pair-of (pair-ended left right first second (length (now (work .entry)))) ⌝ }
     ensures work { λ _. ⌜ now (work .exit) ≡ replicate (length (now (work .entry))) 0 ⌝ }
 {
-    let moved = moved_up(right);
-    let both = joined(first, second);
-    let l = search_hidden::side(left, HIDDEN_LEFT);
-    let r = search_hidden::side(moved, HIDDEN_RIGHT);
-    let fields = search_hidden::fields(both);
-    let follow = search_tables::follow_sets(fields);
-    let taking = search_tables::taking_sets(fields);
-    let last = search_tables::last_sets(fields);
+    let question = asked(left, right, first, second);
+    let all = search_question::every();
     let mut none = [0; 1];
-    let ended = search_run::run(l, r, follow, taking, last, work, &mut none[0..0]);
+    let ended = search_question::search(question, all, work, &mut none[0..0]);
     answer_of(ended)
+}
+
+// What the pair asks. Its patterns stand in no one sheet.
+fn asked(
+    left: [u8; LONGEST_SIDE],
+    right: [u8; LONGEST_SIDE],
+    first: [PlaceTables; SHEET_FIELDS],
+    second: [PlaceTables; SHEET_FIELDS],
+) -> Question
+    ensures { λ r. ⌜ r ≡ pair-question left right first second ⌝ }
+{
+    let moved = moved_up(right);
+    let fields = joined(first, second);
+    let bodies = base_question::no_bodies();
+    Question {
+        left,
+        right: moved,
+        fields,
+        bodies,
+    }
 }
 
 // "a pair's texts are not written, so it can't give 20"
 fn answer_of(ended: Ended) -> Pair
     ensures { λ r. ⌜ r ≡ pair-of ended ⌝ }
 {
-    match ended {
-        Ended::Clash { count, written: _ } => Pair::Clash { count },
-        Ended::NoClash { count } => Pair::NoClash { count },
-        Ended::NoRoom { count } => Pair::NoRoom { count },
-        Ended::SideTooLong { count } => Pair::SideTooLong { count },
-        Ended::AnswerTooShort { count } => Pair::Clash { count },
-        Ended::TextTooLong { count } => Pair::Clash { count },
+    let how = ended.how;
+    Pair {
+        answer: base_answers::pair_number(how),
+        count: ended.count,
     }
 }
 
@@ -106,28 +110,4 @@ fn joined(
         f += 1;
     }
     fields
-}
-
-// The number of a pair's answer.
-pub fn answer(pair: Pair) -> usize
-    ensures { λ r. ⌜ r ≡ number-of pair ⌝ }
-{
-    match pair {
-        Pair::Clash { count: _ } => 0,
-        Pair::NoClash { count: _ } => 1,
-        Pair::NoRoom { count: _ } => 18,
-        Pair::SideTooLong { count: _ } => 19,
-    }
-}
-
-// The situations entered.
-pub fn count(pair: Pair) -> usize
-    ensures { λ r. ⌜ r ≡ count-of pair ⌝ }
-{
-    match pair {
-        Pair::Clash { count } => count,
-        Pair::NoClash { count } => count,
-        Pair::NoRoom { count } => count,
-        Pair::SideTooLong { count } => count,
-    }
 }

@@ -1,4 +1,4 @@
 pub mod PairBytes
-pub mod Listing
+pub mod PairListing
 pub mod Rechecking
-pub mod Unique
+pub mod OneRecheck

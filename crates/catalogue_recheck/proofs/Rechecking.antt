@@ -14,7 +14,7 @@ use Rattle.paper_catalogue.proofs.Rechecked.{list-short}
 use Rattle.catalogue_bytes.specs.Moving.{put-at}
 use Rattle.catalogue_bytes.proofs.Within.{is-put}
 use Rattle.print_lines.proofs.Putting.{puts-in-front}
-use Rattle.catalogue_recheck.specs.Told.{told-rechecked, longest-list, All-listed}
+use Rattle.catalogue_recheck.specs.PairList.{told-rechecked, longest-list, All-listed}
 use Rattle.catalogue_form.specs.Kept.{Of-form}
 use Rattle.catalogue_recheck.specs.declared.Rechecked.the-variants.{Listed}
 

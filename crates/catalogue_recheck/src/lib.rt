@@ -5,7 +5,7 @@ ghost use mathlib.Core.Path.{_≡_};
 ghost use lib.ListN.{length, replicate};
 ghost use Rattle.paper_catalogue.specs.Recheck.{rechecking};
 ghost use Rattle.print_lines.specs.Writing.{Puts};
-ghost use Rattle.catalogue_recheck.specs.Told.{told-rechecked, bytes-of, Fits, Ready-to-list, With-listed, longest-list, All-listed};
+ghost use Rattle.catalogue_recheck.specs.PairList.{told-rechecked, pair-bytes-of, Pair-fits, Ready-to-list, With-listed, longest-list, All-listed};
 ghost use Rattle.catalogue_form.specs.Kept.{Of-form};
 
 // The lower number, the higher, the answer, the count in two bytes.
@@ -101,14 +101,14 @@ fn list_with(
 
 // Puts a pair that is not answered 1 behind the first n bytes, and tells how many there are then.
 fn put_pair(bytes: &mut [u8], n: usize, lower: usize, higher: usize, pair: Pair) -> usize
-    requires { ⌜ Fits (now bytes) n lower higher pair ⌝ }
-    ensures { λ r. ⌜ Puts (now (bytes .entry)) (now (bytes .exit)) n r (bytes-of lower higher pair) ⌝ }
+    requires { ⌜ Pair-fits (now bytes) n lower higher pair ⌝ }
+    ensures { λ r. ⌜ Puts (now (bytes .entry)) (now (bytes .exit)) n r (pair-bytes-of lower higher pair) ⌝ }
 {
-    let answer = catalogue_pair::answer(pair);
+    let answer = pair.answer;
     if answer == 1 {
         return n;
     }
-    let count = catalogue_pair::count(pair);
+    let count = pair.count;
     bytes[n] = lower as u8;
     bytes[n + 1] = higher as u8;
     bytes[n + 2] = answer as u8;

@@ -1,5 +1,5 @@
 -- The few by marks and masks are those of the definition:
---   few-marks : few-coded .. ≡ listed (is-few q) characters, of a question that can be searched
+--   few-marks : those chosen ≡ listed (is-few q) characters, of a question that can be searched
 -- Every step on the marks is the definition's step on the list of those chosen (`Marked`). Follows from the laws of masks and of first numbers.
 use Prim.Native.Nat.{ℕ, zero, suc, _≤_, _<_}
 use native.Mathlib.Omega.{arith}
@@ -14,27 +14,28 @@ use Rattle.paper.specs.Lists.{upto, any, only, keep, member}
 use Rattle.paper.specs.Numbers.{characters, set-fields}
 use Rattle.paper.specs.Pattern.{Held}
 use Rattle.paper.specs.Equation.{stands-in}
+use Rattle.paper.specs.Alphabet.{code-39}
 use Rattle.paper.specs.Question.{Question, held-by}
 use Rattle.paper.proofs.base.Tests.{by-bool, cond-true, cond-false, same-tests, and-left, and-right, both-true, ltb-true, ltb-false}
 use Rattle.paper.proofs.base.Lists.{any-true, mem-any, none-any, any-append, upto-mem, member-true, mem-member}
 use Rattle.paper.proofs.base.Listed.{upto-snoc}
 use Rattle.paper.proofs.sheets.Asked.{GoodHeld}
 use Rattle.paper.proofs.sheets.Hidden.{Searchable}
-use Rattle.paper_decide.specs.Alike.{leaves-of, leaf-takes-it, fixed, standing-fields, is-least, least-ones}
-use Rattle.paper_decide.specs.Few.{choice, chosen-for, chosen-in, chosen-by, some-chosen, few, is-few}
+use Rattle.paper_decide.specs.Alike.{leaves-of, leaf-takes-it, fixed, fields-standing, is-least, least-ones}
+use Rattle.paper_decide.specs.Few.{leaf-choice, chosen-for, chosen-in, chosen-by, some-chosen, few, is-few}
 use Rattle.base_places.specs.Masks.{places, in-mask, taking-mask}
-use Rattle.base_codes.specs.Inner.{side-code}
-use Rattle.search_children.proofs.Turns.{keep-append}
-use Rattle.decide_alike.specs.Coded.{listed, stepped, first-from, fixed-coded, standing-coded, least-from, taken-coded, first-taken, free-coded, choice-coded}
-use Rattle.decide_alike.specs.Coded.{chosen-at, chosen-within, chosen-of, chosen-coded, some-coded, few-from, few-coded}
-use Rattle.decide_alike.proofs.Marks.{length-listed, getD-listed, is-listed, listed-same, listed-set, any-listed}
+use Rattle.search_children.proofs.ChildTurns.{keep-append}
+use Rattle.search_tables.specs.Cut.{listed-by}
+use Rattle.decide_alike.specs.AlikeCoded.{stepped, first-from, fixed-coded, standing-coded, least-from, taken-coded, first-taken, free-coded, choice-coded}
+use Rattle.decide_alike.specs.AlikeCoded.{chosen-at, chosen-within, chosen-of, chosen-coded, some-coded}
+use Rattle.search_tables.proofs.Listed.{length-listed, getD-listed, is-listed, listed-same, listed-set, any-listed}
 use Rattle.decide_alike.proofs.First.{first-kept, first-any, first-same, first-of-two, keep-keep}
 use Rattle.decide_alike.proofs.LeastRead.{in-taking, codes-of, taking-of, fixed-read, mask-read, standing-read, is-least-read}
-use Rattle.decide_alike.proofs.Walked.{chosen-in-append, first-least, walked-all}
+use Rattle.decide_alike.proofs.Walked.{chosen-in-append, least-39, first-least, walked-all}
 
 -- the marks of those chosen, each a character
 pub record Marked (d : List Bool) (l : List ℕ) : Type 0 where
-  pub marks : d ≡ listed (λ (c : ℕ). member c l) characters
+  pub marks : d ≡ listed-by (λ (c : ℕ). member c l) characters
   pub within : (c : ℕ) → List·Memᴰ c l → c < characters
 
 -- some of those chosen passes: all characters can be tried
@@ -89,7 +90,7 @@ swapped true false true = refl
 swapped true false false = refl
 swapped false b c = refl
 
-module _ (q : Question) (free least : List Bool)
+module _ (q : Question) (in-39 : q .alphabet ≡ code-39) (free least : List Bool)
     (free-is : (c : ℕ) → c < characters → getD free c false ≡ is-least q c && not (fixed q c))
     (least-is : (c : ℕ) → c < characters → getD least c false ≡ is-least q c) where
   module _ (h : Held) (row : List ℕ) (row-is : (c : ℕ) → c < characters → getD row c 0 ≡ taking-mask h c) where
@@ -113,13 +114,13 @@ module _ (q : Question) (free least : List Bool)
       -- the first of the least ones that pass a test
       least-passing : (t : ℕ → Bool) (n : ℕ) → n ≡ first-from (λ (c : ℕ). is-least q c && t c) 0 characters
           → take 1 (keep t (least-ones q)) ≡ only (ltb n characters) n
-      unfolding least-ones
       least-passing t n e =
-          ap (take 1) (keep-keep t (is-least q) (upto characters))
+          ap (λ (l : List ℕ). take 1 (keep t l)) (least-39 q in-39)
+          ∙ ap (take 1) (keep-keep t (is-least q) (upto characters))
           ∙ first-kept (λ (c : ℕ). is-least q c && t c) 0 characters ∙ ap (λ (m : ℕ). only (ltb m characters) m) (sym e)
 
-      choice-is : choice q h p ≡ only (ltb (choice-coded free least row p) characters) (choice-coded free least row p)
-      unfolding choice choice-coded
+      choice-is : leaf-choice q h p ≡ only (ltb (choice-coded free least row p) characters) (choice-coded free least row p)
+      unfolding leaf-choice choice-coded
       choice-is =
           let m = first-taken free row p in
           let n = first-taken least row p in
@@ -146,9 +147,9 @@ module _ (q : Question) (free least : List Bool)
         rw (upto-snoc n, chosen-in-append q h l (upto n) (n ∷ []))
         (step-read n (omega arith) (stepped (chosen-at free least row) n d) (chosen-in q h l (upto n)) (places-read n (omega arith) d l m))
 
-    within-read : GoodHeld h → (d : List Bool) (l : List ℕ) → Marked d l → Marked (chosen-within free least row d) (chosen-in q h l (leaves-of h))
+    within-read : GoodHeld characters h → (d : List Bool) (l : List ℕ) → Marked d l → Marked (chosen-within free least row d) (chosen-in q h l (leaves-of h))
     unfolding chosen-within
-    within-read good d l m = rw (← (walked-all q h good l)) (places-read places (omega arith) d l m)
+    within-read good d l m = rw (← (walked-all q in-39 h good l)) (places-read places (omega arith) d l m)
 
   -- the fields that stand
   chosen-by-append : (l k m : List ℕ) → chosen-by q l (k ++ m) ≡ chosen-by q (chosen-by q l k) m
@@ -191,31 +192,31 @@ module _ (q : Question) (free least : List Bool)
           within = λ (c : ℕ) (i : List·Memᴰ c []). absurd (List·Memᴰ·not-nil i);
         }
 
-    pub chosen-read : Marked (chosen-coded free least standing (taking-of q)) (chosen-by q [] (standing-fields q))
-    unfolding chosen-coded standing-fields
+    pub chosen-read : Marked (chosen-coded free least standing (taking-of q)) (chosen-by q [] (fields-standing q))
+    unfolding chosen-coded fields-standing
     chosen-read = fields-read set-fields (omega arith) (replicate characters false) [] none-marked
 
 -- "where nothing is chosen, the least of all"
-some-read : (q : Question) (d : List Bool) (l : List ℕ) → Marked d l → some-coded d ≡ listed (λ (c : ℕ). member c (some-chosen q l)) characters
+some-read : (q : Question) → q .alphabet ≡ code-39 → (d : List Bool) (l : List ℕ) → Marked d l → some-coded d ≡ listed-by (λ (c : ℕ). member c (some-chosen q l)) characters
 unfolding some-coded
-some-read q d [] m =
+some-read q in-39 d [] m =
     let none : any (λ (b : Bool). b) d ≡ false =
     ap (any (λ (b : Bool). b)) (m .marks) ∙ any-listed (λ (c : ℕ). false) characters ∙ none-any (λ (c : ℕ). false) (upto characters) (λ c i. refl) in
     cond-false (any (λ (b : Bool). b) d) d (set d 0 true) none
     ∙ ap (λ (x : List Bool). set x 0 true) (m .marks)
     ∙ listed-set false (λ (c : ℕ). member c (take 1 (least-ones q))) characters (λ (c : ℕ). false) 0 true (omega arith)
-    (λ j. more-member j 0 [] ∙ ap (member j) (sym (first-least q)))
-some-read q d (c ∷ l) m =
+    (λ j. more-member j 0 [] ∙ ap (member j) (sym (first-least q in-39)))
+some-read q in-39 d (c ∷ l) m =
     cond-true (any (λ (b : Bool). b) d) d (set d 0 true)
     (ap (any (λ (b : Bool). b)) (m .marks) ∙ any-listed (λ (x : ℕ). member x (c ∷ l)) characters
     ∙ mem-any (λ (x : ℕ). member x (c ∷ l)) (upto characters) (upto-mem characters (m .within c (List·Memᴰ·head refl))) (mem-member c (c ∷ l) (List·Memᴰ·head refl)))
     ∙ m .marks
 
 module _ (q : Question) (good : Searchable q) where
-  abbrev marked-fixed : List Bool
+  abbrev pub marked-fixed : List Bool
   marked-fixed = fixed-coded (codes-of q)
 
-  abbrev marked-least : List Bool
+  abbrev pub marked-least : List Bool
   marked-least = least-from marked-fixed (standing-coded (codes-of q)) (taking-of q)
 
   least-read-at : (c : ℕ) → c < characters → getD marked-least c false ≡ is-least q c
@@ -228,13 +229,14 @@ module _ (q : Question) (good : Searchable q) where
       getD-listed (λ (c : ℕ). getD marked-least c false && not (getD marked-fixed c false)) characters false c b
       ∙ ap₂ (λ (x y : Bool). x && not y) (least-read-at c b) (fixed-read q c b)
 
-  pub least-marks : marked-least ≡ listed (is-least q) characters
+  pub least-marks : marked-least ≡ listed-by (is-least q) characters
   unfolding least-from
   least-marks = listed-same false (is-least q) characters _ (is-least-read q good)
 
-  pub few-marks : few-coded (side-code (q .left)) (side-code (q .right)) (taking-of q) ≡ listed (is-few q) characters
-  unfolding few-coded few-from is-few few
+  pub few-marks : some-coded (chosen-coded (free-coded marked-fixed marked-least) marked-least (standing-coded (codes-of q)) (taking-of q))
+      ≡ listed-by (is-few q) characters
+  unfolding is-few few
   few-marks =
-      some-read q (chosen-coded (free-coded marked-fixed marked-least) marked-least (standing-coded (codes-of q)) (taking-of q))
-      (chosen-by q [] (standing-fields q))
-      (chosen-read q (free-coded marked-fixed marked-least) marked-least free-read-at least-read-at good)
+      some-read q (good .alphabet) (chosen-coded (free-coded marked-fixed marked-least) marked-least (standing-coded (codes-of q)) (taking-of q))
+      (chosen-by q [] (fields-standing q))
+      (chosen-read q (good .alphabet) (free-coded marked-fixed marked-least) marked-least free-read-at least-read-at good)

@@ -13,7 +13,7 @@ use lib.Dec.{ltb}
 use lib.ListN.{take}
 use Rattle.paper.specs.Lists.{from, any, only, keep}
 use Rattle.paper.proofs.base.Tests.{by-bool, lt-ltb, le-ltb}
-use Rattle.decide_alike.specs.Coded.{first-from}
+use Rattle.decide_alike.specs.AlikeCoded.{first-from}
 
 add-over : (a n : ℕ) → suc a + n ≡ a + suc n
 add-over a n = omega arith

@@ -1,6 +1,6 @@
 -- The least ones by codes and masks are those of the definition:
 --   alike-masks   : the masks of two characters are equal exactly if every leaf takes both or neither
---   fixed-read, standing-read, row-read : the marks and the tables of a question say what its tokens and leaves do
+--   fixed-read, standing-read, mask-read : the marks and the tables of a question say what its tokens and leaves do
 --   is-least-read : is-least-coded .. c ≡ is-least q c, of a character c of a question that can be searched
 -- Follows from the laws of masks, and from the codes of known tokens being different.
 use Prim.Native.Nat.{ℕ, _+_, _<_}
@@ -18,20 +18,20 @@ use Rattle.paper.specs.Equation.{chr, fld, Side, stands-in}
 use Rattle.paper.specs.Question.{Question, held-by}
 use Rattle.paper.proofs.base.Tests.{same-tests, eqb-true, eqb-same, eq-eqb, neq-eqb}
 use Rattle.paper.proofs.base.Lists.{every-all, all-true, mem-from, from-mem, mem-upto, map-append}
-use Rattle.paper.proofs.base.Listed.{any-same, getD-map-upto}
+use Rattle.paper.proofs.base.Listed.{any-same}
 use Rattle.paper.proofs.places.Parts.{takes-within}
 use Rattle.paper.proofs.sheets.Asked.{GoodHeld}
 use Rattle.paper.proofs.sheets.Hidden.{Searchable}
-use Rattle.paper_decide.specs.Alike.{leaf-takes-it, both-or-neither, alike-in, is-character, fixed, standing-fields, alike, is-least}
-use Rattle.base_places.specs.Masks.{places, mask-of, in-mask, taking-mask, taking-masks}
+use Rattle.paper_decide.specs.Alike.{leaf-takes-it, both-or-neither, alike-in, is-character, fixed, fields-standing, alike, is-least}
+use Rattle.base_places.specs.Masks.{places, mask-of, in-mask, taking-mask}
 use Rattle.base_places.proofs.MaskOf.{in-mask-of, mask-of-same}
-use Rattle.base_places.proofs.Masks.{taking-at}
 use Rattle.base_codes.specs.Inner.{field-code, token-code, side-code}
 use Rattle.search_children.specs.Coding.{tables-of}
 use Rattle.search_children.proofs.CodedSides.{Known-side, known-side}
 use Rattle.search_children.proofs.CodedQuestion.{stands-coded, known-append}
-use Rattle.decide_alike.specs.Coded.{fixed-coded, standing-coded, mask-at, same-in, same-places, alike-coded, is-least-coded}
-use Rattle.decide_alike.proofs.Marks.{getD-listed}
+use Rattle.decide_alike.specs.AlikeCoded.{fixed-coded, standing-coded, mask-at, same-in, same-places, alike-coded, is-least-coded}
+use Rattle.search_tables.proofs.CutOver.{mask-held}
+use Rattle.search_tables.proofs.Listed.{getD-listed}
 
 -- both or neither
 same-both : (x y : Bool) → x ≡ y → both-or-neither x y ≡ true
@@ -54,7 +54,7 @@ unfolding taking-mask
 in-taking some-text p c b = in-mask-of (λ (q : ℕ). true) p b
 in-taking (pattern r) p c b = in-mask-of (λ (q : ℕ). leaf-takes r 1 q c) p b
 
-module _ (p : Pattern) (good : GoodHeld (pattern p)) (a b : ℕ) where
+module _ (p : Pattern) (good : GoodHeld characters (pattern p)) (a b : ℕ) where
   abbrev both : ℕ → Bool
   both i = both-or-neither (leaf-takes p 1 i a) (leaf-takes p 1 i b)
 
@@ -79,7 +79,7 @@ module _ (p : Pattern) (good : GoodHeld (pattern p)) (a b : ℕ) where
       (λ t. both-right (leaf-takes p 1 i a) (leaf-takes p 1 i b) (at-leaf e i a t) t)
       (λ t. both-left (leaf-takes p 1 i a) (leaf-takes p 1 i b) (at-leaf e i b t) t))
 
-pub alike-masks : (h : Held) → GoodHeld h → (a b : ℕ) → eqb (taking-mask h a) (taking-mask h b) ≡ alike-in h a b
+pub alike-masks : (h : Held) → GoodHeld characters h → (a b : ℕ) → eqb (taking-mask h a) (taking-mask h b) ≡ alike-in h a b
 unfolding alike-in taking-mask
 alike-masks some-text good a b = eqb-same (mask-of (λ (q : ℕ). true))
 alike-masks (pattern p) good a b =
@@ -121,12 +121,9 @@ module _ (q : Question) where
       ∙ ap (member c) (sym codes-joined) ∙ fixed-codes c (q .left ++ q .right) h
 
   -- the mask of a character in a field's row
-  pub row-read : (f : ℕ) → f < set-fields → getD (taking-of q) f [] ≡ taking-masks (held-by q f)
-  unfolding tables-of
-  row-read f h = getD-map-upto (λ (g : ℕ). taking-masks (held-by q g)) [] set-fields f h
-
   pub mask-read : (f c : ℕ) → f < set-fields → c < characters → mask-at (taking-of q) f c ≡ taking-mask (held-by q f) c
-  mask-read f c h k = ap (λ (row : List ℕ). getD row c 0) (row-read f h) ∙ taking-at (held-by q f) c k
+  unfolding tables-of
+  mask-read = mask-held (held-by q)
 
 module _ (q : Question) (good : Searchable q) where
   known : Known-side (q .left ++ q .right)
@@ -139,8 +136,8 @@ module _ (q : Question) (good : Searchable q) where
       ∙ ap (member (field-code + f)) (sym (codes-joined q)) ∙ stands-coded f (q .left ++ q .right) known
 
   module _ (a b : ℕ) (h : a < characters) (k : b < characters) where
-    same-places-read : same-places (standing-coded (codes-of q)) (taking-of q) a b ≡ all (λ (f : ℕ). alike-in (held-by q f) a b) (standing-fields q)
-    unfolding same-places standing-fields
+    same-places-read : same-places (standing-coded (codes-of q)) (taking-of q) a b ≡ all (λ (f : ℕ). alike-in (held-by q f) a b) (fields-standing q)
+    unfolding same-places fields-standing
     same-places-read =
         all-kept (same-in (standing-coded (codes-of q)) (taking-of q) a b) (λ (f : ℕ). stands-in f (q .left ++ q .right))
         (λ (f : ℕ). alike-in (held-by q f) a b) (upto set-fields)

@@ -1,4 +1,4 @@
-// Which characters are searched: the least ones of those alike, and a few of these; and the tables in which no place takes another character.
+// Which characters of a question are searched: the least ones of those alike, and a few of these.
 use base_codes::FIELD_CODE;
 use base_codes::FIELDS;
 use base_codes::LONGEST_SIDE;
@@ -6,6 +6,7 @@ use base_codes::NO_TOKEN;
 use base_places::CHARACTERS;
 use base_places::PLACES;
 use base_places::when_holds;
+use base_question::Question;
 ghost use mathlib.Core.Bool.{cond, _&&_, _||_, not};
 ghost use mathlib.Core.List.{_++_};
 ghost use mathlib.Core.Path.{_≡_};
@@ -15,8 +16,8 @@ ghost use Rattle.paper.specs.Lists.{member};
 ghost use Rattle.paper.specs.Numbers.{characters};
 ghost use Rattle.base_places.specs.Masks.{in-mask};
 ghost use Rattle.base_codes.specs.Inner.{tokens};
-ghost use Rattle.decide_alike.specs.Coded.{fixed-coded, standing-coded, same-places, alike-coded, is-least-coded, least-from, least-coded};
-ghost use Rattle.decide_alike.specs.Coded.{first-taken, free-coded, choice-coded, chosen-at, chosen-within, chosen-coded, some-coded, few-from, few-coded, cut-row, cut-coded};
+ghost use Rattle.decide_alike.specs.AlikeCoded.{fixed-coded, standing-coded, same-places, alike-coded, is-least-coded, least-from, least-coded};
+ghost use Rattle.decide_alike.specs.AlikeCoded.{first-taken, free-coded, choice-coded, chosen-at, chosen-within, chosen-coded, some-coded, few-coded};
 
 // Does the token stand in the side?
 fn stands(side: [u8; LONGEST_SIDE], token: u8) -> bool
@@ -82,12 +83,12 @@ fn same_masks(stands: bool, a: u64, b: u64) -> bool
 // Does every leaf of every standing field take both or neither?
 fn same_places(
     standing: [bool; FIELDS],
-    taking: [[u64; CHARACTERS]; FIELDS],
+    taking: &[[u64; CHARACTERS]; FIELDS],
     a: usize,
     b: usize,
 ) -> bool
     requires { ⌜ (a < characters) × (b < characters) ⌝ }
-    ensures { λ r. ⌜ r ≡ same-places standing taking a b ⌝ }
+    ensures { λ r. ⌜ r ≡ same-places standing (now (taking .entry)) a b ⌝ }
 {
     let mut field: usize = 0;
     while field < FIELDS {
@@ -103,12 +104,12 @@ fn same_places(
 fn alike(
     fixed: [bool; CHARACTERS],
     standing: [bool; FIELDS],
-    taking: [[u64; CHARACTERS]; FIELDS],
+    taking: &[[u64; CHARACTERS]; FIELDS],
     a: usize,
     b: usize,
 ) -> bool
     requires { ⌜ (a < characters) × (b < characters) ⌝ }
-    ensures { λ r. ⌜ r ≡ alike-coded fixed standing taking a b ⌝ }
+    ensures { λ r. ⌜ r ≡ alike-coded fixed standing (now (taking .entry)) a b ⌝ }
 {
     if fixed[a] {
         return false;
@@ -123,11 +124,11 @@ fn alike(
 fn is_least(
     fixed: [bool; CHARACTERS],
     standing: [bool; FIELDS],
-    taking: [[u64; CHARACTERS]; FIELDS],
+    taking: &[[u64; CHARACTERS]; FIELDS],
     c: usize,
 ) -> bool
     requires { ⌜ c < characters ⌝ }
-    ensures { λ r. ⌜ r ≡ is-least-coded fixed standing taking c ⌝ }
+    ensures { λ r. ⌜ r ≡ is-least-coded fixed standing (now (taking .entry)) c ⌝ }
 {
     let mut a: usize = 0;
     while a < c {
@@ -142,9 +143,9 @@ fn is_least(
 fn least_from(
     fixed: [bool; CHARACTERS],
     standing: [bool; FIELDS],
-    taking: [[u64; CHARACTERS]; FIELDS],
+    taking: &[[u64; CHARACTERS]; FIELDS],
 ) -> [bool; CHARACTERS]
-    ensures { λ r. ⌜ r ≡ least-from fixed standing taking ⌝ }
+    ensures { λ r. ⌜ r ≡ least-from fixed standing (now (taking .entry)) ⌝ }
 {
     let mut least = [false; CHARACTERS];
     let mut c: usize = 0;
@@ -155,17 +156,31 @@ fn least_from(
     least
 }
 
-// The least ones of those alike, of the sides and of what each field's places take.
-pub fn least_ones(
-    left: [u8; LONGEST_SIDE],
-    right: [u8; LONGEST_SIDE],
-    taking: [[u64; CHARACTERS]; FIELDS],
-) -> [bool; CHARACTERS]
-    ensures { λ r. ⌜ r ≡ least-coded (tokens left) (tokens right) taking ⌝ }
+// The least ones of those alike in a question with its hidden fields, and what tells them.
+pub struct LeastOnes {
+    // the characters that stand fixed in a side
+    pub fixed: [bool; CHARACTERS],
+    // the fields that stand
+    pub standing: [bool; FIELDS],
+    pub least: [bool; CHARACTERS],
+}
+
+pub fn least_ones(question: Question) -> LeastOnes
+    ensures { λ r. ⌜ r ≡ least-coded question ⌝ }
 {
+    let whole = search_hidden::question(question);
+    let left = whole.left;
+    let right = whole.right;
+    let fields = whole.fields;
+    let taking = search_tables::taking_sets(fields);
     let fixed = fixed_ones(left, right);
     let standing = standing_fields(left, right);
-    least_from(fixed, standing, taking)
+    let least = least_from(fixed, standing, &taking);
+    LeastOnes {
+        fixed,
+        standing,
+        least,
+    }
 }
 
 // Is it one of these, and does the place p, one of its mask, take it?
@@ -288,9 +303,9 @@ fn chosen_ones(
     free: [bool; CHARACTERS],
     least: [bool; CHARACTERS],
     standing: [bool; FIELDS],
-    taking: [[u64; CHARACTERS]; FIELDS],
+    taking: &[[u64; CHARACTERS]; FIELDS],
 ) -> [bool; CHARACTERS]
-    ensures { λ r. ⌜ r ≡ chosen-coded free least standing taking ⌝ }
+    ensures { λ r. ⌜ r ≡ chosen-coded free least standing (now (taking .entry)) ⌝ }
 {
     let mut chosen = [false; CHARACTERS];
     let mut f: usize = 0;
@@ -318,66 +333,17 @@ fn some(mut chosen: [bool; CHARACTERS]) -> [bool; CHARACTERS]
     chosen
 }
 
-fn few_from(
-    fixed: [bool; CHARACTERS],
-    standing: [bool; FIELDS],
-    taking: [[u64; CHARACTERS]; FIELDS],
-) -> [bool; CHARACTERS]
-    ensures { λ r. ⌜ r ≡ few-from fixed standing taking ⌝ }
+// A few of the least ones of the question, one at least for each leaf of a standing field.
+pub fn few(question: Question, ones: LeastOnes) -> [bool; CHARACTERS]
+    ensures { λ r. ⌜ r ≡ few-coded question ones ⌝ }
 {
-    let least = least_from(fixed, standing, taking);
+    let whole = search_hidden::question(question);
+    let fields = whole.fields;
+    let taking = search_tables::taking_sets(fields);
+    let fixed = ones.fixed;
+    let standing = ones.standing;
+    let least = ones.least;
     let free = free_ones(fixed, least);
-    let chosen = chosen_ones(free, least, standing, taking);
+    let chosen = chosen_ones(free, least, standing, &taking);
     some(chosen)
-}
-
-// A few of the least ones, one at least for each leaf of a standing field.
-pub fn few(
-    left: [u8; LONGEST_SIDE],
-    right: [u8; LONGEST_SIDE],
-    taking: [[u64; CHARACTERS]; FIELDS],
-) -> [bool; CHARACTERS]
-    ensures { λ r. ⌜ r ≡ few-coded (tokens left) (tokens right) taking ⌝ }
-{
-    let fixed = fixed_ones(left, right);
-    let standing = standing_fields(left, right);
-    few_from(fixed, standing, taking)
-}
-
-// The mask, or no place.
-fn mask_if(among: bool, mask: u64) -> u64
-    ensures { λ r. ⌜ r ≡ cond among mask 0 ⌝ }
-{
-    if among { mask } else { 0 }
-}
-
-// What a field's places take of these.
-fn cut(among: [bool; CHARACTERS], row: [u64; CHARACTERS]) -> [u64; CHARACTERS]
-    ensures { λ r. ⌜ r ≡ cut-row among row ⌝ }
-{
-    let mut masks = [0u64; CHARACTERS];
-    let mut c: usize = 0;
-    while c < CHARACTERS {
-        masks[c] = mask_if(among[c], row[c]);
-        c += 1;
-    }
-    masks
-}
-
-// "tables in which no place takes another character"
-pub fn only_taking(
-    taking: [[u64; CHARACTERS]; FIELDS],
-    among: [bool; CHARACTERS],
-) -> [[u64; CHARACTERS]; FIELDS]
-    ensures { λ r. ⌜ r ≡ cut-coded taking among ⌝ }
-{
-    let mut tables = [[0u64; CHARACTERS]; FIELDS];
-    let mut f: usize = 0;
-    while f < FIELDS {
-        let row = taking[f];
-        let masks = cut(among, row);
-        tables[f] = masks;
-        f += 1;
-    }
-    tables
 }

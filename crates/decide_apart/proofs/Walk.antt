@@ -13,10 +13,13 @@ use Rattle.paper.specs.Numbers.{fields}
 use Rattle.paper.specs.Pattern.{some-text}
 use Rattle.paper.proofs.base.Tests.{cond-by, le-leb, lt-leb}
 use Rattle.paper.proofs.base.Lists.{map-append}
-use Rattle.base_codes.specs.Inner.{is-field, field-of}
+use Rattle.base_codes.specs.Inner.{is-field-code, field-of}
 use Rattle.base_places.specs.WorkedOut.{worked-out}
 use Rattle.base_places.specs.declared.PlaceTables.{PlaceTables}
-use Rattle.decide_apart.specs.Coded.{standings-coded, code-at, number-behind, numbered-coded, tables-at, tables-apart, apart-coded}
+use Rattle.decide_apart.specs.ApartCoded.{standings-coded, code-at, number-behind, numbered-coded, tables-at, tables-apart, apart-coded}
+use Rattle.base_question.specs.Bodies.{no-bodies}
+use Rattle.base_question.specs.declared.Body.{Body}
+use Rattle.base_question.specs.declared.Question.{Question}
 use Rattle.decide_apart.specs.declared.Apart.{Apart}
 
 -- one standing more, or none
@@ -25,7 +28,7 @@ behind-counts true f n fs = omega arith
 behind-counts false f n fs = refl
 
 pub behind-le : (k b : ℕ) → (k ≤ number-behind k b) × (number-behind k b ≤ suc k)
-behind-le k b = cond-by (λ (n : ℕ). (k ≤ n) × (n ≤ suc k)) (is-field b) (λ _. (omega arith, omega arith)) (λ _. (omega arith, omega arith))
+behind-le k b = cond-by (λ (n : ℕ). (k ≤ n) × (n ≤ suc k)) (is-field-code b) (λ _. (omega arith, omega arith)) (λ _. (omega arith, omega arith))
 
 -- what stands in a list does not depend on the default
 pub getD-there : {A : Type 0} (l : List A) (i : ℕ) (d e : A) → i < length l → getD l i d ≡ getD l i e
@@ -38,14 +41,14 @@ module _ (side : List ℕ) (i : ℕ) (h : i < length side) where
   byte = getD side i 0
 
   -- the standings from a byte on
-  pub standings-from : standings-coded (drop i side) ≡ only (is-field byte) (field-of byte) ++ standings-coded (drop (i + 1) side)
+  pub standings-from : standings-coded (drop i side) ≡ only (is-field-code byte) (field-of byte) ++ standings-coded (drop (i + 1) side)
   standings-from = rw (add-one i, drop-cons side i 0 h)
 
   pub counts-more : (n : ℕ) → number-behind n byte + length (standings-coded (drop (i + 1) side)) ≡ n + length (standings-coded (drop i side))
   counts-more n =
-      rw standings-from (behind-counts (is-field byte) (field-of byte) n (standings-coded (drop (i + 1) side)))
+      rw standings-from (behind-counts (is-field-code byte) (field-of byte) n (standings-coded (drop (i + 1) side)))
 
-  pub stands-here : is-field byte ≡ true → 0 < length (standings-coded (drop i side))
+  pub stands-here : is-field-code byte ≡ true → 0 < length (standings-coded (drop i side))
   stands-here e = rw (standings-from, e) (omega arith)
 
   -- what is numbered, and what is still to be
@@ -60,11 +63,11 @@ module _ (side : List ℕ) (i : ℕ) (h : i < length side) where
     abbrev still : List PlaceTables
     still = sets all k (map (tables-at own) (standings-coded (drop i side)))
 
-    pub fills-more : is-field byte ≡ true
+    pub fills-more : is-field-code byte ≡ true
         → sets (set all k (tables-at own (field-of byte))) (number-behind k byte) (map (tables-at own) (standings-coded (drop (i + 1) side))) ≡ still
     fills-more e = rw (standings-from, e)
 
-    pub fills-none : is-field byte ≡ false
+    pub fills-none : is-field-code byte ≡ false
         → sets all (number-behind k byte) (map (tables-at own) (standings-coded (drop (i + 1) side))) ≡ still
     fills-none e = rw (standings-from, e)
 
@@ -108,20 +111,22 @@ stored-apart own a b h =
     ∙ ap (λ (s : List PlaceTables). map t fs ++ s) (drop-replicate fields (length fs) (worked-out some-text))
 
 -- The whole: too many standings, or each a field of its own.
-module _ (left right : List ℕ) (own : List PlaceTables) where
-  pub too-many : fields < length (standings-coded left) + length (standings-coded right)
-      → _≡_ {A = Apart} (record { few = false; left = left; right = right; fields = own }) (apart-coded left right own)
-  unfolding apart-coded
-  too-many h =
-      let e = length-append (standings-coded left) (standings-coded right) in
-      rw (lt-leb (length (standings-coded left ++ standings-coded right)) fields (omega (arith, e)))
+module _ (own : Question) where
+  abbrev left : List ℕ
+  left = standings-coded (own .left)
 
-  pub each-apart : length (standings-coded left) + length (standings-coded right) ≤ fields
-      → (l r : List ℕ) (all : List PlaceTables)
-      → l ≡ numbered-coded 0 left → r ≡ numbered-coded (length (standings-coded left)) right
-      → all ≡ tables-apart own (standings-coded left ++ standings-coded right)
-      → _≡_ {A = Apart} (record { few = true; left = l; right = r; fields = all }) (apart-coded left right own)
+  abbrev right : List ℕ
+  right = standings-coded (own .right)
+
+  pub too-many : fields < length left + length right → _≡_ {A = Apart} (record { few = false; question = own }) (apart-coded own)
   unfolding apart-coded
-  each-apart h l r all a b c =
-      let e = length-append (standings-coded left) (standings-coded right) in
-      rw (le-leb (length (standings-coded left ++ standings-coded right)) fields (omega (arith, e)), a, b, c)
+  too-many h = rw (lt-leb (length (left ++ right)) fields (omega (arith, length-append left right)))
+
+  pub each-apart : length left + length right ≤ fields
+      → (l r : List ℕ) (all : List PlaceTables) (bodies : List Body)
+      → l ≡ numbered-coded 0 (own .left) → r ≡ numbered-coded (length left) (own .right)
+      → all ≡ tables-apart (own .fields) (left ++ right) → bodies ≡ no-bodies
+      → _≡_ {A = Apart} (record { few = true; question = record { left = l; right = r; fields = all; bodies = bodies } }) (apart-coded own)
+  unfolding apart-coded
+  each-apart h l r all bodies a b c d =
+      rw (le-leb (length (left ++ right)) fields (omega (arith, length-append left right)), a, b, c, d)

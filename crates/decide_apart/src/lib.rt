@@ -6,6 +6,7 @@ use base_codes::NO_TOKEN;
 use base_codes::SHEET_FIELDS;
 use base_codes::field_of;
 use base_places::PlaceTables;
+use base_question::Question;
 ghost use mathlib.Core.Path.{_≡_};
 ghost use mathlib.Core.List.{map};
 ghost use Prim.Native.Nat.{_+_, _≤_};
@@ -13,48 +14,48 @@ ghost use lib.ListN.{length, replicate};
 ghost use lib.Seq.{sets};
 ghost use Rattle.paper.specs.Numbers.{fields, longest-side};
 ghost use Rattle.paper.specs.Pattern.{some-text};
-ghost use Rattle.base_codes.specs.Inner.{is-field};
+ghost use Rattle.base_codes.specs.Inner.{is-field-code};
 ghost use Rattle.base_places.specs.WorkedOut.{worked-out};
-ghost use Rattle.decide_apart.specs.Coded.{standings-coded, numbered-coded, tables-at, code-at, number-behind, apart-coded};
+ghost use Rattle.decide_apart.specs.ApartCoded.{standings-coded, numbered-coded, tables-at, code-at, number-behind, apart-coded};
 
-// The sides with their standings numbered, and what is worked out of the pattern of each.
+// The question with each standing apart.
 pub struct Apart {
-    // "at most 8 standings"; where there are more, the sides and the fields are as they were
+    // "at most 8 standings"; where there are more, the question is as it was
     pub few: bool,
-    pub left: [u8; LONGEST_SIDE],
-    pub right: [u8; LONGEST_SIDE],
-    // a field that does not stand is open
-    pub fields: [PlaceTables; SHEET_FIELDS],
+    // a field that does not stand is open; where a standing's pattern stands is not told
+    pub question: Question,
 }
 
-// Each standing of these sides as a field of its own.
-pub fn standings(
-    left: [u8; LONGEST_SIDE],
-    right: [u8; LONGEST_SIDE],
-    fields: [PlaceTables; SHEET_FIELDS],
-) -> Apart
-    ensures { λ r. ⌜ r ≡ apart-coded left right fields ⌝ }
+// Each standing of the question as a field of its own.
+pub fn standings(own: Question) -> Apart
+    ensures { λ r. ⌜ r ≡ apart-coded own ⌝ }
 {
-    let of_left = count(left);
-    let of_right = count(right);
+    let own_left = own.left;
+    let own_right = own.right;
+    let own_fields = own.fields;
+    let of_left = count(own_left);
+    let of_right = count(own_right);
     if SHEET_FIELDS < of_left + of_right {
         return Apart {
             few: false,
-            left,
-            right,
-            fields,
+            question: own,
         };
     }
     let none = open_fields();
-    let some = filled(left, 0, fields, none);
-    let all = filled(right, of_left, fields, some);
-    let numbered_left = numbered(left, 0);
-    let numbered_right = numbered(right, of_left);
+    let some = filled(own_left, 0, own_fields, none);
+    let fields = filled(own_right, of_left, own_fields, some);
+    let left = numbered(own_left, 0);
+    let right = numbered(own_right, of_left);
+    let bodies = base_question::no_bodies();
+    let question = Question {
+        left,
+        right,
+        fields,
+        bodies,
+    };
     Apart {
         few: true,
-        left: numbered_left,
-        right: numbered_right,
-        fields: all,
+        question,
     }
 }
 
@@ -67,7 +68,7 @@ fn open_fields() -> [PlaceTables; SHEET_FIELDS]
 }
 
 fn is_field(b: u8) -> bool
-    ensures { λ r. ⌜ r ≡ is-field b ⌝ }
+    ensures { λ r. ⌜ r ≡ is-field-code b ⌝ }
 {
     FIELD_CODE <= b && b < NO_TOKEN
 }

@@ -1,5 +1,4 @@
-pub mod Attempted
-pub mod Concluding
-pub mod Steps
-pub mod Promised
-pub mod Unique
+pub mod DecisionConcluding
+pub mod DecisionSteps
+pub mod DecisionPromised
+pub mod OneDecision

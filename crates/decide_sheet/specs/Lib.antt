@@ -1,4 +1,4 @@
 -- one of the searches, and what it ends with
 pub mod Attempt
 -- what deciding tells
-pub mod Told
+pub mod Decision

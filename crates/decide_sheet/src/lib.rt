@@ -4,28 +4,22 @@ use base_answers::Answer;
 use base_answers::Ended;
 use base_answers::Fault;
 use base_answers::Found;
-use base_codes::FIELDS;
-use base_codes::HIDDEN_LEFT;
-use base_codes::HIDDEN_RIGHT;
-use base_codes::LONGEST_SIDE;
-use base_codes::SHEET_FIELDS;
 use base_places::CHARACTERS;
-use base_places::PlaceTables;
-use read_sheet::Sheet;
+use base_question::Question;
+use decide_alike::LeastOnes;
 ghost use mathlib.Core.Path.{_≡_};
-ghost use Prim.Native.Nat.{_*_, _≤_};
+ghost use mathlib.Core.Bool.{cond};
+ghost use mathlib.Core.List.{[]};
+ghost use Prim.Native.Nat.{_≤_};
 ghost use lib.ListN.{length, replicate};
 ghost use Rattle.paper.specs.Numbers.{most-room};
 ghost use Rattle.paper.specs.Sheet.{read-sheet};
-ghost use Rattle.base_codes.specs.Inner.{tokens};
-ghost use Rattle.base_answers.specs.Told.{answer-of};
-ghost use Rattle.base_answers.specs.declared.Answer.the-variants.{Refused};
-ghost use Rattle.search_run.specs.Ended.{end-count};
-ghost use Rattle.search_clash.specs.Entry.{Asks};
+ghost use Rattle.base_answers.specs.declared.Answer.the-variants.{Searched, Refused};
+ghost use Rattle.search_question.specs.Over.{ended-over, buffer-over};
 ghost use Rattle.paper_decide.specs.Deciding.{decision};
-ghost use Rattle.paper_decide.specs.Promised.{Decided};
-ghost use Rattle.decide_sheet.specs.Attempt.{taken, attempted, attempted-buffer, decides-coded, with-count};
-ghost use Rattle.decide_sheet.specs.Told.{told-decision, decided-from, Undecided};
+ghost use Rattle.paper_decide.specs.DecidePromised.{Decided};
+ghost use Rattle.decide_sheet.specs.Attempt.{searches, attempt-coded, decides-coded, with-count};
+ghost use Rattle.decide_sheet.specs.Decision.{told-decision, decided-from, Asks, Undecided};
 
 // An answer, and the search that decided: 1 to 4; 0 where none did.
 pub struct Decision {
@@ -33,11 +27,12 @@ pub struct Decision {
     pub search: u8,
 }
 
-// Which characters a search is over.
-enum Characters {
-    Every,
-    LeastOnes,
-    Few,
+// One of the searches: the question that it searches, over which characters, and which of its ends decide.
+struct Attempt {
+    question: Question,
+    among: [bool; CHARACTERS],
+    clash: bool,
+    no_clash: bool,
 }
 
 // Can the two rules of the sheet make the same label?
@@ -45,11 +40,14 @@ pub fn decide(sheet: &[u8], work: &mut [u8], answer: &mut [u8]) -> Decision
     ensures whole { λ r. ⌜ told-decision r (now (answer .exit)) (now (work .exit)) ≡ decision (now (sheet .entry)) (now (work .entry)) (now (answer .entry)) ⌝ }
     ensures decided { λ r. ⌜ Decided (read-sheet (now (sheet .entry))) (now (work .entry)) (now (answer .entry)) (told-decision r (now (answer .exit)) (now (work .exit))) ⌝ }
 {
-    let question = read_sheet::read(sheet);
-    let found = question.found;
+    let read = read_sheet::read(sheet);
+    let found = read.found;
     match found {
-        Found::Refused(fault) => refused(fault, question.place),
-        Found::NoFault => own_search(sheet, question, work, answer),
+        Found::Refused(fault) => refused(fault, read.place),
+        Found::NoFault => {
+            let question = read.question;
+            own_search(question, work, answer)
+        }
     }
 }
 
@@ -62,205 +60,129 @@ fn refused(fault: Fault, place: usize) -> Decision
 }
 
 // "1. 01's search. Where it gives 0 or 1, that is the answer".
-fn own_search(sheet: &[u8], question: Sheet, work: &mut [u8], answer: &mut [u8]) -> Decision
-    requires { ⌜ Asks (now sheet) question ⌝ }
-    ensures { λ r. ⌜ told-decision r (now (answer .exit)) (now (work .exit)) ≡ decision (now (sheet .entry)) (now (work .entry)) (now (answer .entry)) ⌝ }
+fn own_search(question: Question, work: &mut [u8], answer: &mut [u8]) -> Decision
+    requires { ⌜ Asks question ⌝ }
+    ensures { λ r. ⌜ ((a : Asks question) → told-decision r (now (answer .exit)) (now (work .exit)) ≡ decided-from (a .question) 0 0 (now (work .entry)) (now (answer .entry))) ⌝ }
 {
-    let left = question.left;
-    let right = question.right;
-    let fields = question.fields;
-    let ended = attempt(left, right, fields, Characters::Every, work, answer);
-    let count = count_of(ended);
+    let all = search_question::every();
+    let ended = search_question::search(question, all, work, answer);
+    let count = ended.count;
     if decides(ended, true, true) {
         return told(ended, count, 1);
     }
-    alike_search(sheet, question, ended, count, work, answer)
+    further_searches(question, ended, count, work, answer)
 }
 
-// "2. Characters alike. .. Its 0 carries texts that solve the question; its 1 is a no clash."
-fn alike_search(
-    sheet: &[u8],
-    question: Sheet,
+// The searches behind the first, until one decides. Otherwise "not decided: 18 or 19 as the first search said it".
+fn further_searches(
+    question: Question,
     first: Ended,
     entered: usize,
     work: &mut [u8],
     answer: &mut [u8],
 ) -> Decision
-    requires { ⌜ Undecided (now sheet) question first (now work) (now answer) ⌝ }
+    requires { ⌜ Undecided question first (now work) (now answer) ⌝ }
     requires { ⌜ entered ≤ most-room ⌝ }
-    ensures { λ r. ⌜ told-decision r (now (answer .exit)) (now (work .exit)) ≡ decided-from (read-sheet (now (sheet .entry))) 1 entered (now (work .entry)) (now (answer .entry)) ⌝ }
+    ensures { λ r. ⌜ ((u : Undecided question first (now (work .entry)) (now (answer .entry))) → told-decision r (now (answer .exit)) (now (work .exit)) ≡ decided-from (u .asks .question) 1 entered (now (work .entry)) (now (answer .entry))) ⌝ }
 {
-    let left = question.left;
-    let right = question.right;
-    let fields = question.fields;
-    let ended = attempt(left, right, fields, Characters::LeastOnes, work, answer);
-    let its = count_of(ended);
-    let count = entered + its;
-    if decides(ended, true, true) {
-        return told(ended, count, 2);
-    }
-    few_search(sheet, question, first, count, work, answer)
-}
-
-// "3. Few characters. .. Its 0 carries texts that solve the question; its 1 says nothing."
-fn few_search(
-    sheet: &[u8],
-    question: Sheet,
-    first: Ended,
-    entered: usize,
-    work: &mut [u8],
-    answer: &mut [u8],
-) -> Decision
-    requires { ⌜ Undecided (now sheet) question first (now work) (now answer) ⌝ }
-    requires { ⌜ entered ≤ 2 * most-room ⌝ }
-    ensures { λ r. ⌜ told-decision r (now (answer .exit)) (now (work .exit)) ≡ decided-from (read-sheet (now (sheet .entry))) 2 entered (now (work .entry)) (now (answer .entry)) ⌝ }
-{
-    let left = question.left;
-    let right = question.right;
-    let fields = question.fields;
-    let ended = attempt(left, right, fields, Characters::Few, work, answer);
-    let its = count_of(ended);
-    let count = entered + its;
-    if decides(ended, true, false) {
-        return told(ended, count, 3);
-    }
-    apart_search(sheet, question, first, count, work, answer)
-}
-
-// "4. Each standing apart. .. its 1 is a no clash; its 0 says nothing." Otherwise "not decided: 18 or 19 as the first search said it".
-fn apart_search(
-    sheet: &[u8],
-    question: Sheet,
-    first: Ended,
-    entered: usize,
-    work: &mut [u8],
-    answer: &mut [u8],
-) -> Decision
-    requires { ⌜ Undecided (now sheet) question first (now work) (now answer) ⌝ }
-    requires { ⌜ entered ≤ 3 * most-room ⌝ }
-    ensures { λ r. ⌜ told-decision r (now (answer .exit)) (now (work .exit)) ≡ decided-from (read-sheet (now (sheet .entry))) 3 entered (now (work .entry)) (now (answer .entry)) ⌝ }
-{
-    let own_left = question.left;
-    let own_right = question.right;
-    let own_fields = question.fields;
-    let each = decide_apart::standings(own_left, own_right, own_fields);
-    let few = each.few;
-    if !few {
-        return told(first, entered, 0);
-    }
-    let left = each.left;
-    let right = each.right;
-    let fields = each.fields;
-    let mut none = [0; 1];
-    let ended = attempt(
-        left,
-        right,
-        fields,
-        Characters::LeastOnes,
-        work,
-        &mut none[0..0],
-    );
-    let its = count_of(ended);
-    let count = entered + its;
-    if decides(ended, false, true) {
-        return told(ended, count, 4);
+    let ones = decide_alike::least_ones(question);
+    let each = decide_apart::standings(question);
+    let apart = each.question;
+    let end = searches(each.few);
+    let mut count = entered;
+    let mut k: u8 = 1;
+    while k < end {
+        let t = attempt_at(k, question, ones, apart);
+        let ended = made(t, work, answer);
+        let its = ended.count;
+        count += its;
+        k += 1;
+        if decides(ended, t.clash, t.no_clash) {
+            return told(ended, count, k);
+        }
     }
     told(first, count, 0)
 }
 
-// The question of these sides, whose fields have these tables, searched over these characters, with a hidden field at the end of each side.
-fn attempt(
-    own_left: [u8; LONGEST_SIDE],
-    own_right: [u8; LONGEST_SIDE],
-    own_fields: [PlaceTables; SHEET_FIELDS],
-    over: Characters,
-    work: &mut [u8],
-    answer: &mut [u8],
-) -> Ended
-    ensures ended { λ r. ⌜ r ≡ attempted over «own_left» «own_right» «own_fields» (length (now (work .entry))) (now (answer .entry)) ⌝ }
-    ensures answer { λ _. ⌜ now (answer .exit) ≡ attempted-buffer over «own_left» «own_right» «own_fields» (length (now (work .entry))) (now (answer .entry)) ⌝ }
-    ensures work { λ _. ⌜ now (work .exit) ≡ replicate (length (now (work .entry))) 0 ⌝ }
+// How many searches there are: the fourth only "if there are at most 8 standings".
+fn searches(few_standings: bool) -> u8
+    ensures { λ r. ⌜ r ≡ searches «few_standings» ⌝ }
 {
-    let left = search_hidden::side(own_left, HIDDEN_LEFT);
-    let right = search_hidden::side(own_right, HIDDEN_RIGHT);
-    let fields = search_hidden::fields(own_fields);
-    let follow = search_tables::follow_sets(fields);
-    let taking = search_tables::taking_sets(fields);
-    let last = search_tables::last_sets(fields);
-    let some = taken(over, left, right, taking);
-    search_run::run(left, right, follow, some, last, work, answer)
+    if few_standings { 4 } else { 3 }
 }
 
-// "tables in which no place takes another character"
-fn taken(
-    over: Characters,
-    left: [u8; LONGEST_SIDE],
-    right: [u8; LONGEST_SIDE],
-    taking: [[u64; CHARACTERS]; FIELDS],
-) -> [[u64; CHARACTERS]; FIELDS]
-    ensures { λ r. ⌜ r ≡ taken over (tokens left) (tokens right) taking ⌝ }
+// The search k, the first being 0: what it is, of those behind the first.
+fn attempt_at(k: u8, question: Question, ones: LeastOnes, apart: Question) -> Attempt
+    ensures { λ r. ⌜ r ≡ attempt-coded k question ones apart ⌝ }
 {
-    match over {
-        Characters::Every => taking,
-        Characters::LeastOnes => {
-            let least = decide_alike::least_ones(left, right, taking);
-            decide_alike::only_taking(taking, least)
-        }
-        Characters::Few => {
-            let few = decide_alike::few(left, right, taking);
-            decide_alike::only_taking(taking, few)
-        }
+    // "2. Characters alike. .. Its 0 carries texts that solve the question; its 1 is a no clash."
+    if k == 1 {
+        let among = ones.least;
+        return Attempt {
+            question,
+            among,
+            clash: true,
+            no_clash: true,
+        };
     }
+    // "3. Few characters. .. Its 0 carries texts that solve the question; its 1 says nothing."
+    if k == 2 {
+        let among = decide_alike::few(question, ones);
+        return Attempt {
+            question,
+            among,
+            clash: true,
+            no_clash: false,
+        };
+    }
+    // "4. Each standing apart. .. over the least ones of that question. .. its 1 is a no clash; its 0 says nothing."
+    let its = decide_alike::least_ones(apart);
+    let among = its.least;
+    Attempt {
+        question: apart,
+        among,
+        clash: false,
+        no_clash: true,
+    }
+}
+
+// The search is made. Where its clash does not decide, no text is written.
+fn made(t: Attempt, work: &mut [u8], answer: &mut [u8]) -> Ended
+    ensures ended { λ r. ⌜ r ≡ ended-over (t .among) (t .question) (length (now (work .entry))) (cond (t .clash) (now (answer .entry)) []) ⌝ }
+    ensures answer { λ _. ⌜ now (answer .exit) ≡ cond (t .clash) (buffer-over (t .among) (t .question) (length (now (work .entry))) (now (answer .entry))) (now (answer .entry)) ⌝ }
+    ensures work { λ _. ⌜ now (work .exit) ≡ replicate (length (now (work .entry))) 0 ⌝ }
+{
+    let question = t.question;
+    let among = t.among;
+    let clash = t.clash;
+    if clash {
+        return search_question::search(question, among, work, answer);
+    }
+    let mut none = [0; 1];
+    search_question::search(question, among, work, &mut none[0..0])
 }
 
 // Does the end decide, where a clash does or does not, and no clash does or does not?
 fn decides(ended: Ended, clash: bool, no_clash: bool) -> bool
     ensures { λ r. ⌜ r ≡ decides-coded clash «no_clash» ended ⌝ }
 {
-    match ended {
-        Ended::Clash {
-            count: _,
-            written: _,
-        } => clash,
-        Ended::NoClash { count: _ } => no_clash,
-        Ended::NoRoom { count: _ } => false,
-        Ended::SideTooLong { count: _ } => false,
-        Ended::AnswerTooShort { count: _ } => clash,
-        Ended::TextTooLong { count: _ } => clash,
+    let how = ended.how;
+    let number = base_answers::pair_number(how);
+    if number == 0 {
+        return clash;
     }
-}
-
-// The situations entered.
-fn count_of(ended: Ended) -> usize
-    ensures { λ r. ⌜ r ≡ end-count ended ⌝ }
-{
-    match ended {
-        Ended::Clash { count, written: _ } => count,
-        Ended::NoClash { count } => count,
-        Ended::NoRoom { count } => count,
-        Ended::SideTooLong { count } => count,
-        Ended::AnswerTooShort { count } => count,
-        Ended::TextTooLong { count } => count,
+    if number == 1 {
+        return no_clash;
     }
+    false
 }
 
 // The answer by how a search ended, with the situations of all the searches made.
-fn answered(ended: Ended, count: usize) -> Answer
-    ensures { λ r. ⌜ r ≡ answer-of (with-count count ended) ⌝ }
-{
-    match ended {
-        Ended::Clash { count: _, written } => Answer::Clash { count, written },
-        Ended::NoClash { count: _ } => Answer::NoClash { count },
-        Ended::NoRoom { count: _ } => Answer::NoRoom { count },
-        Ended::SideTooLong { count: _ } => Answer::SideTooLong { count },
-        Ended::AnswerTooShort { count: _ } => Answer::AnswerTooShort { count },
-        Ended::TextTooLong { count: _ } => Answer::TextTooLong { count },
-    }
-}
-
 fn told(ended: Ended, count: usize, search: u8) -> Decision
-    ensures { λ r. ⌜ r ≡ record { answer = answer-of (with-count count ended); search = search } ⌝ }
+    ensures { λ r. ⌜ r ≡ record { answer = Searched (with-count count ended); search = search } ⌝ }
 {
-    let answer = answered(ended, count);
+    let how = ended.how;
+    let counted = Ended { how, count };
+    let answer = Answer::Searched { ended: counted };
     Decision { answer, search }
 }

@@ -8,14 +8,14 @@ use Rattle.paper.specs.Equation.{Over}
 use Rattle.paper.specs.Situation.{Acceptor}
 
 -- the set that a text leads to
-abbrev pub set-along : {P : Type 0} → Acceptor P → ℕ → P → List ℕ → P
-set-along A f s [] = s
-set-along A f s (c ∷ w) = set-along A f (A .set-after f s c) w
+abbrev pub accepted-along : {P : Type 0} → Acceptor P → ℕ → P → List ℕ → P
+accepted-along A f s [] = s
+accepted-along A f s (c ∷ w) = accepted-along A f (A .set-after f s c) w
 
 pub record Decides {P : Type 0} (A : Acceptor P) (Holds : ℕ → List ℕ → Type 0) : Type 0 where
   -- running the sets over a text ends in a set that may end exactly if the field may hold the text
-  pub only-held : (f : ℕ) (w : List ℕ) → f < A .fields → Over (A .characters) w → A .may-end f (set-along A f (A .first-set f) w) ≡ true → Holds f w
-  pub all-held : (f : ℕ) (w : List ℕ) → f < A .fields → Over (A .characters) w → Holds f w → A .may-end f (set-along A f (A .first-set f) w) ≡ true
+  pub only-held : (f : ℕ) (w : List ℕ) → f < A .fields → Over (A .characters) w → A .may-end f (accepted-along A f (A .first-set f) w) ≡ true → Holds f w
+  pub all-held : (f : ℕ) (w : List ℕ) → f < A .fields → Over (A .characters) w → Holds f w → A .may-end f (accepted-along A f (A .first-set f) w) ≡ true
   -- an empty set takes nothing and may not end; a field that is gone has an empty set
   pub empty-ends : (f : ℕ) (s : P) → A .is-empty s ≡ true → A .may-end f s ≡ false
   pub empty-after : (f : ℕ) (s : P) (c : ℕ) → A .is-empty s ≡ true → A .is-empty (A .set-after f s c) ≡ true

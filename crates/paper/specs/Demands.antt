@@ -10,7 +10,7 @@ use mathlib.Core.List.{List, [], _∷_, _++_, List·Memᴰ}
 use lib.Dec.{leb, eqb}
 use lib.ListN.{length, take, drop}
 use Rattle.paper.specs.Lists.{each, member}
-use Rattle.paper.specs.Numbers.{characters, longest-side, longest-text, most-room}
+use Rattle.paper.specs.Numbers.{longest-side, longest-text, most-room}
 use Rattle.paper.specs.Places.{PlaceSet, reachable-sets}
 use Rattle.paper.specs.Search.{Entry, End, found, used-up, no-room, too-long, entries}
 use Rattle.paper.specs.Leads.{situations}
@@ -32,8 +32,8 @@ abbrev pub end-of : Question → List ℕ → End (Situation PlaceSet) Move
 end-of q work = how-of (searched q (room-of work))
 
 -- "A field's text is the characters put before it on the way": the texts that the way to an entry spells
-abbrev pub spelt : Question → Entry (Situation PlaceSet) Move → Texts
-spelt q e = texts-of (acceptor q) (q .left) (q .right) e
+abbrev pub texts-spelt : Question → Entry (Situation PlaceSet) Move → Texts
+texts-spelt q e = texts-of (acceptor q) (q .left) (q .right) e
 
 -- "a text for each field standing in the sides; the texts make both sides the same label and each fits its pattern": the search finds an
 -- entry, and the texts are those that its way spells
@@ -42,10 +42,10 @@ pub record Solved (r : Reading) (work : List ℕ) : Type 0 where
   pub good : Good r question
   pub entry : Entry (Situation PlaceSet) Move
   pub is-found : end-of (hidden question) work ≡ found entry
-  pub solution : Solution question (spelt (hidden question) entry)
+  pub solution : Solution question (texts-spelt (hidden question) entry)
 
 abbrev pub texts-found : {r : Reading} {work : List ℕ} → Solved r work → Texts
-texts-found s = spelt (hidden (s .question)) (s .entry)
+texts-found s = texts-spelt (hidden (s .question)) (s .entry)
 
 -- the answer records of texts: for each field standing in the sides, by rising number, one directly behind the other
 abbrev pub records-of : Question → Texts → List ℕ
@@ -107,11 +107,11 @@ pub record TooShort (r : Reading) (work answer : List ℕ) : Type 0 where
   pub short : length answer < length (records-of (solved .question) (texts-found solved))
 
 -- the number for each end of the search; where it finds a finished situation, 0 if the records fit into the answer buffer
-abbrev pub number-of : Question → List ℕ → End (Situation PlaceSet) Move → ℕ
-number-of q answer (found e) = cond (leb (length (records-of q (spelt (hidden q) e))) (length answer)) 0 20
-number-of q answer used-up = 1
-number-of q answer no-room = 18
-number-of q answer too-long = 19
+abbrev pub demanded-number : Question → List ℕ → End (Situation PlaceSet) Move → ℕ
+demanded-number q answer (found e) = cond (leb (length (records-of q (texts-spelt (hidden q) e))) (length answer)) 0 20
+demanded-number q answer used-up = 1
+demanded-number q answer no-room = 18
+demanded-number q answer too-long = 19
 
 -- two equal characters in front
 abbrev pub equal-characters-in-front : Side → Side → Bool
@@ -125,7 +125,7 @@ equal-characters-in-front (chr a ∷ l) (chr b ∷ r) = eqb a b
 -- order": the number is that of the search's end, the count that of the situations entered, of which the trimmed question is the first. Each is
 -- trimmed to the last.
 pub record InOrder (q : Question) (work answer : List ℕ) (o : Outcome) : Type 0 where
-  pub number : o .number ≡ number-of q answer (end-of (hidden q) work)
+  pub number : o .number ≡ demanded-number q answer (end-of (hidden q) work)
   pub count : o .count ≡ length (entered (hidden q) work)
   pub first :
       0 < room-of work
@@ -156,7 +156,7 @@ pub record Demand2 (r : Reading) (work answer : List ℕ) (o : Outcome) : Type 0
 -- "(1 + L) times (1 + R)": "L adds, over the left side, one for each character and, for each field, the number of its reachable place
 -- sets; R does so for the right side." "L and R each include 2 for the hidden field".
 abbrev pub bound-of : Question → ℕ
-bound-of q = plain-bound (λ (f : ℕ). reachable-sets characters (held-by (hidden q) f)) (hidden q .left) (hidden q .right)
+bound-of q = plain-bound (λ (f : ℕ). reachable-sets (q .alphabet .characters) (held-by (hidden q) f)) (hidden q .left) (hidden q .right)
 
 -- Demand 3.
 pub record Demand3 (r : Reading) (work : List ℕ) (o : Outcome) : Type 0 where

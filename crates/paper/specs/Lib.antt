@@ -1,6 +1,7 @@
 -- Document 01 as definitions, in its own order and words. First the meaning, with no byte in it; then the bytes.
 pub mod Lists
 pub mod Numbers
+pub mod Alphabet
 -- the meaning
 pub mod Equation
 pub mod Pattern

@@ -24,8 +24,8 @@ digits (suc k) n = let front = digits k (n / 10) in cond (ltb n 10) [] front ++ 
 abbrev pub decimal : ℕ → List ℕ
 decimal n = digits 20 n
 
-abbrev pub space : ℕ
-space = 32
+abbrev pub blank-sign : ℕ
+blank-sign = 32
 
 abbrev pub newline : ℕ
 newline = 10
@@ -33,7 +33,7 @@ newline = 10
 -- "Its first line is answer, count and place in decimal, one space between"
 abbrev pub first-line : ℕ → ℕ → ℕ → List ℕ
 first-line number count place =
-    decimal number ++ (space ∷ decimal count) ++ (space ∷ decimal place) ++ (newline ∷ [])
+    decimal number ++ (blank-sign ∷ decimal count) ++ (blank-sign ∷ decimal place) ++ (newline ∷ [])
 
 -- "a line for each `VA`: field number, a space, the text as characters"
 abbrev pub value-lines : ℕ → List ℕ → List ℕ
@@ -44,7 +44,7 @@ value-lines (suc n) (v ∷ a ∷ []) = []
 value-lines (suc n) (v ∷ a ∷ f ∷ []) = []
 value-lines (suc n) (v ∷ a ∷ f ∷ low ∷ []) = []
 value-lines (suc n) (v ∷ a ∷ f ∷ low ∷ high ∷ s) =
-    decimal f ++ (space ∷ map sign (take (low + 256 * high) s)) ++ (newline ∷ []) ++ value-lines n (drop (low + 256 * high) s)
+    decimal f ++ (blank-sign ∷ map sign (take (low + 256 * high) s)) ++ (newline ∷ []) ++ value-lines n (drop (low + 256 * high) s)
 
 unfoldable pub printed-of : Outcome → List ℕ
 printed-of o =

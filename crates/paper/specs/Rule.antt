@@ -9,6 +9,7 @@ use Rattle.paper.specs.Lists.{any}
 use Rattle.paper.specs.Numbers.{characters, rule-fields}
 use Rattle.paper.specs.Pattern.{Held, some-text, Holds}
 use Rattle.paper.specs.Equation.{Token, chr, fld, Side, stands-in, Texts, label, Over}
+use Rattle.paper.specs.Alphabet.{code-39}
 use Rattle.paper.specs.Question.{Question}
 use Rattle.paper.specs.Sheet.{Checked, fault, read, cut-short, wrong-mark, LE, RU, marked, marked-side, Records, faulty, records, Fields, open-fields, read-patterns}
 
@@ -67,6 +68,7 @@ moved-up (fld f) = fld (rule-fields + f)
 unfoldable pub pair : Rule → Rule → Question
 pair present new =
     record {
+      alphabet = code-39;
       left = present .side;
       right = map moved-up (new .side);
       held = take rule-fields (present .fields .held) ++ take rule-fields (new .fields .held);

@@ -11,6 +11,7 @@ use Rattle.paper.specs.Pattern.{Pattern, Held, some-text, pattern}
 use Rattle.paper.specs.Written.{Judged, judged, judge}
 use Rattle.paper.specs.Written as Written
 use Rattle.paper.specs.Equation.{Token, chr, fld, Side}
+use Rattle.paper.specs.Alphabet.{code-39}
 use Rattle.paper.specs.Question.{Question}
 
 -- the faults of a sheet
@@ -158,10 +159,10 @@ pub data Reading : Type 0 where
 unfoldable pub read-end : List ℕ → ℕ → Question → Reading
 read-end s at q = cond (ltb at (length s)) (refused wrong-mark at) (asked q)
 
--- "one `LE`; one `RI`; the end"
+-- "one `LE`; one `RI`; the end": a sheet's question is in Code 39
 abbrev pub right-read : List ℕ → List Held → Side → Checked Side → Reading
 right-read s held l (fault x at) = refused x at
-right-read s held l (read r next) = read-end s next (record { left = l; right = r; held = held })
+right-read s held l (read r next) = read-end s next (record { alphabet = code-39; left = l; right = r; held = held })
 
 abbrev pub left-read : List ℕ → List Held → Checked Side → Reading
 left-read s held (fault x at) = refused x at

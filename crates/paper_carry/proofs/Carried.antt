@@ -25,7 +25,7 @@ use Rattle.paper_catalogue.specs.Catalogue.{Present, rules, form, all-zero, use
 use Rattle.paper_catalogue.specs.Calls.{rule-at}
 use Rattle.paper.proofs.base.Tests.{by-bool, le-ltb, or-right-false}
 use Rattle.paper.proofs.places.Judged.{range-takes}
-use Rattle.paper.proofs.sheets.Asked.{GoodHeld, GoodFields, GoodSide, sheet-good}
+use Rattle.paper.proofs.sheets.Asked.{GoodHeld, GoodFields, GoodSide, sheet-good, held-39}
 use Rattle.paper.proofs.saying.Saying.{ShortCode, Sayable, reads-back}
 use Rattle.paper.proofs.saying.Sayable.{sheet-sayable}
 use Rattle.paper_catalogue.proofs.Local.{rule-bounds, rule-whole, rule-in-front}
@@ -40,7 +40,7 @@ use Rattle.paper_carry.proofs.RuleRead.{rule-reads}
 use Rattle.paper_carry.proofs.Lengths.{sheet-length, rule-length, opened-longer}
 
 -- 68 65 0 42 is a good pattern with a short code
-out-good : GoodHeld (pattern written-out)
+out-good : GoodHeld characters (pattern written-out)
 out-good = (range-takes 0 (characters - 1) (omega arith) (omega arith), omega arith)
 
 out-short : ShortCode (pattern written-out)
@@ -53,11 +53,12 @@ module _ (s : List ℕ) (q : Question) (e : read-sheet s ≡ asked q) where
       let old = sheet-sayable s q e in
       record {
         good = record {
+          alphabet = old .good .alphabet;
           left = old .good .left;
           right = old .good .right;
           held = record {
             each-field = opened-length (stands-asked q) (q .held) 0 ∙ old .good .held .each-field;
-            good = opened-by (stands-asked q) GoodHeld out-good (q .held) 0 (old .good .held .good);
+            good = rw (old .good .alphabet) (opened-by (stands-asked q) (GoodHeld characters) out-good (q .held) 0 (held-39 (old .good) .good));
           };
         };
         codes = opened-by (stands-asked q) ShortCode out-short (q .held) 0 (old .codes);
@@ -79,7 +80,7 @@ module _ (s : List ℕ) (q : Question) (e : read-sheet s ≡ asked q) where
   pub sheet-same : NoneOpen (stands-asked q) (q .held) → sheet-saying (spelt-open q) ≡ s
   sheet-same none =
       let same = opened-same (stands-asked q) (q .held) none in
-      ap sheet-saying (λ i. record { left = q .left; right = q .right; held = same i }) ∙ said-back s q e
+      ap sheet-saying (λ i. record { alphabet = q .alphabet; left = q .left; right = q .right; held = same i }) ∙ said-back s q e
 
 -- Rules.
 module _ (r : Rule) (good : GoodRule r) where
@@ -90,17 +91,17 @@ module _ (r : Rule) (good : GoodRule r) where
   still-none f h =
       opened-still (stands-ruled r) (r .fields .held) 0 f (ap (stands-ruled r) (zero-add f) ∙ own-stands f h) (good .not-own f h)
 
-  new-fields : GoodFields (held-open r)
+  new-fields : GoodFields characters (held-open r)
   new-fields =
       record {
         each-field = opened-length (stands-ruled r) (r .fields .held) 0 ∙ good .held .each-field;
-        good = opened-by (stands-ruled r) GoodHeld out-good (r .fields .held) 0 (good .held .good);
+        good = opened-by (stands-ruled r) (GoodHeld characters) out-good (r .fields .held) 0 (good .held .good);
       }
 
   new-short : (f : ℕ) → ShortCode (getD (held-open r) f some-text)
   new-short = opened-by (stands-ruled r) ShortCode out-short (r .fields .held) 0 (good .codes)
 
-  good-side : GoodSide (r .side)
+  good-side : GoodSide characters (r .side)
   good-side = record { tokens = λ t d. own-in-range t (good .tokens t d); short = good .short }
 
   pub rule-fits : length (rule-open r) ≤ longest-rule

@@ -4,5 +4,5 @@ pub mod SaidBack
 pub mod RuleRead
 pub mod Lengths
 pub mod Carried
-pub mod Promised
+pub mod CarryPromised
 pub mod KnownSpelt

@@ -6,7 +6,7 @@ use native.Mathlib.Omega.{arith}
 use mathlib.Core.Path.{_≡_, refl, sym, ap, _∙_}
 use mathlib.Core.List.{List, [], _++_, append-nil}
 use lib.ListN.{length, getD, length-append}
-use Rattle.paper.specs.Numbers.{fields}
+use Rattle.paper.specs.Numbers.{characters, fields}
 use Rattle.paper.specs.Pattern.{Held, some-text}
 use Rattle.paper.specs.Equation.{Side}
 use Rattle.paper.specs.Sheet.{LE, marked, records, open-fields, read-patterns}
@@ -25,7 +25,7 @@ pub record RuleRead (held : List Held) (side : Side) (s : List ℕ) : Type 0 whe
   pub its-side : new .side ≡ side
   pub its-held : new .fields .held ≡ held
 
-module _ (held : List Held) (side : Side) (good : GoodFields held) (short : (f : ℕ) → ShortCode (getD held f some-text)) (good-side : GoodSide side) where
+module _ (held : List Held) (side : Side) (good : GoodFields characters held) (short : (f : ℕ) → ShortCode (getD held f some-text)) (good-side : GoodSide characters side) where
   abbrev s : List ℕ
   s = rule-saying held side
 

@@ -20,6 +20,7 @@ use Rattle.paper.specs.Pattern.{Pattern, Held, some-text, pattern}
 use Rattle.paper.specs.Written.{Judged, judged, judge}
 use Rattle.paper.specs.Written as Written
 use Rattle.paper.specs.Equation.{Token, Side}
+use Rattle.paper.specs.Alphabet.{code-39}
 use Rattle.paper.specs.Question.{Question}
 use Rattle.paper.specs.Sheet.{Checked, fault, read, FieldPattern, byte-at, bytes-left, body, Mark, PA, LE, RI, RU, first-letter, second-letter, marked}
 use Rattle.paper.specs.Sheet.{pattern-judged, pattern-record, is-token, token, side-record, next-is, marked-side, Records, faulty, records, Fields}
@@ -272,7 +273,7 @@ right-asks : (s : List ℕ) (held : List Held) (l : Side) (at : ℕ) (x : Checke
 unfolding sheet-saying
 right-asks s held l at (fault x place) e k = tt
 right-asks s held l at (read r next) e k =
-    end-asks s next (record { left = l; right = r; held = held }) (ap (λ (b : List ℕ). b ++ side-saying RI r) e ∙ sym k)
+    end-asks s next (record { alphabet = code-39; left = l; right = r; held = held }) (ap (λ (b : List ℕ). b ++ side-saying RI r) e ∙ sym k)
 
 left-asks : (s : List ℕ) (held : List Held) (at : ℕ) (x : Checked Side)
     → patterns-saying 0 held ≡ take at s → SideTakes LE s at x → Asks s (left-read s held x)

@@ -51,7 +51,7 @@ module _ (q : Question) (good : GoodQuestion q) where
     λ s. record {
       same-label = s .same-label;
       over = s .over;
-      holds = λ f e. rw (asked-new f e) (to-new (held-by q f) (texts f) (s .over f e) (s .holds f e));
+      holds = λ f e. rw (asked-new f e) (to-new (held-by q f) (texts f) (rw (good .alphabet) at (s .over f e)) (s .holds f e));
     },
     λ s. record {
       same-label = s .same-label;

@@ -5,7 +5,7 @@ use mathlib.Core.Path.{_≡_}
 use mathlib.Core.Bool.{Bool, true, cond}
 use mathlib.Core.List.{List, [], _∷_, _++_}
 use lib.ListN.{getD}
-use Rattle.paper.specs.Numbers.{characters, space}
+use Rattle.paper.specs.Numbers.{characters}
 use Rattle.paper.specs.Pattern.{range, Pattern, leaf, many, Held, some-text, pattern, Fits}
 use Rattle.paper.specs.Equation.{Side, stands-in, Texts, label, Same, Over}
 use Rattle.paper.specs.Question.{Question, held-by}
@@ -32,7 +32,7 @@ abbrev pub stands-asked : Question → ℕ → Bool
 stands-asked q f = stands-in f (q .left ++ q .right)
 
 abbrev pub spelt-open : Question → Question
-spelt-open q = record { left = q .left; right = q .right; held = opened (stands-asked q) 0 (q .held) }
+spelt-open q = record { alphabet = q .alphabet; left = q .left; right = q .right; held = opened (stands-asked q) 0 (q .held) }
 
 -- of a rule: "the mark `RU`, the `PA` records of its own fields .. and one `LE`"
 abbrev pub rule-saying : List Held → Side → List ℕ
@@ -54,8 +54,8 @@ HeldBefore (pattern p) w = Fits p w
 
 -- texts that solved a sheet's question
 pub record SolutionBefore (q : Question) (texts : Texts) : Type 0 where
-  pub same-label : Same space (label texts (q .left)) (label texts (q .right))
-  pub over : (f : ℕ) → stands-asked q f ≡ true → Over characters (texts f)
+  pub same-label : Same (q .alphabet .space) (label texts (q .left)) (label texts (q .right))
+  pub over : (f : ℕ) → stands-asked q f ≡ true → Over (q .alphabet .characters) (texts f)
   pub holds : (f : ℕ) → stands-asked q f ≡ true → HeldBefore (held-by q f) (texts f)
 
 -- a label that a rule made

@@ -99,7 +99,7 @@ pub record CarriedCatalogue (l : List Present) (catalogue : List ℕ) : Type 0 w
   pub same-labels : (i : ℕ) → i < length l → (w : List ℕ) → MadeBefore (rule-at l i) w ↔ Makes (rule-at new i) w
 
 -- What is promised: of every sheet and every buffer. "everything else byte for byte as it was": where there is nothing to add, every byte is.
-pub record Promised (sheet out : List ℕ) (s : Spelling) : Type 0 where
+pub record CarryPromised (sheet out : List ℕ) (s : Spelling) : Type 0 where
   pub carried : (q : Question) → read-sheet sheet ≡ asked q → s .number ≡ 0 → CarriedSheet q (take (s .written) (s .out))
   pub nothing-to-add : (q : Question) → read-sheet sheet ≡ asked q → NoneOpen (stands-asked q) (q .held) → s .number ≡ 0
       → take (s .written) (s .out) ≡ sheet

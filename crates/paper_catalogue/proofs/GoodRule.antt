@@ -41,13 +41,13 @@ OwnToken (fld f) = f < rule-fields
 pub record GoodRule (r : Rule) : Type 0 where
   pub tokens : (t : Token) → List·Memᴰ t (r .side) → OwnToken t
   pub short : length (r .side) ≤ sheet-side
-  pub held : GoodFields (r .fields .held)
+  pub held : GoodFields characters (r .fields .held)
   pub codes : (f : ℕ) → ShortCode (rule-holds r f)
   pub not-own : (f : ℕ) → rule-fields ≤ f → rule-holds r f ≡ some-text
 
 -- The patterns' records: besides what a good question has, each code is short, and above the last pattern's field every field is open.
 record GoodPatterns (fs : Fields) : Type 0 where
-  held : GoodFields (fs .held)
+  held : GoodFields characters (fs .held)
   codes : (f : ℕ) → ShortCode (getD (fs .held) f some-text)
   above : (f : ℕ) → fs .above ≤ f → getD (fs .held) f some-text ≡ some-text
 
@@ -73,10 +73,10 @@ no-pattern-yet =
 
 -- A rule that was read, whatever fields it names.
 record RuleRead (r : Rule) : Type 0 where
-  side : GoodSide (r .side)
+  side : GoodSide characters (r .side)
   patterns : GoodPatterns (r .fields)
 
-with-side-read : (fs : Fields) (x : Checked Side) → GoodPatterns fs → Found GoodSide x → Listed RuleRead (with-side fs x)
+with-side-read : (fs : Fields) (x : Checked Side) → GoodPatterns fs → Found (GoodSide characters) x → Listed RuleRead (with-side fs x)
 with-side-read fs (fault x at) h g = tt
 with-side-read fs (read side next) h g = record { side = g; patterns = h }
 
@@ -93,7 +93,7 @@ rule-read s =
     (patterns-by GoodPatterns one-pattern (suc (length s)) s 2 open-fields no-pattern-yet))
     (λ _. tt))
 
-own-token : (t : Token) → InRange t → foreign-token t ≡ false → OwnToken t
+own-token : (t : Token) → InRange characters t → foreign-token t ≡ false → OwnToken t
 own-token (chr c) h e = h
 own-token (fld f) h e = leb-false rule-fields f e
 
@@ -136,11 +136,11 @@ own-field r good f e =
     below (fld g) k h = rw (eqb-true f g k) h
 
 -- Pairs.
-pub own-in-range : (t : Token) → OwnToken t → InRange t
+pub own-in-range : (t : Token) → OwnToken t → InRange characters t
 own-in-range (chr c) h = h
 own-in-range (fld f) h = omega arith
 
-moved-in-range : (t : Token) → OwnToken t → InRange (moved-up t)
+moved-in-range : (t : Token) → OwnToken t → InRange characters (moved-up t)
 moved-in-range (chr c) h = h
 moved-in-range (fld f) h = omega arith
 
@@ -176,12 +176,13 @@ module _ (r s : Rule) (good-r : GoodRule r) (good-s : GoodRule s) where
       let four-s = own-held s good-s in
       record {
         good = record {
+          alphabet = refl;
           left = record { tokens = λ t d. own-in-range t (good-r .tokens t d); short = good-r .short };
           right = record {
-            tokens = λ t d. let (u, i, e) = mem-map moved-up (s .side) d in subst InRange (sym e) (moved-in-range u (good-s .tokens u i));
+            tokens = λ t d. let (u, i, e) = mem-map moved-up (s .side) d in subst (InRange characters) (sym e) (moved-in-range u (good-s .tokens u i));
             short = rw (length-map (s .side) moved-up) (good-s .short);
           };
-          held = record { each-field = omega arith; good = pair-held GoodHeld tt (good-r .held .good) (good-s .held .good) };
+          held = record { each-field = omega arith; good = pair-held (GoodHeld characters) tt (good-r .held .good) (good-s .held .good) };
         };
         codes = pair-held ShortCode tt (good-r .codes) (good-s .codes);
       }

@@ -1,6 +1,6 @@
--- The known calls of a catalogue that an edit needs: what no theorem of `paper_catalogue` says, that 32 comes before 30, in what order pairs are
--- listed, that at 35 nothing is listed. The checker computes them. All other known calls stand in `paper_vectors`, since each edit of
--- `paper_catalogue` pays for what is computed here.
+-- The known calls of a catalogue that an edit needs: what no theorem of `paper_catalogue` says, in what order pairs are listed, and that at 35
+-- nothing is listed. The checker computes them. All other known calls stand in `paper_vectors` (`KnownCatalogue`, `KnownRechecks`), since each edit
+-- of `paper_catalogue` pays for what is computed here.
 use Prim.Native.Nat.{ℕ}
 use mathlib.Core.Path.{_≡_, refl}
 use mathlib.Core.List.{List, [], _∷_, _++_}
@@ -13,9 +13,9 @@ use Rattle.paper.specs.Way.{search-from}
 use Rattle.paper.specs.Question.{acceptor}
 use Rattle.paper.specs.Sheet.{marked, pattern-record, side-record, marked-side, next-is}
 use Rattle.paper.specs.Outcome.{room-of, searched, count-of, how-of}
-use Rattle.paper.specs.Rule.{rule-front, read-rule, foreign-field, pair}
+use Rattle.paper.specs.Rule.{rule-front, foreign-field, pair}
 use Rattle.paper.proofs.known.KnownSheet.{LE}
-use Rattle.paper_catalogue.specs.Catalogue.{form, pair-answer, pair-count, adding}
+use Rattle.paper_catalogue.specs.Catalogue.{form, pair-answer, pair-count}
 use Rattle.paper_catalogue.specs.Recheck.{rechecking}
 
 abbrev pub RU : List ℕ → List ℕ
@@ -44,13 +44,6 @@ kept-rules = rule-A ++ A-spaces 1 ++ zeros 3
 -- `A`, `B`, `B` with a space, `A` with a space
 abbrev pub two-and-two : List ℕ
 two-and-two = rule-A ++ rule-B ++ B-space ++ A-spaces 1
-
--- `A` again, with no byte left: 32 before 30
-pub full-known :
-    adding rule-A rule-A (replicate 1104 90)
-    ≡ record { number = 32; count = 0; place = 0; rule = 0; answer = 0; catalogue = rule-A; work = replicate 1104 90 }
-unfolding set-after may-end judge enter offer take-next search trimmed strike put-before open-moves child-by children question search-from acceptor marked pattern-record side-record marked-side next-is room-of searched count-of how-of rule-front read-rule foreign-field pair form pair-answer pair-count adding
-full-known = refl
 
 -- by lower number, though the higher ones fall; the list to the byte
 pub order-known :

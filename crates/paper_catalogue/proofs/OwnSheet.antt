@@ -14,7 +14,7 @@ use Rattle.paper.specs.Question.{Question, hidden}
 use Rattle.paper.specs.Sheet.{asked, read-sheet}
 use Rattle.paper.specs.Outcome.{outcome-of, outcome}
 use Rattle.paper.specs.Buffers.{Demand1}
-use Rattle.paper.specs.Demands.{number-of, end-of, Demand2, Demand3}
+use Rattle.paper.specs.Demands.{demanded-number, end-of, Demand2, Demand3}
 use Rattle.paper.specs.Rule.{Rule, pair}
 use Rattle.paper_catalogue.specs.Catalogue.{pair-number, pair-answer, pair-count}
 use Rattle.paper.specs.Saying.{sheet-saying}
@@ -28,7 +28,7 @@ use Rattle.paper.proofs.saying.Saying.{reads-back}
 use Rattle.paper_catalogue.proofs.GoodRule.{GoodRule, pair-sayable, pair-asks}
 
 -- A pair's answer is the sheet's, where a clash is 0 whether or not its texts fit.
-same-number : (q : Question) (answer : List ℕ) (x : End (Situation PlaceSet) Move) → pair-number x ≡ without-20 (number-of q answer x)
+same-number : (q : Question) (answer : List ℕ) (x : End (Situation PlaceSet) Move) → pair-number x ≡ without-20 (demanded-number q answer x)
 same-number q answer (found e) =
     cond-by (λ (n : ℕ). 0 ≡ without-20 n) (leb (length (found-records q e)) (length answer)) (λ _. refl) (λ _. refl)
 same-number q answer used-up = refl

@@ -3,4 +3,4 @@ pub mod Likewise
 -- the search over some characters alone
 pub mod Over
 -- a known question: the checker computes it
-pub mod Known
+pub mod KnownChosen

@@ -15,14 +15,14 @@ use mathlib.Core.List.{List, [], _∷_, _++_, reverse, List·Memᴰ}
 use lib.Dec.{leb}
 use lib.ListN.{length, length-reverseAux}
 use Rattle.paper.specs.Lists.{all}
-use Rattle.paper.specs.Numbers.{characters, set-fields, longest-side, most-room, longest-text}
+use Rattle.paper.specs.Numbers.{set-fields, longest-side, most-room, longest-text}
 use Rattle.paper.specs.Pattern.{Holds}
 use Rattle.paper.specs.Places as Places
 use Rattle.paper.specs.Places.{PlaceSet, reachable-sets}
 use Rattle.paper.specs.Search.{Entry, found, used-up, no-room, too-long}
 use Rattle.paper.specs.Equation.{Texts, stands-in, Solves}
 use Rattle.paper.specs.Situation.{Situation, Move, same-situation, question}
-use Rattle.paper.specs.Decides.{Decides, set-along}
+use Rattle.paper.specs.Decides.{Decides, accepted-along}
 use Rattle.paper.specs.Way.{search-from, texts-of}
 use Rattle.paper.specs.Plain.{plain, plain-bound, Reaches}
 use Rattle.paper.specs.Question.{Question, held-by, Equated, acceptor}
@@ -52,7 +52,7 @@ module _ (among : ℕ → Bool) (q : Question) where
   after f s c = acceptor-over among q .set-after f s c
 
   abbrev along : ℕ → PlaceSet → List ℕ → PlaceSet
-  along f s w = set-along (acceptor-over among q) f s w
+  along f s w = accepted-along (acceptor-over among q) f s w
 
   -- After a character that passes it is 01's set, and after any other the empty one.
   after-among : (f : ℕ) (s : PlaceSet) (c : ℕ) → among c ≡ true → after f s c ≡ Places.set-after (held-by q f) s c
@@ -126,7 +126,7 @@ module _ (among : ℕ → Bool) (q : Question) where
   found-over room e h =
       subst (λ (texts : Texts). Equated q texts) (λ i f. texts-over e f i) of-all
     where
-      over-some : Solves characters (λ (f : ℕ) (w : List ℕ). Holds (held-by q f) w × (all among w ≡ true)) (q .left) (q .right)
+      over-some : Solves (q .alphabet .characters) (λ (f : ℕ) (w : List ℕ). Holds (held-by q f) w × (all among w ≡ true)) (q .left) (q .right)
           (texts-of (acceptor-over among q) (q .left) (q .right) e)
       over-some = sound (acceptor-over among q) over-decides longest-side room (q .left) (q .right) e h
 
@@ -169,26 +169,26 @@ module _ (among : ℕ → Bool) (q : Question) where
 
   -- The reachable place sets of 01 have all that are reachable over these characters.
   abbrev reach : ℕ → List PlaceSet
-  reach f = reachable-sets characters (held-by q f)
+  reach f = reachable-sets (q .alphabet .characters) (held-by q f)
 
-  after-reached : (f : ℕ) (s : PlaceSet) (c : ℕ) → c < characters → List·Memᴰ s (reach f) → Places.is-empty (after f s c) ≡ false
+  after-reached : (f : ℕ) (s : PlaceSet) (c : ℕ) → c < q .alphabet .characters → List·Memᴰ s (reach f) → Places.is-empty (after f s c) ≡ false
       → List·Memᴰ (after f s c) (reach f)
   after-reached f s c b d e =
       by-bool (among c)
-      (λ p. rw (after-among f s c p) (reachable-after characters (held-by q f) s c d b (rw (after-among f s c p) at e)))
+      (λ p. rw (after-among f s c p) (reachable-after (q .alphabet .characters) (held-by q f) s c d b (rw (after-among f s c p) at e)))
       (λ p. absurd (true-false refl (rw (after-other f s c p) at e)))
 
   reaches : Reaches (acceptor-over among q) reach
   unfolding acceptor-over
   reaches =
       record {
-        first = λ f h. reachable-first characters (held-by q f);
+        first = λ f h. reachable-first (q .alphabet .characters) (held-by q f);
         after = λ f s c h b d e. after-reached f s c b d e;
       }
 
   module _ (room : ℕ) (is-plain : plain (q .left) (q .right) ≡ true) (known : (f : ℕ) → stands-in f (q .left ++ q .right) ≡ true → f < set-fields) where
     -- "the count is at most (1 + L) times (1 + R)"
-    pub plain-count-over : count-of (searched-over among q room) ≤ plain-bound (λ (f : ℕ). reachable-sets characters (held-by q f)) (q .left) (q .right)
+    pub plain-count-over : count-of (searched-over among q room) ≤ plain-bound (λ (f : ℕ). reachable-sets (q .alphabet .characters) (held-by q f)) (q .left) (q .right)
     unfolding count-of searched-over acceptor-over
     plain-count-over =
         Any.plain-count (acceptor-over among q) same-equal equal-same reach reaches longest-side room (q .left) (q .right) is-plain known
@@ -196,7 +196,7 @@ module _ (among : ℕ → Bool) (q : Question) where
     -- With that much room it ends neither with no room nor with a side too long.
     pub plain-enough-over :
         length (q .left) ≤ longest-side → length (q .right) ≤ longest-side
-        → plain-bound (λ (f : ℕ). reachable-sets characters (held-by q f)) (q .left) (q .right) ≤ room
+        → plain-bound (λ (f : ℕ). reachable-sets (q .alphabet .characters) (held-by q f)) (q .left) (q .right) ≤ room
         → (how-of (searched-over among q room) ≡ no-room → ⊥) × (how-of (searched-over among q room) ≡ too-long → ⊥)
     unfolding how-of searched-over acceptor-over
     plain-enough-over l r enough = (

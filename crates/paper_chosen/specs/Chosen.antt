@@ -4,7 +4,7 @@
 use Prim.Native.Nat.{ℕ}
 use mathlib.Core.Bool.{Bool, true, cond}
 use mathlib.Core.List.{[]}
-use Rattle.paper.specs.Numbers.{characters, set-fields, longest-side}
+use Rattle.paper.specs.Numbers.{set-fields, longest-side}
 use Rattle.paper.specs.Places as Places
 use Rattle.paper.specs.Search.{State}
 use Rattle.paper.specs.Situation.{Acceptor, Situation, Move}
@@ -19,7 +19,7 @@ every c = true
 unfoldable pub acceptor-over : (ℕ → Bool) → Question → Acceptor Places.PlaceSet
 acceptor-over among q =
     record {
-      characters = characters;
+      characters = q .alphabet .characters;
       fields = set-fields;
       first-set = λ (f : ℕ). Places.first-set;
       set-after = λ (f : ℕ) (s : Places.PlaceSet) (c : ℕ). cond (among c) (Places.set-after (held-by q f) s c) [];

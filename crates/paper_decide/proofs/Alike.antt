@@ -27,7 +27,7 @@ use Rattle.paper.proofs.base.Listed.{keep-same}
 use Rattle.paper.proofs.places.PlacesDecide.{only-held, all-held}
 use Rattle.paper_chosen.specs.Chosen.{searched-over}
 use Rattle.paper_chosen.proofs.Over.{used-up-over}
-use Rattle.paper_decide.specs.Alike.{leaves-of, leaf-takes-it, both-or-neither, alike-in, is-character, fixed, standing-fields, alike, is-least}
+use Rattle.paper_decide.specs.Alike.{leaves-of, leaf-takes-it, both-or-neither, alike-in, is-character, fixed, fields-standing, alike, is-least}
 
 -- both or neither: the tests are the same
 both-same : (a b : Bool) → both-or-neither a b ≡ true → a ≡ b
@@ -106,18 +106,18 @@ module _ (q : Question) where
   -- What it is to be alike, without a test.
   data Alike (a b : ℕ) : Type 0 where
     itself : a ≡ b → Alike a b
-    free : fixed q a ≡ false → fixed q b ≡ false → ((f : ℕ) → List·Memᴰ f (standing-fields q) → AlikeIn (held-by q f) a b) → Alike a b
+    free : fixed q a ≡ false → fixed q b ≡ false → ((f : ℕ) → List·Memᴰ f (fields-standing q) → AlikeIn (held-by q f) a b) → Alike a b
 
   says-alike : (a b : ℕ) → alike q a b ≡ true → Alike a b
   unfolding alike
   says-alike a b e =
-      let leaves = all (λ (f : ℕ). alike-in (held-by q f) a b) (standing-fields q) in
+      let leaves = all (λ (f : ℕ). alike-in (held-by q f) a b) (fields-standing q) in
       ⊎-elim (λ h. itself (eqb-true a b h))
       (λ h.
       let k = and-right (not (fixed q a)) (not (fixed q b) && leaves) h in
       free (not-is-true (and-left (not (fixed q a)) (not (fixed q b) && leaves) h)) (not-is-true (and-left (not (fixed q b)) leaves k))
       (λ f d. alike-leaves (held-by q f) a b
-      (all-true (λ (g : ℕ). alike-in (held-by q g) a b) (standing-fields q) (and-right (not (fixed q b)) leaves k) d)))
+      (all-true (λ (g : ℕ). alike-in (held-by q g) a b) (fields-standing q) (and-right (not (fixed q b)) leaves k) d)))
       (or-is-true (eqb a b) (not (fixed q a) && (not (fixed q b) && leaves)) e)
 
   alike-says : (a b : ℕ) → Alike a b → alike q a b ≡ true
@@ -126,7 +126,7 @@ module _ (q : Question) where
   alike-says a b (free x y k) =
       right-true (eqb a b) _
       (both-true (false-not x) (both-true (false-not y)
-      (every-all (λ (f : ℕ). alike-in (held-by q f) a b) (standing-fields q) (λ f d. leaves-alike (held-by q f) a b (k f d)))))
+      (every-all (λ (f : ℕ). alike-in (held-by q f) a b) (fields-standing q) (λ f d. leaves-alike (held-by q f) a b (k f d)))))
 
   -- Alike is an equivalence.
   pub alike-itself : (a : ℕ) → alike q a a ≡ true
@@ -178,7 +178,7 @@ module _ (q : Question) where
       own (itself h) = h
       own (free x y k) = absurd (true-false e y)
 
-  least-in : (f : ℕ) → List·Memᴰ f (standing-fields q) → (c : ℕ) → AlikeIn (held-by q f) (least c) c
+  least-in : (f : ℕ) → List·Memᴰ f (fields-standing q) → (c : ℕ) → AlikeIn (held-by q f) (least c) c
   least-in f d c = its (says-alike (least c) c (least-alike c))
     where
       its : Alike (least c) c → AlikeIn (held-by q f) (least c) c
@@ -198,8 +198,8 @@ module _ (q : Question) where
       every-all (is-least q) (map least (texts f)) (λ c d. let (a, i, e) = mem-map least (texts f) d in rw e (least-is-least a))
 
   module _ (known : (f : ℕ) → stands-in f (q .left ++ q .right) ≡ true → f < set-fields) where
-    stands : (f : ℕ) → stands-in f (q .left ++ q .right) ≡ true → List·Memᴰ f (standing-fields q)
-    unfolding standing-fields
+    stands : (f : ℕ) → stands-in f (q .left ++ q .right) ≡ true → List·Memᴰ f (fields-standing q)
+    unfolding fields-standing
     stands f e = keep-mem (λ (g : ℕ). stands-in g (q .left ++ q .right)) (upto set-fields) (upto-mem set-fields (known f e)) e
 
     pub least-solves : (texts : Texts) → Equated q texts → Equated q (least-texts texts)

@@ -16,7 +16,7 @@ use mathlib.Core.List.{List, [], _∷_, _++_, map, List·Memᴰ, List·Memᴰ·h
 use lib.Dec.{eqb}
 use lib.ListN.{length, getD, length-append, length-map, List·getD-append}
 use Rattle.paper.specs.Lists.{upto}
-use Rattle.paper.specs.Numbers.{fields, hidden-left, hidden-right, set-fields, space}
+use Rattle.paper.specs.Numbers.{fields, hidden-left, hidden-right, set-fields}
 use Rattle.paper.specs.Pattern.{Held, some-text, Holds}
 use Rattle.paper.specs.Search.{used-up, no-room, too-long}
 use Rattle.paper.specs.Equation.{Token, chr, fld, Side, stands-in, Texts, label, without-trailing}
@@ -32,16 +32,16 @@ use Rattle.paper.proofs.sheets.Hidden.{Searchable, hidden-searchable, hidden-kn
 use Rattle.paper_chosen.specs.Chosen.{searched-over}
 use Rattle.paper_chosen.proofs.Over.{plain-count-over, plain-enough-over}
 use Rattle.paper_decide.specs.Alike.{is-least}
-use Rattle.paper_decide.specs.Apart.{standings, numbered-from, apart, few-standings}
+use Rattle.paper_decide.specs.Apart.{standing-list, numbered-from, apart, few-standings}
 use Rattle.paper_decide.proofs.Alike.{alike-unsolved}
 
 -- The standings and the numbers of sides one behind the other.
-pub standings-append : (l r : Side) → standings (l ++ r) ≡ standings l ++ standings r
+pub standings-append : (l r : Side) → standing-list (l ++ r) ≡ standing-list l ++ standing-list r
 standings-append [] r = refl
 standings-append (chr c ∷ l) r = standings-append l r
 standings-append (fld f ∷ l) r = cons-eq refl (standings-append l r)
 
-numbered-append : (k n : ℕ) (l r : Side) → n ≡ k + length (standings l) → numbered-from k l ++ numbered-from n r ≡ numbered-from k (l ++ r)
+numbered-append : (k n : ℕ) (l r : Side) → n ≡ k + length (standing-list l) → numbered-from k l ++ numbered-from n r ≡ numbered-from k (l ++ r)
 numbered-append k n [] r e = ap (λ (i : ℕ). numbered-from i r) (omega arith)
 numbered-append k n (chr c ∷ l) r e = cons-eq refl (numbered-append k n l r e)
 numbered-append k n (fld f ∷ l) r e = cons-eq refl (numbered-append (suc k) n l r (omega arith))
@@ -52,7 +52,7 @@ length-numbered k (chr c ∷ side) = ap suc (length-numbered k side)
 length-numbered k (fld f ∷ side) = ap suc (length-numbered (suc k) side)
 
 -- the numbers that stand
-stands-numbered : (i k : ℕ) (side : Side) → stands-in i (numbered-from k side) ≡ true → (k ≤ i) × (i < k + length (standings side))
+stands-numbered : (i k : ℕ) (side : Side) → stands-in i (numbered-from k side) ≡ true → (k ≤ i) × (i < k + length (standing-list side))
 stands-numbered i k [] e = absurd (true-false e refl)
 stands-numbered i k (chr c ∷ side) e = stands-numbered i k side e
 stands-numbered i k (fld f ∷ side) e =
@@ -68,25 +68,25 @@ once-numbered k (fld f ∷ side) =
     (false-not (not-true (stands-in k (numbered-from (suc k) side)) (λ e. let (low, high) = stands-numbered k (suc k) side e in omega arith)))
     (once-numbered (suc k) side)
 
-good-numbered : (k : ℕ) (side : Side) → k + length (standings side) ≤ fields → ((t : Token) → List·Memᴰ t side → InRange t)
-    → (t : Token) → List·Memᴰ t (numbered-from k side) → InRange t
-good-numbered k [] h g t d = absurd (List·Memᴰ·not-nil d)
-good-numbered k (chr c ∷ side) h g t d =
-    mem-cons-by InRange (g (chr c) (List·Memᴰ·head refl)) (good-numbered k side h (λ u i. g u (List·Memᴰ·tail i))) t d
-good-numbered k (fld f ∷ side) h g t d =
-    mem-cons-by InRange {y = fld k} (omega arith) (good-numbered (suc k) side (omega arith) (λ u i. g u (List·Memᴰ·tail i))) t d
+good-numbered : (n k : ℕ) (side : Side) → k + length (standing-list side) ≤ fields → ((t : Token) → List·Memᴰ t side → InRange n t)
+    → (t : Token) → List·Memᴰ t (numbered-from k side) → InRange n t
+good-numbered n k [] h g t d = absurd (List·Memᴰ·not-nil d)
+good-numbered n k (chr c ∷ side) h g t d =
+    mem-cons-by (InRange n) (g (chr c) (List·Memᴰ·head refl)) (good-numbered n k side h (λ u i. g u (List·Memᴰ·tail i))) t d
+good-numbered n k (fld f ∷ side) h g t d =
+    mem-cons-by (InRange n) {y = fld k} (omega arith) (good-numbered n (suc k) side (omega arith) (λ u i. g u (List·Memᴰ·tail i))) t d
 
 -- the field of a standing
-stands-at : (side : Side) (i : ℕ) → i < length (standings side) → stands-in (getD (standings side) i 0) side ≡ true
+stands-at : (side : Side) (i : ℕ) → i < length (standing-list side) → stands-in (getD (standing-list side) i 0) side ≡ true
 stands-at [] i h = absurd (omega arith)
 stands-at (chr c ∷ side) i h = stands-at side i h
 stands-at (fld f ∷ side) zero h = left-true (eqb f f) (stands-in f side) (eqb-same f)
 stands-at (fld f ∷ side) (suc i) h =
-    let g = getD (standings side) i 0 in right-true (eqb g f) (stands-in g side) (stands-at side i (omega arith))
+    let g = getD (standing-list side) i 0 in right-true (eqb g f) (stands-in g side) (stands-at side i (omega arith))
 
 -- "with the same pattern": the labels are the same where each standing has the text of its field
 label-numbered : (its texts : Texts) (k : ℕ) (side : Side)
-    → ((i : ℕ) → i < length (standings side) → its (k + i) ≡ texts (getD (standings side) i 0))
+    → ((i : ℕ) → i < length (standing-list side) → its (k + i) ≡ texts (getD (standing-list side) i 0))
     → label its (numbered-from k side) ≡ label texts side
 label-numbered its texts k [] h = refl
 label-numbered its texts k (chr c ∷ side) h = cons-eq refl (label-numbered its texts k side h)
@@ -108,14 +108,14 @@ getD-made held [] i h = absurd (omega arith)
 getD-made held (x ∷ l) zero h = refl
 getD-made held (x ∷ l) (suc i) h = getD-made held l i (omega arith)
 
-made-good : (held : ℕ → Held) → ((f : ℕ) → GoodHeld (held f)) → (l : List ℕ) (i : ℕ) → GoodHeld (getD (map held l) i some-text)
-made-good held g [] i = tt
-made-good held g (x ∷ l) zero = g x
-made-good held g (x ∷ l) (suc i) = made-good held g l i
+made-good : (n : ℕ) (held : ℕ → Held) → ((f : ℕ) → GoodHeld n (held f)) → (l : List ℕ) (i : ℕ) → GoodHeld n (getD (map held l) i some-text)
+made-good n held g [] i = tt
+made-good n held g (x ∷ l) zero = g x
+made-good n held g (x ∷ l) (suc i) = made-good n held g l i
 
 -- A question with something to hold for each of the fields: with its hidden fields it is the same.
 abbrev pub filled : Question → Question
-filled q = record { left = q .left; right = q .right; held = map (held-by q) (upto fields) }
+filled q = record { alphabet = q .alphabet; left = q .left; right = q .right; held = map (held-by q) (upto fields) }
 
 map-same : (a b : ℕ → Held) (l : List ℕ) → ((i : ℕ) → List·Memᴰ i l → a i ≡ b i) → map a l ≡ map b l
 map-same a b [] h = refl
@@ -124,9 +124,10 @@ map-same a b (x ∷ l) h = cons-eq (h x (List·Memᴰ·head refl)) (map-same a b
 pub hidden-filled : (q : Question) → hidden (filled q) ≡ hidden q
 hidden-filled q =
     ap (λ (own : List Held). record {
+      alphabet = q .alphabet;
       left = q .left ++ (fld hidden-left ∷ []);
       right = q .right ++ (fld hidden-right ∷ []);
-      held = own ++ (any-spaces ∷ any-spaces ∷ []);
+      held = own ++ (any-spaces (q .alphabet .space) ∷ any-spaces (q .alphabet .space) ∷ []);
     })
     (map-same (held-by (filled q)) (held-by q) (upto fields) (λ i d. getD-map-upto (held-by q) some-text fields i (mem-upto fields d)))
 
@@ -142,13 +143,13 @@ filled-solves q texts known x =
 module _ (q : Question) where
   -- the field of each standing
   abbrev pub field-at : ℕ → ℕ
-  field-at i = getD (standings (q .left ++ q .right)) i 0
+  field-at i = getD (standing-list (q .left ++ q .right)) i 0
 
   whole : apart q .left ++ apart q .right ≡ numbered-from 0 (q .left ++ q .right)
   unfolding apart
-  whole = numbered-append 0 (length (standings (q .left))) (q .left) (q .right) (omega arith)
+  whole = numbered-append 0 (length (standing-list (q .left))) (q .left) (q .right) (omega arith)
 
-  known-standing : (i : ℕ) → stands-in i (apart q .left ++ apart q .right) ≡ true → i < length (standings (q .left ++ q .right))
+  known-standing : (i : ℕ) → stands-in i (apart q .left ++ apart q .right) ≡ true → i < length (standing-list (q .left ++ q .right))
   known-standing i e =
       let (low, high) = stands-numbered i 0 (q .left ++ q .right) (ap (stands-in i) (sym whole) ∙ e) in omega arith
 
@@ -162,43 +163,45 @@ module _ (q : Question) where
   apart-solves texts x =
       let its : Texts = λ (i : ℕ). texts (field-at i) in
       let of-left = label-numbered its texts 0 (q .left) (λ i h. ap texts (at-left i h)) in
-      let of-right = label-numbered its texts (length (standings (q .left))) (q .right) (λ i h. ap texts (at-right i)) in
+      let of-right = label-numbered its texts (length (standing-list (q .left))) (q .right) (λ i h. ap texts (at-right i)) in
       record {
-        same-label = ap (without-trailing space) of-left ∙ x .same-label ∙ ap (without-trailing space) (sym of-right);
+        same-label = ap (without-trailing (q .alphabet .space)) of-left ∙ x .same-label ∙ ap (without-trailing (q .alphabet .space)) (sym of-right);
         over = λ i e. x .over (field-at i) (stands-at (q .left ++ q .right) i (known-standing i e));
         holds = λ i e. let h = known-standing i e in
-            subst (λ (held : Held). Holds held (texts (field-at i))) (sym (getD-made (held-by q) (standings (q .left ++ q .right)) i h))
+            subst (λ (held : Held). Holds held (texts (field-at i))) (sym (getD-made (held-by q) (standing-list (q .left ++ q .right)) i h))
             (x .holds (field-at i) (stands-at (q .left ++ q .right) i h));
       }
     where
-      at-left : (i : ℕ) → i < length (standings (q .left)) → field-at (0 + i) ≡ getD (standings (q .left)) i 0
+      at-left : (i : ℕ) → i < length (standing-list (q .left)) → field-at (0 + i) ≡ getD (standing-list (q .left)) i 0
       at-left i h =
           ap (λ (j : ℕ). field-at j) (omega arith) ∙ ap (λ (l : List ℕ). getD l i 0) (standings-append (q .left) (q .right))
-          ∙ getD-left (standings (q .left)) (standings (q .right)) i h
+          ∙ getD-left (standing-list (q .left)) (standing-list (q .right)) i h
 
-      at-right : (i : ℕ) → field-at (length (standings (q .left)) + i) ≡ getD (standings (q .right)) i 0
+      at-right : (i : ℕ) → field-at (length (standing-list (q .left)) + i) ≡ getD (standing-list (q .right)) i 0
       at-right i =
-          ap (λ (l : List ℕ). getD l (length (standings (q .left)) + i) 0) (standings-append (q .left) (q .right))
-          ∙ getD-right (standings (q .left)) (standings (q .right)) i
+          ap (λ (l : List ℕ). getD l (length (standing-list (q .left)) + i) 0) (standings-append (q .left) (q .right))
+          ∙ getD-right (standing-list (q .left)) (standing-list (q .right)) i
 
   module _ (good : GoodQuestion q) (few : few-standings q ≡ true) where
     pub apart-good : GoodQuestion (filled (apart q))
     unfolding apart few-standings
     apart-good =
-        let within = leb-true (length (standings (q .left ++ q .right))) fields few in
-        let both = ap length (standings-append (q .left) (q .right)) ∙ length-append (standings (q .left)) (standings (q .right)) in
+        let within = leb-true (length (standing-list (q .left ++ q .right))) fields few in
+        let both = ap length (standings-append (q .left) (q .right)) ∙ length-append (standing-list (q .left)) (standing-list (q .right)) in
+        let n = q .alphabet .characters in
         record {
+          alphabet = good .alphabet;
           left = record {
-            tokens = good-numbered 0 (q .left) (omega arith) (good .left .tokens);
+            tokens = good-numbered n 0 (q .left) (omega arith) (good .left .tokens);
             short = rw (length-numbered 0 (q .left)) (good .left .short);
           };
           right = record {
-            tokens = good-numbered (length (standings (q .left))) (q .right) (omega arith) (good .right .tokens);
-            short = rw (length-numbered (length (standings (q .left))) (q .right)) (good .right .short);
+            tokens = good-numbered n (length (standing-list (q .left))) (q .right) (omega arith) (good .right .tokens);
+            short = rw (length-numbered (length (standing-list (q .left))) (q .right)) (good .right .short);
           };
           held = record {
             each-field = length-map (upto fields) (held-by (apart q)) ∙ length-from 0 fields;
-            good = made-good (held-by (apart q)) (made-good (held-by q) (good .held .good) (standings (q .left ++ q .right))) (upto fields);
+            good = made-good n (held-by (apart q)) (made-good n (held-by q) (good .held .good) (standing-list (q .left ++ q .right))) (upto fields);
           };
         }
 

@@ -24,7 +24,7 @@ use Rattle.paper.specs.Question.{Question, Solution, hidden, Equated}
 use Rattle.paper.specs.Sheet.{Fault, cut-short, wrong-mark, wrong-field, wrong-length, not-one-pattern, too-many-leaves, wrong-token}
 use Rattle.paper.specs.Sheet.{fault-number, Reading, refused, asked, read-sheet}
 use Rattle.paper.specs.Outcome.{Outcome, room-of, searched, standing, some-text-too-long, cleared, without-bytes, clash, answered, count-of, how-of, outcome-of}
-use Rattle.paper.specs.Demands.{spelt}
+use Rattle.paper.specs.Demands.{texts-spelt}
 use Rattle.paper.proofs.base.Tests.{cond-by, true-false, not-is-false, false-not, leb-true, neq-eqb}
 use Rattle.paper.proofs.base.Lists.{length-only, mem-only, mem-cons-by, keep-mem, upto-mem}
 use Rattle.paper.proofs.sheets.Asked.{GoodQuestion, AsksGood, sheet-good, fields-known}
@@ -35,7 +35,7 @@ use Rattle.paper_chosen.specs.Chosen.{every, searched-over}
 use Rattle.paper_chosen.proofs.Over.{searched-every, found-over, used-up-over, count-over, short-over, none-too-long-over}
 use Rattle.paper_decide.specs.Apart.{few-standings}
 use Rattle.paper_decide.specs.Deciding.{Attempt, own-search, alike-search, few-search, apart-search, decides, Conclusion, concluded-from, concluded, Decision, decision-of, decision}
-use Rattle.paper_decide.specs.Promised.{ClashTold, TextsDontFit, Decided}
+use Rattle.paper_decide.specs.DecidePromised.{ClashTold, TextsDontFit, Decided}
 use Rattle.paper_decide.proofs.Alike.{alike-unsolved}
 use Rattle.paper_decide.proofs.Apart.{apart-unsolved}
 
@@ -44,8 +44,8 @@ Ended = End (Situation PlaceSet) Move
 
 -- what an entry that is found must give: its texts solve the word equation, and each is short enough
 record Solving (q : Question) (e : Entry (Situation PlaceSet) Move) : Type 0 where
-  solves : Equated (hidden q) (spelt (hidden q) e)
-  short : (f : ℕ) → length (spelt (hidden q) e f) ≤ longest-text
+  solves : Equated (hidden q) (texts-spelt (hidden q) e)
+  short : (f : ℕ) → length (texts-spelt (hidden q) e f) ≤ longest-text
   none-long : some-text-too-long (hidden q) e ≡ false
 
 abbrev Unsolved : Question → Type 0
@@ -184,8 +184,8 @@ module _ (q : Question) (good : GoodQuestion q) (work answer : List ℕ) where
       (λ _. dont-fit)
       (λ k. fit (leb-true (length bytes) (length answer) (not-is-false k))))
 
-  solution : (e : Entry (Situation PlaceSet) Move) → Solving q e → Solution q (spelt (hidden q) e)
-  solution e x = own-solves q good (spelt (hidden q) e) (x .solves)
+  solution : (e : Entry (Situation PlaceSet) Move) → Solving q e → Solution q (texts-spelt (hidden q) e)
+  solution e x = own-solves q good (texts-spelt (hidden q) e) (x .solves)
 
   clash-told : (e : Entry (Situation PlaceSet) Move) (n : ℕ) (o : Outcome) → Solving q e → Tells e n o → o .number ≡ 0 → ClashTold (asked q) answer o
   unfolding standing
@@ -195,7 +195,7 @@ module _ (q : Question) (good : GoodQuestion q) (work answer : List ℕ) where
       record {
         question = q;
         good = refl;
-        texts = spelt (hidden q) e;
+        texts = texts-spelt (hidden q) e;
         solution = solution e x;
         written = take-append-seam bytes rest;
         each-field = λ f i. keep-mem (λ (k : ℕ). stands-in k (q .left ++ q .right)) (upto fields) (upto-mem fields (fields-known q good f i)) i;
@@ -206,7 +206,7 @@ module _ (q : Question) (good : GoodQuestion q) (work answer : List ℕ) where
   clash-told e n o x dont-fit z = absurd (omega arith)
 
   dont-fit-told : (e : Entry (Situation PlaceSet) Move) → Solving q e → TextsDontFit (asked q)
-  dont-fit-told e x = record { question = q; good = refl; texts = spelt (hidden q) e; solution = solution e x }
+  dont-fit-told e x = record { question = q; good = refl; texts = texts-spelt (hidden q) e; solution = solution e x }
 
   tells-number : (e : Entry (Situation PlaceSet) Move) (n : ℕ) (o : Outcome) → Tells e n o
       → (member (o .number) (0 ∷ 1 ∷ 18 ∷ 19 ∷ 20 ∷ []) ≡ true) × (member (o .number) (0 ∷ 1 ∷ 20 ∷ []) ≡ true) × (o .count ≡ n) × (o .number ≡ 1 → ⊥)

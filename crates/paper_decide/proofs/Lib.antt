@@ -4,4 +4,4 @@ pub mod Apart
 -- every decision is as promised
 pub mod Decided
 -- known questions and sheets: the checker computes them
-pub mod Known
+pub mod KnownDecisions

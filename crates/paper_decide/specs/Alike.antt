@@ -5,7 +5,7 @@ use mathlib.Core.Bool.{Bool, true, false, _&&_, _||_, not}
 use mathlib.Core.List.{List, [], _∷_, _++_}
 use lib.Dec.{eqb}
 use Rattle.paper.specs.Lists.{upto, any, all, keep}
-use Rattle.paper.specs.Numbers.{characters, set-fields}
+use Rattle.paper.specs.Numbers.{set-fields}
 use Rattle.paper.specs.Pattern.{Held, some-text, pattern}
 use Rattle.paper.specs.Places.{leaf-places, leaf-takes}
 use Rattle.paper.specs.Equation.{Token, chr, fld, stands-in}
@@ -38,13 +38,13 @@ unfoldable pub fixed : Question → ℕ → Bool
 fixed q c = any (is-character c) (q .left ++ q .right)
 
 -- the fields that stand in the sides, rising
-unfoldable pub standing-fields : Question → List ℕ
-standing-fields q = keep (λ (f : ℕ). stands-in f (q .left ++ q .right)) (upto set-fields)
+unfoldable pub fields-standing : Question → List ℕ
+fields-standing q = keep (λ (f : ℕ). stands-in f (q .left ++ q .right)) (upto set-fields)
 
 -- A character is alike to itself.
 unfoldable pub alike : Question → ℕ → ℕ → Bool
 alike q a b =
-    eqb a b || (not (fixed q a) && (not (fixed q b) && all (λ (f : ℕ). alike-in (held-by q f) a b) (standing-fields q)))
+    eqb a b || (not (fixed q a) && (not (fixed q b) && all (λ (f : ℕ). alike-in (held-by q f) a b) (fields-standing q)))
 
 -- "the least one alike": no smaller character is alike
 unfoldable pub is-least : Question → ℕ → Bool
@@ -52,4 +52,4 @@ is-least q c = not (any (λ (a : ℕ). alike q a c) (upto c))
 
 -- the least ones, rising
 unfoldable pub least-ones : Question → List ℕ
-least-ones q = keep (is-least q) (upto characters)
+least-ones q = keep (is-least q) (upto (q .alphabet .characters))

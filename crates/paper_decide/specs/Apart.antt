@@ -10,10 +10,10 @@ use Rattle.paper.specs.Equation.{chr, fld, Side}
 use Rattle.paper.specs.Question.{Question, held-by}
 
 -- the field of each standing, in their order
-abbrev pub standings : Side → List ℕ
-standings [] = []
-standings (chr c ∷ side) = standings side
-standings (fld f ∷ side) = f ∷ standings side
+abbrev pub standing-list : Side → List ℕ
+standing-list [] = []
+standing-list (chr c ∷ side) = standing-list side
+standing-list (fld f ∷ side) = f ∷ standing-list side
 
 -- the side with its standings numbered from k on
 abbrev pub numbered-from : ℕ → Side → Side
@@ -24,11 +24,12 @@ numbered-from k (fld f ∷ side) = fld k ∷ numbered-from (suc k) side
 unfoldable pub apart : Question → Question
 apart q =
     record {
+      alphabet = q .alphabet;
       left = numbered-from 0 (q .left);
-      right = numbered-from (length (standings (q .left))) (q .right);
-      held = map (held-by q) (standings (q .left ++ q .right));
+      right = numbered-from (length (standing-list (q .left))) (q .right);
+      held = map (held-by q) (standing-list (q .left ++ q .right));
     }
 
 -- "if there are at most 8 standings"
 unfoldable pub few-standings : Question → Bool
-few-standings q = leb (length (standings (q .left ++ q .right))) fields
+few-standings q = leb (length (standing-list (q .left ++ q .right))) fields

@@ -8,16 +8,16 @@ use lib.ListN.{take}
 use Rattle.paper.specs.Lists.{any, keep, member}
 use Rattle.paper.specs.Pattern.{Held}
 use Rattle.paper.specs.Question.{Question, held-by}
-use Rattle.paper_decide.specs.Alike.{leaves-of, leaf-takes-it, fixed, standing-fields, least-ones}
+use Rattle.paper_decide.specs.Alike.{leaves-of, leaf-takes-it, fixed, fields-standing, least-ones}
 
 -- the one that is chosen for a leaf
-unfoldable pub choice : Question → Held → ℕ → List ℕ
-choice q h i =
+unfoldable pub leaf-choice : Question → Held → ℕ → List ℕ
+leaf-choice q h i =
     take 1 (keep (λ (c : ℕ). leaf-takes-it h i c && not (fixed q c)) (least-ones q) ++ keep (leaf-takes-it h i) (least-ones q))
 
 -- "for each leaf .. that takes none chosen so far"
 unfoldable pub chosen-for : Question → Held → List ℕ → ℕ → List ℕ
-chosen-for q h chosen i = cond (any (leaf-takes-it h i) chosen) chosen (chosen ++ choice q h i)
+chosen-for q h chosen i = cond (any (leaf-takes-it h i) chosen) chosen (chosen ++ leaf-choice q h i)
 
 abbrev pub chosen-in : Question → Held → List ℕ → List ℕ → List ℕ
 chosen-in q h chosen [] = chosen
@@ -33,7 +33,7 @@ some-chosen q [] = take 1 (least-ones q)
 some-chosen q (c ∷ chosen) = c ∷ chosen
 
 unfoldable pub few : Question → List ℕ
-few q = some-chosen q (chosen-by q [] (standing-fields q))
+few q = some-chosen q (chosen-by q [] (fields-standing q))
 
 unfoldable pub is-few : Question → ℕ → Bool
 is-few q c = member c (few q)

@@ -5,6 +5,6 @@ pub mod Few
 pub mod Apart
 -- the whole outcome, and what is promised of it
 pub mod Deciding
-pub mod Promised
+pub mod DecidePromised
 -- what is printed of it
-pub mod Printed
+pub mod DecisionLine

@@ -6,6 +6,7 @@ use mathlib.Core.List.{List, [], _∷_, _++_, map}
 use lib.ListN.{replicate}
 use Rattle.paper.specs.Pattern.{char, range, leaf, empty, then, either, many, some-text, pattern}
 use Rattle.paper.specs.Equation.{chr, fld}
+use Rattle.paper.specs.Alphabet.{code-39}
 use Rattle.paper.specs.Question.{Question}
 use Rattle.paper_script.specs.Language.{to-re, concat, union, star}
 use Rattle.paper_script.specs.Bytes.{bytes}
@@ -18,6 +19,7 @@ use Rattle.paper_script.specs.Scripting.{scripting-told, scripting}
 abbrev latch : Question
 latch =
     record {
+      alphabet = code-39;
       left = chr 21 ∷ chr 29 ∷ fld 0 ∷ [];
       right = fld 0 ∷ chr 4 ∷ [];
       held =
@@ -59,6 +61,7 @@ latch-read = refl
 abbrev blank : Question
 blank =
     record {
+      alphabet = code-39;
       left = [];
       right = fld 2 ∷ chr 38 ∷ chr 35 ∷ [];
       held = pattern empty ∷ some-text ∷ some-text ∷ [];
@@ -155,7 +158,7 @@ none-read = refl
 abbrev empty-sides : List ℕ
 empty-sides = 76 ∷ 69 ∷ 0 ∷ 82 ∷ 73 ∷ 0 ∷ []
 
-exact-room : scripting empty-sides (replicate 351 0) ≡ scripting-told 0 0 351 (script (record { left = []; right = []; held = replicate 8 some-text }))
+exact-room : scripting empty-sides (replicate 351 0) ≡ scripting-told 0 0 351 (script (record { alphabet = code-39; left = []; right = []; held = replicate 8 some-text }))
 unfolding one-character choice field-lines all-standing equation script scripting read-sheet read-end marked-side side-record next-is marked
 exact-room = refl
 

@@ -13,19 +13,18 @@ use lib.Dec.{leb, ltb, eqb}
 use lib.ListN.{length, length-append, length-map, List·getD-append}
 use Rattle.paper.specs.Lists.{from, upto, keep, each}
 use Rattle.paper.specs.Numbers.{characters, fields, hidden-left, hidden-right, set-fields}
-use Rattle.paper.specs.Numbers as Numbers
 use Rattle.paper.specs.Pattern.{char, range, Pattern, leaf, empty, then, either, many, Held, some-text, pattern}
 use Rattle.paper.specs.Taken.{LeafTakes, leaves-take}
 use Rattle.paper.specs.Equation.{chr, fld, Side, stands-in}
 use Rattle.paper.specs.Question.{Question, held-by, any-spaces, hidden}
-use Rattle.paper.specs.Printed.{space}
+use Rattle.paper.specs.Printed.{blank-sign}
 use Rattle.paper.specs.Sheet.{asked, read-sheet}
 use Rattle.paper.specs.Saying.{pattern-code}
 use Rattle.paper.proofs.base.Tests.{by-bool, cond-by, both-true, leb-false, le-leb, ltb-true, ltb-false, eqb-true, eqb-false}
 use Rattle.paper.proofs.base.Lists.{length-from, mem-upto}
 use Rattle.paper.proofs.base.Listed.{getD-map-upto}
 use Rattle.paper.proofs.places.Judged.{range-takes}
-use Rattle.paper.proofs.sheets.Asked.{GoodHeld}
+use Rattle.paper.proofs.sheets.Asked.{GoodHeld, held-39}
 use Rattle.paper.proofs.saying.Saying.{ShortCode, Sayable}
 use Rattle.paper_script.specs.Bytes.{bytes}
 use Rattle.paper_script.specs.Script.{one-character, next-character, choice, expression, some-characters, expression-of, digit, field-lines}
@@ -58,11 +57,11 @@ choice-length lo hi h =
 abbrev Bounded : Pattern → Type 0
 Bounded p = 4 * length (expression p) + 48 ≤ 710 * (length (pattern-code p) + 1)
 
-two-length : (a b : List ℕ) → length ((a ++ (space ∷ b)) ++ bytes ")") ≡ length a + length b + 2
-two-length a b = omega (arith, length-append (a ++ (space ∷ b)) (bytes ")"), length-append a (space ∷ b))
+two-length : (a b : List ℕ) → length ((a ++ (blank-sign ∷ b)) ++ bytes ")") ≡ length a + length b + 2
+two-length a b = omega (arith, length-append (a ++ (blank-sign ∷ b)) (bytes ")"), length-append a (blank-sign ∷ b))
 
 two-bounded : (a b : Pattern) → Bounded a → Bounded b
-    → 4 * (10 + length ((expression a ++ (space ∷ expression b)) ++ bytes ")")) + 48 ≤ 710 * (1 + length (pattern-code a ++ pattern-code b) + 1)
+    → 4 * (10 + length ((expression a ++ (blank-sign ∷ expression b)) ++ bytes ")")) + 48 ≤ 710 * (1 + length (pattern-code a ++ pattern-code b) + 1)
 two-bounded a b h k = omega (arith, two-length (expression a) (expression b), length-append (pattern-code a) (pattern-code b))
 
 pub expression-length : (p : Pattern) → leaves-take characters p
@@ -77,7 +76,7 @@ expression-length (either a b) h =
 expression-length (many a) h = omega (arith, length-append (expression a) (bytes ")"), expression-length a h)
 
 -- What a field may hold, and its lines.
-held-length : (h : Held) → GoodHeld h → ShortCode h → length (expression-of h) ≤ 34245
+held-length : (h : Held) → GoodHeld characters h → ShortCode h → length (expression-of h) ≤ 34245
 held-length some-text good short =
     let all-of = range-takes 0 (characters - 1) (omega arith) (omega arith) in
     omega (arith, expression-length some-characters (all-of, all-of))
@@ -88,8 +87,8 @@ unfolding field-lines
 lines-length f h = omega (arith, length-append (expression-of h) (bytes "))\n"))
 
 -- a hidden field's lines are short
-spaces-length : length (expression-of any-spaces) ≡ 22
-spaces-length = omega (arith, length-append (one-character Numbers.space) (bytes ")"), character-length Numbers.space)
+spaces-length : (x : ℕ) → length (expression-of (any-spaces x)) ≡ 22
+spaces-length x = omega (arith, length-append (one-character x) (bytes ")"), character-length x)
 
 abbrev most : ℕ → ℕ
 most f = cond (ltb f fields) 34306 83
@@ -97,11 +96,11 @@ most f = cond (ltb f fields) 34306 83
 module _ (q : Question) where
   pub held-own : (f : ℕ) → f < fields → held-by (hidden q) f ≡ held-by q f
   held-own f h =
-      List·getD-append (map (held-by q) (upto fields)) (any-spaces ∷ any-spaces ∷ []) some-text f
+      List·getD-append (map (held-by q) (upto fields)) (any-spaces (q .alphabet .space) ∷ any-spaces (q .alphabet .space) ∷ []) some-text f
       (rw (length-map (upto fields) (held-by q)) h)
       ∙ getD-map-upto (held-by q) some-text fields f h
 
-  pub held-hidden : (f : ℕ) → fields ≤ f → f < set-fields → held-by (hidden q) f ≡ any-spaces
+  pub held-hidden : (f : ℕ) → fields ≤ f → f < set-fields → held-by (hidden q) f ≡ any-spaces (q .alphabet .space)
   held-hidden f h k =
       by-bool (eqb f hidden-left)
       (λ e. ap (held-by (hidden q)) (eqb-true f hidden-left e))
@@ -114,8 +113,8 @@ module _ (q : Question) where
   field-length h f k =
       cond-by (λ (n : ℕ). length (field-lines f (held-by (hidden q) f)) ≤ n) (ltb f fields)
       (λ e. rw (held-own f (ltb-true f fields e))
-      (omega (arith, lines-length f (held-by q f), held-length (held-by q f) (h .good .held .good f) (h .codes f))))
-      (λ e. rw (held-hidden f (ltb-false f fields e) k) (omega (arith, lines-length f any-spaces, spaces-length)))
+      (omega (arith, lines-length f (held-by q f), held-length (held-by q f) (held-39 (h .good) .good f) (h .codes f))))
+      (λ e. rw (held-hidden f (ltb-false f fields e) k) (omega (arith, lines-length f (any-spaces (q .alphabet .space)), spaces-length (q .alphabet .space))))
 
 -- The lines of the fields that stand: not more than those of all of them.
 abbrev total : List ℕ → ℕ
@@ -157,8 +156,8 @@ equation-length left right =
     let r = side-term right hidden-right in
     omega (
       arith,
-      length-append (l ++ (space ∷ r)) (bytes "))\n(check-sat)\n"),
-      length-append l (space ∷ r),
+      length-append (l ++ (blank-sign ∷ r)) (bytes "))\n(check-sat)\n"),
+      length-append l (blank-sign ∷ r),
       term-length left hidden-left,
       term-length right hidden-right,
     )

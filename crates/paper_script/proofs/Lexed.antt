@@ -12,7 +12,7 @@ use lib.Dec.{eqb}
 use lib.ListN.{getD}
 use Rattle.paper.specs.Lists.{from, all, each}
 use Rattle.paper.specs.Pattern.{char, range, Pattern, leaf, empty, then, either, many, Held, some-text, pattern}
-use Rattle.paper.specs.Printed.{signs, sign, space}
+use Rattle.paper.specs.Printed.{signs, sign, blank-sign}
 use Rattle.paper.proofs.base.Tests.{and-left, and-right, not-is-true, le-leb, lt-leb}
 use Rattle.paper.proofs.base.Lists.{cons-eq}
 use Rattle.paper_script.specs.Bytes.{bytes}
@@ -92,16 +92,16 @@ before (either a b) rest = opening ∷ word (bytes "re.union") ∷ before a (bef
 before (many a) rest = opening ∷ word (bytes "re.*") ∷ before a (closing ∷ rest)
 
 -- what stands behind the first of two expressions, and behind the second
-two-behind : (a b s : List ℕ) → ((a ++ (space ∷ b)) ++ bytes ")") ++ s ≡ a ++ (space ∷ b ++ (bytes ")" ++ s))
+two-behind : (a b s : List ℕ) → ((a ++ (blank-sign ∷ b)) ++ bytes ")") ++ s ≡ a ++ (blank-sign ∷ b ++ (bytes ")" ++ s))
 two-behind a b s =
-    append-assoc (a ++ (space ∷ b)) (bytes ")") s ∙ append-assoc a (space ∷ b) (bytes ")" ++ s)
+    append-assoc (a ++ (blank-sign ∷ b)) (bytes ")") s ∙ append-assoc a (blank-sign ∷ b) (bytes ")" ++ s)
 
 two-lexed : (a b : Pattern) (s : List ℕ)
     → ((t : List ℕ) → lexemes between (expression a ++ t) ≡ before a (lexemes between t))
     → ((t : List ℕ) → lexemes between (expression b ++ t) ≡ before b (lexemes between t))
-    → lexemes between (((expression a ++ (space ∷ expression b)) ++ bytes ")") ++ s) ≡ before a (before b (closing ∷ lexemes between s))
+    → lexemes between (((expression a ++ (blank-sign ∷ expression b)) ++ bytes ")") ++ s) ≡ before a (before b (closing ∷ lexemes between s))
 two-lexed a b s h k =
-    ap (lexemes between) (two-behind (expression a) (expression b) s) ∙ h (space ∷ expression b ++ (bytes ")" ++ s))
+    ap (lexemes between) (two-behind (expression a) (expression b) s) ∙ h (blank-sign ∷ expression b ++ (bytes ")" ++ s))
     ∙ ap (before a) (k (bytes ")" ++ s))
 
 pub pattern-lexed : (p : Pattern) (s : List ℕ) → lexemes between (expression p ++ s) ≡ before p (lexemes between s)

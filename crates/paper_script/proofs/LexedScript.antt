@@ -17,10 +17,10 @@ use Rattle.paper.specs.Numbers.{hidden-left, hidden-right, set-fields}
 use Rattle.paper.specs.Pattern.{Held}
 use Rattle.paper.specs.Equation.{Token, chr, fld, Side, stands-in}
 use Rattle.paper.specs.Question.{Question, held-by, hidden}
-use Rattle.paper.specs.Printed.{sign, space}
+use Rattle.paper.specs.Printed.{sign, blank-sign}
 use Rattle.paper.proofs.base.Tests.{neq-eqb}
 use Rattle.paper.proofs.base.Lists.{cons-eq, mem-keep, mem-upto}
-use Rattle.paper.proofs.sheets.Asked.{GoodQuestion}
+use Rattle.paper.proofs.sheets.Asked.{GoodQuestion, left-39, right-39}
 use Rattle.paper.proofs.sheets.Hidden.{HasSet, in-range-has-set}
 use Rattle.paper_script.specs.Bytes.{bytes}
 use Rattle.paper_script.specs.Lexemes.{Lexeme, opening, closing, word, text, Within, between, in-word, in-text, ends-word, lexemes}
@@ -163,8 +163,8 @@ equation-lexed left right h k =
     let r = side-term right hidden-right in
     let end = bytes "))\n(check-sat)\n" in
     ap (λ (rest : List Lexeme). opening ∷ word (bytes "assert") ∷ opening ∷ word (bytes "=") ∷ rest)
-    (ap (lexemes between) (append-assoc l (space ∷ r) end)
-    ∙ term-lexed left hidden-left space (r ++ end) h (omega arith) refl
+    (ap (lexemes between) (append-assoc l (blank-sign ∷ r) end)
+    ∙ term-lexed left hidden-left blank-sign (r ++ end) h (omega arith) refl
     ∙ ap (before-term left hidden-left) (term-lexed right hidden-right 41 (bytes ")\n(check-sat)\n") k (omega arith) refl))
 
 -- The script.
@@ -203,4 +203,4 @@ script-lexed q g =
     ∙ ap (λ (rest : List Lexeme). opening ∷ word (bytes "set-logic") ∷ word (bytes "QF_S") ∷ closing ∷ rest)
     (fields-lexed (held-by (hidden q)) (all-standing (hidden q)) (equation (q .left) (q .right)) (standing-known (hidden q))
     ∙ ap (before-fields (held-by (hidden q)) (all-standing (hidden q)))
-    (equation-lexed (q .left) (q .right) (λ t d. in-range-has-set t (g .left .tokens t d)) (λ t d. in-range-has-set t (g .right .tokens t d))))
+    (equation-lexed (q .left) (q .right) (λ t d. in-range-has-set t (left-39 g .tokens t d)) (λ t d. in-range-has-set t (right-39 g .tokens t d))))

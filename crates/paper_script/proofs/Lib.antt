@@ -11,6 +11,6 @@ pub mod SameQuestion
 -- how long it is
 pub mod Length
 -- what is promised of writing one
-pub mod Promised
+pub mod ScriptPromised
 -- known scripts: the checker computes them
 pub mod KnownScripts

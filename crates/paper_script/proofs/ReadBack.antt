@@ -20,7 +20,7 @@ use Rattle.paper_script.specs.Language.{Expression, concat, union}
 use Rattle.paper_script.specs.Bytes.{bytes}
 use Rattle.paper_script.specs.Lexemes.{Lexeme, closing}
 use Rattle.paper_script.specs.Reader.{Item, code-point, constant, Understood, understood, further, arguments, read-expression}
-use Rattle.paper_script.specs.Reader.{read-item, further-items, joined, read-term}
+use Rattle.paper_script.specs.Reader.{read-item, further-items, joined-items, read-term}
 use Rattle.paper_script.specs.Script.{name, some-characters}
 use Rattle.paper_script.specs.Means.{said}
 use Rattle.paper_script.proofs.Tree.{alone, unions, tree, tree-of}
@@ -140,7 +140,7 @@ item-read (literal w) s = refl
 item-read (named n) s = refl
 
 joined-pieces : (n : ℕ) (l : List Piece) (rest : List Lexeme) → 2 ≤ length l → length l ≤ n
-    → joined n (bytes "str.++") (before-pieces l (closing ∷ rest)) ≡ understood (each items-of l) rest
+    → joined-items n (bytes "str.++") (before-pieces l (closing ∷ rest)) ≡ understood (each items-of l) rest
 joined-pieces n [] rest h k = absurd (omega arith)
 joined-pieces n (x ∷ []) rest h k = absurd (omega arith)
 joined-pieces n (x ∷ y ∷ l) rest h k =

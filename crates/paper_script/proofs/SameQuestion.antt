@@ -17,6 +17,7 @@ use Rattle.paper.specs.Lists.{upto, leading, each}
 use Rattle.paper.specs.Numbers.{characters, set-fields}
 use Rattle.paper.specs.Pattern.{Holds}
 use Rattle.paper.specs.Equation.{Token, chr, fld, Side, is-field, stands-in, Texts, label, Over}
+use Rattle.paper.specs.Alphabet.{code-39}
 use Rattle.paper.specs.Question.{Question, held-by, Solution, hidden, Equated}
 use Rattle.paper.specs.Printed.{signs, sign}
 use Rattle.paper.proofs.base.Tests.{left-true, right-true, eqb-true, eqb-same}
@@ -73,7 +74,8 @@ module _ (q : Question) where
   stands-standing f h e = keep-mem (λ (g : ℕ). stands-in g (q .left ++ q .right)) (upto set-fields) (upto-mem set-fields h) e
 
 -- Texts that solve what is said make it true.
-module _ (q : Question) (texts : Texts) (x : Equated q texts) (a : Assignment) (signed : (f : ℕ) → Signed a texts f) where
+module _ (q : Question) (in-39 : q .alphabet ≡ code-39) (texts : Texts) (x : Equated q texts) (a : Assignment)
+    (signed : (f : ℕ) → Signed a texts f) where
   says-true : {fs : List ℕ} {cs : List Command} → Says q fs cs
       → ((f : ℕ) → List·Memᴰ f fs → stands-in f (q .left ++ q .right) ≡ true) → Satisfied a cs
   says-true sides h =
@@ -82,7 +84,7 @@ module _ (q : Question) (texts : Texts) (x : Equated q texts) (a : Assignment) (
       (left ∙ ap (map sign) (x .same-label) ∙ sym right, (tt, tt))
   says-true (field {f = f} same others) h =
       let stands = h f (List·Memᴰ·head refl) in
-      let member = same .every (texts f) (x .over f stands) (x .holds f stands) in
+      let member = same .every (texts f) (rw in-39 at (x .over f stands)) (x .holds f stands) in
       (tt, (rw (signed f) member, says-true others (λ g d. h g (List·Memᴰ·tail d))))
 
 -- Texts that make it true are the signs of texts that solve it.
@@ -146,7 +148,7 @@ module _ (q : Question) (a : Assignment) where
               (label-over texts (q .right) (searchable .right) (λ f e. right f e .over))
               (sym (term-signs a texts (q .left) (λ f e. left f e .signed)) ∙ true-sides says holds
               ∙ term-signs a texts (q .right) (λ f e. right f e .signed));
-          over = λ f e. standing-signs f e .over;
+          over = λ f e. rw (searchable .alphabet) (standing-signs f e .over);
           holds = λ f e. standing-signs f e .holds;
         }
 
@@ -164,7 +166,7 @@ module _ (q : Question) (good : GoodQuestion q) where
   pub solves-satisfies : (texts : Texts) → Equated (hidden q) texts → Satisfies (assigned texts) (read-script (script q))
   solves-satisfies texts x =
       let m = means q good in
-      rw (m .is-read) (tt, says-true (hidden q) texts x (assigned texts) (assigned-signs texts) (m .says) (standing-stands (hidden q)))
+      rw (m .is-read) (tt, says-true (hidden q) (good .alphabet) texts x (assigned texts) (assigned-signs texts) (m .says) (standing-stands (hidden q)))
 
   module _ (a : Assignment) (t : Satisfies a (read-script (script q))) where
     said-true : Satisfied a (means q good .said-so)

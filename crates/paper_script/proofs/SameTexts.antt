@@ -1,7 +1,7 @@
 -- The expression of what a field may hold has the same texts.
 --   fits-matches : Fits p w → Matches (tree p) (map sign w)
 --   matches-fits : leaves-take characters p → Matches (tree p) v → v is the signs of a text that fits p
---   same-texts   : GoodHeld h → SameTexts (tree-of h) h
+--   same-texts   : GoodHeld characters h → SameTexts (tree-of h) h
 -- Follows by induction on the pattern, and on how often a part comes; a range by the members of the list of its characters.
 use Prim.Native.Nat.{ℕ, suc, _-_, _≤_, _<_}
 use native.Mathlib.Omega.{arith}
@@ -139,7 +139,7 @@ some-fits (c ∷ w) h k =
 fits-some : {w : List ℕ} → Fits some-characters w → 0 < length w
 fits-some (both e (one t) m) = omega (arith, ap length e)
 
-pub same-texts : (h : Held) → GoodHeld h → SameTexts (tree-of h) h
+pub same-texts : (h : Held) → GoodHeld characters h → SameTexts (tree-of h) h
 same-texts some-text k =
     let all-of = range-takes 0 (characters - 1) (omega arith) (omega arith) in
     record {

@@ -124,8 +124,8 @@ further-items (suc n) t (l ∷ rest) =
     let go-on = and-then (read-item (l ∷ rest)) (λ (u : List Item) (more : List Lexeme). further-items n (t ++ u) more) in
     cond (is-closing l) (understood t rest) go-on
 
-abbrev pub joined : ℕ → List ℕ → List Lexeme → Understood (List Item)
-joined n w s =
+abbrev pub joined-items : ℕ → List ℕ → List Lexeme → Understood (List Item)
+joined-items n w s =
     cond (is w "str.++")
     (and-then (read-item s) (λ (t : List Item) (rest : List Lexeme).
     and-then (read-item rest) (λ (u : List Item) (more : List Lexeme). further-items n (t ++ u) more)))
@@ -133,7 +133,7 @@ joined n w s =
 
 abbrev pub read-term : ℕ → List Lexeme → Understood (List Item)
 read-term n [] = garbled
-read-term n (opening ∷ rest) = and-then (a-word rest) (joined n)
+read-term n (opening ∷ rest) = and-then (a-word rest) (joined-items n)
 read-term n (closing ∷ rest) = garbled
 read-term n (word w ∷ rest) = understood (constant w ∷ []) rest
 read-term n (text w ∷ rest) = understood (map code-point w) rest

@@ -9,7 +9,7 @@ use Rattle.paper.specs.Numbers.{characters, hidden-left, hidden-right, set-fiel
 use Rattle.paper.specs.Pattern.{char, range, Pattern, leaf, empty, then, either, many, Held, some-text, pattern}
 use Rattle.paper.specs.Equation.{chr, fld, Side, stands-in}
 use Rattle.paper.specs.Question.{Question, held-by, hidden}
-use Rattle.paper.specs.Printed.{sign, space}
+use Rattle.paper.specs.Printed.{sign, blank-sign}
 use Rattle.paper_script.specs.Bytes.{bytes}
 
 -- a character in a literal: its sign, for none of the 43 is one that SMT-LIB treats specially
@@ -21,7 +21,7 @@ unfoldable pub one-character : ℕ → List ℕ
 one-character c = bytes "(str.to_re \"" ++ character c ++ bytes "\")"
 
 abbrev pub next-character : ℕ → List ℕ
-next-character c = space ∷ one-character c
+next-character c = blank-sign ∷ one-character c
 
 -- "Value order is not ASCII order, so a range is written as a choice of single characters." One character is no choice.
 unfoldable pub choice : ℕ → ℕ → List ℕ
@@ -30,7 +30,7 @@ choice lo hi =
 
 -- two expressions under an operator, and one
 abbrev pub two : List ℕ → List ℕ → List ℕ → List ℕ
-two op a b = op ++ a ++ (space ∷ b) ++ bytes ")"
+two op a b = op ++ a ++ (blank-sign ∷ b) ++ bytes ")"
 
 abbrev pub any-number : List ℕ → List ℕ
 any-number a = bytes "(re.* " ++ a ++ bytes ")"
@@ -95,7 +95,7 @@ all-standing q = keep (λ (f : ℕ). stands-in f (q .left ++ q .right)) (upto se
 
 unfoldable pub equation : Side → Side → List ℕ
 equation left right =
-    bytes "(assert (= " ++ side-term left hidden-left ++ (space ∷ side-term right hidden-right) ++ bytes "))\n(check-sat)\n"
+    bytes "(assert (= " ++ side-term left hidden-left ++ (blank-sign ∷ side-term right hidden-right) ++ bytes "))\n(check-sat)\n"
 
 unfoldable pub script : Question → List ℕ
 script q =

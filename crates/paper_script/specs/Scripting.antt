@@ -36,7 +36,7 @@ scripting sheet out = scripting-of (read-sheet sheet) out
 
 -- What is promised: a script that was written means the sheet's question, so that some texts satisfy it exactly if some texts solve the question;
 -- where none was written no byte is changed; a buffer of so many bytes is never too short.
-pub record Promised (sheet out : List ℕ) (s : Scripting) : Type 0 where
+pub record ScriptPromised (sheet out : List ℕ) (s : Scripting) : Type 0 where
   pub means : (q : Question) → read-sheet sheet ≡ asked q → s .number ≡ 0 → Means q (read-script (take (s .written) (s .script)))
   pub same-answer : (q : Question) → read-sheet sheet ≡ asked q → s .number ≡ 0
       → ((texts : Texts) × Solution q texts) ↔ ((a : Assignment) × Satisfies a (read-script (take (s .written) (s .script))))

@@ -41,7 +41,7 @@ known-in-01 =
     answer-row (PA 0 written-out ++ LE (x ∷ A ∷ []) ++ RI (B ∷ x ∷ [])) 750 20 1 2 [] ∷
     -- xx and `AA`, open
     answer-row (LE (x ∷ x ∷ []) ++ RI (A ∷ A ∷ [])) 2400 20 0 11 (VA 0 (A ∷ [])) ∷
-    -- xx and `A`, open, room 20: no label exists, but x takes one space after the other (with room 356 the program `known` has it: 19)
+    -- xx and `A`, open, room 20: no label exists, but x takes one space after the other (with room 356 the program `test_sheets` has it: 19)
     answer-row (LE (x ∷ x ∷ []) ++ RI (A ∷ [])) 3680 20 18 20 [] ∷
     -- `AB`x`B` and x`B`y, open
     answer-row (LE (A ∷ B ∷ x ∷ B ∷ []) ++ RI (x ∷ B ∷ y ∷ [])) 2950 20 0 15 (VA 0 (A ∷ []) ++ VA 1 (A ∷ B ∷ [])) ∷

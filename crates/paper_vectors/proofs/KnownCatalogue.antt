@@ -2,8 +2,7 @@
 -- checker computes them. Each row fixes all that a call tells and leaves: the numbers, the catalogue, and for an addition the working buffer.
 --
 -- The working buffer is lent full of another byte. The bytes of each catalogue are written out, its zeros too. A pair's count is that of the
--- search with the hidden fields (request K3), and a field without a pattern holds one character or more (request K5). That 32 comes before 30 stands
--- in `paper_catalogue` (`KnownFew`).
+-- search with the hidden fields (request K3), and a field without a pattern holds one character or more (request K5).
 use Prim.Native.Nat.{ℕ, _+_}
 use mathlib.Core.Path.{_≡_, refl}
 use mathlib.Core.Bool.{Bool, true, false, cond}
@@ -170,6 +169,8 @@ refused-rules =
     refused-row [] rule-A 32 0 ∷
     refused-row (rule-A ++ zeros 5) rule-B 32 0 ∷
     refused-row (zeros 32) of-33-bytes 32 0 ∷
+    -- 32 before 30
+    refused-row rule-A rule-A 32 0 ∷
     -- 32 rules stand
     refused-row (empty-rules 32 ++ zeros 20) rule-A 32 0 ∷
     -- a token of field 4; a pattern of field 4, which stands in no side; 31 before 32

@@ -10,10 +10,10 @@ use lib.ListN.{length, length-append, length-replicate}
 use Rattle.paper.specs.Numbers.{program-answer}
 use Rattle.paper.specs.Outcome.{Outcome}
 use Rattle.paper.proofs.base.Tests.{le-leb}
-use Rattle.print_lines.specs.Lines.{in-front, Prints, Put, put-as, put-where-room}
+use Rattle.print_lines.specs.Lines.{lines-in-front, Prints, Put, put-as, put-where-room}
 use Rattle.print_lines.specs.declared.Filled.{Filled}
 use Rattle.print_lines.specs.declared.Filled.the-variants.{Bytes, NoRoom}
-use Rattle.print_clash.specs.Lines.{Lined, lined-as, lined-where-room, no-answer}
+use Rattle.print_clash.specs.ClashPrinted.{Lined, lined-as, lined-where-room, no-answer}
 
 -- how many bytes of lines there are
 abbrev pub filled-bytes : Filled → ℕ
@@ -49,6 +49,6 @@ module _ (longest : ℕ) (lines : List ℕ) (o : Outcome) (work answer out : Lis
   program-prints {out′ = out′} {said = said} b room e =
       let fits : leb (longest + length answer) (length out) ≡ true = le-leb (longest + length answer) (length out) (omega (arith, ap length b, answer-length, room)) in
       let f = rw fits at e in
-      let bytes : out′ ≡ in-front lines out = ap (λ (x : Lined). x .out) f in
+      let bytes : out′ ≡ lines-in-front lines out = ap (λ (x : Lined). x .out) f in
       let many : filled-bytes said ≡ length lines = ap (λ (x : Lined). filled-bytes (x .said)) f in
       record { bytes = bytes; many = many; within = rw (bytes, length-append lines) (omega (arith, many)) }

@@ -4,7 +4,7 @@ pub use print_lines::Filled;
 ghost use mathlib.Core.Path.{_≡_};
 ghost use Rattle.paper.specs.Printed.{printed as printed-for};
 ghost use Rattle.print_lines.specs.Lines.{Prints};
-ghost use Rattle.print_clash.specs.Lines.{no-work, no-answer, lined-as, lined};
+ghost use Rattle.print_clash.specs.ClashPrinted.{no-work, no-answer, lined-as, lined};
 
 // "`clash` reads the first" 2,048 "bytes of standard input, lends 65,520 bytes of work" (356 situations) "and 4,096 of answer."
 pub const INPUT: usize = 2048;

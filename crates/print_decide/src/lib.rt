@@ -6,10 +6,10 @@ use print_clash::zeroed_work;
 pub use print_lines::DECIDED_LINE;
 pub use print_lines::Filled;
 ghost use mathlib.Core.Path.{_≡_};
-ghost use Rattle.paper_decide.specs.Printed.{printed-decided};
+ghost use Rattle.paper_decide.specs.DecisionLine.{printed-decided};
 ghost use Rattle.print_lines.specs.Lines.{Prints};
-ghost use Rattle.print_clash.specs.Lines.{lined-as};
-ghost use Rattle.print_decide.specs.Lines.{lined-decided};
+ghost use Rattle.print_clash.specs.ClashPrinted.{lined-as};
+ghost use Rattle.print_decide.specs.DecisionPrinted.{lined-decided};
 
 // No later line is longer than its record.
 pub const PRINTED: usize = DECIDED_LINE + ANSWER;

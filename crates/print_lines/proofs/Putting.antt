@@ -6,7 +6,7 @@ use mathlib.Core.Path.{_≡_, refl, sym, _∙_}
 use mathlib.Core.List.{List, [], _∷_, _++_}
 use lib.ListN.{length, set, length-append}
 use lib.Seq.{sets, sets-eq}
-use Rattle.print_lines.specs.Lines.{in-front}
+use Rattle.print_lines.specs.Lines.{lines-in-front}
 use Rattle.print_lines.specs.Writing.{Puts}
 
 sets-append : (d : List ℕ) (at : ℕ) (l m : List ℕ) → sets d at (l ++ m) ≡ sets (sets d at l) (at + length l) m
@@ -25,5 +25,5 @@ module _ {d : List ℕ} {at : ℕ} where
       }
 
 -- what was put from the front on stands in front
-pub puts-in-front : {d e l : List ℕ} {n : ℕ} → Puts d e 0 n l → length l ≤ length d → e ≡ in-front l d
+pub puts-in-front : {d e l : List ℕ} {n : ℕ} → Puts d e 0 n l → length l ≤ length d → e ≡ lines-in-front l d
 puts-in-front {d} {e} {l} p h = p .bytes ∙ sets-eq l d 0 (rw zero-add h) ∙ rw zero-add

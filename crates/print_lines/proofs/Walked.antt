@@ -8,10 +8,10 @@ use mathlib.Core.Path.{_≡_, refl, sym, ap, _∙_}
 use mathlib.Core.List.{List, [], _∷_, _++_, map, append-assoc, append-nil}
 use lib.ListN.{length, getD, take, drop, length-append, length-map, length-drop, length-take}
 use lib.Seq.{take-suc, take-nil, drop-nil, drop-drop, getD-drop}
-use Rattle.paper.specs.Printed.{sign, space, newline, value-lines}
+use Rattle.paper.specs.Printed.{sign, blank-sign, newline, value-lines}
 use Rattle.paper.proofs.base.Lists.{map-append}
 use Rattle.print_lines.specs.Lines.{longest-first-line, longest-decided-line}
-use Rattle.print_lines.specs.Writing.{Puts, in-digits, in-decimal, most-digits, numbers-line, numbers-line-decided, three-numbers, value-line, record-head, text-length}
+use Rattle.print_lines.specs.Writing.{Puts, in-digits, in-decimal, most-digits, numbers-line, numbers-line-decided, three-numbers, value-line, head-size, text-length}
 use Rattle.print_lines.proofs.Decimal.{decimal-at-most, byte-at-most}
 use Rattle.print_lines.proofs.Putting.{puts-none, puts-then}
 
@@ -25,13 +25,13 @@ more-signs-behind p q r t s e = simp append-assoc
 
 pub numbers-line-parts : (number count place : ℕ) → numbers-line number count place ≡ three-numbers number count place newline
 unfolding numbers-line in-digits
-numbers-line-parts number count place = signs-behind (in-decimal number) (in-decimal count) (in-decimal place) space newline
+numbers-line-parts number count place = signs-behind (in-decimal number) (in-decimal count) (in-decimal place) blank-sign newline
 
 pub decided-line-parts : (number count place search : ℕ)
-    → numbers-line-decided number count place search ≡ three-numbers number count place space ++ (in-decimal search ++ (newline ∷ []))
+    → numbers-line-decided number count place search ≡ three-numbers number count place blank-sign ++ (in-decimal search ++ (newline ∷ []))
 unfolding numbers-line-decided in-digits
 decided-line-parts number count place search =
-    more-signs-behind (in-decimal number) (in-decimal count) (in-decimal place) (in-decimal search) space newline
+    more-signs-behind (in-decimal number) (in-decimal count) (in-decimal place) (in-decimal search) blank-sign newline
 
 -- a number of at most 20 digits, and a sign behind it
 pub number-length : (n s : ℕ) → length (in-decimal n ++ (s ∷ [])) ≤ most-digits + 1
@@ -46,15 +46,15 @@ numbers-line-length number count place = rw (numbers-line-parts number count pla
 
 pub decided-line-length : (number count place search : ℕ) → length (numbers-line-decided number count place search) ≤ longest-decided-line
 decided-line-length number count place search =
-    rw (decided-line-parts number count place search, length-append (three-numbers number count place space))
-    (omega (arith, three-numbers-length number count place space, number-length search newline))
+    rw (decided-line-parts number count place search, length-append (three-numbers number count place blank-sign))
+    (omega (arith, three-numbers-length number count place blank-sign, number-length search newline))
 
-pub value-line-parts : (f : ℕ) (text : List ℕ) → value-line f text ≡ (in-decimal f ++ (space ∷ [])) ++ map sign text ++ (newline ∷ [])
+pub value-line-parts : (f : ℕ) (text : List ℕ) → value-line f text ≡ (in-decimal f ++ (blank-sign ∷ [])) ++ map sign text ++ (newline ∷ [])
 unfolding value-line in-digits
-value-line-parts f text = ap (λ (l : List ℕ). l ++ (newline ∷ [])) (sym (append-assoc (in-decimal f) (space ∷ []) (map sign text)))
+value-line-parts f text = ap (λ (l : List ℕ). l ++ (newline ∷ [])) (sym (append-assoc (in-decimal f) (blank-sign ∷ []) (map sign text)))
 
 -- no line is longer than its record
-pub value-line-length : (f : ℕ) (text : List ℕ) → f < 256 → length (value-line f text) ≤ record-head + length text
+pub value-line-length : (f : ℕ) (text : List ℕ) → f < 256 → length (value-line f text) ≤ head-size + length text
 value-line-length f text h = rw (value-line-parts f text) (simp (length-append, length-map) (omega (arith, byte-at-most f h)))
 
 -- one character more
@@ -73,7 +73,7 @@ drop-min (suc n) [] = drop-nil (min (suc n) 0)
 drop-min (suc n) (x ∷ l) = rw suc-min-suc (drop-min n l)
 
 -- too few bytes for a record
-no-record : (n : ℕ) (s : List ℕ) → length s < record-head → value-lines n s ≡ []
+no-record : (n : ℕ) (s : List ℕ) → length s < head-size → value-lines n s ≡ []
 no-record zero s h = refl
 no-record (suc n) [] h = refl
 no-record (suc n) (v ∷ []) h = refl
@@ -82,9 +82,9 @@ no-record (suc n) (v ∷ a ∷ f ∷ []) h = refl
 no-record (suc n) (v ∷ a ∷ f ∷ low ∷ []) h = refl
 no-record (suc n) (v ∷ a ∷ f ∷ low ∷ high ∷ s) h = absurd (omega arith)
 
-one-record : (n : ℕ) (s : List ℕ) → record-head ≤ length s →
+one-record : (n : ℕ) (s : List ℕ) → head-size ≤ length s →
     let len = getD s 3 0 + 256 * getD s 4 0 in
-    value-lines (suc n) s ≡ value-line (getD s 2 0) (take len (drop record-head s)) ++ value-lines n (drop len (drop record-head s))
+    value-lines (suc n) s ≡ value-line (getD s 2 0) (take len (drop head-size s)) ++ value-lines n (drop len (drop head-size s))
 unfolding value-line
 one-record n [] h = absurd (omega arith)
 one-record n (v ∷ []) h = absurd (omega arith)
@@ -95,31 +95,31 @@ one-record n (v ∷ a ∷ f ∷ low ∷ high ∷ s) h = refl
 
 -- the text of the record at `from`
 abbrev pub text : List ℕ → ℕ → List ℕ
-text s from = take (text-length s from) (drop (from + record-head) s)
+text s from = take (text-length s from) (drop (from + head-size) s)
 
 -- as the code takes it: the part from behind the head to behind the text
 pub text-part : (s : List ℕ) (from n : ℕ) → n ≡ text-length s from
-    → take (from + record-head + n - (from + record-head)) (drop (from + record-head) s) ≡ text s from
+    → take (from + head-size + n - (from + head-size)) (drop (from + head-size) s) ≡ text s from
 text-part s from n e = rw (add-sub-cancel-left, e)
 
-pub text-within : (s : List ℕ) (from : ℕ) → from + record-head ≤ length s → from + record-head + text-length s from ≤ length s
-text-within s from h = omega (arith, min-le-right (getD s (from + 3) 0 + 256 * getD s (from + 4) 0) (length s - (from + record-head)))
+pub text-within : (s : List ℕ) (from : ℕ) → from + head-size ≤ length s → from + head-size + text-length s from ≤ length s
+text-within s from h = omega (arith, min-le-right (getD s (from + 3) 0 + 256 * getD s (from + 4) 0) (length s - (from + head-size)))
 
 pub text-long : (s : List ℕ) (from n : ℕ) → n ≡ text-length s from → length (text s from) ≤ n
-text-long s from n e = rw (length-take, e) (min-le-left (text-length s from) (length (drop (from + record-head) s)))
+text-long s from n e = rw (length-take, e) (min-le-left (text-length s from) (length (drop (from + head-size) s)))
 
-record-at : (s : List ℕ) (from n : ℕ) → from + record-head ≤ length s
+record-at : (s : List ℕ) (from n : ℕ) → from + head-size ≤ length s
     → value-lines (suc n) (drop from s)
-    ≡ value-line (getD s (from + 2) 0) (text s from) ++ value-lines n (drop (from + record-head + text-length s from) s)
+    ≡ value-line (getD s (from + 2) 0) (text s from) ++ value-lines n (drop (from + head-size + text-length s from) s)
 record-at s from n h =
     one-record n (drop from s) (simp length-drop (omega arith))
     ∙ rw (
       getD-drop from s 2 0,
       getD-drop from s 3 0,
       getD-drop from s 4 0,
-      drop-drop record-head from s,
-      ← drop-drop (text-length s from) (from + record-head) s,
-      ← length-drop (from + record-head) s,
+      drop-drop head-size from s,
+      ← drop-drop (text-length s from) (from + head-size) s,
+      ← length-drop (from + head-size) s,
       take-min,
       drop-min,
     )
@@ -137,9 +137,9 @@ module _ {records d : List ℕ} {at : ℕ} where
   none-put n h = record { lines = []; left = n; enough = omega arith; puts = puts-none; rest = refl }
 
   module _ {whole e : List ℕ} {from end : ℕ} (u : Underway whole records d e at from end) where
-    pub one-put : {f : List ℕ} {end′ : ℕ} → from + record-head ≤ length records
+    pub one-put : {f : List ℕ} {end′ : ℕ} → from + head-size ≤ length records
         → Puts e f end end′ (value-line (getD records (from + 2) 0) (text records from))
-        → Underway whole records d f at (from + record-head + text-length records from) end′
+        → Underway whole records d f at (from + head-size + text-length records from) end′
     one-put h p =
         let more : suc (u .left - 1) ≡ u .left = omega (arith, u .enough) in
         record {
@@ -152,5 +152,5 @@ module _ {records d : List ℕ} {at : ℕ} where
               ∙ rw (← record-at records from (u .left - 1) h, more) (u .rest);
         }
 
-    pub all-put : length records < from + record-head → Puts d e at end whole
+    pub all-put : length records < from + head-size → Puts d e at end whole
     all-put h = rw (← u .rest, no-record (u .left) (drop from records) (simp length-drop (omega arith)), append-nil) (u .puts)

@@ -20,13 +20,13 @@ abbrev pub longest-decided-line : ℕ
 longest-decided-line = 4 * (most-digits + 1)
 
 -- the bytes in front of the buffer, the rest unchanged
-abbrev pub in-front : List ℕ → List ℕ → List ℕ
-in-front bytes buffer = bytes ++ drop (length bytes) buffer
+abbrev pub lines-in-front : List ℕ → List ℕ → List ℕ
+lines-in-front bytes buffer = bytes ++ drop (length bytes) buffer
 
 -- The lines l stand in front of the buffer, and n is their length. The third part follows from the other two; with it a caller may take
 -- the part that they stand in.
 pub record Prints (l before after : List ℕ) (n : ℕ) : Type 0 where
-  pub bytes : after ≡ in-front l before
+  pub bytes : after ≡ lines-in-front l before
   pub many : n ≡ length l
   pub within : n ≤ length after
 
@@ -54,7 +54,7 @@ put-as said out = record { said = said; out = out }
 -- where a longest first line and the answer buffer have room, these lines; else nothing is changed
 abbrev pub put-where-room : ℕ → List ℕ → List ℕ → List ℕ → Put
 put-where-room longest lines answer out =
-    cond (leb (longest + length answer) (length out)) (put-as (Bytes (length lines)) (in-front lines out)) (put-as NoRoom out)
+    cond (leb (longest + length answer) (length out)) (put-as (Bytes (length lines)) (lines-in-front lines out)) (put-as NoRoom out)
 
 unfoldable pub put-lines : Numbers → List ℕ → List ℕ → Put
 put-lines told answer out = put-where-room longest-first-line (lines-of told answer) answer out

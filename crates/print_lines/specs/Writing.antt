@@ -4,8 +4,8 @@ use mathlib.Core.Path.{_≡_}
 use mathlib.Core.List.{List, [], _∷_, _++_, map}
 use lib.ListN.{length, getD}
 use lib.Seq.{sets}
-use Rattle.paper.specs.Printed.{digits, decimal, first-line, sign, space, newline, value-lines}
-use Rattle.paper_decide.specs.Printed.{decided-line}
+use Rattle.paper.specs.Printed.{digits, decimal, first-line, sign, blank-sign, newline, value-lines}
+use Rattle.paper_decide.specs.DecisionLine.{decided-line}
 
 -- The bytes l were put into d from `at` on, which is now e; `end` is the place behind them.
 pub record Puts (d e : List ℕ) (at end : ℕ) (l : List ℕ) : Type 0 where
@@ -33,19 +33,19 @@ numbers-line-decided number count place search = decided-line number count place
 -- three numbers, one space between and a sign behind: how both lines begin
 abbrev pub three-numbers : ℕ → ℕ → ℕ → ℕ → List ℕ
 three-numbers number count place sign =
-    (in-decimal number ++ (space ∷ [])) ++ (in-decimal count ++ (space ∷ [])) ++ (in-decimal place ++ (sign ∷ []))
+    (in-decimal number ++ (blank-sign ∷ [])) ++ (in-decimal count ++ (blank-sign ∷ [])) ++ (in-decimal place ++ (sign ∷ []))
 
 -- "field number, a space, the text as characters"
 unfoldable pub value-line : ℕ → List ℕ → List ℕ
-value-line f text = decimal f ++ (space ∷ map sign text) ++ (newline ∷ [])
+value-line f text = decimal f ++ (blank-sign ∷ map sign text) ++ (newline ∷ [])
 
 -- `VA`, field byte, length in two bytes
-abbrev pub record-head : ℕ
-record-head = 5
+abbrev pub head-size : ℕ
+head-size = 5
 
 -- how long the text of the record at `from` is: as the record tells, but not past the end
 abbrev pub text-length : List ℕ → ℕ → ℕ
-text-length s from = min (getD s (from + 3) 0 + 256 * getD s (from + 4) 0) (length s - (from + record-head))
+text-length s from = min (getD s (from + 3) 0 + 256 * getD s (from + 4) 0) (length s - (from + head-size))
 
 -- "a line for each `VA`" was put, none longer than its record
 pub record Puts-lines (d e : List ℕ) (at end : ℕ) (records : List ℕ) : Type 0 where

@@ -8,7 +8,7 @@ ghost use lib.Dec.{leb};
 ghost use lib.ListN.{length, take};
 ghost use Rattle.paper.specs.Printed.{sign as sign-of};
 ghost use Rattle.print_lines.specs.Lines.{longest-first-line, longest-decided-line, Prints, lines-of, decided-lines-of, put-as, put-lines, put-decided};
-ghost use Rattle.print_lines.specs.Writing.{Puts, Puts-lines, in-digits, in-decimal, numbers-line, numbers-line-decided, three-numbers, value-line, record-head, text-length};
+ghost use Rattle.print_lines.specs.Writing.{Puts, Puts-lines, in-digits, in-decimal, numbers-line, numbers-line-decided, three-numbers, value-line, head-size, text-length};
 
 // 20 digits are enough for every number of 64 bits.
 const DIGITS: usize = 20;
@@ -110,7 +110,7 @@ fn spell(out: &mut [u8], at: usize, text: &[u8]) -> usize
 
 // "field number, a space, the text as characters"
 fn value_line(out: &mut [u8], at: usize, field: u8, text: &[u8]) -> usize
-    requires { ⌜ at + (record-head + length (now text)) ≤ length (now out) ⌝ }
+    requires { ⌜ at + (head-size + length (now text)) ≤ length (now out) ⌝ }
     ensures { λ r. ⌜ Puts (now (out .entry)) (now (out .exit)) at r (value-line field (now (text .entry))) ⌝ }
 {
     let behind_field = number_and(out, at, field as usize, b' ');
@@ -132,7 +132,7 @@ fn least(a: usize, b: usize) -> usize
 
 // How long the text of the record at a place is: as the record tells, but not past the end.
 fn text_length(records: &[u8], from: usize) -> usize
-    requires { ⌜ from + record-head ≤ length (now records) ⌝ }
+    requires { ⌜ from + head-size ≤ length (now records) ⌝ }
     ensures { λ r. ⌜ r ≡ text-length (now (records .entry)) from ⌝ }
 {
     let told = low_first(records[from + 3], records[from + 4]);

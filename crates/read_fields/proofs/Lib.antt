@@ -1,3 +1,4 @@
 pub mod Verdicts
 pub mod Reached
-pub mod Told
+pub mod FieldsStruct
+pub mod PatternsStanding

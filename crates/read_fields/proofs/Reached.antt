@@ -14,21 +14,26 @@ use Rattle.paper.specs.Sheet.{Fault, fault, bytes-left, Mark, PA, next-is, patt
 use Rattle.paper.proofs.base.Tests.{by-bool, true-false, ltb-false}
 use Rattle.base_places.specs.WorkedOut.{worked-out}
 use Rattle.base_places.specs.declared.PlaceTables.{PlaceTables}
+use Rattle.base_question.specs.Bodies.{no-bodies}
+use Rattle.base_question.specs.declared.Body.{Body}
 use Rattle.base_answers.specs.declared.Found.the-variants.{NoFault}
 use Rattle.read_fields.specs.declared.Fields as Code
 use Rattle.read_fields.specs.declared.PatternRecord.{PatternRecord}
+use Rattle.read_fields.specs.Bodies.{bodies-from, bodies-in}
 use Rattle.read_fields.specs.Walk.{fields-of, Pattern-stands}
 
 -- what reading from the offset on gives, with turns enough
 abbrev pub all-read : List ℕ → ℕ → Records Fields
 all-read s from = read-patterns (suc (length s)) s from open-fields
 
--- the records from the offset `from` on are read up to the offset `at`, and the patterns among them are worked out; the turns left are enough
-pub record Reached (s : List ℕ) (from at above : ℕ) (works : List PlaceTables) : Type 0 where
+-- the records from the offset `from` on are read up to the offset `at`; the patterns among them are worked out, and it is known where they
+-- stand; the turns left are enough
+pub record Reached (s : List ℕ) (from at above : ℕ) (works : List PlaceTables) (bodies : List Body) : Type 0 where
   pub held : List Held
   pub turns : ℕ
   pub enough : length s ≤ turns + at
   pub reads : all-read s from ≡ read-patterns (suc turns) s at (record { held = held; above = above })
+  pub stand : bodies-in s from ≡ bodies-from (suc turns) s at bodies
   pub all : length held ≡ fields
   pub worked : works ≡ map worked-out held
 
@@ -37,41 +42,47 @@ map-set f [] i x = refl
 map-set f (y ∷ l) zero x = refl
 map-set f (y ∷ l) (suc i) x = ap (λ (m : List _). f y ∷ m) (map-set f l i x)
 
-pub reached-start : (s : List ℕ) (from : ℕ) (works : List PlaceTables) → works ≡ replicate fields (worked-out some-text) → Reached s from from 0 works
-reached-start s from works e =
+pub reached-start : (s : List ℕ) (from : ℕ) (works : List PlaceTables) → works ≡ replicate fields (worked-out some-text)
+    → (bodies : List Body) → bodies ≡ no-bodies → Reached s from from 0 works bodies
+unfolding bodies-in
+reached-start s from works e bodies f =
     record {
       held = replicate fields some-text;
       turns = length s;
       enough = omega arith;
       reads = refl;
+      stand = rw f;
       all = refl;
       worked = e;
     }
 
-module _ {s : List ℕ} {from at above : ℕ} {works : List PlaceTables} (r : Reached s from at above works) where
+module _ {s : List ℕ} {from at above : ℕ} {works : List PlaceTables} {bodies : List Body} (r : Reached s from at above works bodies) where
   pub reached-fault : (x : Fault) (place : ℕ) → next-is PA s at ≡ true → pattern-record s at above ≡ fault x place → all-read s from ≡ faulty x place
   reached-fault x place p e = r .reads ∙ rw (p, e)
 
   pub reached-next : (f : PatternRecord) → next-is PA s at ≡ true → Pattern-stands s at above f
-      → Reached s from (f .next .at) (f .next .above) (set works (f .field) (f .tables))
-  reached-next f p w = turn (r .turns) (r .enough) (r .reads)
+      → Reached s from (f .next .at) (f .next .above) (set works (f .field) (f .tables)) (set bodies (f .field) (f .body))
+  reached-next f p w = turn (r .turns) (r .enough) (r .reads) (r .stand)
     where
       turn : (m : ℕ) → length s ≤ m + at → all-read s from ≡ read-patterns (suc m) s at (record { held = r .held; above = above })
-          → Reached s from (f .next .at) (f .next .above) (set works (f .field) (f .tables))
-      turn zero h e = absurd (omega (arith, w .moves, w .goes-on))
-      turn (suc m) h e =
+          → bodies-in s from ≡ bodies-from (suc m) s at bodies
+          → Reached s from (f .next .at) (f .next .above) (set works (f .field) (f .tables)) (set bodies (f .field) (f .body))
+      turn zero h e k = absurd (omega (arith, w .moves, w .goes-on))
+      turn (suc m) h e k =
           record {
             held = set (r .held) (f .field) (pattern (w .its));
             turns = m;
             enough = omega (arith, w .moves);
             reads = e ∙ rw (p, w .reads, w .rises);
+            stand = k ∙ rw (p, w .stands, w .field, w .ends);
             all = length-set (r .held) (f .field) (pattern (w .its)) ∙ r .all;
             worked = rw (r .worked, w .works) (sym (map-set worked-out (r .held) (f .field) (pattern (w .its))));
           }
 
   pub reached-end : next-is PA s at ≡ false →
-      _≡_ {A = Code.Fields} (record { found = NoFault; next = record { at = at }; above = above; tables = works }) (fields-of (all-read s from))
-  reached-end p = rw (r .reads, p, r .worked)
+      _≡_ {A = Code.Fields} (record { found = NoFault; next = record { at = at }; above = above; tables = works; bodies = bodies })
+      (fields-of (bodies-in s from) (all-read s from))
+  reached-end p = rw (r .reads, r .stand, p, r .worked)
 
 -- two bytes are left where a mark stands
 pub mark-left : (m : Mark) (s : List ℕ) (at : ℕ) → next-is m s at ≡ true → at + 2 ≤ length s

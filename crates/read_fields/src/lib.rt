@@ -3,6 +3,7 @@ use base_answers::Fault;
 use base_answers::Found;
 use base_codes::SHEET_FIELDS;
 use base_places::PlaceTables;
+use base_question::Body;
 use read_pattern::Verdict;
 use read_side::Cursor;
 use read_side::Mark;
@@ -17,6 +18,8 @@ ghost use Rattle.paper.specs.Sheet.{PA, next-is, faulty, open-fields, read-patt
 ghost use Rattle.base_places.specs.WorkedOut.{worked-out};
 ghost use Rattle.base_answers.specs.Faults.{fault-of};
 ghost use Rattle.base_answers.specs.declared.Found.the-variants as Found;
+ghost use Rattle.base_question.specs.Bodies.{no-bodies};
+ghost use Rattle.read_fields.specs.Bodies.{bodies-in};
 ghost use Rattle.read_fields.specs.Walk.{fields-of, Pattern-read};
 
 // "length byte n 1 to 192"
@@ -31,6 +34,8 @@ pub struct Fields {
     pub above: usize,
     // what is worked out of each field's pattern; with a fault all fields are open
     pub tables: [PlaceTables; SHEET_FIELDS],
+    // where each field's pattern stands; with a fault none does
+    pub bodies: [Body; SHEET_FIELDS],
 }
 
 // "A field without `PA` is open": before the first record every field is.
@@ -43,9 +48,10 @@ fn all_open() -> [PlaceTables; SHEET_FIELDS]
 
 // Reads them: "Reading goes on from where the last record ended."
 pub fn read(s: &[u8], start: Cursor) -> Fields
-    ensures { λ r. ⌜ r ≡ fields-of (read-patterns (suc (length (now (s .entry)))) (now (s .entry)) (start .at) open-fields) ⌝ }
+    ensures { λ r. ⌜ r ≡ fields-of (bodies-in (now (s .entry)) (start .at)) (read-patterns (suc (length (now (s .entry)))) (now (s .entry)) (start .at) open-fields) ⌝ }
 {
     let mut tables = all_open();
+    let mut bodies = base_question::no_bodies();
     let mut c = PatternCursor {
         at: start.at,
         above: 0,
@@ -60,6 +66,8 @@ pub fn read(s: &[u8], start: Cursor) -> Fields
         let field = r.field;
         let its = r.tables;
         tables[field] = its;
+        let body = r.body;
+        bodies[field] = body;
         c = next;
     }
     Fields {
@@ -67,18 +75,21 @@ pub fn read(s: &[u8], start: Cursor) -> Fields
         next: Cursor { at: c.at },
         above: c.above,
         tables,
+        bodies,
     }
 }
 
 fn refuse(x: Fault, at: usize) -> Fields
-    ensures { λ r. ⌜ r ≡ fields-of (faulty (fault-of x) at) ⌝ }
+    ensures { λ r. ⌜ r ≡ fields-of no-bodies (faulty (fault-of x) at) ⌝ }
 {
     let tables = all_open();
+    let bodies = base_question::no_bodies();
     Fields {
         found: Found::Refused(x),
         next: Cursor { at },
         above: 0,
         tables,
+        bodies,
     }
 }
 
@@ -88,11 +99,12 @@ struct PatternCursor {
     above: usize,
 }
 
-// What the checks on a pattern's record find: the first fault, or the field and what is worked out of its pattern.
+// What the checks on a pattern's record find: the first fault, or the field, what is worked out of its pattern and where that stands.
 struct PatternRecord {
     found: Found,
     field: usize,
     tables: PlaceTables,
+    body: Body,
     // behind the record, or at the byte at fault
     next: PatternCursor,
 }
@@ -141,6 +153,7 @@ impl PatternCursor {
                     found: Found::NoFault,
                     field,
                     tables,
+                    body: Body { start, length: len },
                     next: PatternCursor {
                         at: end,
                         above: field + 1,
@@ -160,6 +173,10 @@ fn refuse_at(x: Fault, at: usize) -> PatternRecord
         found: Found::Refused(x),
         field: 0,
         tables,
+        body: Body {
+            start: 0,
+            length: 0,
+        },
         next: PatternCursor { at, above: 0 },
     }
 }

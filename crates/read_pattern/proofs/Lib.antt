@@ -5,4 +5,4 @@ pub mod Joining
 pub mod Behind
 pub mod Surplus
 pub mod ReadParts
-pub mod Judged
+pub mod PatternJudged

@@ -1,2 +1,3 @@
-pub mod Parts
-pub mod Told
+pub mod RuleParts
+pub mod RuleStruct
+pub mod RulePatterns

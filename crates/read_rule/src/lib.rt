@@ -16,7 +16,7 @@ ghost use Rattle.paper.specs.Numbers.{rule-fields};
 ghost use Rattle.paper.specs.Rule.{rule-front, read-rule};
 ghost use Rattle.paper.specs.Sheet.{faulty};
 ghost use Rattle.base_answers.specs.Faults.{fault-of};
-ghost use Rattle.read_rule.specs.Read.{foreign-code, rule-of};
+ghost use Rattle.read_rule.specs.RuleRead.{foreign-code, rule-of};
 
 // "its own fields, numbered 0 to 3"
 pub const RULE_FIELDS: usize = 4;

@@ -1,2 +1,3 @@
-pub mod Whole
-pub mod Told
+pub mod SheetWhole
+pub mod SheetStruct
+pub mod SheetPatterns

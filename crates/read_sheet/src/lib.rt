@@ -1,32 +1,27 @@
 // The question sheet: from any bytes to the question, or to the first fault met with its place.
 use base_answers::Fault;
 use base_answers::Found;
-use base_codes::LONGEST_SIDE;
-use base_codes::NO_TOKEN;
-use base_codes::SHEET_FIELDS;
-use base_places::PlaceTables;
+use base_question::Question;
 use read_side::Cursor;
 use read_side::Mark;
 ghost use mathlib.Core.Path.{_≡_};
 ghost use Rattle.paper.specs.Sheet.{refused, read-sheet};
 ghost use Rattle.base_answers.specs.Faults.{fault-of};
-ghost use Rattle.read_sheet.specs.Read.{sheet-of};
+ghost use Rattle.base_question.specs.Bodies.{no-bodies};
+ghost use Rattle.read_sheet.specs.SheetRead.{bodies-of, sheet-of};
 
 // What a sheet says.
 pub struct Sheet {
     pub found: Found,
     // the offset of the byte at fault; 0 for a good sheet
     pub place: usize,
-    // the sides of a good sheet, by inner codes; a side ends at its first 255
-    pub left: [u8; LONGEST_SIDE],
-    pub right: [u8; LONGEST_SIDE],
-    // what is worked out of each field's pattern; the fields of a sheet with a fault are open
-    pub fields: [PlaceTables; SHEET_FIELDS],
+    // what a good sheet asks; nothing where there is a fault
+    pub question: Question,
 }
 
 // Reads a sheet, in one walk: "no, one or several `PA`, field numbers rising; one `LE`; one `RI`; the end".
 pub fn read(s: &[u8]) -> Sheet
-    ensures { λ r. ⌜ r ≡ sheet-of (read-sheet (now (s .entry))) ⌝ }
+    ensures { λ r. ⌜ r ≡ sheet-of (bodies-of (now (s .entry))) (read-sheet (now (s .entry))) ⌝ }
 {
     let p = read_fields::read(s, Cursor { at: 0 });
     let c = p.next;
@@ -52,26 +47,28 @@ pub fn read(s: &[u8]) -> Sheet
     let left = l.codes;
     let right = r.codes;
     let fields = p.tables;
-    Sheet {
-        found: Found::NoFault,
-        place: 0,
+    let bodies = p.bodies;
+    let question = Question {
         left,
         right,
         fields,
+        bodies,
+    };
+    Sheet {
+        found: Found::NoFault,
+        place: 0,
+        question,
     }
 }
 
 // A sheet with a fault.
 fn refuse(x: Fault, place: usize) -> Sheet
-    ensures { λ r. ⌜ r ≡ sheet-of (refused (fault-of x) place) ⌝ }
+    ensures { λ r. ⌜ r ≡ sheet-of no-bodies (refused (fault-of x) place) ⌝ }
 {
-    let open = base_places::open_tables();
-    let fields = [open; SHEET_FIELDS];
+    let question = base_question::no_question();
     Sheet {
         found: Found::Refused(x),
         place,
-        left: [NO_TOKEN; LONGEST_SIDE],
-        right: [NO_TOKEN; LONGEST_SIDE],
-        fields,
+        question,
     }
 }

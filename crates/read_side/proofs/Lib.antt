@@ -1,2 +1,2 @@
-pub mod Bytes
-pub mod Told
+pub mod SideBytes
+pub mod SideStruct

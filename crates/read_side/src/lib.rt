@@ -16,7 +16,7 @@ ghost use Rattle.paper.specs.Numbers.{sheet-side};
 ghost use Rattle.paper.specs.Sheet.{first-letter, second-letter, bytes-left, marked, next-is, is-token, fault, side-record, marked-side};
 ghost use Rattle.base_codes.specs.Inner.{padded};
 ghost use Rattle.base_answers.specs.Faults.{fault-of};
-ghost use Rattle.read_side.specs.Read.{mark-of, code-of, side-of};
+ghost use Rattle.read_side.specs.SideRead.{mark-of, code-of, side-of};
 
 // "64 to 71 (field 0 to 7)"
 const FIELD_TOKEN: usize = 64;

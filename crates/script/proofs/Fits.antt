@@ -9,7 +9,7 @@ use Rattle.paper.specs.Sheet.{Reading, refused, asked, read-sheet}
 use Rattle.paper.proofs.base.Tests.{cond-by, leb-true}
 use Rattle.paper_script.specs.Script.{script}
 use Rattle.paper_script.specs.Scripting.{Scripting, scripting-of, scripting}
-use Rattle.script_sheet.specs.Told.{told-scripted}
+use Rattle.script_sheet.specs.WrittenOut.{told-scripted}
 use Rattle.script_sheet.specs.declared.Scripted.{Scripted}
 use Rattle.script_sheet.specs.declared.Scripted.the-variants.{Written}
 

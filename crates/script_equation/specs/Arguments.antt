@@ -2,7 +2,7 @@
 use Prim.Native.Nat.{ℕ, _+_, _-_}
 use mathlib.Core.Bool.{Bool, false, cond}
 use mathlib.Core.List.{List, [], _∷_, _++_}
-use Rattle.paper.specs.Printed.{sign, space}
+use Rattle.paper.specs.Printed.{sign, blank-sign}
 use Rattle.paper_script.specs.Bytes.{bytes}
 use Rattle.paper_script.specs.Script.{digit}
 use Rattle.paper.specs.Numbers.{hidden-left, hidden-right}
@@ -28,10 +28,10 @@ constant t = 102 ∷ digit-of t ∷ []
 
 abbrev pub side-spelt : List ℕ → ℕ → List ℕ
 side-spelt [] hidden = constant hidden
-side-spelt (t ∷ side) hidden = bytes "(str.++" ++ all-arguments (t ∷ side) ++ (space ∷ constant hidden) ++ bytes ")"
+side-spelt (t ∷ side) hidden = bytes "(str.++" ++ all-arguments (t ∷ side) ++ (blank-sign ∷ constant hidden) ++ bytes ")"
 
 -- the equation of two sides and the check command
 unfoldable pub equation-spelt : List ℕ → List ℕ → List ℕ
 equation-spelt left right =
-    bytes "(assert (= " ++ side-spelt left (field-code + hidden-left) ++ (space ∷ side-spelt right (field-code + hidden-right))
+    bytes "(assert (= " ++ side-spelt left (field-code + hidden-left) ++ (blank-sign ∷ side-spelt right (field-code + hidden-right))
     ++ bytes "))\n(check-sat)\n"

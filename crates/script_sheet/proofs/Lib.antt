@@ -1,5 +1,5 @@
 pub mod Holding
-pub mod Listing
-pub mod Whole
-pub mod Answered
-pub mod Unique
+pub mod FieldListing
+pub mod ScriptWhole
+pub mod ScriptAnswered
+pub mod OneScript

@@ -4,25 +4,30 @@ mod memberships;
 use base_answers::Fault;
 use base_answers::Found;
 use base_answers::Numbers;
+use base_answers::SCRIPT_TOO_SHORT;
 use base_codes::FIELDS;
 use base_codes::HIDDEN_LEFT;
 use base_codes::HIDDEN_RIGHT;
-use base_codes::LONGEST_SIDE;
+use base_codes::SHEET_FIELDS;
 use base_put::put_all;
+use base_question::Body;
+use base_question::Question;
 use memberships::field_lines;
 ghost use mathlib.Core.Path.{_≡_};
-ghost use Prim.Native.Nat.{_<_};
+ghost use Prim.Native.Nat.{_+_, _≤_, _<_};
 ghost use mathlib.Core.Bool.{not};
 ghost use lib.Dec.{eqb};
+ghost use lib.ListN.{length};
 ghost use Rattle.paper.specs.Lists.{only};
 ghost use Rattle.paper.specs.Numbers.{set-fields};
-ghost use Rattle.paper.specs.Question.{Question};
+ghost use Rattle.paper.specs.Question as Paper;
 ghost use Rattle.paper.specs.Sheet.{asked, read-sheet};
 ghost use Rattle.paper_script.specs.Script.{heading, script};
-ghost use Rattle.paper_script.specs.Scripting.{scripting, Promised};
+ghost use Rattle.paper_script.specs.Scripting.{scripting, ScriptPromised};
 ghost use Rattle.base_put.specs.Counted.{Counted};
-ghost use Rattle.base_codes.specs.Inner.{side-code, padded};
-ghost use Rattle.script_sheet.specs.Told.{scripted-numbers, told-scripted, lines-of, marked-fields};
+ghost use Rattle.base_question.specs.Asked.{question-of};
+ghost use Rattle.read_sheet.specs.SheetRead.{bodies-of};
+ghost use Rattle.script_sheet.specs.WrittenOut.{scripted-numbers, told-scripted, fields-lines, fields-counted, body-of, Bodies-within};
 
 // The answer to a sheet that is to be written out.
 pub enum Scripted {
@@ -37,23 +42,22 @@ pub enum Scripted {
 // Writes the sheet out as a script.
 pub fn script(sheet: &[u8], out: &mut [u8]) -> Scripted
     ensures whole { λ r. ⌜ told-scripted r (now (out .exit)) ≡ scripting (now (sheet .entry)) (now (out .entry)) ⌝ }
-    ensures promised { λ r. ⌜ Promised (now (sheet .entry)) (now (out .entry)) (told-scripted r (now (out .exit))) ⌝ }
+    ensures promised { λ r. ⌜ ScriptPromised (now (sheet .entry)) (now (out .entry)) (told-scripted r (now (out .exit))) ⌝ }
 {
-    let question = read_sheet::read(sheet);
-    let found = question.found;
+    let read = read_sheet::read(sheet);
+    let found = read.found;
     if let Found::Refused(fault) = found {
         return Scripted::Refused {
             fault,
-            place: question.place,
+            place: read.place,
         };
     }
-    let left = question.left;
-    let right = question.right;
-    let length = put_script(&mut out[0..0], sheet, left, right);
+    let question = read.question;
+    let length = put_script(&mut out[0..0], sheet, question);
     if out.len() < length {
         return Scripted::TooShort;
     }
-    let bytes = put_script(out, sheet, left, right);
+    let bytes = put_script(out, sheet, question);
     Scripted::Written { bytes }
 }
 
@@ -75,7 +79,7 @@ pub fn in_numbers(s: Scripted) -> Numbers
             written: 0,
         },
         Scripted::TooShort => Numbers {
-            number: 40,
+            number: SCRIPT_TOO_SHORT,
             count: 0,
             place: 0,
             written: 0,
@@ -83,21 +87,19 @@ pub fn in_numbers(s: Scripted) -> Numbers
     }
 }
 
-// The script of a good sheet, whose sides are these: as far as there is room, and how long it is.
-fn put_script(
-    out: &mut [u8],
-    sheet: &[u8],
-    left: [u8; LONGEST_SIDE],
-    right: [u8; LONGEST_SIDE],
-) -> usize
-    ensures { λ r. ⌜ ((q : Question) → read-sheet (now (sheet .entry)) ≡ asked q → left ≡ padded (side-code (q .left)) → right ≡ padded (side-code (q .right)) → Counted (now (out .entry)) (now (out .exit)) 0 r (script q)) ⌝ }
+// The script of a good sheet, which asks this: as far as there is room, and how long it is.
+fn put_script(out: &mut [u8], sheet: &[u8], question: Question) -> usize
+    requires { ⌜ Bodies-within (now sheet) (question .bodies) ⌝ }
+    ensures { λ r. ⌜ ((q : Paper.Question) → read-sheet (now (sheet .entry)) ≡ asked q → question ≡ question-of q (bodies-of (now (sheet .entry))) → Counted (now (out .entry)) (now (out .exit)) 0 r (script q)) ⌝ }
 {
+    let left = question.left;
+    let right = question.right;
+    let bodies = question.bodies;
     let all_left = search_hidden::side(left, HIDDEN_LEFT);
     let all_right = search_hidden::side(right, HIDDEN_RIGHT);
-    let first = search_trim::question(all_left, all_right);
-    let sets = first.sets;
+    let counts = base_question::standings(all_left, all_right);
     let begun = put_heading(out, 0);
-    let end = put_fields(out, begun, sheet, sets);
+    let end = put_fields(out, begun, sheet, bodies, counts);
     script_equation::equation(out, end, left, right)
 }
 
@@ -117,25 +119,47 @@ fn put_heading(out: &mut [u8], at: usize) -> usize
     put_all(out, second, b"(set-logic QF_S)\n")
 }
 
-// The lines of a field, if it has a place set.
-fn put_field(out: &mut [u8], at: usize, sheet: &[u8], f: usize, set: u64) -> usize
-    requires { ⌜ f < set-fields ⌝ }
-    ensures { λ r. ⌜ ((q : Question) → read-sheet (now (sheet .entry)) ≡ asked q → Counted (now (out .entry)) (now (out .exit)) at r (lines-of q (only (not (eqb set 0)) f))) ⌝ }
+// The lines of a field, if it stands.
+fn put_field(out: &mut [u8], at: usize, sheet: &[u8], f: usize, body: Body, count: usize) -> usize
+    requires { ⌜ (f < set-fields) × (body .start + body .length ≤ length (now sheet)) ⌝ }
+    ensures { λ r. ⌜ ((q : Paper.Question) → read-sheet (now (sheet .entry)) ≡ asked q → body ≡ body-of (bodies-of (now (sheet .entry))) f → Counted (now (out .entry)) (now (out .exit)) at r (fields-lines q (only (not (eqb count 0)) f))) ⌝ }
 {
-    if set == 0 {
+    if count == 0 {
         return at;
     }
-    field_lines(out, at, sheet, f)
+    field_lines(out, at, sheet, f, body)
 }
 
-// Those of each field that has a first place set, since that is one which stands.
-fn put_fields(out: &mut [u8], at: usize, sheet: &[u8], sets: [u64; FIELDS]) -> usize
-    ensures { λ r. ⌜ ((q : Question) → read-sheet (now (sheet .entry)) ≡ asked q → Counted (now (out .entry)) (now (out .exit)) at r (lines-of q (marked-fields sets))) ⌝ }
+// Where the pattern of a field stands. A hidden field has none in the sheet.
+fn body_of(bodies: [Body; SHEET_FIELDS], f: usize) -> Body
+    ensures { λ r. ⌜ r ≡ body-of bodies f ⌝ }
+{
+    if f < SHEET_FIELDS {
+        let body = bodies[f];
+        return body;
+    }
+    Body {
+        start: 0,
+        length: 0,
+    }
+}
+
+// Those of each field that stands.
+fn put_fields(
+    out: &mut [u8],
+    at: usize,
+    sheet: &[u8],
+    bodies: [Body; SHEET_FIELDS],
+    counts: [usize; FIELDS],
+) -> usize
+    requires { ⌜ Bodies-within (now sheet) bodies ⌝ }
+    ensures { λ r. ⌜ ((q : Paper.Question) → read-sheet (now (sheet .entry)) ≡ asked q → bodies ≡ bodies-of (now (sheet .entry)) → Counted (now (out .entry)) (now (out .exit)) at r (fields-lines q (fields-counted counts))) ⌝ }
 {
     let mut end = at;
     let mut f = 0;
     while f < FIELDS {
-        end = put_field(out, end, sheet, f, sets[f]);
+        let body = body_of(bodies, f);
+        end = put_field(out, end, sheet, f, body, counts[f]);
         f += 1;
     }
     end

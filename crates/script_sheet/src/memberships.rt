@@ -2,14 +2,18 @@
 use base_codes::SHEET_FIELDS;
 use base_put::put;
 use base_put::put_all;
+use base_question::Body;
 ghost use mathlib.Core.Path.{_≡_};
 ghost use mathlib.Core.List.{_∷_};
-ghost use Prim.Native.Nat.{_<_};
+ghost use Prim.Native.Nat.{_+_, _≤_, _<_};
+ghost use lib.ListN.{length};
 ghost use Rattle.paper.specs.Numbers.{set-fields};
 ghost use Rattle.paper.specs.Question.{Question, held-by, hidden};
 ghost use Rattle.paper.specs.Sheet.{asked, read-sheet};
 ghost use Rattle.paper_script.specs.Script.{expression-of, field-lines, digit};
 ghost use Rattle.base_put.specs.Counted.{Counted};
+ghost use Rattle.read_sheet.specs.SheetRead.{bodies-of};
+ghost use Rattle.script_sheet.specs.WrittenOut.{body-of};
 
 // "66 A B: A then B": one character from 0 to 42, then any number of them: what an open field may hold
 const SOME_CHARACTERS: [u8; 8] = [66, 65, 0, 42, 68, 65, 0, 42];
@@ -17,23 +21,22 @@ const SOME_CHARACTERS: [u8; 8] = [66, 65, 0, 42, 68, 65, 0, 42];
 // and of the space: what a hidden field may hold
 const ANY_SPACES: [u8; 2] = [68, 38];
 
-// The expression of what a field may hold.
-fn held(out: &mut [u8], at: usize, sheet: &[u8], f: usize) -> usize
-    requires { ⌜ f < set-fields ⌝ }
-    ensures { λ r. ⌜ ((q : Question) → read-sheet (now (sheet .entry)) ≡ asked q → Counted (now (out .entry)) (now (out .exit)) at r (expression-of (held-by (hidden q) f))) ⌝ }
+// The expression of what a field may hold, whose pattern stands there.
+fn held(out: &mut [u8], at: usize, sheet: &[u8], f: usize, body: Body) -> usize
+    requires { ⌜ (f < set-fields) × (body .start + body .length ≤ length (now sheet)) ⌝ }
+    ensures { λ r. ⌜ ((q : Question) → read-sheet (now (sheet .entry)) ≡ asked q → body ≡ body-of (bodies-of (now (sheet .entry))) f → Counted (now (out .entry)) (now (out .exit)) at r (expression-of (held-by (hidden q) f))) ⌝ }
 {
     if SHEET_FIELDS <= f {
         let code = ANY_SPACES;
         return script_terms::expression(out, at, &code[0..2]);
     }
-    let body = read_bodies::find(sheet, 0, f);
     let start = body.start;
-    let end = body.end;
-    if end == 0 {
+    let length = body.length;
+    if length == 0 {
         let code = SOME_CHARACTERS;
         return script_terms::expression(out, at, &code[0..8]);
     }
-    script_terms::expression(out, at, &sheet[start..end])
+    script_terms::expression(out, at, &sheet[start..start + length])
 }
 
 // The field's digit, and bytes behind it.
@@ -46,14 +49,14 @@ fn digit_and(out: &mut [u8], at: usize, f: usize, bytes: &[u8]) -> usize
 }
 
 // A comment that says which field it is, the constant, its membership.
-pub fn field_lines(out: &mut [u8], at: usize, sheet: &[u8], f: usize) -> usize
-    requires { ⌜ f < set-fields ⌝ }
-    ensures { λ r. ⌜ ((q : Question) → read-sheet (now (sheet .entry)) ≡ asked q → Counted (now (out .entry)) (now (out .exit)) at r (field-lines f (held-by (hidden q) f))) ⌝ }
+pub fn field_lines(out: &mut [u8], at: usize, sheet: &[u8], f: usize, body: Body) -> usize
+    requires { ⌜ (f < set-fields) × (body .start + body .length ≤ length (now sheet)) ⌝ }
+    ensures { λ r. ⌜ ((q : Question) → read-sheet (now (sheet .entry)) ≡ asked q → body ≡ body-of (bodies-of (now (sheet .entry))) f → Counted (now (out .entry)) (now (out .exit)) at r (field-lines f (held-by (hidden q) f))) ⌝ }
 {
     let comment = put_all(out, at, b"; field ");
     let declared = digit_and(out, comment, f, b"\n(declare-const f");
     let asserted = digit_and(out, declared, f, b" String)\n(assert (str.in_re f");
     let named = digit_and(out, asserted, f, b" ");
-    let behind = held(out, named, sheet, f);
+    let behind = held(out, named, sheet, f, body);
     put_all(out, behind, b"))\n")
 }

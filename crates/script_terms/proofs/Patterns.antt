@@ -17,10 +17,10 @@ use Rattle.paper.specs.Written.{part, judged, judge}
 use Rattle.paper.proofs.base.Tests.{lt-leb, le-ltb, neq-eqb}
 use Rattle.paper.proofs.places.Reader.{is-then, is-or, Reads, a-character, empty-text, a-range, both-parts, starred, Judges, as-pattern, judges, shorter}
 use Rattle.paper_script.specs.Script.{expression}
-use Rattle.script_terms.specs.Spelt.{Spelling, spelling, spelt-at, spelt}
+use Rattle.script_terms.specs.Spelt.{Term-spelling, term-spelling, spelt-at, term-spelt}
 
 -- what is spelt from the offset on is the expression of p, and `rest` is left behind it
-pub record Spelt-as (s : List ℕ) (p : Pattern) (rest : List ℕ) (x : Spelling) : Type 0 where
+pub record Spelt-as (s : List ℕ) (p : Pattern) (rest : List ℕ) (x : Term-spelling) : Type 0 where
   pub bytes : x .put ≡ expression p
   pub behind : drop (x .next) s ≡ rest
 
@@ -71,9 +71,9 @@ module _ (s : List ℕ) where
       rw (lt-leb (length s) i (more-there i or-code t e), first-there i or-code t e)
       (record { bytes = rw (first .bytes, second .bytes); behind = second .behind })
 
-spelt-whole : (s : List ℕ) (p : Pattern) → Judges s (judged p) → spelt s ≡ expression p
-unfolding spelt
+spelt-whole : (s : List ℕ) (p : Pattern) → Judges s (judged p) → term-spelt s ≡ expression p
+unfolding term-spelt
 spelt-whole s p (as-pattern d h) = spelt-reads s d (length s) 0 (omega arith) refl .bytes
 
-pub spelt-judged : (s : List ℕ) (p : Pattern) → judge s ≡ judged p → spelt s ≡ expression p
+pub spelt-judged : (s : List ℕ) (p : Pattern) → judge s ≡ judged p → term-spelt s ≡ expression p
 spelt-judged s p e = spelt-whole s p (subst (Judges s) e (judges s))

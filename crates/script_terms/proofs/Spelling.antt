@@ -13,10 +13,10 @@ use Rattle.paper.proofs.base.Tests.{by-bool, cond-by, le-leb, lt-leb, leb-true,
 use Rattle.paper_script.specs.Bytes.{bytes}
 use Rattle.base_put.specs.Counted.{Counted}
 use Rattle.base_put.proofs.Counting.{counted-none, counted-then}
-use Rattle.script_terms.specs.Spelt.{Spelling, range-spelling, single-spelling, spelt-at, opened, Spells}
+use Rattle.script_terms.specs.Spelt.{Term-spelling, range-spelling, single-spelling, spelt-at, operator-opened, Spells}
 use Rattle.script_terms.specs.declared.Spelt.{Spelt}
 
-abbrev From : ℕ → Spelling → Type 0
+abbrev From : ℕ → Term-spelling → Type 0
 From i x = i ≤ x .next
 
 range-on : (s : List ℕ) (i : ℕ) → i < length s → From i (range-spelling s i)
@@ -69,7 +69,7 @@ module _ (s : List ℕ) (i : ℕ) (there : i < length s) where
 
   pub as-two : (n : ℕ) {d e f g k l : List ℕ} {at begun gap end : ℕ} {a b : Spelt} → length s ≤ i + n
       → then-code ≤ getD s i 0 → getD s i 0 ≤ or-code
-      → Counted d e at begun (opened (getD s i 0)) → ((m : ℕ) → length s ≤ i + 1 + m → Spells e f begun a (spelt-at m s (i + 1)))
+      → Counted d e at begun (operator-opened (getD s i 0)) → ((m : ℕ) → length s ≤ i + 1 + m → Spells e f begun a (spelt-at m s (i + 1)))
       → Counted f g (a .end) gap (32 ∷ []) → ((m : ℕ) → length s ≤ a .next + m → Spells g k gap b (spelt-at m s (a .next)))
       → Counted k l (b .end) end (41 ∷ []) → Spells d l at (record { end = end; next = b .next }) (spelt-at n s i)
   as-two zero h x y p q w v z = absurd (omega arith)

@@ -12,44 +12,44 @@ use Rattle.paper_script.specs.Script.{one-character, choice, two, any-number}
 use Rattle.base_put.specs.Counted.{Counted}
 use Rattle.script_terms.specs.declared.Spelt.{Spelt}
 
-pub record Spelling : Type 0 where
+pub record Term-spelling : Type 0 where
   pub put : List ℕ
   pub next : ℕ
 
-abbrev pub spelling : List ℕ → ℕ → Spelling
-spelling put next = record { put = put; next = next }
+abbrev pub term-spelling : List ℕ → ℕ → Term-spelling
+term-spelling put next = record { put = put; next = next }
 
 -- `65 lo hi`; nothing where the bytes run out
-abbrev pub range-spelling : List ℕ → ℕ → Spelling
+abbrev pub range-spelling : List ℕ → ℕ → Term-spelling
 range-spelling s i =
-    cond (ltb (length s) (i + 3)) (spelling [] (length s)) (spelling (choice (getD s (i + 1) 0) (getD s (i + 2) 0)) (i + 3))
+    cond (ltb (length s) (i + 3)) (term-spelling [] (length s)) (term-spelling (choice (getD s (i + 1) 0) (getD s (i + 2) 0)) (i + 3))
 
 -- what is no operator
-abbrev pub single-spelling : List ℕ → ℕ → Spelling
+abbrev pub single-spelling : List ℕ → ℕ → Term-spelling
 single-spelling s i =
     cond (eqb (getD s i 0) range-code) (range-spelling s i)
-    (cond (eqb (getD s i 0) empty-code) (spelling (bytes "(str.to_re \"\")") (i + 1)) (spelling (one-character (getD s i 0)) (i + 1)))
+    (cond (eqb (getD s i 0) empty-code) (term-spelling (bytes "(str.to_re \"\")") (i + 1)) (term-spelling (one-character (getD s i 0)) (i + 1)))
 
-abbrev pub spelt-at : ℕ → List ℕ → ℕ → Spelling
-spelt-at zero s i = spelling [] i
+abbrev pub spelt-at : ℕ → List ℕ → ℕ → Term-spelling
+spelt-at zero s i = term-spelling [] i
 spelt-at (suc n) s i =
     let a = spelt-at n s (i + 1) in
     let b = spelt-at n s (a .next) in
-    cond (leb (length s) i) (spelling [] i)
-    (cond (eqb (getD s i 0) many-code) (spelling (any-number (a .put)) (a .next))
-    (cond (eqb (getD s i 0) then-code) (spelling (two (bytes "(re.++ ") (a .put) (b .put)) (b .next))
-    (cond (eqb (getD s i 0) or-code) (spelling (two (bytes "(re.union ") (a .put) (b .put)) (b .next))
+    cond (leb (length s) i) (term-spelling [] i)
+    (cond (eqb (getD s i 0) many-code) (term-spelling (any-number (a .put)) (a .next))
+    (cond (eqb (getD s i 0) then-code) (term-spelling (two (bytes "(re.++ ") (a .put) (b .put)) (b .next))
+    (cond (eqb (getD s i 0) or-code) (term-spelling (two (bytes "(re.union ") (a .put) (b .put)) (b .next))
     (single-spelling s i))))
 
 -- from the first byte on
-unfoldable pub spelt : List ℕ → List ℕ
-spelt s = spelt-at (length s) s 0 .put
+unfoldable pub term-spelt : List ℕ → List ℕ
+term-spelt s = spelt-at (length s) s 0 .put
 
 -- the operator of two expressions, by its code
-abbrev pub opened : ℕ → List ℕ
-opened b = cond (eqb b then-code) (bytes "(re.++ ") (bytes "(re.union ")
+abbrev pub operator-opened : ℕ → List ℕ
+operator-opened b = cond (eqb b then-code) (bytes "(re.++ ") (bytes "(re.union ")
 
 -- what was put into d from `at` on, and is told, is this spelling
-pub record Spells (d e : List ℕ) (at : ℕ) (r : Spelt) (x : Spelling) : Type 0 where
+pub record Spells (d e : List ℕ) (at : ℕ) (r : Spelt) (x : Term-spelling) : Type 0 where
   pub puts : Counted d e at (r .end) (x .put)
   pub goes-on : r .next ≡ x .next

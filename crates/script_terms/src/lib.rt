@@ -11,7 +11,7 @@ ghost use Rattle.paper.specs.Lists.{from, each};
 ghost use Rattle.paper.specs.Numbers.{then-code, or-code};
 ghost use Rattle.paper_script.specs.Script.{one-character, next-character, choice};
 ghost use Rattle.base_put.specs.Counted.{Counted};
-ghost use Rattle.script_terms.specs.Spelt.{opened, spelt-at, spelt, single-spelling, range-spelling, Spells};
+ghost use Rattle.script_terms.specs.Spelt.{operator-opened, spelt-at, term-spelt, single-spelling, range-spelling, Spells};
 
 // "64: the empty text", 65 a range, 66 A then B, 67 A or B, 68 A any number of times.
 const EMPTY_CODE: u8 = 64;
@@ -32,7 +32,7 @@ struct Spelt {
 
 // A pattern's expression, from its bytes; of bytes that are no pattern something that is fixed too.
 pub fn expression(out: &mut [u8], at: usize, pattern: &[u8]) -> usize
-    ensures { λ r. ⌜ Counted (now (out .entry)) (now (out .exit)) at r (spelt (now (pattern .entry))) ⌝ }
+    ensures { λ r. ⌜ Counted (now (out .entry)) (now (out .exit)) at r (term-spelt (now (pattern .entry))) ⌝ }
 {
     let whole = spell(out, at, pattern, 0);
     whole.end
@@ -115,7 +115,7 @@ fn spell_single(out: &mut [u8], at: usize, s: &[u8], i: usize) -> Spelt
 
 // The operator of two expressions.
 fn operator(out: &mut [u8], at: usize, b: u8) -> usize
-    ensures { λ r. ⌜ Counted (now (out .entry)) (now (out .exit)) at r (opened b) ⌝ }
+    ensures { λ r. ⌜ Counted (now (out .entry)) (now (out .exit)) at r (operator-opened b) ⌝ }
 {
     if b == THEN_CODE {
         return put_all(out, at, b"(re.++ ");

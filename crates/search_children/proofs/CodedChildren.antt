@@ -1,6 +1,6 @@
 -- The children of a situation by inner codes are the codes of the paper's children, in the same order:
 --   children-agree : children-coded (tables-over among q) (situation-code s) ≡ map code-child-of (children (acceptor-over among q) longest-side s),
---     of a codable s, whichever characters pass the test `among`
+--     of a codable s and a question in Code 39, whichever characters pass the test `among`
 -- First what the children of the paper are without kinds; then the three groups: the left strike, the right strike, the puts.
 -- Follows from the laws of sides by their codes and of sets as masks.
 use Prim.Native.Nat.{ℕ, _+_, _<_}
@@ -16,6 +16,7 @@ use Rattle.paper.specs.Places.{PlaceSet}
 use Rattle.paper.specs.Search.{Child}
 use Rattle.paper.specs.Equation.{chr, fld, Side}
 use Rattle.paper.specs.Situation.{Acceptor, Situation, Kind, is-finished, is-dead, is-open, Move, strike-left, strike-right, put, trim, kind-of, front-field, front-fields, trimmed, kind, strike, strike-all, put-before, put-before-all, front-may-end, front-takes, open-moves, moves-of, side-above, kept, child-by, children}
+use Rattle.paper.specs.Alphabet.{Alphabet, code-39}
 use Rattle.paper.specs.Question.{Question, held-by}
 use Rattle.paper_chosen.specs.Chosen.{acceptor-over}
 use Rattle.paper.proofs.base.Listed.{each-append, each-same, keep-none}
@@ -248,10 +249,13 @@ module _ (among : ℕ → Bool) (q : Question) (few : (f : ℕ) → Few (held-by
       (λ e. rw e))
 
   -- The children agree, in their order.
-  pub children-agree : children-coded (tables-over among q) (situation-code s) ≡ map code-child-of (children (acceptor-over among q) longest-side s)
+  pub children-agree : q .alphabet ≡ code-39
+      → children-coded (tables-over among q) (situation-code s) ≡ map code-child-of (children (acceptor-over among q) longest-side s)
   unfolding children-coded acceptor-over
-  children-agree =
+  children-agree in-39 =
+      let puts : ℕ → List (Child Coded ℕ) = λ (c : ℕ). map code-child-of (put-group (acceptor-over among q) longest-side s c) in
       ap₂ _++_ left-coded
       (ap₂ _++_ right-coded
-      (each-same _ (λ (c : ℕ). map code-child-of (put-group (acceptor-over among q) longest-side s c)) (upto characters) (λ c d. put-of-coded c (mem-upto characters d))))
+      (each-same _ puts (upto characters) (λ c d. put-of-coded c (mem-upto characters d))
+      ∙ ap (λ (a : Alphabet). each puts (upto (a .characters))) (sym in-39)))
       ∙ sym (grouped-mapped (acceptor-over among q) code-child-of longest-side s)

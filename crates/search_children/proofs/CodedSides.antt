@@ -55,10 +55,10 @@ char-below c h = lt-leb field-code c (omega arith)
 field-from : (f : ℕ) → leb field-code (field-code + f) ≡ true
 field-from f = le-leb field-code (field-code + f) (omega arith)
 
-pub char-not-field : (c : ℕ) → c < characters → Inner.is-field c ≡ false
+pub char-not-field : (c : ℕ) → c < characters → Inner.is-field-code c ≡ false
 char-not-field c h = rw (char-below c h)
 
-pub field-is-field : (f : ℕ) → f < set-fields → Inner.is-field (field-code + f) ≡ true
+pub field-is-field : (f : ℕ) → f < set-fields → Inner.is-field-code (field-code + f) ≡ true
 field-is-field f h = rw (field-from f, lt-ltb (field-code + f) no-token (omega arith))
 
 pub field-of-code : (f : ℕ) → field-of (field-code + f) ≡ f

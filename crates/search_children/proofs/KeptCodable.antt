@@ -2,7 +2,7 @@
 -- Follows from what strikes, puts and trimming do to tokens and sets.
 use Prim.Native.Nat.{ℕ, _≤_, _<_}
 use native.Mathlib.Omega.{arith}
-use mathlib.Core.Path.{refl, sym, _∙_, subst}
+use mathlib.Core.Path.{_≡_, refl, sym, _∙_, subst}
 use mathlib.Core.Logic.{⊎-elim}
 use mathlib.Core.Bool.{Bool, cond}
 use mathlib.Core.List.{List, [], _∷_, _++_, map, List·Memᴰ, List·Memᴰ·head, List·Memᴰ·tail, List·Memᴰ·eq-of-singleton, List·Memᴰ·not-nil, List·Memᴰ·append-cases}
@@ -14,6 +14,7 @@ use Rattle.paper.specs.Places.{PlaceSet, first-set}
 use Rattle.paper.specs.Search.{child}
 use Rattle.paper.specs.Equation.{chr, fld, Side, stands-in}
 use Rattle.paper.specs.Situation.{Situation, Move, front-field, front-fields, trimmed, strike, strike-all, put-before, put-before-all, moved, children, question}
+use Rattle.paper.specs.Alphabet.{Alphabet, code-39}
 use Rattle.paper.specs.Question.{Question, held-by}
 use Rattle.paper_chosen.specs.Chosen.{acceptor-over}
 use Rattle.paper.proofs.base.Tests.{by-bool, cond-by, ltb-true, ltb-false}
@@ -94,19 +95,20 @@ module _ (among : ℕ → Bool) (q : Question) (few : (f : ℕ) → Few (held-by
       codable-put-all c fs (put-before (acceptor-over among q) c f s) h (λ k d. b k (List·Memᴰ·tail d))
       (codable-put c f s h (b f (List·Memᴰ·head refl)) g)
 
-  codable-moved : {m : Move} (s : Situation PlaceSet) → Opened (acceptor-over among q) s m → Codable s → Codable (moved (acceptor-over among q) s m)
+  codable-moved : {m : Move} (s : Situation PlaceSet) → q .alphabet ≡ code-39 → Opened (acceptor-over among q) s m → Codable s
+      → Codable (moved (acceptor-over among q) s m)
   unfolding acceptor-over
-  codable-moved s (strikes-left e) g = codable-strike-all (front-field (s .left)) s (known-front (s .left) (g .left)) g
-  codable-moved s (strikes-right e) g = codable-strike-all (front-field (s .right)) s (known-front (s .right) (g .right)) g
-  codable-moved s (puts {c = c} h l r) g =
-      codable-put-all c (front-fields (s .left) (s .right)) s h (known-fronts (s .left) (s .right) (g .left) (g .right)) g
+  codable-moved s in-39 (strikes-left e) g = codable-strike-all (front-field (s .left)) s (known-front (s .left) (g .left)) g
+  codable-moved s in-39 (strikes-right e) g = codable-strike-all (front-field (s .right)) s (known-front (s .right) (g .right)) g
+  codable-moved s in-39 (puts {c = c} h l r) g =
+      codable-put-all c (front-fields (s .left) (s .right)) s (subst (λ (a : Alphabet). c < a .characters) in-39 h) (known-fronts (s .left) (s .right) (g .left) (g .right)) g
 
   -- every child of a codable situation is codable
-  pub child-codable : (s : Situation PlaceSet) (m : Move) (t : Situation PlaceSet) → Codable s
+  pub child-codable : q .alphabet ≡ code-39 → (s : Situation PlaceSet) (m : Move) (t : Situation PlaceSet) → Codable s
       → List·Memᴰ (child m t) (children (acceptor-over among q) longest-side s) → Codable t
-  child-codable s m t g d =
+  child-codable in-39 s m t g d =
       let (i, e) = child-made (acceptor-over among q) longest-side s d in
-      subst Codable (sym e) (codable-trimmed (moved (acceptor-over among q) s m) (codable-moved s (move-opened (acceptor-over among q) s i) g))
+      subst Codable (sym e) (codable-trimmed (moved (acceptor-over among q) s m) (codable-moved s in-39 (move-opened (acceptor-over among q) s i) g))
 
   -- the first situation of a question with known tokens
   pub question-codable : (l r : Side) → Known-side l → Known-side r → Codable (question (acceptor-over among q) l r)

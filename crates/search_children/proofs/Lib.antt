@@ -1,7 +1,7 @@
 -- situations by value
-pub mod Turns
-pub mod Sets
-pub mod Judged
+pub mod ChildTurns
+pub mod ChildSets
+pub mod ChildJudged
 -- what callers go by
 pub mod Short
 -- situations by inner codes stand for the paper's

@@ -12,7 +12,7 @@ use Rattle.paper.specs.Lists.{all, only, keep}
 use Rattle.paper.specs.Numbers.{characters, set-fields, longest-side}
 use Rattle.paper.proofs.base.Lists.{all-true, every-all, all-append, mem-keep}
 use Rattle.paper.proofs.base.Tests.{cond-by, both-true, and-left, and-right, or-left-false, or-right-false, not-is-false, false-not, leb-true, ltb-true, neq-eqb}
-use Rattle.base_codes.specs.Inner.{field-code, no-token, is-token, is-field, field-of, front}
+use Rattle.base_codes.specs.Inner.{field-code, no-token, is-code, is-field-code, field-of, front}
 use Rattle.base_codes.proofs.Tokens.{all-drop}
 use Rattle.base_codes.specs.Coded.{Coded, denoted, as-struct, Short}
 use Rattle.search_children.specs.Children.{Settled, dropped, above, made, strike-codes, put-codes, dead-sides, left-strike, right-strike, put-of}
@@ -55,7 +55,7 @@ all-put p c a b (x ∷ l) k h =
     (both-true (all-only p (leb field-code x && (eqb x a || eqb x b)) c k) (both-true (and-left (p x) (all p l) h) (all-put p c a b l k (and-right (p x) (all p l) h))))
 
 -- sides of tokens that are judged and made are those of a short situation
-module _ (l r sets : List ℕ) (e : length sets ≡ set-fields) (p : all is-token l ≡ true) (q : all is-token r ≡ true) where
+module _ (l r sets : List ℕ) (e : length sets ≡ set-fields) (p : all is-code l ≡ true) (q : all is-code r ≡ true) where
   judged-short : {t : Coded} → judged-sides l r sets ≡ made t → Short t
   unfolding judged-sides
   judged-short {t} =
@@ -74,15 +74,15 @@ module _ (l r sets : List ℕ) (e : length sets ≡ set-fields) (p : all is-toke
         right-tokens = q;
       })))
 
-settle-short : (l r sets : List ℕ) {t : Coded} → length sets ≡ set-fields → all is-token l ≡ true → all is-token r ≡ true → settle l r sets ≡ made t → Short t
+settle-short : (l r sets : List ℕ) {t : Coded} → length sets ≡ set-fields → all is-code l ≡ true → all is-code r ≡ true → settle l r sets ≡ made t → Short t
 unfolding settle
 settle-short l r sets e p q =
     let n = alike-in-front l r in
-    judged-short (drop n l) (drop n r) sets e (all-drop is-token n l p) (all-drop is-token n r q)
+    judged-short (drop n l) (drop n r) sets e (all-drop is-code n l p) (all-drop is-code n r q)
 
 with-set-length : (b m : ℕ) (sets : List ℕ) → length (with-set b m sets) ≡ length sets
 with-set-length b m sets =
-    cond-by (λ (l : List ℕ). length l ≡ length sets) (is-field b) (λ _. length-set sets (field-of b) m) (λ _. refl)
+    cond-by (λ (l : List ℕ). length l ≡ length sets) (is-field-code b) (λ _. length-set sets (field-of b) m) (λ _. refl)
 
 -- a child under a test is made only where the test passes
 made-under : {t : Coded} (b : Bool) (x : Settled) → cond b x dropped ≡ made t → (b ≡ true) × (x ≡ made t)
@@ -95,18 +95,18 @@ unfolding struck
 struck-short {k} b h =
     settle-short (strike-codes b (k .left)) (strike-codes b (k .right)) (with-set b 0 (k .sets))
     (with-set-length b 0 (k .sets) ∙ h .sets)
-    (all-keep is-token (λ (x : ℕ). not (eqb x b)) (k .left) (h .left-tokens))
-    (all-keep is-token (λ (x : ℕ). not (eqb x b)) (k .right) (h .right-tokens))
+    (all-keep is-code (λ (x : ℕ). not (eqb x b)) (k .left) (h .left-tokens))
+    (all-keep is-code (λ (x : ℕ). not (eqb x b)) (k .right) (h .right-tokens))
 
-put-child-short : {k t : Coded} (c m n : ℕ) → is-token c ≡ true → Short k → put-child k c m n ≡ made t → Short t
+put-child-short : {k t : Coded} (c m n : ℕ) → is-code c ≡ true → Short k → put-child k c m n ≡ made t → Short t
 unfolding put-child
 put-child-short {k} c m n i h =
     let a = front (k .left) in
     let b = front (k .right) in
     settle-short (put-codes c a b (k .left)) (put-codes c a b (k .right)) (with-set b n (with-set a m (k .sets)))
     (with-set-length b n (with-set a m (k .sets)) ∙ with-set-length a m (k .sets) ∙ h .sets)
-    (all-put is-token c a b (k .left) i (h .left-tokens))
-    (all-put is-token c a b (k .right) i (h .right-tokens))
+    (all-put is-code c a b (k .left) i (h .left-tokens))
+    (all-put is-code c a b (k .right) i (h .right-tokens))
 
 pub left-strike-short : {k t : Coded} (last : List ℕ) → Short k → left-strike last k ≡ made t → Short t
 unfolding left-strike

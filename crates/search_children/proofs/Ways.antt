@@ -3,13 +3,14 @@
 -- Follows from the codes of moves being different, and from a child being what its move makes.
 use Prim.Native.Nat.{ℕ, _+_, _<_}
 use native.Mathlib.Omega.{arith}
-use mathlib.Core.Path.{_≡_, refl, sym, ap, _∙_}
+use mathlib.Core.Path.{_≡_, refl, sym, ap, _∙_, subst}
 use mathlib.Core.Bool.{Bool}
 use mathlib.Core.List.{List, [], _∷_, _++_, map, reverse, reverse-cons, append-nil, append-assoc}
 use Rattle.paper.specs.Numbers.{characters, set-fields, longest-side}
 use Rattle.paper.specs.Places.{PlaceSet}
 use Rattle.paper.specs.Leads.{Leads, start, step}
 use Rattle.paper.specs.Situation.{Acceptor, Situation, Move, strike-left, strike-right, put, trimmed, moved, children}
+use Rattle.paper.specs.Alphabet.{Alphabet, code-39}
 use Rattle.paper.specs.Question.{Question}
 use Rattle.paper_chosen.specs.Chosen.{acceptor-over}
 use Rattle.paper.specs.Way.{given, text-along}
@@ -61,12 +62,12 @@ pub way-last : (way : List Move) (c : ℕ) (before : List Move) → Known-way wa
 way-last [] c before h k e = absurd (let z : _≡_ {A = ℕ} 0 1 = cc in omega arith)
 way-last (m ∷ way) c before h k e = record { move = m; known = h .0; code = cc; is = cons-eq refl (way-equal way before (h .1) k (cc)) }
 
-module _ (among : ℕ → Bool) (q : Question) where
+module _ (among : ℕ → Bool) (q : Question) (in-39 : q .alphabet ≡ code-39) where
   opened-known : {m : Move} (s : Situation PlaceSet) → Opened (acceptor-over among q) s m → Known-move m
   unfolding acceptor-over
   opened-known s (strikes-left e) = tt
   opened-known s (strikes-right e) = tt
-  opened-known s (puts h l r) = h
+  opened-known s (puts {c = c} h l r) = subst (λ (a : Alphabet). c < a .characters) in-39 h
 
   -- the moves that lead somewhere are known
   pub way-known : {s t : Situation PlaceSet} {way : List Move} → Leads (children (acceptor-over among q) longest-side) s way t → Known-way way

@@ -9,7 +9,7 @@ use lib.ListN.{length, getD, set, drop}
 use Rattle.paper.specs.Lists.{upto, only, keep, each}
 use Rattle.paper.specs.Numbers.{characters, longest-side}
 use Rattle.paper.specs.Search.{Child, child, long}
-use Rattle.base_codes.specs.Inner.{field-code, left-struck, right-struck, is-char, is-field, field-of, front}
+use Rattle.base_codes.specs.Inner.{field-code, left-struck, right-struck, is-char, is-field-code, field-of, front}
 use Rattle.base_codes.specs.Coded.{Coded, none}
 use Rattle.search_trim.specs.Trimming.{alike-in-front}
 use Rattle.search_fronts.specs.Fronts.{front-from, set-by, both-take}
@@ -52,7 +52,7 @@ settle l r sets = judged-sides (drop (alike-in-front l r) l) (drop (alike-in-fro
 
 -- the sets with the field's new one, where the token is a field's
 abbrev pub with-set : ℕ → ℕ → List ℕ → List ℕ
-with-set b m sets = cond (is-field b) (set sets (field-of b) m) sets
+with-set b m sets = cond (is-field-code b) (set sets (field-of b) m) sets
 
 -- the child by striking the field with the token b
 unfoldable pub struck : Coded → ℕ → Settled
@@ -66,7 +66,7 @@ put-child s c m n =
 
 -- "a field whose set may end": of the field with the token b
 unfoldable pub may-end-at : List ℕ → List ℕ → ℕ → Bool
-may-end-at sets last b = is-field b && not (eqb (bitAnd (getD sets (field-of b) 0) (getD last (field-of b) 0)) 0)
+may-end-at sets last b = is-field-code b && not (eqb (bitAnd (getD sets (field-of b) 0) (getD last (field-of b) 0)) 0)
 
 -- "1. the left front is a field whose set may end: strike it everywhere"
 unfoldable pub left-strike : List ℕ → Coded → Settled

@@ -11,12 +11,12 @@ use Rattle.search_children.specs.declared.Fate.{Fate}
 use Rattle.search_children.specs.declared.Fate.the-variants.{Dropped, Above, Made}
 
 -- the situation of a child that is not made
-abbrev pub nowhere : Coded
-nowhere = record { left = []; right = []; sets = replicate set-fields 0 }
+abbrev pub no-situation : Coded
+no-situation = record { left = []; right = []; sets = replicate set-fields 0 }
 
 -- such a child
 abbrev pub unmade : Fate → Child
-unmade fate = record { fate = fate; at = as-struct nowhere }
+unmade fate = record { fate = fate; at = as-struct no-situation }
 
 -- the child in the code's terms: its fate, and the situation if one is made
 abbrev pub child-of : Settled → Child

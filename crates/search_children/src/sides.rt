@@ -18,7 +18,7 @@ ghost use Rattle.base_codes.specs.Inner.{field-code, front, tokens};
 ghost use Rattle.base_codes.specs.Coded.{as-struct};
 ghost use Rattle.search_trim.specs.Trimming.{trimmed-sides};
 ghost use Rattle.search_children.specs.Children.{strike-codes, put-codes, dead-sides, judged-sides, settle};
-ghost use Rattle.search_children.specs.Laid.{nowhere, unmade, child-of, widest-side, Has};
+ghost use Rattle.search_children.specs.Laid.{no-situation, unmade, child-of, widest-side, Has};
 
 // a side with a character put before each of its tokens
 pub const WIDEST_SIDE: usize = LONGEST_SIDE + LONGEST_SIDE;
@@ -105,7 +105,7 @@ pub fn unmade(fate: Fate) -> Child
 
 // A situation of no token.
 fn nowhere() -> Situation
-    ensures { λ r. ⌜ r ≡ as-struct nowhere ⌝ }
+    ensures { λ r. ⌜ r ≡ as-struct no-situation ⌝ }
 {
     let left = [NO_TOKEN; LONGEST_SIDE];
     Situation {

@@ -1,33 +1,49 @@
--- From what reading a sheet hands on to the entry's promises: a refused sheet, a good one, and demands 1, 2 and 3. Follows from the definition of the
--- outcome and from the demands' theorems.
+-- From what reading a sheet hands on to the entry's promises: a refused sheet, a good one whose question was searched, and demands 1, 2 and 3.
+-- Follows from `search-told-every`, the definition of the outcome and the demands' theorems.
 use Prim.Native.Nat.{ℕ}
 use mathlib.Core.Path.{_≡_, sym, subst}
+use mathlib.Core.Bool.{Bool}
 use mathlib.Core.List.{List}
+use Rattle.paper.specs.Numbers.{characters}
 use Rattle.paper.specs.Buffers.{Demand1}
 use Rattle.paper.specs.Demands.{Demand2, Demand3}
 use Rattle.paper.specs.Outcome.{Outcome, outcome}
 use Rattle.paper.specs.Sheet.{read-sheet}
+use Rattle.paper.proofs.sheets.Asked.{sheet-good, left-39, right-39}
+use Rattle.paper.proofs.sheets.Hidden.{hidden-searchable}
 use Rattle.paper.proofs.demands.Demand1.{sheet-demand-1}
 use Rattle.paper.proofs.demands.Demand2.{sheet-demand-2}
 use Rattle.paper.proofs.demands.Demand3.{sheet-demand-3}
-use Rattle.read_sheet.specs.Read.{sheet-of}
+use Rattle.paper_chosen.specs.Chosen.{every}
+use Rattle.base_answers.specs.AnswerNumbers.{told}
+use Rattle.base_answers.specs.declared.Answer.the-variants as Answer-as
+use Rattle.base_answers.specs.declared.Ended.{Ended}
 use Rattle.base_answers.specs.declared.Fault as Code
 use Rattle.base_answers.specs.declared.Found.the-variants.{NoFault, Refused}
+use Rattle.search_tables.specs.Cut.{listed-by}
+use Rattle.search_question.proofs.Searched.{Searched, search-told-every}
+use Rattle.read_sheet.specs.SheetRead.{bodies-of, sheet-of}
 use Rattle.read_sheet.specs.declared.Sheet.{Sheet}
-use Rattle.read_sheet.proofs.Told.{sheet-asks, sheet-refused}
-use Rattle.base_answers.specs.Told.{told}
-use Rattle.search_clash.specs.Entry.{Asks}
-use Rattle.base_answers.specs.declared.Answer.the-variants as Answer
+use Rattle.read_sheet.proofs.SheetStruct.{sheet-asks, sheet-refused}
 
-module _ (sheet : List ℕ) (s : Sheet) (e : s ≡ sheet-of (read-sheet sheet)) where
-  -- a sheet that is found good asks a question
-  pub good-asks : s .found ≡ NoFault → Asks sheet s
-  good-asks h = let a = sheet-asks sheet s e h in record { question = a .question; good = a .good; is = a .is }
-
+module _ (sheet : List ℕ) (s : Sheet) (e : s ≡ sheet-of (bodies-of sheet) (read-sheet sheet)) where
   -- a refused sheet changes no buffer
-  pub refused-told : (x : Code.Fault) (work answer : List ℕ) → s .found ≡ Refused x → told (Answer.Refused x (s .place)) answer work ≡ outcome sheet work answer
+  pub refused-told : (x : Code.Fault) (work answer : List ℕ) → s .found ≡ Refused x
+      → told (Answer-as.Refused x (s .place)) answer work ≡ outcome sheet work answer
   unfolding outcome
   refused-told x work answer h = rw (sheet-refused sheet s e x h)
+
+  -- the question of a good sheet, searched over every character
+  pub searched-told : s .found ≡ NoFault → (all : List Bool) → all ≡ listed-by every characters
+      → (work answer after worked : List ℕ) (end : Ended) → Searched all (s .question) work answer after worked end
+      → told (Answer-as.Searched end) after worked ≡ outcome sheet work answer
+  unfolding outcome
+  searched-told h all marks work answer after worked end p =
+      let a = sheet-asks sheet s e h in
+      let q = a .question in
+      let g = sheet-good sheet q (a .good) in
+      rw (a .good)
+      (search-told-every q (g .alphabet) (left-39 g) (right-39 g) (hidden-searchable q g) (bodies-of sheet) (s .question) (a .is) work answer after worked end all marks p)
 
 -- The entry's four promises, from the first.
 pub promised : (sheet work answer : List ℕ) (o : Outcome) → o ≡ outcome sheet work answer

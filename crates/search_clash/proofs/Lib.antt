@@ -1,3 +1,2 @@
-pub mod Searching
 pub mod Answering
-pub mod Unique
+pub mod OneResult

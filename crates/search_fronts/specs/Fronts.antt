@@ -7,7 +7,7 @@ use lib.Dec.{ltb, eqb}
 use lib.ListN.{getD}
 use Rattle.paper.specs.Numbers.{set-fields}
 use Rattle.base_places.specs.Masks.{followers-of}
-use Rattle.base_codes.specs.Inner.{is-field, field-of}
+use Rattle.base_codes.specs.Inner.{is-field-code, field-of}
 use Rattle.search_fronts.specs.declared.Front.{Front}
 
 -- what each character lets through in the field with the token b; that of field 0 where there is no such field
@@ -29,7 +29,7 @@ set-by f c = bitAnd (f .followers) (getD (f .row) c 0)
 
 -- "a character in front must be c, and each front field's set after c must not be empty"; "if neither side is empty"
 unfoldable pub takes-next : ℕ → ℕ → ℕ → Bool
-takes-next b next c = cond (is-field b) (not (eqb next 0)) (eqb b c)
+takes-next b next c = cond (is-field-code b) (not (eqb next 0)) (eqb b c)
 
 -- do both fronts take c?
 abbrev pub both-take : Front → Front → ℕ → Bool

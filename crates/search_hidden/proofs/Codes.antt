@@ -2,42 +2,47 @@
 --   codes-are-tokens : the codes of a side whose tokens have place sets are tokens
 --   side-back     : a good side is read back from its codes
 --   side-behind   : a good side with a field behind it is read back from the codes of the side, with the field's code put behind them
---   fields-behind : what is worked out of a question's own fields, and behind it twice what is worked out of any spaces, is what is worked out of
+--   fields-behind : of a question in Code 39, what is worked out of its own fields, and behind it twice what is worked out of any spaces, is what is worked out of
 --                   the fields of the question with its hidden fields
+--   left-hidden, right-hidden, part-hidden : so the struct of a question with its hidden fields has the sides and the tables of `hidden q`
 -- The first follows by induction on the side: the code of a token that has a place set is no 255. The second is computed.
 use Prim.Native.Nat.{ℕ, _+_, _<_}
 use native.Mathlib.Omega.{arith}
 use mathlib.Core.Path.{_≡_, refl, sym, ap, _∙_}
 use mathlib.Core.Bool.{true}
-use mathlib.Core.List.{List, [], _∷_, _++_, map, List·Memᴰ, List·Memᴰ·head, List·Memᴰ·tail}
+use mathlib.Core.List.{List, [], _∷_, _++_, map, map-map, List·Memᴰ, List·Memᴰ·head, List·Memᴰ·tail}
 use lib.ListN.{length, take, length-append, length-map}
 use lib.Seq.{take-all}
 use Rattle.paper.specs.Lists.{all, upto}
-use Rattle.paper.specs.Numbers.{fields, set-fields, longest-side}
+use Rattle.paper.specs.Numbers.{characters, fields, set-fields, longest-side, hidden-left, hidden-right, space}
 use Rattle.paper.specs.Equation.{Token, chr, fld, Side}
+use Rattle.paper.specs.Alphabet.{Alphabet, code-39}
 use Rattle.paper.specs.Question.{Question, held-by, any-spaces, hidden}
 use Rattle.paper.proofs.base.Tests.{neq-eqb, false-not, both-true}
 use Rattle.paper.proofs.base.Lists.{map-append}
 use Rattle.paper.proofs.sheets.Asked.{GoodSide}
 use Rattle.paper.proofs.sheets.Hidden.{HasSet, in-range-has-set, has-sets-with}
 use Rattle.base_places.specs.WorkedOut.{worked-out}
-use Rattle.base_codes.specs.Inner.{field-code, no-token, is-token, token-code, side-code, tokens, padded}
+use Rattle.base_codes.specs.Inner.{field-code, no-token, is-code, token-code, side-code, tokens, padded}
 use Rattle.base_codes.proofs.Tokens.{tokens-padded}
-use Rattle.search_hidden.specs.Behind.{side-with}
+use Rattle.base_places.specs.declared.PlaceTables.{PlaceTables}
+use Rattle.base_question.specs.Asked.{question-of}
+use Rattle.base_question.specs.declared.Body.{Body}
+use Rattle.search_hidden.specs.Behind.{side-with, with-hidden}
 
-code-is-token : (t : Token) → HasSet t → is-token (token-code t) ≡ true
+code-is-token : (t : Token) → HasSet t → is-code (token-code t) ≡ true
 code-is-token (chr c) h = false-not (neq-eqb c no-token (λ e. omega arith))
 code-is-token (fld f) h = false-not (neq-eqb (token-code (fld f)) no-token (λ e. omega arith))
 
-pub codes-are-tokens : (side : Side) → ((t : Token) → List·Memᴰ t side → HasSet t) → all is-token (side-code side) ≡ true
+pub codes-are-tokens : (side : Side) → ((t : Token) → List·Memᴰ t side → HasSet t) → all is-code (side-code side) ≡ true
 codes-are-tokens [] h = refl
 codes-are-tokens (t ∷ side) h =
     both-true (code-is-token t (h t (List·Memᴰ·head refl))) (codes-are-tokens side (λ u d. h u (List·Memᴰ·tail d)))
 
-pub side-back : (side : Side) → GoodSide side → tokens (padded (side-code side)) ≡ side-code side
+pub side-back : (side : Side) → GoodSide characters side → tokens (padded (side-code side)) ≡ side-code side
 side-back side g = tokens-padded (side-code side) (codes-are-tokens side (λ t d. in-range-has-set t (g .tokens t d)))
 
-module _ (side : Side) (g : GoodSide side) (f : ℕ) (h : f < set-fields) where
+module _ (side : Side) (g : GoodSide characters side) (f : ℕ) (h : f < set-fields) where
   with-code : side-code side ++ ((field-code + f) ∷ []) ≡ side-code (side ++ (fld f ∷ []))
   with-code = sym (map-append token-code side (fld f ∷ []))
 
@@ -49,7 +54,21 @@ module _ (side : Side) (g : GoodSide side) (f : ℕ) (h : f < set-fields) where
       ∙ ap (λ (l : List ℕ). tokens (padded l)) (take-all longest-side (side-code side ++ ((field-code + f) ∷ [])) (omega arith) ∙ with-code)
       ∙ tokens-padded (side-code (side ++ (fld f ∷ []))) (codes-are-tokens (side ++ (fld f ∷ [])) (has-sets-with side f g h))
 
-pub fields-behind : (q : Question)
-    → map (λ (f : ℕ). worked-out (held-by q f)) (upto fields) ++ (worked-out any-spaces ∷ worked-out any-spaces ∷ [])
+pub fields-behind : (q : Question) → q .alphabet ≡ code-39
+    → map (λ (f : ℕ). worked-out (held-by q f)) (upto fields) ++ (worked-out (any-spaces space) ∷ worked-out (any-spaces space) ∷ [])
     ≡ map (λ (f : ℕ). worked-out (held-by (hidden q) f)) (upto set-fields)
-fields-behind q = refl
+fields-behind q in-39 =
+    let own = map (λ (f : ℕ). worked-out (held-by q f)) (upto fields) in
+    ap (λ (a : Alphabet). own ++ (worked-out (any-spaces (a .space)) ∷ worked-out (any-spaces (a .space)) ∷ [])) (sym in-39)
+
+module _ (q : Question) (in-39 : q .alphabet ≡ code-39) (bodies : List Body) where
+  pub left-hidden : GoodSide characters (q .left) → tokens (with-hidden (question-of q bodies) .left) ≡ side-code (hidden q .left)
+  left-hidden g = side-behind (q .left) g hidden-left (omega arith)
+
+  pub right-hidden : GoodSide characters (q .right) → tokens (with-hidden (question-of q bodies) .right) ≡ side-code (hidden q .right)
+  right-hidden g = side-behind (q .right) g hidden-right (omega arith)
+
+  -- a part of each field's tables
+  pub part-hidden : {A : Type 0} (part : PlaceTables → A)
+      → map part (with-hidden (question-of q bodies) .fields) ≡ map (λ (f : ℕ). part (worked-out (held-by (hidden q) f))) (upto set-fields)
+  part-hidden part = ap (map part) (fields-behind q in-39) ∙ map-map part (λ (f : ℕ). worked-out (held-by (hidden q) f)) (upto set-fields)

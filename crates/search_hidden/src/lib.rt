@@ -1,19 +1,24 @@
 // The hidden fields: "Each side is to be read as if one hidden field, of any number of spaces, stood at its end: field 8 on the left and 9 on the
 // right".
 use base_codes::FIELDS;
+use base_codes::HIDDEN_LEFT;
+use base_codes::HIDDEN_RIGHT;
 use base_codes::LONGEST_SIDE;
 use base_codes::NO_TOKEN;
 use base_codes::SHEET_FIELDS;
 use base_codes::length_of;
+use base_places::CHARACTERS;
+use base_places::PLACES;
 use base_places::PlaceTables;
+use base_question::Question;
 ghost use mathlib.Core.Path.{_≡_};
 ghost use mathlib.Core.List.{_∷_, [], _++_};
 ghost use lib.ListN.{replicate};
-ghost use Rattle.paper.specs.Numbers.{longest-side};
+ghost use Rattle.paper.specs.Numbers.{longest-side, space};
 ghost use Rattle.paper.specs.Question.{any-spaces};
 ghost use Rattle.base_codes.specs.Inner.{no-token};
 ghost use Rattle.base_places.specs.WorkedOut.{worked-out};
-ghost use Rattle.search_hidden.specs.Behind.{side-with};
+ghost use Rattle.search_hidden.specs.Behind.{side-with, with-hidden};
 
 // a side of no token, to be written over
 fn no_side() -> [u8; LONGEST_SIDE]
@@ -39,21 +44,33 @@ pub fn side(side: [u8; LONGEST_SIDE], token: u8) -> [u8; LONGEST_SIDE]
     bytes
 }
 
-// "68 A: A any number of times", and the space
-const ANY_SPACES: [u8; 2] = [68, 38];
+// The one leaf of "any number of spaces", and the start with it.
+const LEAF: u64 = 2;
 
-// What is worked out of "any number of spaces".
+const START_AND_LEAF: u64 = 3;
+
+// "Code 39, by value": the space
+const SPACE: usize = 38;
+
+// What is worked out of "any number of spaces": one leaf, which follows the start and itself and takes the space alone. Either may be the last.
 fn spaces() -> PlaceTables
-    ensures { λ r. ⌜ r ≡ worked-out any-spaces ⌝ }
+    ensures { λ r. ⌜ r ≡ worked-out (any-spaces space) ⌝ }
 {
-    let code = ANY_SPACES;
-    let worked = read_pattern::tables(&code[0..2]);
-    worked.tables
+    let mut follow = [0; PLACES];
+    follow[0] = LEAF;
+    follow[1] = LEAF;
+    let mut taking = [0; CHARACTERS];
+    taking[SPACE] = LEAF;
+    PlaceTables {
+        follow,
+        taking,
+        last: START_AND_LEAF,
+    }
 }
 
 // What is worked out of a sheet's fields, and behind it what is worked out of the hidden ones.
 pub fn fields(own: [PlaceTables; SHEET_FIELDS]) -> [PlaceTables; FIELDS]
-    ensures { λ r. ⌜ r ≡ own ++ (worked-out any-spaces ∷ worked-out any-spaces ∷ []) ⌝ }
+    ensures { λ r. ⌜ r ≡ own ++ (worked-out (any-spaces space) ∷ worked-out (any-spaces space) ∷ []) ⌝ }
 {
     let hidden = spaces();
     let mut all = [hidden; FIELDS];
@@ -64,4 +81,27 @@ pub fn fields(own: [PlaceTables; SHEET_FIELDS]) -> [PlaceTables; FIELDS]
         f += 1;
     }
     all
+}
+
+// A question with its hidden fields.
+pub struct Hidden {
+    pub left: [u8; LONGEST_SIDE],
+    pub right: [u8; LONGEST_SIDE],
+    pub fields: [PlaceTables; FIELDS],
+}
+
+pub fn question(own: Question) -> Hidden
+    ensures { λ r. ⌜ r ≡ with-hidden own ⌝ }
+{
+    let own_left = own.left;
+    let own_right = own.right;
+    let own_fields = own.fields;
+    let left = side(own_left, HIDDEN_LEFT);
+    let right = side(own_right, HIDDEN_RIGHT);
+    let all = fields(own_fields);
+    Hidden {
+        left,
+        right,
+        fields: all,
+    }
 }

@@ -1,22 +1,23 @@
--- From how the search over slots ended to the answer: what `found` and `conclude` promise. Follows from the definitions of Ended.
+-- From how the search over slots ended to how it ends: what `found` and `conclude` promise. Follows from the definitions of Ended.
 use Prim.Native.Nat.{ℕ, _-_, _<_}
 use native.Mathlib.Omega.{arith}
 use mathlib.Core.Path.{_≡_, sym, ap, _∙_}
 use mathlib.Core.List.{List}
-use Rattle.search_run.specs.Ended.{clash-end, end-by, buffer-by, concluded, concluded-buffer, Clash-told, Over, Concluded}
-use Rattle.search_run.specs.Records.{Way-to, text-at, Answered}
-use Rattle.search_run.specs.Slots.{Slot}
-use Rattle.base_answers.specs.declared.Ended.{Ended}
-use Rattle.search_run.specs.declared.records.Given.{Given}
+use Rattle.search_run.specs.Ended.{clash-how, how-by, buffer-by, run-concluded, concluded-buffer, Clash-told, Search-over, Concluded}
+use Rattle.search_run.specs.Way.{Way-to, text-at}
+use Rattle.search_records.specs.Records.{Answered}
+use Rattle.search_slots.specs.Slots.{Slot}
+use Rattle.base_answers.specs.declared.How.{How}
+use Rattle.search_records.specs.declared.Given.{Given}
 use Rattle.search_run.specs.declared.search.Run.{Run}
 use Rattle.search_run.specs.declared.search.Status.{Status}
 use Rattle.search_run.specs.declared.search.Status.the-variants.{Found}
 
-pub told-by : (ss : List Slot) (n : ℕ) {sets before after : List ℕ} {given : Given} {r : Ended}
-    → Answered sets (text-at ss (n - 1)) before after given → r ≡ clash-end n given → Clash-told ss n sets before after r
-told-by ss n h e = record { answer = e ∙ ap (clash-end n) (h .given); buffer = h .buffer }
+pub told-by : (ss : List Slot) (n : ℕ) {sets before after : List ℕ} {given : Given} {r : How}
+    → Answered sets (text-at ss (n - 1)) before after given → r ≡ clash-how given → Clash-told ss n sets before after r
+told-by ss n h e = record { answer = e ∙ ap clash-how (h .given); buffer = h .buffer }
 
-module _ {work : List ℕ} {run : Run} (o : Over work run) where
+module _ {work : List ℕ} {run : Run} (o : Search-over work run) where
   ended-so : (x : Status) → run .status ≡ x → o .search .status ≡ x
   ended-so x e = sym (o .lent .status) ∙ e
 
@@ -34,10 +35,10 @@ module _ {work : List ℕ} {run : Run} (o : Over work run) where
         entered = omega (arith, some-entered e, o .lent .entered);
       }
 
-  module _ {sets before after : List ℕ} {r : Ended} where
-    pub concluded-by : (x : Status) → run .status ≡ x → r ≡ end-by x (o .search .slots) sets before → after ≡ buffer-by x (o .search .slots) sets before
+  module _ {sets before after : List ℕ} {r : How} where
+    pub concluded-by : (x : Status) → run .status ≡ x → r ≡ how-by x (o .search .slots) sets before → after ≡ buffer-by x (o .search .slots) sets before
         → Concluded (o .search) sets before after r
-    unfolding concluded concluded-buffer
+    unfolding run-concluded concluded-buffer
     concluded-by x e a b = record { answer = rw (ended-so x e) a; buffer = rw (ended-so x e) b }
 
     pub found-concluded : run .status ≡ Found → Clash-told (o .search .slots) (run .entered) sets before after r → Concluded (o .search) sets before after r

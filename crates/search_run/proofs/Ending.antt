@@ -11,12 +11,13 @@ use Rattle.base_codes.specs.Coded.{Coded, as-struct, Short}
 use Rattle.search_children.specs.Children.{Tables}
 use Rattle.search_trim.specs.Trimming.{question-coded}
 use Rattle.base_codes.specs.declared.Situation.{Situation}
-use Rattle.search_run.specs.Ended.{concluded, concluded-buffer, ended-with, buffer-with, Over, Concluded}
+use Rattle.search_run.specs.Ended.{run-concluded, concluded-buffer, ended-with, buffer-with, Search-over, Concluded}
 use Rattle.search_run.specs.Lent.{Lent}
 use Rattle.search_run.specs.Run.{slot-search}
 use Rattle.base_answers.specs.declared.Ended.{Ended}
+use Rattle.base_answers.specs.declared.How.{How}
 use Rattle.search_run.specs.declared.search.Run.{Run}
-use Rattle.search_run.proofs.Numbered.{slots-numbered, found-entered}
+use Rattle.search_run.proofs.RunNumbers.{slots-numbered, found-entered}
 use Rattle.search_trim.proofs.Short.{question-short}
 use Rattle.base_codes.proofs.Tokens.{tokens-length, all-tokens}
 
@@ -29,16 +30,18 @@ first-short left right l r =
 
 module _ (T : Tables) (room : ℕ) (k : Coded) where
   -- the search in the lent buffer is over
-  abbrev pub over : {work : List ℕ} {run : Run} → Lent work run (slot-search T room k) → Over work run
+  abbrev pub over : {work : List ℕ} {run : Run} → Lent work run (slot-search T room k) → Search-over work run
   over l =
       record { search = slot-search T room k; lent = l; earlier = slots-numbered T room k .earlier; some = found-entered T room k }
 
   -- and what is concluded is the end, where the first situation's struct has its sets
-  pub ended : (s : Situation) {before after : List ℕ} {r : Ended} → s ≡ as-struct k → Concluded (slot-search T room k) (s .sets) before after r
-      → (r ≡ ended-with T room k before) × (after ≡ buffer-with T room k before)
+  pub ended : (s : Situation) {before after : List ℕ} {how : How} (n : ℕ) → s ≡ as-struct k
+      → Concluded (slot-search T room k) (s .sets) before after how → n ≡ length (slot-search T room k .slots)
+      → (_≡_ {A = Ended} (record { how = how; count = n }) (ended-with T room k before)) × (after ≡ buffer-with T room k before)
   unfolding ended-with buffer-with
-  ended s {before} e c =
-      let sets = ap (λ (t : Situation). t .sets) e in (
-        c .answer ∙ ap (λ (m : List ℕ). concluded (slot-search T room k) m before) sets,
+  ended s {before} n e c m =
+      let sets = ap (λ (t : Situation). t .sets) e in
+      let how = c .answer ∙ ap (λ (m : List ℕ). run-concluded (slot-search T room k) m before) sets in (
+        (λ i. record { how = how i; count = m i }),
         c .buffer ∙ ap (λ (m : List ℕ). concluded-buffer (slot-search T room k) m before) sets,
       )

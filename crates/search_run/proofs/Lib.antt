@@ -1,9 +1,10 @@
 -- the search over slots, and how it stands for the paper's
-pub mod Numbered
+pub mod RunNumbers
 pub mod Once
 pub mod TextBack
 pub mod Simulated
 -- how it ends
+pub mod WaySpelt
 pub mod Concluding
 pub mod Ending
-pub mod Told
+pub mod RunIsSearch

@@ -11,15 +11,15 @@ use Rattle.paper.proofs.base.Lists.{NoDup, more, mem-any}
 use Rattle.paper.proofs.base.Listed.{getD-mem}
 use Rattle.paper.proofs.search.Searched.{entries-different}
 use Rattle.paper.proofs.base.Tests.{true-false}
-use Rattle.search_run.specs.Buckets.{Entered-at}
+use Rattle.search_buckets.specs.Buckets.{Entered-at}
 use Rattle.base_codes.specs.Coded.{Coded, same-coded, finished-coded}
 use Rattle.search_children.specs.Children.{Tables, children-coded}
 use Rattle.search_run.specs.Run.{slot-search}
-use Rattle.search_run.specs.Slots.{Slot, slot-at, no-slot}
-use Rattle.search_run.specs.declared.buckets.Seen.{Seen}
-use Rattle.search_run.specs.declared.buckets.Seen.the-variants.{At, Nowhere}
-use Rattle.search_run.proofs.Numbered.{situations-in, slots-numbered}
-use Rattle.search_run.proofs.slots.Situations.{same-coded-equal, equal-same-coded}
+use Rattle.search_slots.specs.Slots.{Slot, slot-at, no-slot}
+use Rattle.search_buckets.specs.declared.Seen.{Seen}
+use Rattle.search_buckets.specs.declared.Seen.the-variants.{At, Nowhere}
+use Rattle.search_run.proofs.RunNumbers.{situations-in, slots-numbered}
+use Rattle.search_slots.proofs.Situations.{same-coded-equal, equal-same-coded}
 
 pub entered-once : (T : Tables) (room : ℕ) (s : Coded) → NoDup (situations-in (slot-search T room s .slots))
 entered-once T room s =

@@ -12,7 +12,7 @@ use mathlib.Core.Bool.{Bool, true, _&&_}
 use mathlib.Core.List.{List, [], _∷_, _++_, map, reverse, List·Memᴰ}
 use lib.ListN.{length, getD, length-append, List·getD-map}
 use lib.Seq.{getD-at}
-use Rattle.paper.specs.Numbers.{set-fields, longest-side}
+use Rattle.paper.specs.Numbers.{characters, set-fields, longest-side}
 use Rattle.paper.specs.Pattern.{Held, some-text, pattern}
 use Rattle.paper.specs.Places.{PlaceSet}
 use Rattle.paper.specs.Search.{Entry, End, found, used-up, no-room, too-long, search, entries}
@@ -42,8 +42,8 @@ use Rattle.search_children.proofs.CodedQuestion.{question-agrees}
 use Rattle.search_children.proofs.KeptCodable.{child-codable, question-codable}
 use Rattle.search_children.proofs.Ways.{way-last, way-known, text-last, given-agrees}
 use Rattle.search_run.specs.Run.{Running, status-of, slot-search, text-back}
-use Rattle.search_run.specs.Slots.{slot-at}
-use Rattle.search_run.proofs.Numbered.{entry-at, Numbered, numbered-length, numbered-at, slots-status, slots-numbered}
+use Rattle.search_slots.specs.Slots.{slot-at}
+use Rattle.search_run.proofs.RunNumbers.{entry-at, Numbered, numbered-length, numbered-at, slots-status, slots-numbered}
 use Rattle.search_run.proofs.TextBack.{text-back-is}
 
 -- the first situation of a question, from the codes of its sides
@@ -69,7 +69,7 @@ no-moves : (way : List Move) → map move-code way ≡ [] → way ≡ []
 no-moves [] e = refl
 no-moves (m ∷ way) e = absurd (let z : _≡_ {A = ℕ} 0 1 = cc in omega arith)
 
-few-leaves : (h : Held) → GoodHeld h → Few h
+few-leaves : (h : Held) → GoodHeld characters h → Few h
 few-leaves some-text g = tt
 few-leaves (pattern p) g = g .1
 
@@ -92,8 +92,8 @@ module _ (among : ℕ → Bool) (q : Question) (good : Searchable q) where
       record {
         same-alike = same-agrees;
         finished-alike = λ s g. finished-sides (acceptor-over among q) (s .left) (s .right);
-        children-alike = children-agree among q few;
-        child-good = child-codable among q few;
+        children-alike = λ s g. children-agree among q few s g (good .alphabet);
+        child-good = child-codable among q few (good .alphabet);
       }
 
   -- the trimmed question
@@ -170,7 +170,7 @@ module _ (among : ℕ → Bool) (q : Question) (good : Searchable q) where
       at-leads = Searched.way-leads _ _ _ equal same room first (paper-at i) at-mem
 
       at-codable : Codable (paper-at i .at)
-      at-codable = Searched.every-entry _ _ _ equal same room first Codable first-codable (child-codable among q few) (paper-at i) at-mem
+      at-codable = Searched.every-entry _ _ _ equal same room first Codable first-codable (child-codable among q few (good .alphabet)) (paper-at i) at-mem
 
     module _ (f : ℕ) (b : f < set-fields) where
       -- the text of the paper's entry with the number i
@@ -190,7 +190,7 @@ module _ (among : ℕ → Bool) (q : Question) (good : Searchable q) where
           let below : parent < length (run .slots) = omega (arith, numbered .earlier i h) in
           let last =
           way-last (paper-at (suc i) .way) (slot-at (run .slots) (suc i) .step) (paper-at parent .way)
-          (way-known among q (at-leads (suc i) h)) (way-known among q (at-leads parent below))
+          (way-known among q (good .alphabet) (at-leads (suc i) h)) (way-known among q (good .alphabet) (at-leads parent below))
           (rw (coded-at (suc i), coded-at parent) at (numbered .its-way i h)) in
           let at-parent : slot-at (run .slots) parent .at ≡ situation-code (paper-at parent .at) =
           numbered-at numbered parent ∙ ap (λ (e : Entry Coded ℕ). e .at) (coded-at parent) in

@@ -6,7 +6,7 @@ use mathlib.Core.Path.{_≡_, sym, ap, _∙_}
 use mathlib.Core.List.{List, [], _++_}
 use lib.ListN.{length}
 use Rattle.search_children.specs.Children.{given-coded}
-use Rattle.search_run.specs.Slots.{Slot, slot-at}
+use Rattle.search_slots.specs.Slots.{Slot, slot-at}
 use Rattle.search_run.specs.Run.{text-back}
 
 module _

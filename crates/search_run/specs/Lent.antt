@@ -13,8 +13,8 @@ use Rattle.search_children.specs.Laid.{child-of}
 use Rattle.search_children.specs.declared.Child.{Child as Made-child}
 use Rattle.base_codes.specs.declared.Situation.{Situation}
 use Rattle.search_run.specs.Run.{is-going, Running, enter-slot, offer-going, offer-slots, take-slot, slot-search}
-use Rattle.search_run.specs.Buckets.{bucket, buckets, Kept}
-use Rattle.search_run.specs.Slots.{key, Slot}
+use Rattle.search_buckets.specs.Buckets.{bucket, buckets, Kept}
+use Rattle.search_slots.specs.Slots.{key, Slot}
 use Rattle.search_run.specs.declared.search.Run.{Run}
 
 -- the buffer and the run stand for a search over slots
@@ -57,10 +57,10 @@ module _ (room : ℕ) where
         → Lent work′ run′ (enter-slot room ss (record { at = k; parent = parent; step = step }))
 
   -- the same with its key and its bucket at hand, and room left
-  pub record Enters-with (n parent step : ℕ) (s : Situation) (bytes : List ℕ) (b : ℕ) (work work′ : List ℕ) (run′ : Run) : Type 0 where
+  pub record Enters-with (n parent step : ℕ) (bytes : List ℕ) (b : ℕ) (work work′ : List ℕ) (run′ : Run) : Type 0 where
     pub within : run′ .entered ≤ room
     pub more : n ≤ run′ .entered
-    pub lent : (k : Coded) (ss : List Slot) → s ≡ as-struct k → bytes ≡ key k → b ≡ bucket (buckets work) k → Short k → Kept work ss → length ss ≡ n
+    pub lent : (k : Coded) (ss : List Slot) → bytes ≡ key k → (b < buckets work) × (b ≡ bucket (buckets work) k) → Short k → Kept work ss → length ss ≡ n
         → Lent work′ run′ (enter-slot room ss (record { at = k; parent = parent; step = step }))
 
   -- a child that is made is offered, while the search goes on

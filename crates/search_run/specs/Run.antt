@@ -9,7 +9,7 @@ use Rattle.paper.specs.Lists.{any}
 use Rattle.paper.specs.Search.{Child, long, child, End, found, used-up, no-room, too-long}
 use Rattle.base_codes.specs.Coded.{Coded, finished-coded, same-coded}
 use Rattle.search_children.specs.Children.{Tables, children-coded, given-coded}
-use Rattle.search_run.specs.Slots.{Slot, slot-at}
+use Rattle.search_slots.specs.Slots.{Slot, slot-at}
 use Rattle.search_run.specs.declared.search.Status.{Status}
 use Rattle.search_run.specs.declared.search.Status.the-variants.{Going, Found, UsedUp, NoRoom, TooLong}
 

@@ -1,26 +1,23 @@
 // The search: from the two sides and the fields' tables to how it ends, in a lent working buffer, and to the records of a clash.
-mod buckets;
-mod numbers;
-mod records;
 mod search;
-mod slots;
 
 use base_answers::Ended;
+use base_answers::How;
 use base_codes::FIELDS;
 use base_codes::LONGEST_SIDE;
 use base_places::CHARACTERS;
 use base_places::PLACES;
-use records::Given;
 use search::Run;
 use search::Status;
+use search_records::Given;
 ghost use mathlib.Core.Path.{_≡_};
 ghost use Prim.Native.Nat.{_-_, _<_};
 ghost use lib.ListN.{length, replicate};
 ghost use Rattle.base_codes.specs.Inner.{tokens};
 ghost use Rattle.search_trim.specs.Trimming.{question-coded};
-ghost use Rattle.search_run.specs.Ended.{room-for, ended-with, buffer-with, Clash-told, Over, Concluded};
+ghost use Rattle.search_run.specs.Ended.{room-for, ended-with, buffer-with, Clash-told, Search-over, Concluded};
 ghost use Rattle.search_run.specs.Lent.{tables};
-ghost use Rattle.search_run.specs.Records.{Way-to};
+ghost use Rattle.search_run.specs.Way.{Way-to};
 
 // "at most 65,535"
 const MOST_ROOM: usize = 65535;
@@ -43,45 +40,47 @@ pub fn run(
     let room = room_for(work.len());
     let run = search::search(work, room, first, &follow, &taking, last);
     let sets = first.sets;
-    let r = conclude(answer, work, run, sets);
-    slots::clear(work);
-    r
+    let how = conclude(answer, work, run, sets);
+    search_slots::clear(work);
+    Ended {
+        how,
+        count: run.entered,
+    }
 }
 
 // "Room is one situation for each whole 184 bytes of working buffer, and at most 65,535."
 fn room_for(bytes: usize) -> usize
     ensures { λ r. ⌜ r ≡ room-for bytes ⌝ }
 {
-    let whole = bytes / slots::SLOT;
+    let whole = search_slots::slots_in(bytes);
     if whole < MOST_ROOM { whole } else { MOST_ROOM }
 }
 
 // How it ends once the search is over. The first situation's sets say which fields stand.
-fn conclude(answer: &mut [u8], work: &[u8], run: Run, sets: [u64; FIELDS]) -> Ended
-    requires { ⌜ Over (now work) run ⌝ }
-    ensures { λ r. ⌜ ((o : Over (now (work .entry)) run) → Concluded (o .search) sets (now (answer .entry)) (now (answer .exit)) r) ⌝ }
+fn conclude(answer: &mut [u8], work: &[u8], run: Run, sets: [u64; FIELDS]) -> How
+    requires { ⌜ Search-over (now work) run ⌝ }
+    ensures { λ r. ⌜ ((o : Search-over (now (work .entry)) run) → Concluded (o .search) sets (now (answer .entry)) (now (answer .exit)) r) ⌝ }
 {
-    let count = run.entered;
     let status = run.status;
     match status {
-        Status::Found => found(answer, work, count, sets),
-        Status::UsedUp => Ended::NoClash { count },
-        Status::NoRoom => Ended::NoRoom { count },
-        Status::TooLong => Ended::SideTooLong { count },
-        Status::Going => Ended::NoRoom { count },
+        Status::Found => found(answer, work, run.entered, sets),
+        Status::UsedUp => How::NoClash,
+        Status::NoRoom => How::NoRoom,
+        Status::TooLong => How::SideTooLong,
+        Status::Going => How::NoRoom,
     }
 }
 
-// The end of a clash, whose finish is in the last slot.
-fn found(answer: &mut [u8], work: &[u8], count: usize, sets: [u64; FIELDS]) -> Ended
+// How a clash ends, whose finish is in the last slot.
+fn found(answer: &mut [u8], work: &[u8], count: usize, sets: [u64; FIELDS]) -> How
     requires { ⌜ 0 < count ⌝ }
     requires { ⌜ Way-to (now work) (count - 1) ⌝ }
     ensures { λ r. ⌜ ((w : Way-to (now (work .entry)) (count - 1)) → Clash-told (w .slots) count sets (now (answer .entry)) (now (answer .exit)) r) ⌝ }
 {
-    let given = records::answer_clash(answer, work, count - 1, sets);
+    let given = search_records::answer_clash(answer, work, count - 1, sets);
     match given {
-        Given::TextTooLong => Ended::TextTooLong { count },
-        Given::TooShort => Ended::AnswerTooShort { count },
-        Given::Bytes(written) => Ended::Clash { count, written },
+        Given::TextTooLong => How::TextTooLong,
+        Given::TooShort => How::AnswerTooShort,
+        Given::Bytes(written) => How::Clash { written },
     }
 }

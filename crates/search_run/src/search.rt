@@ -1,26 +1,26 @@
 // The search: breadth first over the slots of the working buffer, in document 01's order.
-use crate::buckets;
-use crate::buckets::Seen;
-use crate::slots;
 use base_codes::FIELDS;
 use base_codes::LEFT_STRUCK;
 use base_codes::RIGHT_STRUCK;
 use base_codes::Situation;
 use base_places::CHARACTERS;
 use base_places::PLACES;
+use search_buckets::Seen;
 use search_children::Child;
 use search_children::Fate;
 use search_fronts::Front;
+use search_slots::HELD;
+use search_slots::SLOT;
 ghost use mathlib.Core.Path.{_≡_};
-ghost use Prim.Native.Nat.{_*_, _<_, _≤_};
+ghost use mathlib.Core.List.{List};
+ghost use Prim.Native.Nat.{_+_, _*_, _<_, _≤_};
 ghost use lib.ListN.{length};
 ghost use Rattle.paper.specs.Numbers.{situation-bytes, most-room};
-ghost use Rattle.base_codes.specs.Coded.{Coded};
+ghost use Rattle.base_codes.specs.Coded.{Coded, as-struct};
 ghost use Rattle.search_children.specs.Children.{puts-of, children-coded};
-ghost use Rattle.search_run.specs.Buckets.{buckets};
 ghost use Rattle.search_run.specs.Lent.{Roomy, Starts-puts, Ends-puts, tables, Enters, Enters-with, Offers-made, Offers-child, Offers, Takes, Searches};
 ghost use Rattle.search_run.specs.Run.{is-going};
-ghost use Rattle.search_run.specs.Slots.{key-bytes};
+ghost use Rattle.search_slots.specs.Slots.{Slot, slot-at, Slots-held};
 ghost use Rattle.search_run.specs.declared.search.Status.the-variants.{NoRoom};
 
 // How the search stands, or how it ended.
@@ -57,16 +57,15 @@ fn enter_with(
     n: usize,
     parent: usize,
     step: u8,
-    s: Situation,
     key: &[u8],
     b: usize,
 ) -> Run
     requires { ⌜ Roomy (now work) room n parent ⌝ }
-    requires { ⌜ (n < room) × (length (now key) ≡ key-bytes) × (b < buckets (now work)) ⌝ }
-    ensures { λ r. ⌜ Enters-with room n parent step s (now (key .entry)) b (now (work .entry)) (now (work .exit)) r ⌝ }
+    requires { ⌜ n < room ⌝ }
+    ensures { λ r. ⌜ Enters-with room n parent step (now (key .entry)) b (now (work .entry)) (now (work .exit)) r ⌝ }
 {
-    buckets::write_slot(work, n, key, b, parent, step);
-    if base_codes::is_finished(s) {
+    search_buckets::write_slot(work, n, key, b, parent as u16, step);
+    if search_slots::is_finished(key) {
         return Run {
             entered: n + 1,
             status: Status::Found,
@@ -95,10 +94,9 @@ fn enter_first(work: &mut [u8], room: usize, first: Situation) -> Run
     if room == 0 {
         return no_room(0);
     }
-    let mut key = [0u8; slots::KEY];
-    slots::put_key(&mut key, first);
-    let b = buckets::bucket_of(&key, work.len());
-    enter_with(work, room, 0, 0, 0, first, &key, b)
+    let key = search_slots::key_of(first);
+    let b = search_buckets::bucket_of(&key, work.len());
+    enter_with(work, room, 0, 0, 0, &key, b)
 }
 
 // "one already entered is dropped; no room gives 18; otherwise it is entered"
@@ -107,10 +105,9 @@ fn offer_made(work: &mut [u8], room: usize, n: usize, parent: usize, step: u8, s
     requires { ⌜ 0 < n ⌝ }
     ensures { λ r. ⌜ Offers-made room n parent step s (now (work .entry)) (now (work .exit)) r ⌝ }
 {
-    let mut key = [0u8; slots::KEY];
-    slots::put_key(&mut key, s);
-    let b = buckets::bucket_of(&key, work.len());
-    let seen = buckets::look_up(work, n, &key, b);
+    let key = search_slots::key_of(s);
+    let b = search_buckets::bucket_of(&key, work.len());
+    let seen = search_buckets::look_up(work, n, &key, b);
     if let Seen::At(_) = seen {
         return Run {
             entered: n,
@@ -120,7 +117,7 @@ fn offer_made(work: &mut [u8], room: usize, n: usize, parent: usize, step: u8, s
     if room <= n {
         return no_room(n);
     }
-    enter_with(work, room, n, parent, step, s, &key, b)
+    enter_with(work, room, n, parent, step, &key, b)
 }
 
 // "a side above 48 tokens gives 19"
@@ -241,6 +238,15 @@ fn offer_children(
     offer_puts(work, room, two, parent, s, left, right)
 }
 
+// The situation in the slot with the number i.
+fn read_situation(work: &[u8], i: usize) -> Situation
+    requires { ⌜ situation-bytes * (i + 1) ≤ length (now work) ⌝ }
+    ensures { λ r. ⌜ ((ss : List Slot) → Slots-held (now (work .entry)) ss → i < length ss → r ≡ as-struct (slot-at ss i .at)) ⌝ }
+{
+    let at = SLOT * i;
+    search_slots::read_slot(&work[at..at + HELD])
+}
+
 // "Situations are taken in the order of entry": slot k is taken.
 fn take(
     work: &mut [u8],
@@ -255,7 +261,7 @@ fn take(
     requires { ⌜ k < run .entered ⌝ }
     ensures { λ r. ⌜ Takes room (tables (now (follow .entry)) (now (taking .entry)) last) k (now (work .entry)) run (now (work .exit)) r ⌝ }
 {
-    let s = slots::read_situation(work, k);
+    let s = read_situation(work, k);
     offer_children(work, room, run, k, s, follow, taking, last)
 }
 

@@ -1,1 +1,4 @@
 pub mod Spread
+pub mod Listed
+pub mod Filled
+pub mod CutOver

@@ -1,10 +1,13 @@
-// The tables of the fields in the form in which the search holds them: for each field its masks, by its number.
+// The tables of the fields in the form in which the search holds them: for each field its masks, by its number. And the tables over some of the
+// characters alone.
 use base_codes::FIELDS;
 use base_places::CHARACTERS;
 use base_places::PLACES;
 use base_places::PlaceTables;
 ghost use mathlib.Core.Path.{_≡_};
 ghost use mathlib.Core.List.{map};
+ghost use mathlib.Core.Bool.{cond};
+ghost use Rattle.search_tables.specs.Cut.{cut-row, cut-coded};
 ghost use Rattle.search_tables.specs.Tables.{follow-of, taking-of, last-of};
 
 // "For every field and every place, the set of places that may follow".
@@ -50,4 +53,42 @@ pub fn last_sets(fields: [PlaceTables; FIELDS]) -> [u64; FIELDS]
         f += 1;
     }
     sets
+}
+
+// The mask, or no place.
+fn mask_if(among: bool, mask: u64) -> u64
+    ensures { λ r. ⌜ r ≡ cond among mask 0 ⌝ }
+{
+    if among { mask } else { 0 }
+}
+
+// What a field's places take of these.
+fn cut(among: [bool; CHARACTERS], row: [u64; CHARACTERS]) -> [u64; CHARACTERS]
+    ensures { λ r. ⌜ r ≡ cut-row among row ⌝ }
+{
+    let mut masks = [0u64; CHARACTERS];
+    let mut c: usize = 0;
+    while c < CHARACTERS {
+        masks[c] = mask_if(among[c], row[c]);
+        c += 1;
+    }
+    masks
+}
+
+// "tables in which no place takes another character"
+pub fn only_taking(
+    taking: &[[u64; CHARACTERS]; FIELDS],
+    among: [bool; CHARACTERS],
+) -> [[u64; CHARACTERS]; FIELDS]
+    ensures { λ r. ⌜ r ≡ cut-coded (now (taking .entry)) among ⌝ }
+{
+    let mut tables = [[0u64; CHARACTERS]; FIELDS];
+    let mut f: usize = 0;
+    while f < FIELDS {
+        let row = taking[f];
+        let masks = cut(among, row);
+        tables[f] = masks;
+        f += 1;
+    }
+    tables
 }

@@ -1,4 +1,4 @@
-pub mod Turns
+pub mod TrimTurns
 pub mod FirstSets
 -- what callers go by
 pub mod Short

@@ -3,7 +3,7 @@ use Prim.Native.Nat.{ℕ, _≤_}
 use Rattle.test_sheets.specs.declared.case.Case.{Case}
 
 -- its sheet and its buffers are no longer than those lent
-pub record Within (c : Case) (sheet work answer : ℕ) : Type 0 where
+pub record Case-within (c : Case) (sheet work answer : ℕ) : Type 0 where
   pub sheet-fits : c .sheet ≤ sheet
   pub work-fits : c .work ≤ work
   pub answer-fits : c .answer ≤ answer

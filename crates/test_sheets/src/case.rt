@@ -5,7 +5,7 @@ use print_out::WORK_FILL;
 use print_out::fill;
 use print_out::low_first;
 ghost use lib.ListN.{length};
-ghost use Rattle.test_sheets.specs.Case.{Within};
+ghost use Rattle.test_sheets.specs.Case.{Case-within};
 
 const HEAD: usize = 10;
 
@@ -26,7 +26,7 @@ pub struct Case {
 // Reads the next case: its sheet to the front of `sheet`; the fronts of the two buffers are filled. There is none where the stream ends,
 // stops inside a case, or asks for more than is lent here.
 pub fn next(sheet: &mut [u8], work: &mut [u8], answer: &mut [u8]) -> Case
-    ensures { λ r. ⌜ Within r (length (now (sheet .entry))) (length (now (work .entry))) (length (now (answer .entry))) ⌝ }
+    ensures { λ r. ⌜ Case-within r (length (now (sheet .entry))) (length (now (work .entry))) (length (now (answer .entry))) ⌝ }
 {
     let asked = head();
     let sheet_len = asked.sheet;
@@ -61,7 +61,7 @@ fn head() -> Case {
 }
 
 fn none() -> Case
-    ensures { λ r. ⌜ Within r 0 0 0 ⌝ }
+    ensures { λ r. ⌜ Case-within r 0 0 0 ⌝ }
 {
     Case {
         there: false,

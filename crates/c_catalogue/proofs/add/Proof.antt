@@ -3,7 +3,7 @@ use mathlib.Core.Path.{ap}
 use native.Mathlib.Omega.{arith}
 use borrow.Author.Needs.{needs}
 use Rattle.catalogue_numbers.specs.declared.Numbers.{Numbers}
-use Rattle.c_catalogue.proofs.Telling.{added-below, added-promised}
+use Rattle.c_catalogue.proofs.CatalogueTelling.{added-below, added-promised}
 use Rattle.c_catalogue.proofs.add.Statement.{statement}
 use Rattle.c_catalogue.proofs.add.Tie as tie
 

@@ -3,7 +3,7 @@ use mathlib.Core.Path.{ap}
 use native.Mathlib.Omega.{arith}
 use borrow.Author.Needs.{needs}
 use Rattle.catalogue_numbers.specs.declared.Totals.{Totals}
-use Rattle.c_catalogue.proofs.Telling.{rechecked-below, rechecked-promised}
+use Rattle.c_catalogue.proofs.CatalogueTelling.{rechecked-below, rechecked-promised}
 use Rattle.c_catalogue.proofs.recheck.Statement.{statement}
 use Rattle.c_catalogue.proofs.recheck.Tie as tie
 

@@ -1,7 +1,7 @@
 -- `withdraw` meets its contract: it hands on what the catalogue answers. Follows from `Telling`.
 use native.Mathlib.Omega.{arith}
 use borrow.Author.Needs.{needs}
-use Rattle.c_catalogue.proofs.Telling.{withdrawn-below, withdrawn-promised}
+use Rattle.c_catalogue.proofs.CatalogueTelling.{withdrawn-below, withdrawn-promised}
 use Rattle.c_catalogue.proofs.withdraw.Statement.{statement}
 use Rattle.c_catalogue.proofs.withdraw.Tie as tie
 

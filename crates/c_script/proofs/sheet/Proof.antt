@@ -3,7 +3,7 @@ use mathlib.Core.Path.{ap}
 use native.Mathlib.Omega.{arith}
 use borrow.Author.Needs.{needs}
 use Rattle.base_answers.specs.declared.Numbers.{Numbers}
-use Rattle.c_script.proofs.Telling.{scripted-below, scripted-promised}
+use Rattle.c_script.proofs.ScriptTelling.{scripted-below, scripted-promised}
 use Rattle.c_script.proofs.sheet.Statement.{statement}
 use Rattle.c_script.proofs.sheet.Tie as tie
 

@@ -7,9 +7,9 @@ use denote.Ref.{now}
 use borrow.Author.Tests.{not-true, not-false}
 use lib.ListN.{length, take, length-replicate}
 use Rattle.catalogue_form.specs.Kept.{Of-form}
-use Rattle.catalogue_form.proofs.Told.{no-rules, some-rules}
+use Rattle.catalogue_form.proofs.FormFound.{no-rules, some-rules}
 use Rattle.paper_carry.specs.Spelling.{longest-rules}
-use Rattle.carry_open.proofs.Answered.{and-kept-promised, none-kept, within, too-full, all-put}
+use Rattle.carry_open.proofs.CarryAnswered.{and-kept-promised, none-kept, within, too-full, all-put}
 use borrow.Author.Needs.{needs}
 use Rattle.carry_open.proofs.catalogue.Statement.{statement}
 use Rattle.carry_open.proofs.catalogue.Tie as tie

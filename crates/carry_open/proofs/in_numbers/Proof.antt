@@ -2,7 +2,7 @@
 use Prim.Native.Nat.{ℕ}
 use mathlib.Core.Path.{sym, ap, _∙_}
 use Rattle.base_answers.specs.declared.Numbers.{Numbers}
-use Rattle.carry_open.specs.Told.{spelt-numbers}
+use Rattle.carry_open.specs.CarriedOver.{spelt-numbers}
 use borrow.Author.Needs.{needs}
 use Rattle.carry_open.proofs.in_numbers.Statement.{statement}
 use Rattle.carry_open.proofs.in_numbers.Tie as tie

@@ -9,9 +9,13 @@ use borrow.Author.Needs.{needs}
 use borrow.Rule.Slice.PartAt.{part-to-end}
 use lib.ListN.{length, take, drop}
 use Rattle.paper.specs.Rule.{rule-front}
-use Rattle.read_rule.specs.Read.{rule-of}
+use Rattle.paper_catalogue.proofs.Form.{rules-at-most}
+use Rattle.read_fields.specs.Bodies.{bodies-in}
+use Rattle.read_fields.specs.Walk.{fields-of}
+use Rattle.read_rule.specs.RuleRead.{rule-of}
+use Rattle.read_rule.proofs.RuleParts.{patterns-of}
 use Rattle.catalogue_form.specs.Kept.{Of-form}
-use Rattle.catalogue_form.proofs.Standing.{standing-inside, next-inside}
+use Rattle.catalogue_form.proofs.RulesStanding.{standing-inside, next-inside}
 use Rattle.carry_open.proofs.RulesPut.{Putting, put-start, past-mark, put-more, put-ends}
 use Rattle.carry_open.proofs.put_rules.Statement.{statement}
 use Rattle.carry_open.proofs.put_rules.Tie as tie
@@ -73,8 +77,32 @@ next-within f =
 add-next : tie.Need-add-next Inv-loop μ-loop
 add-next c = omega (arith, next-within (c .before))
 
-rule-sets-requires : tie.Need-rule-sets-requires Inv-loop μ-loop
-rule-sets-requires c κs = search needs
+sub-read : tie.Need-sub-read Inv-loop μ-loop
+sub-read c = inside (in-loop (c .before .before))
+
+part-read-start : tie.Need-part-read-start Inv-loop μ-loop
+part-read-start c = inside (in-loop (c .before .before))
+
+part-read-end : tie.Need-part-read-end Inv-loop μ-loop
+part-read-end c = search needs
+
+read-requires : tie.Need-read-requires Inv-loop μ-loop
+read-requires c κs = search needs
+
+-- what is read of its patterns' records
+abbrev front-of : tie.After-read Inv-loop μ-loop → tie.After-front Inv-loop μ-loop
+front-of p = p .before .before .before .before
+
+patterns-are : (p : tie.After-read Inv-loop μ-loop) →
+    let l = in-loop (front-of p) .before in
+    let s = drop (l .loop .at) (now (start l .args .catalogue)) in
+    p .read .result ≡ fields-of (bodies-in s 2) (patterns-of s)
+patterns-are p =
+    let l = in-loop (front-of p) .before in
+    p .read .ensures ∙ ap (λ (s : List ℕ). fields-of (bodies-in s 2) (patterns-of s)) (part-to-end (now (start l .args .catalogue)) (l .loop .at))
+
+rule-counts-requires : tie.Need-rule-counts-requires Inv-loop μ-loop
+rule-counts-requires c κs = search needs
 
 sub-put-whole : tie.Need-sub-put-whole Inv-loop μ-loop
 sub-put-whole c = search needs
@@ -83,7 +111,7 @@ part-put-whole-start : tie.Need-part-put-whole-start Inv-loop μ-loop
 part-put-whole-start c = search needs
 
 part-put-whole-end : tie.Need-part-put-whole-end Inv-loop μ-loop
-part-put-whole-end c = next-within (c .before .before .before .before)
+part-put-whole-end c = next-within (front-of (c .before .before .before))
 
 -- the bytes of its record
 its-part : (f : tie.After-front Inv-loop μ-loop) →
@@ -95,13 +123,16 @@ its-part f = let l = in-loop f .before in rw (add-sub-cancel-left (l .loop .at) 
 
 put-whole-requires : tie.Need-put-whole-requires Inv-loop μ-loop
 put-whole-requires c κs =
-    let f = c .before .before .before .before .before in
+    let f = front-of (c .before .before .before .before) in
     let l = in-loop f .before in
     let x = start l .pre in
     past-mark x (l .loop .inv .1 x) (there (in-loop f)) _ (front-is f) _ (its-part f)
 
 add-i : tie.Need-add-i Inv-loop μ-loop
-add-i c = search needs
+add-i c =
+    let l = in-loop (front-of (c .before .before .before .before .before .before .before)) in
+    let x = start (l .before) .pre in
+    omega (arith, l .loop-test .taken, x .counted, rules-at-most _ (x .of-form))
 
 loop-less : tie.Need-loop-less Inv-loop μ-loop
 loop-less c = search needs
@@ -109,13 +140,14 @@ loop-less c = search needs
 loop-again : tie.Need-loop-again Inv-loop μ-loop
 loop-again c =
     let put = c .before .before in
-    let sets = put .before .before .before in
-    let f = sets .before .before .before in
+    let counts = put .before .before .before in
+    let p = counts .before .before in
+    let f = front-of p in
     let l = in-loop f .before in (
       put .put-whole .kept .0 ∙ l .loop .inv .0,
       λ x.
-          put-more x (l .loop .inv .1 x) (omega (arith, x .counted, in-loop f .loop-test .taken)) _ (front-is f) _ (its-part f) _ (sets .rule-sets .ensures) _ _
-          (put .put-whole .ensures),
+          put-more x (l .loop .inv .1 x) (omega (arith, x .counted, in-loop f .loop-test .taken)) _ (front-is f) _ (its-part f) _ (patterns-are p)
+          _ (counts .rule-counts .ensures) _ _ (put .put-whole .ensures),
     )
 
 same-length : tie.Need-same-length Inv-loop μ-loop
@@ -136,7 +168,11 @@ put-rules-spec =
     part-front-end
     front-requires
     add-next
-    rule-sets-requires
+    sub-read
+    part-read-start
+    part-read-end
+    read-requires
+    rule-counts-requires
     sub-put-whole
     part-put-whole-start
     part-put-whole-end

@@ -8,13 +8,14 @@ use lib.Seq.{take-all}
 use Rattle.paper.specs.Rule.{foreign-field, read-rule}
 use Rattle.paper_catalogue.proofs.Local.{rule-whole, rule-bounds}
 use Rattle.paper_catalogue.proofs.GoodRule.{new-good}
-use Rattle.read_rule.proofs.Told.{RuleTold, rule-stands}
+use Rattle.read_rule.proofs.RuleStruct.{RuleTold, rule-stands}
+use Rattle.read_rule.proofs.RulePatterns.{front-stands}
 use Rattle.paper_carry.specs.Opened.{rule-open}
 use Rattle.paper_carry.proofs.SaidBack.{rule-said-back}
 use Rattle.paper_carry.proofs.Carried.{rule-fits}
-use Rattle.carry_open.specs.Told.{put-whole}
-use Rattle.carry_open.proofs.Whole as Whole
-use Rattle.carry_open.proofs.Answered.{and-rule-promised, rule-at-fault, rule-foreign, rule-put}
+use Rattle.carry_open.specs.CarriedOver.{put-whole}
+use Rattle.carry_open.proofs.CarriedWhole as Whole
+use Rattle.carry_open.proofs.CarryAnswered.{and-rule-promised, rule-at-fault, rule-foreign, rule-put}
 use borrow.Author.Needs.{needs}
 use Rattle.carry_open.proofs.rule.Statement.{statement}
 use Rattle.carry_open.proofs.rule.Tie as tie
@@ -49,24 +50,34 @@ own : (e : tie.Else1) → foreign-field (told (e .before) .rule) ≡ false
 own e = sym (told (e .before) .foreign) ∙ e .if1 .left
 
 -- what is put of it
-whole : (s : tie.After-rule-sets) →
-    let e = s .before .before in
-    put-whole (now (e .before .before .before .before .before .before .args .rule)) 2 (s .rule-sets .result) ≡ rule-open (told (e .before) .rule)
+whole : (s : tie.After-rule-counts) →
+    let p = s .before .before in
+    let e = p .before .before in
+    put-whole (now (e .before .before .before .before .before .before .args .rule)) 2 (p .read2 .result .bodies) (s .rule-counts .result)
+    ≡ rule-open (told (e .before) .rule)
 whole s =
-    let e = s .before .before in
+    let p = s .before .before in
+    let e = p .before .before in
     let t = told (e .before) in
     let bytes = now (e .before .before .before .before .before .before .args .rule) in
     let (front, all) = rule-whole bytes (t .reads) in
-    Whole.rule-whole (t .rule) (new-good bytes (t .reads) (own e)) bytes (rule-said-back bytes front ∙ take-all (e .before .before .before .read .result .bytes) bytes (omega (arith, all)))
-    _ _ (t .side) (s .rule-sets .ensures)
+    let good = new-good bytes (t .reads) (own e) in
+    Whole.rule-whole (t .rule) good bytes (rule-said-back bytes front ∙ take-all (e .before .before .before .read .result .bytes) bytes (omega (arith, all)))
+    _ (t .side) (p .read2 .result .bodies)
+    (Whole.have-bytes bytes (t .rule .fields .held) (p .read2 .result .bodies) (good .held .each-field)
+    (front-stands bytes front (p .read2 .result) (p .read2 .ensures)))
+    _ (s .rule-counts .ensures)
 
-rule-sets-requires : tie.Need-rule-sets-requires
-rule-sets-requires c κs = search needs
+read-requires-2 : tie.Need-read-requires-2
+read-requires-2 c κs = search needs
+
+rule-counts-requires : tie.Need-rule-counts-requires
+rule-counts-requires c κs = search needs
 
 write-out-requires : tie.Need-write-out-requires
 write-out-requires c κs =
     let s = c .before in
-    let e = s .before .before in
+    let e = s .before .before .before .before in
     let t = told (e .before) in
     let bytes = now (e .before .before .before .before .before .before .args .rule) in
     let (low, high) = rule-bounds bytes (rule-whole bytes (t .reads) .0) in
@@ -79,7 +90,7 @@ returns-3 : tie.Need-returns-3
 returns-3 c =
     let w = c .before .before in
     let s = w .before .before in
-    let e = s .before .before in
+    let e = s .before .before .before .before in
     let t = told (e .before) in
     and-rule-promised _ _ _ (rule-put _ _ (t .rule) _ (t .reads) (own e) _ (whole s) _ (w .write-out .ensures))
 
@@ -92,7 +103,8 @@ rule-spec =
     returns
     enum-told
     returns-2
-    rule-sets-requires
+    read-requires-2
+    rule-counts-requires
     write-out-requires
     same-length
     returns-3)

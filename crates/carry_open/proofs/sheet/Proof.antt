@@ -4,15 +4,13 @@ use mathlib.Core.Path.{_≡_, ap}
 use denote.Ref.{now}
 use lib.ListN.{length}
 use Rattle.paper.specs.Saying.{sheet-saying}
-use Rattle.base_codes.specs.declared.Situation.{Situation}
-use Rattle.search_trim.specs.Trimming.{question-coded}
-use Rattle.read_sheet.specs.declared.Sheet.{Sheet}
-use Rattle.read_sheet.proofs.Told.{Asking, sheet-asks}
+use Rattle.base_question.specs.declared.Question.{Question}
+use Rattle.read_sheet.proofs.SheetStruct.{Asking, sheet-asks}
 use Rattle.paper_carry.specs.Opened.{spelt-open}
 use Rattle.paper_carry.proofs.Carried.{sheet-fits}
-use Rattle.carry_open.specs.Told.{put-whole}
-use Rattle.carry_open.proofs.Whole.{sheet-whole}
-use Rattle.carry_open.proofs.Answered.{and-promised, sheet-at-fault, sheet-put}
+use Rattle.carry_open.specs.CarriedOver.{put-whole}
+use Rattle.carry_open.proofs.CarriedWhole.{sheet-whole}
+use Rattle.carry_open.proofs.CarryAnswered.{and-promised, sheet-at-fault, sheet-put}
 use borrow.Author.Needs.{needs}
 use Rattle.carry_open.proofs.sheet.Statement.{statement}
 use Rattle.carry_open.proofs.sheet.Tie as tie
@@ -31,25 +29,24 @@ returns c =
 enum-told : tie.Need-enum-told
 enum-told c = search needs
 
-question-requires : tie.Need-question-requires
-question-requires c κs = search needs
+standings-requires : tie.Need-standings-requires
+standings-requires c κs = search needs
 
 -- the question that was read
-abbrev read-at : tie.After-sets → tie.After-read
-read-at s = s .before .before .before .before .before .before
+abbrev read-at : tie.After-standings → tie.After-read
+read-at s = s .before .before .before .before .before .before .before
 
-asking : (s : tie.After-sets) → let r = read-at s in Asking (now (r .before .before .before .args .sheet)) (r .read .result)
-asking s = let r = read-at s in sheet-asks _ _ (r .read .ensures) (s .before .before .before .before .enum-told .given .1)
+asking : (s : tie.After-standings) → let r = read-at s in Asking (now (r .before .before .before .args .sheet)) (r .read .result)
+asking s = let r = read-at s in sheet-asks _ _ (r .read .ensures) (s .before .before .before .before .before .enum-told .given .1)
 
 -- what is put of it
-whole : (s : tie.After-sets) →
-    put-whole (now (read-at s .before .before .before .args .sheet)) 0 (s .before .question .result .sets)
+whole : (s : tie.After-standings) →
+    put-whole (now (read-at s .before .before .before .args .sheet)) 0 (read-at s .read .result .question .bodies) (s .standings .result)
     ≡ sheet-saying (spelt-open (asking s .question))
-unfolding question-coded
 whole s =
     let a = asking s in
-    sheet-whole _ (a .question) (a .good) _ _ _ (ap (λ (x : Sheet). x .left) (a .is)) (ap (λ (x : Sheet). x .right) (a .is))
-    (ap (λ (x : Situation). x .sets) (s .before .question .ensures))
+    sheet-whole _ (a .question) (a .good) _ _ (ap (λ (x : Question). x .left) (a .is)) (ap (λ (x : Question). x .right) (a .is))
+    _ (ap (λ (x : Question). x .bodies) (a .is)) _ (s .standings .ensures)
 
 write-out-requires : tie.Need-write-out-requires
 write-out-requires c κs =
@@ -74,7 +71,7 @@ sheet-spec =
     enum-known-found
     returns
     enum-told
-    question-requires
+    standings-requires
     write-out-requires
     same-length
     returns-2)

@@ -1,5 +1,5 @@
 -- `write_out` meets its contract, by how long what is put is (`Answered`).
-use Rattle.carry_open.proofs.Answered.{no-room, with-room}
+use Rattle.carry_open.proofs.CarryAnswered.{no-room, with-room}
 use borrow.Author.Needs.{needs}
 use Rattle.carry_open.proofs.write_out.Statement.{statement}
 use Rattle.carry_open.proofs.write_out.Tie as tie

@@ -6,7 +6,7 @@ use mathlib.Core.Path.{_≡_, sym, ap, _∙_}
 use denote.Ref.{now}
 use lib.ListN.{length}
 use borrow.Author.Tests.{ne-eqb}
-use Rattle.carry_records.specs.Opening.{record-at, field-put}
+use Rattle.carry_records.specs.Opening.{record-length, field-put}
 use Rattle.carry_records.proofs.Records.{record-within}
 use borrow.Author.Needs.{needs}
 use Rattle.carry_records.proofs.put_field.Statement.{statement}
@@ -24,7 +24,7 @@ same-length c = search needs
 -- what stands at the offset
 its-record : (c : tie.After-record-at) →
     let a = c .before .before .before .args in
-    c .record-at .result ≡ record-at (now (a .s)) (a .from) (a .f)
+    c .record-at .result ≡ record-length (now (a .s)) (a .from) (a .length)
 its-record c = c .record-at .ensures
 
 inside : (c : tie.Else1) →
@@ -34,7 +34,7 @@ inside c =
     let at = c .before in
     let a = at .before .before .before .args in
     let same = its-record at in
-    rw same (record-within (now (a .s)) (a .from) (a .f) (λ z. c .if1 .left (same ∙ z)))
+    rw same (record-within (now (a .s)) (a .from) (a .length) (λ z. c .if1 .left (same ∙ z)))
 
 returns : tie.Need-returns
 unfolding field-put

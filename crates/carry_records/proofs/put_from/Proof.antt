@@ -10,13 +10,20 @@ use Rattle.carry_records.proofs.put_from.Statement.{statement}
 use Rattle.carry_records.proofs.put_from.Tie as tie
 
 abbrev Inv-loop : tie.InvT-loop
-Inv-loop out₀ at s from sets end₀ next₀ f₀ out end next f = (f ≤ fields) × (length out ≡ length out₀) × Going out₀ out at end s from next f sets
+Inv-loop out₀ at s from bodies counts end₀ next₀ f₀ out end next f =
+    (f ≤ fields) × (length out ≡ length out₀) × Going out₀ out at end s from next f bodies counts
 
 abbrev μ-loop : tie.MeasureT-loop
-μ-loop out₀ at s from sets end₀ next₀ f₀ out end next f = fields - f
+μ-loop out₀ at s from bodies counts end₀ next₀ f₀ out end next f = fields - f
 
 loop-holds : tie.Need-loop-holds Inv-loop μ-loop
-loop-holds c = (omega arith, refl, going-start _ _ _ _ _)
+loop-holds c = (omega arith, refl, going-start _ _ _ _ _ _)
+
+mul-body : tie.Need-mul-body Inv-loop μ-loop
+mul-body c = search needs
+
+array-copy-out-body : tie.Need-array-copy-out-body Inv-loop μ-loop
+array-copy-out-body c = search needs
 
 mul-put-field : tie.Need-mul-put-field Inv-loop μ-loop
 mul-put-field c = search needs
@@ -36,7 +43,7 @@ loop-less c = search needs
 loop-again : tie.Need-loop-again Inv-loop μ-loop
 loop-again c =
     let put = c .before .before in
-    let l = put .before .before .before in (
+    let l = put .before .before .before .before in (
       omega arith,
       put .put-field .kept .0 ∙ l .loop .inv .1,
       going-on (l .loop .inv .2) _ _ _ (put .put-field .ensures .1) (put .put-field .ensures .0),
@@ -61,6 +68,8 @@ put-from-spec =
     Inv-loop
     μ-loop
     loop-holds
+    mul-body
+    array-copy-out-body
     mul-put-field
     array-read-put-field
     put-field-requires

@@ -6,7 +6,7 @@ use Rattle.carry_records.proofs.put_missing.Statement.{statement}
 use Rattle.carry_records.proofs.put_missing.Tie as tie
 
 returns : tie.Need-returns
-returns c = rw (eq-eqb (c .before .before .args .set) 0 (c .if1 .taken)) counted-none
+returns c = rw (eq-eqb (c .before .before .args .count) 0 (c .if1 .taken)) counted-none
 
 slice-aggregate-put-all : tie.Need-slice-aggregate-put-all
 slice-aggregate-put-all c = search needs
@@ -41,7 +41,7 @@ returns-2 c =
     let named = code .before .before .before .before .before .before in
     let marked = named .before .before .before .before in
     let test = marked .before .before .before in
-    rw (ne-eqb (test .before .before .args .set) 0 (test .if1 .left))
+    rw (ne-eqb (test .before .before .args .count) 0 (test .if1 .left))
     (counted-then (counted-then (marked .put-all .ensures) (named .put .ensures)) (code .put-all2 .ensures))
 
 pub put-missing-spec : {M : Type 1} → statement M

@@ -5,8 +5,8 @@ use borrow.Author.Needs.{needs}
 use borrow.Author.Tests.{not-true, not-false}
 use Rattle.paper.specs.Rule.{read-rule}
 use Rattle.paper_catalogue.specs.Catalogue.{form, is-full}
-use Rattle.read_rule.proofs.Told.{RuleTold, rule-fault, rule-stands}
-use Rattle.catalogue_form.proofs.Told.{Rules, no-rules, some-rules}
+use Rattle.read_rule.proofs.RuleStruct.{RuleTold, rule-fault, rule-stands}
+use Rattle.catalogue_form.proofs.FormFound.{Rules, no-rules, some-rules}
 use Rattle.catalogue_add.proofs.Entering.{full-is, adds-to-none, adds-fault, adds-foreign, adds-full}
 use Rattle.catalogue_add.proofs.add.Statement.{statement}
 use Rattle.catalogue_add.proofs.add.Tie as tie

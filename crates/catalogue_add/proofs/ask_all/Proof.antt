@@ -8,9 +8,9 @@ use borrow.Author.Needs.{needs}
 use borrow.Rule.Slice.PartAt.{part-to-end}
 use lib.ListN.{length, drop, length-replicate}
 use Rattle.paper.specs.Rule.{rule-front}
-use Rattle.read_rule.specs.Read.{rule-of}
-use Rattle.catalogue_form.proofs.Standing.{standing-inside, next-inside}
-use Rattle.catalogue_add.specs.Told.{Ready-to-ask}
+use Rattle.read_rule.specs.RuleRead.{rule-of}
+use Rattle.catalogue_form.proofs.RulesStanding.{standing-inside, next-inside}
+use Rattle.catalogue_add.specs.Addition.{Ready-to-ask}
 use Rattle.catalogue_add.proofs.Going.{Going, going-start, going-more, going-stops, going-ends}
 use Rattle.catalogue_add.proofs.ask_all.Statement.{statement}
 use Rattle.catalogue_add.proofs.ask_all.Tie as tie
@@ -62,9 +62,6 @@ front-is f =
 ask-requires : tie.Need-ask-requires Inv-loop μ-loop
 ask-requires c κs = search needs
 
-answer-requires : tie.Need-answer-requires Inv-loop μ-loop
-answer-requires c κs = search needs
-
 same-length : tie.Need-same-length Inv-loop μ-loop
 same-length c =
     let k = c .before .before .before .before in
@@ -77,8 +74,7 @@ returns c =
     let f = k .before .before .before .before in
     let l = f .before .before .before in
     λ x.
-    going-stops x (l .loop .inv .1 x) (omega (arith, x .counted, f .before .before .loop-test .taken)) _ (front-is f) _ (k .ask .ensures .0) _ (c .before .answer .ensures)
-    _ (k .ask .ensures .1) (c .if1 .taken)
+    going-stops x (l .loop .inv .1 x) (omega (arith, x .counted, f .before .before .loop-test .taken)) _ (front-is f) _ (k .ask .ensures .0) _ (k .ask .ensures .1) (c .if1 .taken)
 
 add-at : tie.Need-add-at Inv-loop μ-loop
 add-at c =
@@ -103,8 +99,7 @@ loop-again c =
     let l = f .before .before .before in (
       ap length (k .ask .ensures .1) ∙ length-replicate _ 0 ∙ l .loop .inv .0,
       λ x.
-          going-more x (l .loop .inv .1 x) (omega (arith, x .counted, f .before .before .loop-test .taken)) _ (front-is f) _ (k .ask .ensures .0) _ (c .before .before .answer .ensures)
-          _ (k .ask .ensures .1) (c .before .if1 .left),
+          going-more x (l .loop .inv .1 x) (omega (arith, x .counted, f .before .before .loop-test .taken)) _ (front-is f) _ (k .ask .ensures .0) _ (k .ask .ensures .1) (c .before .if1 .left),
     )
 
 same-length-2 : tie.Need-same-length-2 Inv-loop μ-loop
@@ -125,7 +120,6 @@ ask-all-spec =
     part-front-end
     front-requires
     ask-requires
-    answer-requires
     same-length
     returns
     add-at

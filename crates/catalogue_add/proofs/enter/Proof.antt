@@ -1,7 +1,7 @@
 -- `storeroom::enter` meets its contract, from what the pairs gave (`Entering`). Assumes nothing.
 use mathlib.Core.Path.{subst}
 use borrow.Author.Needs.{needs}
-use Rattle.catalogue_add.specs.Told.{Pairs-asked}
+use Rattle.catalogue_add.specs.Addition.{Pairs-asked}
 use Rattle.catalogue_add.proofs.Entering.{adds-rule, adds-not}
 use Rattle.catalogue_add.proofs.enter.Statement.{statement}
 use Rattle.catalogue_add.proofs.enter.Tie as tie

@@ -4,7 +4,7 @@ use denote.Ref.{now}
 use borrow.Author.Needs.{needs}
 use borrow.Author.Tests.{not-true, not-false}
 use Rattle.paper_catalogue.specs.Catalogue.{form}
-use Rattle.catalogue_form.proofs.Told.{Rules, no-rules, some-rules}
+use Rattle.catalogue_form.proofs.FormFound.{Rules, no-rules, some-rules}
 use Rattle.catalogue_add.proofs.Entering.{takes-from-none, takes-none, takes-one}
 use Rattle.catalogue_add.proofs.withdraw.Statement.{statement}
 use Rattle.catalogue_add.proofs.withdraw.Tie as tie

@@ -1,7 +1,7 @@
 -- `numbered::added` meets its contract: each arm gives the numbers of its variant. Assumes nothing.
 use Prim.Native.Nat.{ℕ}
 use mathlib.Core.Path.{sym, ap, _∙_}
-use Rattle.catalogue_numbers.specs.Numbered.{as-numbers}
+use Rattle.catalogue_numbers.specs.CatalogueNumbers.{numbers-of-added}
 use Rattle.catalogue_numbers.specs.declared.Numbers.{Numbers}
 use borrow.Author.Needs.{needs}
 use Rattle.catalogue_numbers.proofs.added.Statement.{statement}
@@ -28,12 +28,6 @@ refusal-requires-2 c κs = search needs
 enum-known-a-2 : tie.Need-enum-known-a-2
 enum-known-a-2 c = search needs
 
-count-requires : tie.Need-count-requires
-count-requires c κs = search needs
-
-answer-requires : tie.Need-answer-requires
-answer-requires c κs = search needs
-
 enum-told-2 : tie.Need-enum-told-2
 enum-told-2 c = search needs
 
@@ -56,26 +50,25 @@ abbrev refused : ℕ → ℕ → Numbers
 refused number place = record { number = number; count = 0; place = place; rule = 0; answer = 0 }
 
 returns : tie.Need-returns
-returns c = c .refusal .ensures ∙ ap as-numbers (sym (c .before .enum-told .given .1))
+returns c = c .refusal .ensures ∙ ap numbers-of-added (sym (c .before .enum-told .given .1))
 
 returns-2 : tie.Need-returns-2
 returns-2 c =
     c .refusal2 .ensures
     ∙ ap (λ (n : ℕ). refused n (c .before .before .before .a .given .0 .1 .0)) (c .before .number .ensures)
-    ∙ ap as-numbers (sym (c .before .before .before .a .given .1))
+    ∙ ap numbers-of-added (sym (c .before .before .before .a .given .1))
 
 returns-3 : tie.Need-returns-3
-returns-3 c =
-    rw (c .answer .ensures, c .before .count .ensures) (ap as-numbers (sym (c .before .before .before .a2 .given .1)))
+returns-3 c = ap numbers-of-added (sym (c .before .a2 .given .1))
 
 returns-4 : tie.Need-returns-4
-returns-4 c = c .refusal3 .ensures ∙ ap as-numbers (sym (c .before .enum-told2 .given .1))
+returns-4 c = c .refusal3 .ensures ∙ ap numbers-of-added (sym (c .before .enum-told2 .given .1))
 
 returns-5 : tie.Need-returns-5
-returns-5 c = c .refusal4 .ensures ∙ ap as-numbers (sym (c .before .enum-told3 .given .1))
+returns-5 c = c .refusal4 .ensures ∙ ap numbers-of-added (sym (c .before .enum-told3 .given .1))
 
 returns-6 : tie.Need-returns-6
-returns-6 c = c .refusal5 .ensures ∙ ap as-numbers (sym (c .before .enum-told4 .given .1))
+returns-6 c = c .refusal5 .ensures ∙ ap numbers-of-added (sym (c .before .enum-told4 .given .1))
 
 pub added-spec : {M : Type 1} → statement M
 added-spec =
@@ -88,8 +81,6 @@ added-spec =
     cast-refusal
     refusal-requires-2
     enum-known-a-2
-    count-requires
-    answer-requires
     enum-told-2
     refusal-requires-3
     enum-told-3

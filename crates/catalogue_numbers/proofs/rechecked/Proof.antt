@@ -1,7 +1,7 @@
 -- `numbered::rechecked` meets its contract: each arm gives the numbers of its variant. Assumes nothing.
 use mathlib.Core.Path.{sym, ap, _∙_}
 use borrow.Author.Needs.{needs}
-use Rattle.catalogue_numbers.specs.Numbered.{as-totals}
+use Rattle.catalogue_numbers.specs.CatalogueNumbers.{as-totals}
 use Rattle.catalogue_numbers.proofs.rechecked.Statement.{statement}
 use Rattle.catalogue_numbers.proofs.rechecked.Tie as tie
 

@@ -9,10 +9,10 @@ use borrow.Author.Needs.{needs}
 use borrow.Rule.Slice.PartAt.{part-to-end}
 use lib.ListN.{length, drop}
 use Rattle.paper.specs.Rule.{rule-front}
-use Rattle.read_rule.specs.Read.{rule-of}
-use Rattle.catalogue_form.proofs.Standing.{standing-inside, next-inside}
+use Rattle.read_rule.specs.RuleRead.{rule-of}
+use Rattle.catalogue_form.proofs.RulesStanding.{standing-inside, next-inside}
 use Rattle.catalogue_form.specs.Kept.{Of-form}
-use Rattle.catalogue_recheck.proofs.Listing.{Listing-all, all-start, all-ready, all-more, all-ends}
+use Rattle.catalogue_recheck.proofs.PairListing.{Listing-all, all-start, all-ready, all-more, all-ends}
 use Rattle.catalogue_recheck.proofs.list_all.Statement.{statement}
 use Rattle.catalogue_recheck.proofs.list_all.Tie as tie
 

@@ -10,10 +10,10 @@ use borrow.Rule.Slice.PartAt.{part-to-end}
 use lib.ListN.{length, drop, length-replicate}
 use Rattle.paper.specs.Rule.{rule-front}
 use Rattle.paper_catalogue.proofs.Form.{rules-at-most}
-use Rattle.read_rule.specs.Read.{rule-of}
-use Rattle.catalogue_form.proofs.Standing.{standing-inside, next-inside}
-use Rattle.catalogue_recheck.specs.Told.{Ready-to-list}
-use Rattle.catalogue_recheck.proofs.Listing.{Listing-with, with-start, with-fits, with-more, with-ends}
+use Rattle.read_rule.specs.RuleRead.{rule-of}
+use Rattle.catalogue_form.proofs.RulesStanding.{standing-inside, next-inside}
+use Rattle.catalogue_recheck.specs.PairList.{Ready-to-list}
+use Rattle.catalogue_recheck.proofs.PairListing.{Listing-with, with-start, with-fits, with-more, with-ends}
 use Rattle.catalogue_recheck.proofs.list_with.Statement.{statement}
 use Rattle.catalogue_recheck.proofs.list_with.Tie as tie
 

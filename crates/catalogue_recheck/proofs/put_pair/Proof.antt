@@ -5,31 +5,24 @@ use mathlib.Core.Path.{ap}
 use denote.Ref.{now}
 use borrow.Author.Needs.{needs}
 use lib.ListN.{length, length-set}
-use Rattle.catalogue_recheck.proofs.PairBytes.{answer-byte, five-bytes, puts-no-bytes, puts-five-bytes}
+use Rattle.catalogue_recheck.proofs.PairBytes.{five-bytes, puts-no-bytes, puts-five-bytes}
 use Rattle.catalogue_recheck.proofs.put_pair.Statement.{statement}
 use Rattle.catalogue_recheck.proofs.put_pair.Tie as tie
 
-answer-requires : tie.Need-answer-requires
-answer-requires c κs = search needs
-
 returns : tie.Need-returns
 returns c =
-    let a = c .before .before .before .args in
-    puts-no-bytes (a .lower) (a .higher) (a .pair) _ (c .before .answer .ensures) (now (a .bytes)) (a .n) (c .if1 .taken)
-
-count-requires : tie.Need-count-requires
-count-requires c κs = search needs
+    let a = c .before .args in
+    puts-no-bytes (a .lower) (a .higher) (a .pair) (now (a .bytes)) (a .n) (c .if1 .taken)
 
 cast-bytes : tie.Need-cast-bytes
 cast-bytes c = search needs
 
 -- five bytes fit
-five-fit : (c : tie.After-count) →
-    let a = c .before .before .before .before .args in a .n + 5 ≤ length (now (a .bytes))
+five-fit : (c : tie.Else1) →
+    let a = c .before .args in a .n + 5 ≤ length (now (a .bytes))
 five-fit c =
-    let t = c .before .before in
-    let s = t .before .before in
-    let five = five-bytes (s .args .lower) (s .args .higher) (s .args .pair) _ (t .answer .ensures) (c .before .if1 .left) in
+    let s = c .before in
+    let five = five-bytes (s .args .lower) (s .args .higher) (s .args .pair) (c .if1 .left) in
     omega (arith, s .pre .room, ap length five)
 
 slice-write-bytes : tie.Need-slice-write-bytes
@@ -45,9 +38,7 @@ slice-write-bytes-2 : tie.Need-slice-write-bytes-2
 slice-write-bytes-2 c = simp length-set (omega (arith, five-fit c))
 
 cast-bytes-3 : tie.Need-cast-bytes-3
-cast-bytes-3 c =
-    let t = c .before .before in
-    omega (arith, answer-byte (t .before .before .args .pair), t .answer .ensures)
+cast-bytes-3 c = omega (arith, c .before .pre .answer-byte)
 
 add-bytes-2 : tie.Need-add-bytes-2
 add-bytes-2 c = search needs
@@ -81,17 +72,14 @@ same-length c = search needs
 
 returns-2 : tie.Need-returns-2
 returns-2 c =
-    let t = c .before .before in
-    let a = t .before .before .args in
-    puts-five-bytes (a .lower) (a .higher) (a .pair) _ (t .answer .ensures) (now (a .bytes)) (a .n) _ (c .count .ensures) (c .before .if1 .left)
+    let a = c .before .args in
+    puts-five-bytes (a .lower) (a .higher) (a .pair) (now (a .bytes)) (a .n) (c .if1 .left)
 
 pub put-pair-spec : {M : Type 1} → statement M
 put-pair-spec =
     tie.close
     (tie.spec
-    answer-requires
     returns
-    count-requires
     cast-bytes
     slice-write-bytes
     cast-bytes-2

@@ -7,8 +7,8 @@ use denote.Ref.{now}
 use borrow.Author.Needs.{needs}
 use borrow.Author.Tests.{not-true, not-false}
 use lib.ListN.{length, take, length-replicate}
-use Rattle.catalogue_form.proofs.Told.{no-rules, some-rules}
-use Rattle.catalogue_recheck.specs.Told.{longest-list}
+use Rattle.catalogue_form.proofs.FormFound.{no-rules, some-rules}
+use Rattle.catalogue_recheck.specs.PairList.{longest-list}
 use Rattle.catalogue_form.specs.Kept.{Of-form}
 use Rattle.catalogue_recheck.proofs.Rechecking.{rechecks-none, rechecks-too-short, list-fits, rechecks-listed}
 use Rattle.catalogue_recheck.proofs.recheck.Statement.{statement}

@@ -3,7 +3,7 @@ use mathlib.Core.Path.{sym, _∙_}
 use borrow.Author.Needs.{needs}
 use Rattle.paper.specs.Numbers.{characters}
 use Rattle.paper.proofs.base.Tests.{cond-true, cond-false, lt-ltb, le-ltb}
-use Rattle.decide_alike.specs.Coded.{first-taken, choice-coded}
+use Rattle.decide_alike.specs.AlikeCoded.{first-taken, choice-coded}
 use Rattle.decide_alike.proofs.choice.Statement.{statement}
 use Rattle.decide_alike.proofs.choice.Tie as tie
 

@@ -8,7 +8,7 @@ use lib.Seq.{set-out}
 use borrow.Author.Needs.{needs}
 use Rattle.paper.specs.Numbers.{characters}
 use Rattle.paper.proofs.base.Tests.{cond-true, cond-false, lt-ltb, le-ltb}
-use Rattle.decide_alike.specs.Coded.{first-taken, chosen-at}
+use Rattle.decide_alike.specs.AlikeCoded.{first-taken, chosen-at}
 use Rattle.decide_alike.proofs.chosen_at.Statement.{statement}
 use Rattle.decide_alike.proofs.chosen_at.Tie as tie
 

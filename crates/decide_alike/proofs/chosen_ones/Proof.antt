@@ -6,25 +6,25 @@ use mathlib.Core.Bool.{false}
 use lib.ListN.{replicate}
 use borrow.Author.Needs.{needs}
 use Rattle.paper.specs.Numbers.{characters, set-fields}
-use Rattle.decide_alike.specs.Coded.{stepped, chosen-of, chosen-coded}
-use Rattle.decide_alike.proofs.Turns.{no-step, step-more}
+use Rattle.decide_alike.specs.AlikeCoded.{stepped, chosen-of, chosen-coded}
+use Rattle.decide_alike.proofs.AlikeTurns.{no-step, step-more}
 use Rattle.decide_alike.proofs.chosen_ones.Statement.{statement}
 use Rattle.decide_alike.proofs.chosen_ones.Tie as tie
 
 abbrev Inv-loop : tie.InvT-loop
-Inv-loop free least standing taking chosen₀ f₀ chosen f = (f ≤ set-fields) × (chosen ≡ stepped (chosen-of free least standing taking) f (replicate characters false))
+Inv-loop free least taking standing chosen₀ f₀ chosen f = (f ≤ set-fields) × (chosen ≡ stepped (chosen-of free least standing taking) f (replicate characters false))
 
 abbrev μ-loop : tie.MeasureT-loop
-μ-loop free least standing taking chosen₀ f₀ chosen f = set-fields - f
+μ-loop free least taking standing chosen₀ f₀ chosen f = set-fields - f
 
 loop-holds : tie.Need-loop-holds Inv-loop μ-loop
-loop-holds c = let a = c .args in (omega arith, sym (no-step (chosen-of (a .free) (a .least) (a .t3) (a .t4)) (replicate characters false)))
+loop-holds c = let a = c .args in (omega arith, sym (no-step (chosen-of (a .free) (a .least) (a .t3) (a .taking .now)) (replicate characters false)))
 
 mul-row : tie.Need-mul-row Inv-loop μ-loop
 mul-row c = search needs
 
-array-copy-out-row : tie.Need-array-copy-out-row Inv-loop μ-loop
-array-copy-out-row c = search needs
+element-copy-out-row : tie.Need-element-copy-out-row Inv-loop μ-loop
+element-copy-out-row c = search needs
 
 array-read-chosen-of : tie.Need-array-read-chosen-of Inv-loop μ-loop
 array-read-chosen-of c = search needs
@@ -43,7 +43,7 @@ unfolding chosen-of
 loop-again c =
     let l = c .before .before .before .loop in
     let a = c .before .before .before .before .args in
-    let step = chosen-of (a .free) (a .least) (a .t3) (a .t4) in
+    let step = chosen-of (a .free) (a .least) (a .t3) (a .taking .now) in
     (omega arith, c .chosen-of .ensures ∙ ap (step (l .f)) (l .inv .1) ∙ sym (step-more step (replicate characters false) (l .f)))
 
 returns : tie.Need-returns Inv-loop μ-loop
@@ -61,7 +61,7 @@ chosen-ones-spec =
     μ-loop
     loop-holds
     mul-row
-    array-copy-out-row
+    element-copy-out-row
     array-read-chosen-of
     chosen-of-requires
     add-f

@@ -4,8 +4,8 @@ use native.Mathlib.Omega.{arith}
 use mathlib.Core.Path.{_≡_, sym, ap, _∙_}
 use borrow.Author.Needs.{needs}
 use Rattle.base_places.specs.Masks.{places}
-use Rattle.decide_alike.specs.Coded.{stepped, chosen-at, chosen-within}
-use Rattle.decide_alike.proofs.Turns.{no-step, step-more}
+use Rattle.decide_alike.specs.AlikeCoded.{stepped, chosen-at, chosen-within}
+use Rattle.decide_alike.proofs.AlikeTurns.{no-step, step-more}
 use Rattle.decide_alike.proofs.chosen_within.Statement.{statement}
 use Rattle.decide_alike.proofs.chosen_within.Tie as tie
 

@@ -1,22 +1,40 @@
 -- `few` meets its contract, by what its parts ensure.
 use borrow.Author.Needs.{needs}
-use Rattle.decide_alike.specs.Coded.{few-coded}
+use Rattle.decide_alike.specs.AlikeCoded.{few-coded}
 use Rattle.decide_alike.proofs.few.Statement.{statement}
 use Rattle.decide_alike.proofs.few.Tie as tie
 
-fixed-ones-requires : tie.Need-fixed-ones-requires
-fixed-ones-requires c κs = search needs
+question-requires : tie.Need-question-requires
+question-requires c κs = search needs
 
-standing-fields-requires : tie.Need-standing-fields-requires
-standing-fields-requires c κs = search needs
+taking-sets-requires : tie.Need-taking-sets-requires
+taking-sets-requires c κs = search needs
 
-few-from-requires : tie.Need-few-from-requires
-few-from-requires c κs = search needs
+free-ones-requires : tie.Need-free-ones-requires
+free-ones-requires c κs = search needs
+
+chosen-ones-requires : tie.Need-chosen-ones-requires
+chosen-ones-requires c κs = search needs
+
+some-requires : tie.Need-some-requires
+some-requires c κs = search needs
 
 returns : tie.Need-returns
 unfolding few-coded
-returns c = rw (c .before .before .fixed-ones .ensures, c .before .standing-fields .ensures) at (c .few-from .ensures)
+returns c =
+    let chosen = c .before in
+    let free = chosen .before .before in
+    let taking = free .before .before .before .before in
+    let whole = taking .before .before in
+    rw (c .some .ensures, chosen .chosen-ones .ensures, free .free-ones .ensures, taking .taking-sets .ensures, whole .question .ensures)
 
 pub few-spec : {M : Type 1} → statement M
 few-spec =
-    tie.close (tie.spec fixed-ones-requires standing-fields-requires few-from-requires returns)
+    tie.close
+    (tie.spec
+    question-requires
+    taking-sets-requires
+    free-ones-requires
+    chosen-ones-requires
+    some-requires
+    returns)

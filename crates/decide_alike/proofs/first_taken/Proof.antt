@@ -4,8 +4,8 @@ use native.Mathlib.Omega.{arith}
 use mathlib.Core.Path.{_≡_, sym, _∙_}
 use borrow.Author.Needs.{needs}
 use Rattle.paper.specs.Numbers.{characters}
-use Rattle.decide_alike.specs.Coded.{first-from, taken-coded, first-taken}
-use Rattle.decide_alike.proofs.Turns.{first-here, first-behind, first-none, first-of-all}
+use Rattle.decide_alike.specs.AlikeCoded.{first-from, taken-coded, first-taken}
+use Rattle.decide_alike.proofs.AlikeTurns.{first-here, first-behind, first-none, first-of-all}
 use Rattle.decide_alike.proofs.first_taken.Statement.{statement}
 use Rattle.decide_alike.proofs.first_taken.Tie as tie
 

@@ -7,8 +7,8 @@ use borrow.Author.Needs.{needs}
 use Rattle.paper.specs.Numbers.{characters}
 use Rattle.paper.specs.Lists.{member}
 use Rattle.base_codes.specs.Inner.{tokens}
-use Rattle.decide_alike.specs.Coded.{fixed-coded}
-use Rattle.decide_alike.proofs.Filled.{Filled, filled-none, filled-more, filled-all}
+use Rattle.decide_alike.specs.AlikeCoded.{fixed-coded}
+use Rattle.search_tables.proofs.Filled.{Filled, filled-none, filled-more, filled-all}
 use Rattle.decide_alike.proofs.fixed_ones.Statement.{statement}
 use Rattle.decide_alike.proofs.fixed_ones.Tie as tie
 

@@ -6,8 +6,8 @@ use mathlib.Core.Bool.{false, _&&_, not}
 use lib.ListN.{getD}
 use borrow.Author.Needs.{needs}
 use Rattle.paper.specs.Numbers.{characters}
-use Rattle.decide_alike.specs.Coded.{free-coded}
-use Rattle.decide_alike.proofs.Filled.{Filled, filled-none, filled-more, filled-all}
+use Rattle.decide_alike.specs.AlikeCoded.{free-coded}
+use Rattle.search_tables.proofs.Filled.{Filled, filled-none, filled-more, filled-all}
 use Rattle.decide_alike.proofs.free_ones.Statement.{statement}
 use Rattle.decide_alike.proofs.free_ones.Tie as tie
 

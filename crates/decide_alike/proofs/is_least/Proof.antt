@@ -5,8 +5,8 @@ use mathlib.Core.Path.{_≡_, refl, sym, ap, _∙_}
 use mathlib.Core.Bool.{false, not}
 use borrow.Author.Needs.{needs}
 use Rattle.paper.specs.Lists.{any, upto}
-use Rattle.decide_alike.specs.Coded.{alike-coded, is-least-coded}
-use Rattle.decide_alike.proofs.Turns.{none-more, one-passes}
+use Rattle.decide_alike.specs.AlikeCoded.{alike-coded, is-least-coded}
+use Rattle.decide_alike.proofs.AlikeTurns.{none-more, one-passes}
 use Rattle.decide_alike.proofs.is_least.Statement.{statement}
 use Rattle.decide_alike.proofs.is_least.Tie as tie
 
@@ -27,7 +27,7 @@ unfolding is-least-coded
 returns c =
     let l = c .before .before .before .loop in
     let a = c .before .before .before .before .args in
-    sym (ap not (one-passes (λ (x : ℕ). alike-coded (a .fixed) (a .standing) (a .taking) x (a .c)) (l .a) (a .c) (omega arith) (sym (c .before .alike .ensures) ∙ c .if1 .taken)))
+    sym (ap not (one-passes (λ (x : ℕ). alike-coded (a .fixed) (a .standing) (a .taking .now) x (a .c)) (l .a) (a .c) (omega arith) (sym (c .before .alike .ensures) ∙ c .if1 .taken)))
 
 add-a : tie.Need-add-a Inv-loop μ-loop
 add-a c = search needs
@@ -39,7 +39,7 @@ loop-again : tie.Need-loop-again Inv-loop μ-loop
 loop-again c =
     let l = c .before .before .before .loop in
     let a = c .before .before .before .before .args in
-    (omega arith, none-more (λ (x : ℕ). alike-coded (a .fixed) (a .standing) (a .taking) x (a .c)) (l .a) (l .inv .1) (sym (c .before .alike .ensures) ∙ c .if1 .left))
+    (omega arith, none-more (λ (x : ℕ). alike-coded (a .fixed) (a .standing) (a .taking .now) x (a .c)) (l .a) (l .inv .1) (sym (c .before .alike .ensures) ∙ c .if1 .left))
 
 returns-2 : tie.Need-returns-2 Inv-loop μ-loop
 unfolding is-least-coded

@@ -4,7 +4,7 @@ use mathlib.Core.Path.{ap, _∙_}
 use lib.Dec.{eqb}
 use borrow.Author.Needs.{needs}
 use Rattle.base_places.specs.Masks.{in-mask}
-use Rattle.decide_alike.proofs.Turns.{one-told}
+use Rattle.decide_alike.proofs.AlikeTurns.{one-told}
 use Rattle.decide_alike.proofs.is_taken.Statement.{statement}
 use Rattle.decide_alike.proofs.is_taken.Tie as tie
 

@@ -4,8 +4,8 @@ use native.Mathlib.Omega.{arith}
 use mathlib.Core.Path.{refl}
 use borrow.Author.Needs.{needs}
 use Rattle.paper.specs.Numbers.{characters}
-use Rattle.decide_alike.specs.Coded.{is-least-coded, least-from}
-use Rattle.decide_alike.proofs.Filled.{Filled, filled-none, filled-more, filled-all}
+use Rattle.decide_alike.specs.AlikeCoded.{is-least-coded, least-from}
+use Rattle.search_tables.proofs.Filled.{Filled, filled-none, filled-more, filled-all}
 use Rattle.decide_alike.proofs.least_from.Statement.{statement}
 use Rattle.decide_alike.proofs.least_from.Tie as tie
 
@@ -16,7 +16,7 @@ abbrev μ-loop : tie.MeasureT-loop
 μ-loop fixed standing taking least₀ c₀ least c = characters - c
 
 loop-holds : tie.Need-loop-holds Inv-loop μ-loop
-loop-holds c = let a = c .args in filled-none (is-least-coded (a .fixed) (a .standing) (a .taking)) characters _ refl
+loop-holds c = let a = c .args in filled-none (is-least-coded (a .fixed) (a .standing) (a .taking .now)) characters _ refl
 
 is-least-requires : tie.Need-is-least-requires Inv-loop μ-loop
 is-least-requires c κs = search needs
@@ -34,14 +34,14 @@ loop-again : tie.Need-loop-again Inv-loop μ-loop
 loop-again c =
     let l = c .before .before .loop in
     let a = c .before .before .before .args in
-    filled-more (is-least-coded (a .fixed) (a .standing) (a .taking)) characters _ (l .c) (l .inv) (omega arith) _ (c .is-least .ensures)
+    filled-more (is-least-coded (a .fixed) (a .standing) (a .taking .now)) characters _ (l .c) (l .inv) (omega arith) _ (c .is-least .ensures)
 
 returns : tie.Need-returns Inv-loop μ-loop
 unfolding least-from
 returns c =
     let l = c .before .loop in
     let a = c .before .before .args in
-    filled-all (is-least-coded (a .fixed) (a .standing) (a .taking)) characters _ (l .c) (l .inv) (omega arith)
+    filled-all (is-least-coded (a .fixed) (a .standing) (a .taking .now)) characters _ (l .c) (l .inv) (omega arith)
 
 pub least-from-spec : {M : Type 1} → statement M
 least-from-spec =

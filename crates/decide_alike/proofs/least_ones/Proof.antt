@@ -1,8 +1,14 @@
 -- `least_ones` meets its contract, by what its parts ensure.
 use borrow.Author.Needs.{needs}
-use Rattle.decide_alike.specs.Coded.{least-coded}
+use Rattle.decide_alike.specs.AlikeCoded.{least-coded}
 use Rattle.decide_alike.proofs.least_ones.Statement.{statement}
 use Rattle.decide_alike.proofs.least_ones.Tie as tie
+
+question-requires : tie.Need-question-requires
+question-requires c κs = search needs
+
+taking-sets-requires : tie.Need-taking-sets-requires
+taking-sets-requires c κs = search needs
 
 fixed-ones-requires : tie.Need-fixed-ones-requires
 fixed-ones-requires c κs = search needs
@@ -15,8 +21,20 @@ least-from-requires c κs = search needs
 
 returns : tie.Need-returns
 unfolding least-coded
-returns c = rw (c .before .before .fixed-ones .ensures, c .before .standing-fields .ensures) at (c .least-from .ensures)
+returns c =
+    let standing = c .before .before in
+    let fixed = standing .before in
+    let taking = fixed .before in
+    let whole = taking .before .before .before .before in
+    rw (c .least-from .ensures, standing .standing-fields .ensures, fixed .fixed-ones .ensures, taking .taking-sets .ensures, whole .question .ensures)
 
 pub least-ones-spec : {M : Type 1} → statement M
 least-ones-spec =
-    tie.close (tie.spec fixed-ones-requires standing-fields-requires least-from-requires returns)
+    tie.close
+    (tie.spec
+    question-requires
+    taking-sets-requires
+    fixed-ones-requires
+    standing-fields-requires
+    least-from-requires
+    returns)

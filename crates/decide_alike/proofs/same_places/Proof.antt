@@ -7,16 +7,16 @@ use borrow.Author.Needs.{needs}
 use Rattle.paper.specs.Lists.{all, upto}
 use Rattle.paper.specs.Numbers.{set-fields}
 use Rattle.paper.proofs.base.Tests.{not-is-true, not-is-false}
-use Rattle.decide_alike.specs.Coded.{same-in, same-places}
-use Rattle.decide_alike.proofs.Turns.{all-more, one-fails}
+use Rattle.decide_alike.specs.AlikeCoded.{same-in, same-places}
+use Rattle.decide_alike.proofs.AlikeTurns.{all-more, one-fails}
 use Rattle.decide_alike.proofs.same_places.Statement.{statement}
 use Rattle.decide_alike.proofs.same_places.Tie as tie
 
 abbrev Inv-loop : tie.InvT-loop
-Inv-loop a b standing taking field₀ field = (field ≤ set-fields) × (all (same-in standing taking a b) (upto field) ≡ true)
+Inv-loop taking a b standing field₀ field = (field ≤ set-fields) × (all (same-in standing taking a b) (upto field) ≡ true)
 
 abbrev μ-loop : tie.MeasureT-loop
-μ-loop a b standing taking field₀ field = set-fields - field
+μ-loop taking a b standing field₀ field = set-fields - field
 
 loop-holds : tie.Need-loop-holds Inv-loop μ-loop
 loop-holds c = (omega arith, refl)
@@ -56,7 +56,7 @@ unfolding same-places
 returns c =
     let l = c .before .before .before .before .before .loop in
     let a = c .before .before .before .before .before .before .args in
-    sym (one-fails (same-in (a .t1) (a .t2) (a .a) (a .b)) (l .field) set-fields (omega arith) (sym (c .before .same-masks .ensures) ∙ not-is-true (c .if1 .taken)))
+    sym (one-fails (same-in (a .t1) (a .taking .now) (a .a) (a .b)) (l .field) set-fields (omega arith) (sym (c .before .same-masks .ensures) ∙ not-is-true (c .if1 .taken)))
 
 add-field : tie.Need-add-field Inv-loop μ-loop
 add-field c = search needs
@@ -68,7 +68,7 @@ loop-again : tie.Need-loop-again Inv-loop μ-loop
 loop-again c =
     let l = c .before .before .before .before .before .loop in
     let a = c .before .before .before .before .before .before .args in
-    (omega arith, all-more (same-in (a .t1) (a .t2) (a .a) (a .b)) (l .field) (l .inv .1) (sym (c .before .same-masks .ensures) ∙ not-is-false (c .if1 .left)))
+    (omega arith, all-more (same-in (a .t1) (a .taking .now) (a .a) (a .b)) (l .field) (l .inv .1) (sym (c .before .same-masks .ensures) ∙ not-is-false (c .if1 .left)))
 
 returns-2 : tie.Need-returns-2 Inv-loop μ-loop
 unfolding same-places

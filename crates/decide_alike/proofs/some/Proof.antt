@@ -8,8 +8,8 @@ use borrow.Author.Needs.{needs}
 use Rattle.paper.specs.Numbers.{characters}
 use Rattle.paper.specs.Lists.{any}
 use Rattle.paper.proofs.base.Tests.{cond-true, cond-false}
-use Rattle.decide_alike.specs.Coded.{some-coded}
-use Rattle.decide_alike.proofs.Turns.{some-here, some-behind}
+use Rattle.decide_alike.specs.AlikeCoded.{some-coded}
+use Rattle.decide_alike.proofs.AlikeTurns.{some-here, some-behind}
 use Rattle.decide_alike.proofs.some.Statement.{statement}
 use Rattle.decide_alike.proofs.some.Tie as tie
 

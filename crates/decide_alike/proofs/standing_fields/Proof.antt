@@ -7,8 +7,8 @@ use borrow.Author.Needs.{needs}
 use Rattle.paper.specs.Numbers.{set-fields}
 use Rattle.paper.specs.Lists.{member}
 use Rattle.base_codes.specs.Inner.{field-code, tokens}
-use Rattle.decide_alike.specs.Coded.{standing-coded}
-use Rattle.decide_alike.proofs.Filled.{Filled, filled-none, filled-more, filled-all}
+use Rattle.decide_alike.specs.AlikeCoded.{standing-coded}
+use Rattle.search_tables.proofs.Filled.{Filled, filled-none, filled-more, filled-all}
 use Rattle.decide_alike.proofs.standing_fields.Statement.{statement}
 use Rattle.decide_alike.proofs.standing_fields.Tie as tie
 

@@ -8,7 +8,7 @@ use borrow.Author.Needs.{needs}
 use Rattle.paper.specs.Lists.{member}
 use Rattle.paper.specs.Numbers.{longest-side}
 use Rattle.base_codes.specs.Inner.{tokens}
-use Rattle.decide_alike.proofs.Turns.{none-here, one-here, behind-here}
+use Rattle.decide_alike.proofs.AlikeTurns.{none-here, one-here, behind-here}
 use Rattle.decide_alike.proofs.stands.Statement.{statement}
 use Rattle.decide_alike.proofs.stands.Tie as tie
 

@@ -5,7 +5,7 @@ use mathlib.Core.Path.{_≡_, _∙_}
 use borrow.Author.Needs.{needs}
 use lib.ListN.{length, getD, drop}
 use Rattle.paper.specs.Numbers.{longest-side}
-use Rattle.decide_apart.specs.Coded.{standings-coded}
+use Rattle.decide_apart.specs.ApartCoded.{standings-coded}
 use Rattle.decide_apart.proofs.Walk.{behind-le, counts-more, counts-all}
 use Rattle.decide_apart.proofs.count.Statement.{statement}
 use Rattle.decide_apart.proofs.count.Tie as tie

@@ -9,8 +9,8 @@ use borrow.Author.Needs.{needs}
 use lib.ListN.{length, getD, drop, length-set}
 use lib.Seq.{sets}
 use Rattle.paper.specs.Numbers.{fields, longest-side}
-use Rattle.base_codes.specs.Inner.{is-field}
-use Rattle.decide_apart.specs.Coded.{standings-coded, tables-at}
+use Rattle.base_codes.specs.Inner.{is-field-code}
+use Rattle.decide_apart.specs.ApartCoded.{standings-coded, tables-at}
 use Rattle.decide_apart.proofs.Walk.{stands-here, counts-more, fills-more, fills-none, fills-all}
 use Rattle.decide_apart.proofs.filled.Statement.{statement}
 use Rattle.decide_apart.proofs.filled.Tie as tie
@@ -48,7 +48,7 @@ within c =
     let side = l .before .args .t1 in
     let i = l .loop .i in
     let h : i < length side = omega (arith, l .loop .inv .0) in
-    let e : is-field (getD side i 0) ≡ true = sym (t .before .is-field .ensures) ∙ t .if1 .taken in
+    let e : is-field-code (getD side i 0) ≡ true = sym (t .before .is-field .ensures) ∙ t .if1 .taken in
     omega (arith, stands-here side i h e, l .loop .inv .3)
 
 mul-all : tie.Need-mul-all Inv-loop μ-loop
@@ -75,7 +75,7 @@ loop-again c =
     let i = l .loop .i in
     let k = l .loop .k in
     let h : i < length side = omega (arith, l .loop .inv .0) in
-    let e : j .before .is-field .result ≡ is-field (getD side i 0) = j .before .is-field .ensures in (
+    let e : j .before .is-field .result ≡ is-field-code (getD side i 0) = j .before .is-field .ensures in (
       l .loop .inv .0,
       ⊎-elim (λ w. rw (w .3, length-set) (l .loop .inv .1)) (λ w. rw (w .1) (l .loop .inv .1)) (j .if1 .came),
       omega arith,

@@ -6,7 +6,7 @@ use mathlib.Core.List.{_++_}
 use borrow.Author.Needs.{needs}
 use lib.ListN.{length, take, drop, length-set}
 use Rattle.paper.specs.Numbers.{fields, longest-side}
-use Rattle.decide_apart.specs.Coded.{standings-coded, numbered-coded}
+use Rattle.decide_apart.specs.ApartCoded.{standings-coded, numbered-coded}
 use Rattle.decide_apart.proofs.Walk.{counts-more, numbers-more, numbers-all}
 use Rattle.decide_apart.proofs.numbered.Statement.{statement}
 use Rattle.decide_apart.proofs.numbered.Tie as tie

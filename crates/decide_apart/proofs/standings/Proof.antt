@@ -5,7 +5,7 @@ use mathlib.Core.Path.{sym}
 use borrow.Author.Needs.{needs}
 use lib.ListN.{length}
 use Rattle.paper.specs.Numbers.{fields}
-use Rattle.decide_apart.specs.Coded.{standings-coded}
+use Rattle.decide_apart.specs.ApartCoded.{standings-coded}
 use Rattle.decide_apart.proofs.Walk.{stored-apart, too-many, each-apart}
 use Rattle.decide_apart.proofs.standings.Statement.{statement}
 use Rattle.decide_apart.proofs.standings.Tie as tie
@@ -22,12 +22,12 @@ add-if1 c = omega (arith, c .before .count .ensures .0, c .count2 .ensures .0)
 returns : tie.Need-returns
 returns c =
     let n = c .before in
-    too-many _ _ _ (omega (arith, c .if1 .taken, n .before .count .ensures .1, n .count2 .ensures .1))
+    too-many (n .before .before .before .before .before .args .own) (omega (arith, c .if1 .taken, n .before .count .ensures .1, n .count2 .ensures .1))
 
 -- at most 8 standings
 few : (c : tie.Else1)
-    → let a = c .before .before .before .args in
-    length (standings-coded (a .left)) + length (standings-coded (a .right)) ≤ fields
+    → let own = c .before .before .before .before .before .before .args .own in
+    length (standings-coded (own .left)) + length (standings-coded (own .right)) ≤ fields
 few c =
     let n = c .before in
     omega (arith, c .if1 .left, n .before .count .ensures .1, n .count2 .ensures .1)
@@ -49,16 +49,22 @@ numbered-requires-2 c κs =
     let e = c .before .before .before .before in
     omega (arith, few e, e .before .before .count .ensures .1)
 
+no-bodies-requires : tie.Need-no-bodies-requires
+no-bodies-requires c κs = search needs
+
 returns-2 : tie.Need-returns-2
 returns-2 c =
-    let e = c .before .before .before .before .before in
-    let all = c .before .before in
+    let right = c .before in
+    let left = right .before in
+    let all = left .before in
     let some = all .before in
-    let a = e .before .before .before .args in
+    let e = some .before .before in
+    let own = e .before .before .before .before .before .before .args .own in
     let n = e .before .before .count .ensures .1 in
-    each-apart _ _ _ (few e) _ _ _ (c .before .numbered .ensures) (rw (sym n) (c .numbered2 .ensures))
+    each-apart own (few e) _ _ _ _ (left .numbered .ensures) (rw (sym n) (right .numbered2 .ensures))
     (rw (all .filled2 .ensures, some .filled .ensures, some .before .open-fields .ensures, n)
-    (stored-apart (a .fields) (standings-coded (a .left)) (standings-coded (a .right)) (few e)))
+    (stored-apart (own .fields) (standings-coded (own .left)) (standings-coded (own .right)) (few e)))
+    (c .no-bodies .ensures)
 
 pub standings-spec : {M : Type 1} → statement M
 standings-spec =
@@ -73,4 +79,5 @@ standings-spec =
     filled-requires-2
     numbered-requires
     numbered-requires-2
+    no-bodies-requires
     returns-2)

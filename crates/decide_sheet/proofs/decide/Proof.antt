@@ -1,6 +1,6 @@
 -- `decide`, the library's second entry, meets its contract: the whole decision, and what is promised of it. Follows from `sheet-decided`.
-use Rattle.search_clash.proofs.Answering.{good-asks}
-use Rattle.decide_sheet.proofs.Promised.{refused-told, promised}
+use denote.Ref.{now}
+use Rattle.decide_sheet.proofs.DecisionPromised.{refused-told, good-asks, asked-told, promised}
 use borrow.Author.Needs.{needs}
 use Rattle.decide_sheet.proofs.decide.Statement.{statement}
 use Rattle.decide_sheet.proofs.decide.Tie as tie
@@ -19,8 +19,8 @@ enum-told c = search needs
 
 own-search-requires : tie.Need-own-search-requires
 own-search-requires c κs =
-    let r = c .before .before .before .before in
-    good-asks _ _ (r .read .ensures) (c .before .before .enum-told .given .1)
+    let t = c .before .before .before in
+    good-asks _ _ (t .before .before .read .ensures) (t .enum-told .given .1)
 
 returns : tie.Need-returns
 returns c =
@@ -34,7 +34,12 @@ same-length-2 : tie.Need-same-length-2
 same-length-2 c = search needs
 
 returns-2 : tie.Need-returns-2
-returns-2 c = promised _ _ _ _ (c .before .before .before .before .own-search .ensures)
+returns-2 c =
+    let o = c .before .before .before .before in
+    let t = o .before .before .before .before in
+    let r = t .before .before in
+    let a = r .before .before .before .before .args in
+    promised _ _ _ _ (asked-told _ _ (r .read .ensures) (t .enum-told .given .1) (now (a .work)) (now (a .answer)) _ _ (o .own-search .result) (o .own-search .ensures))
 
 pub decide-spec : {M : Type 1} → statement M
 decide-spec =

@@ -1,19 +1,17 @@
 -- `own_search` meets its contract: what the search of the question says, or the next ones. Follows from `Steps`.
 use native.Mathlib.Nat.{zero-add}
-use mathlib.Core.Path.{refl, sym, _∙_}
+use mathlib.Core.Path.{sym, _∙_}
 use denote.Ref.{now}
+use Rattle.decide_sheet.proofs.DecisionSteps.{first-turn, count-at-most, told-here, told-on, first-ended}
 use borrow.Author.Needs.{needs}
-use Rattle.search_run.specs.Ended.{end-count}
-use Rattle.decide_sheet.specs.declared.Characters.the-variants.{Every}
-use Rattle.decide_sheet.proofs.Steps.{count-at-most, searched-so, told-here, told-on, whole-is, first-ended}
 use Rattle.decide_sheet.proofs.own_search.Statement.{statement}
 use Rattle.decide_sheet.proofs.own_search.Tie as tie
 
-attempt-requires : tie.Need-attempt-requires
-attempt-requires c κs = search needs
+every-requires : tie.Need-every-requires
+every-requires c κs = search needs
 
-count-of-requires : tie.Need-count-of-requires
-count-of-requires c κs = search needs
+search-requires : tie.Need-search-requires
+search-requires c κs = search needs
 
 decides-requires : tie.Need-decides-requires
 decides-requires c κs = search needs
@@ -30,22 +28,24 @@ same-length-2 c = search needs
 returns : tie.Need-returns
 returns c =
     let d = c .before .before in
-    let n = d .before in
-    let a = n .before .before .before .before .before in
-    let start = a .before .before .before .before .before .before .before .before .before in
-    let m = searched-so _ _ (start .pre) Every (now (start .args .work)) _ _ _ _ (a .attempt .ensures .0) (a .attempt .ensures .1 .0) (a .attempt .ensures .1 .1) in
-    told-here _ _ (start .pre) m 0 0 _ refl _ refl (sym (d .decides .ensures) ∙ c .before .if1 .taken) (rw (n .count-of .ensures ∙ sym (zero-add (end-count (a .attempt .result)))) at (c .told .ensures))
-    ∙ whole-is _ _ (start .pre) (now (start .args .work)) (now (start .args .answer))
+    let s = d .before .before .before .before .before in
+    let every = s .before .before .before in
+    let start = every .before .before .before in
+    λ a.
+    let t = first-turn _ a (now (start .args .work)) (now (start .args .answer)) _ _ _ _ (every .every .ensures) (s .search .ensures) in
+    told-here _ a t 0 (sym (d .decides .ensures) ∙ c .before .if1 .taken) _ (rw (sym (zero-add (s .search .result .count))) at (c .told .ensures))
 
-alike-search-requires : tie.Need-alike-search-requires
-alike-search-requires c κs =
+further-searches-requires : tie.Need-further-searches-requires
+further-searches-requires c κs =
     let e = c .before .before in
     let d = e .before in
-    let n = d .before in
-    let a = n .before .before .before .before .before in
-    let start = a .before .before .before .before .before .before .before .before .before in
-    let m = searched-so _ _ (start .pre) Every (now (start .args .work)) _ _ _ _ (a .attempt .ensures .0) (a .attempt .ensures .1 .0) (a .attempt .ensures .1 .1) in
-    (first-ended _ _ (start .pre) m (sym (d .decides .ensures) ∙ e .if1 .left), rw (n .count-of .ensures) (count-at-most m))
+    let s = d .before .before .before .before .before in
+    let every = s .before .before .before in
+    let start = every .before .before .before in
+    let t = first-turn _ (start .pre) (now (start .args .work)) (now (start .args .answer)) _ _ _ _ (every .every .ensures) (s .search .ensures) in (
+      first-ended _ (start .pre) (now (start .args .work)) (now (start .args .answer)) _ _ _ _ (every .every .ensures) (s .search .ensures) (sym (d .decides .ensures) ∙ e .if1 .left),
+      count-at-most _ (start .pre) t,
+    )
 
 same-length-3 : tie.Need-same-length-3
 same-length-3 c = search needs
@@ -58,26 +58,27 @@ returns-2 c =
     let x = c .before .before .before .before in
     let e = x .before .before .before in
     let d = e .before in
-    let n = d .before in
-    let a = n .before .before .before .before .before in
-    let start = a .before .before .before .before .before .before .before .before .before in
-    let m = searched-so _ _ (start .pre) Every (now (start .args .work)) _ _ _ _ (a .attempt .ensures .0) (a .attempt .ensures .1 .0) (a .attempt .ensures .1 .1) in
-    rw (n .count-of .ensures ∙ sym (zero-add (end-count (a .attempt .result)))) at (x .alike-search .ensures)
-    ∙ told-on _ _ (start .pre) m 0 0 _ refl refl (sym (d .decides .ensures) ∙ e .if1 .left) refl
-    ∙ whole-is _ _ (start .pre) (now (start .args .work)) (now (start .args .answer))
+    let s = d .before .before .before .before .before in
+    let every = s .before .before .before in
+    let start = every .before .before .before in
+    let undecided = sym (d .decides .ensures) ∙ e .if1 .left in
+    λ a.
+    let t = first-turn _ a (now (start .args .work)) (now (start .args .answer)) _ _ _ _ (every .every .ensures) (s .search .ensures) in
+    let u = first-ended _ a (now (start .args .work)) (now (start .args .answer)) _ _ _ _ (every .every .ensures) (s .search .ensures) undecided in
+    rw (sym (zero-add (s .search .result .count))) at (x .further-searches .ensures u) ∙ told-on _ a t 0 undecided
 
 pub own-search-spec : {M : Type 1} → statement M
 own-search-spec =
     tie.close
     (tie.spec
-    attempt-requires
-    count-of-requires
+    every-requires
+    search-requires
     decides-requires
     told-requires
     same-length
     same-length-2
     returns
-    alike-search-requires
+    further-searches-requires
     same-length-3
     same-length-4
     returns-2)

@@ -19,7 +19,7 @@ use Rattle.paper.specs.Situation.{Situation, Move}
 use Rattle.paper.specs.Question.{Question, hidden}
 use Rattle.paper.specs.Sheet.{Reading, read-sheet}
 use Rattle.paper.specs.Outcome.{Outcome, room-of, standing, outcome-of, outcome}
-use Rattle.paper.specs.Demands.{Good, end-of, spelt, Solved, Clash, NoClash, NoRoom, TooLong, TooShort, InOrder, Demand2}
+use Rattle.paper.specs.Demands.{Good, end-of, texts-spelt, Solved, Clash, NoClash, NoRoom, TooLong, TooShort, InOrder, Demand2}
 use Rattle.paper.proofs.sheets.Asked.{AsksGood, sheet-good, fields-known}
 use Rattle.paper.proofs.sheets.Hidden.{hidden-known, own-solves, with-spaces, hidden-solves}
 use Rattle.paper.proofs.sheets.QuestionSearched.{found-solves, used-up-unsolved, count-entered, count-in-room, first-entered, entered-trimmed}
@@ -60,7 +60,7 @@ demand-2 r good work answer =
           good = g;
           entry = e;
           is-found = h;
-          solution = own-solves q (good q g) (spelt (hidden q) e) (found-solves (hidden q) (room-of work) e h);
+          solution = own-solves q (good q g) (texts-spelt (hidden q) e) (found-solves (hidden q) (room-of work) e h);
         }
 
     clash : Row r work answer o 0 → Clash r work answer o

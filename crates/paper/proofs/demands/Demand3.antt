@@ -7,13 +7,14 @@ use native.Mathlib.Omega.{arith}
 use mathlib.Core.Path.{_≡_, refl, subst}
 use mathlib.Core.Bool.{true}
 use mathlib.Core.List.{List, [], _∷_}
-use Rattle.paper.specs.Numbers.{characters, longest-side}
+use Rattle.paper.specs.Numbers.{longest-side}
 use Rattle.paper.specs.Pattern.{range, char, leaf, many, some-text, pattern}
 use Rattle.paper.specs.Places.{PlaceSet, set-after, reachable-sets}
 use Rattle.paper.specs.Written.{judge}
 use Rattle.paper.specs.Search.{no-room, too-long, enter, offer, take-next, search}
 use Rattle.paper.specs.Equation.{fld}
 use Rattle.paper.specs.Plain.{plain, Reaches}
+use Rattle.paper.specs.Alphabet.{code-39}
 use Rattle.paper.specs.Question.{Question, held-by, hidden, acceptor}
 use Rattle.paper.specs.Sheet.{marked, pattern-record, side-record, Reading, read-end, marked-side, next-is, read-sheet}
 use Rattle.paper.specs.Outcome.{room-of, searched, count-of, how-of, outcome-of, outcome}
@@ -42,13 +43,13 @@ demand-3 r good work answer =
     }
   where
     reach : Question → ℕ → List PlaceSet
-    reach q f = reachable-sets characters (held-by q f)
+    reach q f = reachable-sets (q .alphabet .characters) (held-by q f)
 
     reaches : (q : Question) → Reaches (acceptor q) (reach q)
     reaches q =
         record {
-          first = λ f h. reachable-first characters (held-by q f);
-          after = λ f s c h k d e. reachable-after characters (held-by q f) s c d k e;
+          first = λ f h. reachable-first (q .alphabet .characters) (held-by q f);
+          after = λ f s c h k d e. reachable-after (q .alphabet .characters) (held-by q f) s c d k e;
         }
 
     has-room : (q : Question) → Good r q → plain (q .left) (q .right) ≡ true → bound-of q ≤ room-of work
@@ -78,6 +79,7 @@ sheet-demand-3 sheet = demand-3 (read-sheet sheet) (sheet-good sheet)
 abbrev pub question-S : Question
 question-S =
     record {
+      alphabet = code-39;
       left = fld 0 ∷ [];
       right = fld 1 ∷ [];
       held = pattern (many (leaf (range 0 9))) ∷ pattern (leaf (char 4)) ∷ some-text ∷ some-text ∷ some-text ∷ some-text ∷ some-text ∷ some-text ∷ [];

@@ -12,7 +12,7 @@ use Rattle.paper.proofs.base.Tests.{by-bool, not-true, true-false, ltb-
 use Rattle.paper.proofs.base.Lists.{mem-cons-by}
 use Rattle.paper.specs.Equation.{Texts, Over, label}
 use Rattle.paper.specs.Situation.{Acceptor, Situation, set-of, trimmed}
-use Rattle.paper.specs.Decides.{Decides, set-along}
+use Rattle.paper.specs.Decides.{Decides, accepted-along}
 use Rattle.paper.proofs.equations.Trimming.{trimming}
 use Rattle.paper.proofs.equations.Standing.{stands, stands-trimmed}
 use Rattle.paper.proofs.equations.Labels.{trim-label, label-trim}
@@ -21,7 +21,7 @@ module _ {P : Type 0} (A : Acceptor P) where
   -- from the set p the acceptor takes the text w of the field f, over the characters, to its end
   pub record Takes (f : ℕ) (p : P) (w : List ℕ) : Type 0 where
     pub over : Over (A .characters) w
-    pub ends : A .may-end f (set-along A f p w) ≡ true
+    pub ends : A .may-end f (accepted-along A f p w) ≡ true
 
   pub record Solution (s : Situation P) (texts : Texts) : Type 0 where
     pub same-label : label texts (s .left) ≡ label texts (s .right)
@@ -56,7 +56,7 @@ module _ {P : Type 0} (A : Acceptor P) where
 
 module _ {P : Type 0} (A : Acceptor P) {Holds : ℕ → List ℕ → Type 0} (D : Decides A Holds) where
   -- an empty set takes no text
-  empty-takes : (f : ℕ) (p : P) (w : List ℕ) → A .is-empty p ≡ true → A .may-end f (set-along A f p w) ≡ true → ⊥
+  empty-takes : (f : ℕ) (p : P) (w : List ℕ) → A .is-empty p ≡ true → A .may-end f (accepted-along A f p w) ≡ true → ⊥
   empty-takes f p [] e t = true-false t (D .empty-ends f p e)
   empty-takes f p (c ∷ w) e t = empty-takes f (A .set-after f p c) w (D .empty-after f p c e) t
 

@@ -10,7 +10,7 @@ use Rattle.paper.specs.Question.{Question, held-by, acceptor}
 use Rattle.paper.proofs.places.PlacesDecide.{only-held, all-held}
 use Rattle.paper.proofs.places.PlaceSets.{empty-ends, empty-after, same-equal, equal-same}
 
-pub along-same : (q : Question) (f : ℕ) (s : PlaceSet) (w : List ℕ) → Any.set-along (acceptor q) f s w ≡ set-along (held-by q f) s w
+pub along-same : (q : Question) (f : ℕ) (s : PlaceSet) (w : List ℕ) → Any.accepted-along (acceptor q) f s w ≡ set-along (held-by q f) s w
 unfolding acceptor
 along-same q f s [] = refl
 along-same q f s (c ∷ w) = along-same q f (set-after (held-by q f) s c) w

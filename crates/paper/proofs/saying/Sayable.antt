@@ -10,6 +10,7 @@ use lib.ListN.{length, getD, drop, length-take}
 use Rattle.paper.specs.Numbers.{fields}
 use Rattle.paper.specs.Pattern.{Held, some-text, pattern}
 use Rattle.paper.specs.Equation.{Side}
+use Rattle.paper.specs.Alphabet.{code-39}
 use Rattle.paper.specs.Question.{Question}
 use Rattle.paper.specs.Sheet.{Checked, fault, read, FieldPattern, byte-at, body, LE, RI, marked-side, Records, faulty, records, Fields, open-fields}
 use Rattle.paper.specs.Sheet.{with-pattern, read-patterns, Reading, refused, asked, read-end, right-read, left-read, sides-read, read-sheet}
@@ -45,7 +46,7 @@ end-short s at q h = cond-by AsksShort (ltb at (length s)) (λ _. tt) (λ _. h)
 
 right-short : (s : List ℕ) (held : List Held) (l : Side) (x : Checked Side) → Short held → AsksShort (right-read s held l x)
 right-short s held l (fault x at) h = tt
-right-short s held l (read r next) h = end-short s next (record { left = l; right = r; held = held }) h
+right-short s held l (read r next) h = end-short s next (record { alphabet = code-39; left = l; right = r; held = held }) h
 
 left-short : (s : List ℕ) (held : List Held) (x : Checked Side) → Short held → AsksShort (left-read s held x)
 left-short s held (fault x at) h = tt

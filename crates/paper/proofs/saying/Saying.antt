@@ -20,12 +20,13 @@ use Rattle.paper.proofs.base.Tests.{cond-by, both-true, le-leb, lt-leb,
 use Rattle.paper.proofs.base.Lists.{cons-eq}
 use Rattle.paper.specs.Pattern.{Pattern, leaf, char, range, empty, then, either, many, Held, some-text, pattern}
 use Rattle.paper.specs.Equation.{Token, chr, fld, Side}
+use Rattle.paper.specs.Alphabet.{code-39}
 use Rattle.paper.specs.Question.{Question}
 use Rattle.paper.specs.Sheet.{read, byte-at, bytes-left, body, Mark, PA, LE, RI, first-letter, second-letter, marked}
 use Rattle.paper.specs.Sheet.{pattern-record, is-token, token, side-record, marked-side, Records, records, Fields}
 use Rattle.paper.specs.Sheet.{open-fields, next-is, read-patterns, asked, read-end, left-read, read-sheet}
 use Rattle.paper.specs.Saying.{pattern-code, token-byte, pattern-saying, patterns-saying, side-saying, sheet-saying}
-use Rattle.paper.proofs.sheets.Asked.{InRange, GoodSide, GoodHeld, GoodQuestion}
+use Rattle.paper.proofs.sheets.Asked.{InRange, GoodSide, GoodHeld, GoodQuestion, left-39, right-39, held-39}
 use Rattle.paper.proofs.saying.Code.{code-judged}
 
 -- "length byte n 1 to 192": the code of what a field may hold fits into a record
@@ -73,7 +74,7 @@ module _ (s : List ℕ) (at f : ℕ) (p : Pattern) (rest : List ℕ) (e : drop a
       let t = pattern-saying f (pattern p) ++ rest in
       rw (left-there s at t e, mark-there s at t e PA, le-ltb (length t) 2 (omega arith))
 
-  record-said : (least : ℕ) → f < fields → least ≤ f → GoodHeld (pattern p) → ShortCode (pattern p)
+  record-said : (least : ℕ) → f < fields → least ≤ f → GoodHeld characters (pattern p) → ShortCode (pattern p)
       → pattern-record s at least ≡ read (record { field = f; its = p }) (at + (4 + length (pattern-code p)))
   unfolding pattern-record
   record-said least known rises good short =
@@ -129,7 +130,7 @@ module _ (done left : List Held) (p : Pattern) (s : List ℕ) (at f : ℕ) (behi
   abbrev with-it : ℕ → Records Fields
   with-it n = read-patterns n s (at + (4 + length (pattern-code p))) (partly (done ++ (pattern p ∷ [])) left (suc f))
 
-  pattern-done : (n above : ℕ) (rest : List ℕ) → length done ≡ f → f < fields → above ≤ f → GoodHeld (pattern p) → ShortCode (pattern p)
+  pattern-done : (n above : ℕ) (rest : List ℕ) → length done ≡ f → f < fields → above ≤ f → GoodHeld characters (pattern p) → ShortCode (pattern p)
       → Said s (done ++ (pattern p ∷ []) ++ left) rest (with-it n)
       → Said s (done ++ pattern p ∷ left) rest (read-patterns (suc n) s at (partly done (pattern p ∷ left) above))
   pattern-done n above rest d known rises good short h =
@@ -141,7 +142,7 @@ module _ (done left : List Held) (p : Pattern) (s : List ℕ) (at f : ℕ) (behi
 pub patterns-said : (left done : List Held) (n : ℕ) (s : List ℕ) (at f above : ℕ) (rest : List ℕ)
     → drop at s ≡ patterns-saying f left ++ rest → marked PA rest 0 ≡ false → length (patterns-saying f left) < n
     → length done ≡ f → f + length left ≡ fields → above ≤ f
-    → ((i : ℕ) → GoodHeld (getD left i some-text)) → ((i : ℕ) → ShortCode (getD left i some-text))
+    → ((i : ℕ) → GoodHeld characters (getD left i some-text)) → ((i : ℕ) → ShortCode (getD left i some-text))
     → Said s (done ++ left) rest (read-patterns n s at (partly done left above))
 patterns-said [] done zero s at f above rest e u k d l r good short = absurd (omega arith)
 patterns-said [] done (suc n) s at f above rest e u k d l r good short =
@@ -162,27 +163,27 @@ patterns-said (pattern p ∷ left) done (suc n) s at f above rest e u k d l r go
     (omega arith) (omega arith) (omega arith) (omega arith) (λ i. good (suc i)) (λ i. short (suc i)))
 
 -- Sides: a token's byte is a token, and says it.
-token-byte-is : (t : Token) → InRange t → is-token (token-byte t) ≡ true
+token-byte-is : (t : Token) → InRange characters t → is-token (token-byte t) ≡ true
 token-byte-is (chr c) h = rw (lt-ltb c characters h)
 token-byte-is (fld f) h =
     let b = token-byte (fld f) in
     rw (le-ltb b characters (omega arith), le-leb field-token b (omega arith), lt-ltb b (field-token + fields) (omega arith))
 
-token-byte-says : (t : Token) → InRange t → token (token-byte t) ≡ t
+token-byte-says : (t : Token) → InRange characters t → token (token-byte t) ≡ t
 token-byte-says (chr c) h = rw (lt-ltb c characters h)
 token-byte-says (fld f) h = rw (le-ltb (token-byte (fld f)) characters (omega arith)) (ap fld (omega arith))
 
-bytes-are : (side : Side) → ((t : Token) → List·Memᴰ t side → InRange t) → all is-token (map token-byte side) ≡ true
+bytes-are : (side : Side) → ((t : Token) → List·Memᴰ t side → InRange characters t) → all is-token (map token-byte side) ≡ true
 bytes-are [] h = refl
 bytes-are (t ∷ side) h = both-true (token-byte-is t (h t (List·Memᴰ·head refl))) (bytes-are side (λ u d. h u (List·Memᴰ·tail d)))
 
-bytes-say : (side : Side) → ((t : Token) → List·Memᴰ t side → InRange t) → map token (map token-byte side) ≡ side
+bytes-say : (side : Side) → ((t : Token) → List·Memᴰ t side → InRange characters t) → map token (map token-byte side) ≡ side
 bytes-say [] h = refl
 bytes-say (t ∷ side) h = cons-eq (token-byte-says t (h t (List·Memᴰ·head refl))) (bytes-say side (λ u d. h u (List·Memᴰ·tail d)))
 
 -- A side's record.
 module _ (m : Mark) (s : List ℕ) (at : ℕ) (side : Side) (rest : List ℕ) (e : drop at s ≡ side-saying m side ++ rest) where
-  record-side : GoodSide side → side-record s at ≡ read side (at + (3 + length side))
+  record-side : GoodSide characters side → side-record s at ≡ read side (at + (3 + length side))
   unfolding side-record
   record-side good =
       let t = side-saying m side ++ rest in
@@ -201,7 +202,7 @@ module _ (m : Mark) (s : List ℕ) (at : ℕ) (side : Side) (rest : List ℕ) (e
         bytes-say side (good .tokens),
       )
 
-  pub side-said : GoodSide side → marked-side m s at ≡ read side (at + (3 + length side))
+  pub side-said : GoodSide characters side → marked-side m s at ≡ read side (at + (3 + length side))
   unfolding marked-side marked
   side-said good =
       let t = side-saying m side ++ rest in
@@ -226,8 +227,9 @@ sides-said s at q good e =
     let right = q .right in
     let after-left = side-behind LE s at left (side-saying RI right) e ∙ sym (append-nil (side-saying RI right)) in
     let next = at + (3 + length left) in
-    rw (side-said LE s at left (side-saying RI right) e (good .left), side-said RI s next right [] after-left (good .right))
-    (end-said s (next + (3 + length right)) q (side-behind RI s next right [] after-left))
+    rw (side-said LE s at left (side-saying RI right) e (left-39 good), side-said RI s next right [] after-left (right-39 good))
+    (end-said s (next + (3 + length right)) (record { alphabet = code-39; left = left; right = right; held = q .held }) (side-behind RI s next right [] after-left)
+    ∙ ap asked (λ i. record { alphabet = sym (good .alphabet) i; left = left; right = right; held = q .held }))
 
 pub not-marked : (side : Side) (rest : List ℕ) → marked PA (side-saying LE side ++ rest) 0 ≡ false
 unfolding marked
@@ -250,7 +252,7 @@ all-said q h =
     let every = h .good .held .each-field in
     rw every at
     (patterns-said (q .held) [] (suc (length s)) s 0 0 0 (left ++ right) (append-assoc patterns left right) (not-marked (q .left) right)
-    (omega arith) refl (omega arith) (omega arith) (h .good .held .good) (h .codes))
+    (omega arith) refl (omega arith) (omega arith) (held-39 (h .good) .good) (h .codes))
 
 pub reads-back : (q : Question) → Sayable q → read-sheet (sheet-saying q) ≡ asked q
 unfolding read-sheet

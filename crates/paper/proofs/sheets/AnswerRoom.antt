@@ -18,7 +18,7 @@ use Rattle.paper.specs.Situation.{Situation, Move}
 use Rattle.paper.specs.Question.{Question, hidden}
 use Rattle.paper.specs.Sheet.{Reading}
 use Rattle.paper.specs.Outcome.{room-of, standing, value-record, outcome-of}
-use Rattle.paper.specs.Demands.{end-of, spelt, records-of}
+use Rattle.paper.specs.Demands.{end-of, texts-spelt, records-of}
 use Rattle.paper.proofs.base.Lists.{length-only, length-from}
 use Rattle.paper.proofs.sheets.QuestionSearched.{count-in-room}
 use Rattle.paper.proofs.sheets.TextLength.{text-below-count}
@@ -44,14 +44,14 @@ standing-few q =
     omega (arith, keep-short (λ (f : ℕ). stands-in f (q .left ++ q .right)) (upto fields), length-from 0 fields)
 
 module _ (q : Question) (work : List ℕ) (e : Entry (Situation PlaceSet) Move) (h : end-of (hidden q) work ≡ found e) where
-  record-short : (f : ℕ) → length (value-record f (spelt (hidden q) e f)) ≤ record-head + room-of work
+  record-short : (f : ℕ) → length (value-record f (texts-spelt (hidden q) e f)) ≤ record-head + room-of work
   unfolding value-record
   record-short f = omega (arith, text-below-count (hidden q) work e h f, count-in-room (hidden q) work)
 
-  records-short : length (records-of q (spelt (hidden q) e)) ≤ fields * (record-head + room-of work)
+  records-short : length (records-of q (texts-spelt (hidden q) e)) ≤ fields * (record-head + room-of work)
   records-short =
       let few : length (standing q) ≤ fields = standing-few q in
-      let each-record = each-short (λ (f : ℕ). value-record f (spelt (hidden q) e f)) (record-head + room-of work) record-short (standing q) in
+      let each-record = each-short (λ (f : ℕ). value-record f (texts-spelt (hidden q) e f)) (record-head + room-of work) record-short (standing q) in
       omega (arith, each-record, mul-le-mul-right (record-head + room-of work) few)
 
 pub answer-enough : (r : Reading) (work answer : List ℕ) → fields * (record-head + room-of work) ≤ length answer

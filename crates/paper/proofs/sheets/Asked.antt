@@ -3,8 +3,10 @@
 --   patterns-by      : what each pattern's record keeps, all of them keep, one behind the other
 --   fields-known     : a field that stands in the sides of a good question is one of the fields
 --   fields-have-sets : and a situation has a place set for it
--- The tokens are 01's characters and fields, a side has at most 24 of them, there is a pattern or none for each field, and a pattern has at
--- most 63 leaves, of which each takes some character and nothing but characters.
+--   good-space       : its space is one of its characters
+-- The tokens are its alphabet's characters and 01's fields, a side has at most 24 of them, there is a pattern or none for each field, and a pattern
+-- has at most 63 leaves, of which each takes some character and nothing but characters. The alphabet is Code 39; what rests on that alone is
+-- `good-space`, and how a question is coded (`left-39`, `right-39`, `held-39`).
 -- Follows from the checks on the records, test by test, and from the laws of judged patterns.
 use Prim.Native.Nat.{ℕ, zero, suc, _+_, _≤_, _<_}
 use native.Mathlib.Omega.{arith}
@@ -24,43 +26,45 @@ use Rattle.paper.specs.Taken.{leaves-take}
 use Rattle.paper.specs.Written.{Judged, judged, judge}
 use Rattle.paper.specs.Written as Written
 use Rattle.paper.specs.Equation.{Token, chr, fld, Side, is-field, stands-in}
+use Rattle.paper.specs.Alphabet.{code-39}
 use Rattle.paper.specs.Question.{Question}
 use Rattle.paper.specs.Sheet.{Checked, fault, read, FieldPattern, byte-at, bytes-left, body, Mark, PA, LE, RI, marked}
 use Rattle.paper.specs.Sheet.{pattern-judged, pattern-record, is-token, token, side-record, marked-side, Records, faulty, records, Fields}
 use Rattle.paper.specs.Sheet.{open-fields, next-is, with-pattern, pattern-read, read-patterns, Reading, refused, asked, read-end, right-read, left-read, sides-read, read-sheet}
 use Rattle.paper.proofs.places.Judged.{judged-takes, judged-leaves}
 
--- "A token is 0 to 42 (a character) or 64 to 71 (field 0 to 7)."
-abbrev pub InRange : Token → Type 0
-InRange (chr c) = c < characters
-InRange (fld f) = f < fields
+-- "A token is 0 to 42 (a character) or 64 to 71 (field 0 to 7)", where there are n characters
+abbrev pub InRange : ℕ → Token → Type 0
+InRange n (chr c) = c < n
+InRange n (fld f) = f < fields
 
-pub record GoodSide (side : Side) : Type 0 where
-  pub tokens : (t : Token) → List·Memᴰ t side → InRange t
+pub record GoodSide (n : ℕ) (side : Side) : Type 0 where
+  pub tokens : (t : Token) → List·Memᴰ t side → InRange n t
   pub short : length side ≤ sheet-side
 
 -- what a field may hold
-abbrev pub GoodHeld : Held → Type 0
-GoodHeld some-text = Unit {0}
-GoodHeld (pattern p) = leaves-take characters p × (leaves p ≤ most-leaves)
+abbrev pub GoodHeld : ℕ → Held → Type 0
+GoodHeld n some-text = Unit {0}
+GoodHeld n (pattern p) = leaves-take n p × (leaves p ≤ most-leaves)
 
-pub record GoodFields (held : List Held) : Type 0 where
+pub record GoodFields (n : ℕ) (held : List Held) : Type 0 where
   pub each-field : length held ≡ fields
-  pub good : (f : ℕ) → GoodHeld (getD held f some-text)
+  pub good : (f : ℕ) → GoodHeld n (getD held f some-text)
 
 pub record GoodQuestion (q : Question) : Type 0 where
-  pub left : GoodSide (q .left)
-  pub right : GoodSide (q .right)
-  pub held : GoodFields (q .held)
+  pub alphabet : q .alphabet ≡ code-39
+  pub left : GoodSide (q .alphabet .characters) (q .left)
+  pub right : GoodSide (q .alphabet .characters) (q .right)
+  pub held : GoodFields (q .alphabet .characters) (q .held)
 
 -- a reading whose question is good, if it asks one
 abbrev pub AsksGood : Reading → Type 0
 AsksGood r = (q : Question) → r ≡ asked q → GoodQuestion q
 
 -- Sides.
-token-in-range : (b : ℕ) → is-token b ≡ true → InRange (token b)
+token-in-range : (b : ℕ) → is-token b ≡ true → InRange characters (token b)
 token-in-range b e =
-    cond-by InRange (ltb b characters) (ltb-true b characters)
+    cond-by (InRange characters) (ltb b characters) (ltb-true b characters)
     (λ n. ⊎-elim
     (λ (h : ltb b characters ≡ true). let k = ltb-true b characters h in let l = ltb-false b characters n in absurd (omega arith))
     (λ h. let k = ltb-true b (field-token + fields) (and-right (leb field-token b) (ltb b (field-token + fields)) h) in omega arith)
@@ -71,17 +75,17 @@ abbrev pub Found : {A : Type 0} → (A → Type 0) → Checked A → Type 0
 Found Good (fault x at) = Unit {0}
 Found Good (read a next) = Good a
 
-side-good : (s : List ℕ) (at : ℕ) → Found GoodSide (side-record s at)
+side-good : (s : List ℕ) (at : ℕ) → Found (GoodSide characters) (side-record s at)
 unfolding side-record
 side-good s at =
     let n = byte-at s (at + 2) in
     let b = body s (at + 3) n in
-    cond-by (Found GoodSide) (ltb (bytes-left s at) 3) (λ _. tt)
-    (λ _. cond-by (Found GoodSide) (ltb sheet-side n) (λ _. tt)
-    (λ h. cond-by (Found GoodSide) (ltb (bytes-left s at) (3 + n)) (λ _. tt)
-    (λ _. cond-by (Found GoodSide) (all is-token b)
+    cond-by (Found (GoodSide characters)) (ltb (bytes-left s at) 3) (λ _. tt)
+    (λ _. cond-by (Found (GoodSide characters)) (ltb sheet-side n) (λ _. tt)
+    (λ h. cond-by (Found (GoodSide characters)) (ltb (bytes-left s at) (3 + n)) (λ _. tt)
+    (λ _. cond-by (Found (GoodSide characters)) (all is-token b)
     (λ t. record {
-      tokens = λ x d. let (c, i, e) = mem-map token b d in subst InRange (sym e) (token-in-range c (all-true is-token b t i));
+      tokens = λ x d. let (c, i, e) = mem-map token b d in subst (InRange characters) (sym e) (token-in-range c (all-true is-token b t i));
       short = rw (length-map b token, length-take n (drop (at + 3) s)) (omega (arith, ltb-false sheet-side n h));
     })
     (λ _. tt))))
@@ -128,19 +132,19 @@ module _ (P : Held → Type 0) where
   open-by g (suc n) (suc f) = open-by g n f
 
 abbrev pub Goods : Fields → Type 0
-Goods fs = GoodFields (fs .held)
+Goods fs = GoodFields characters (fs .held)
 
 pub fields-with : (s : List ℕ) (at : ℕ) (fs : Fields) (fp : FieldPattern) → Goods fs → PatternRead s at (fs .above) fp → Goods (with-pattern fs fp)
 fields-with s at fs fp h g =
     let b = body s (at + 4) (byte-at s (at + 3)) in
     record {
       each-field = length-set (fs .held) (fp .field) (pattern (fp .its)) ∙ h .each-field;
-      good = set-by GoodHeld (fs .held) (fp .field) (pattern (fp .its)) (judged-takes b (g .its-bytes), judged-leaves b (g .its-bytes)) (h .good);
+      good = set-by (GoodHeld characters) (fs .held) (fp .field) (pattern (fp .its)) (judged-takes b (g .its-bytes), judged-leaves b (g .its-bytes)) (h .good);
     }
 
 -- "before the first record every field is" open
-pub opens-good : GoodFields (open-fields .held)
-opens-good = record { each-field = length-replicate fields some-text; good = open-by GoodHeld tt fields }
+pub opens-good : GoodFields characters (open-fields .held)
+opens-good = record { each-field = length-replicate fields some-text; good = open-by (GoodHeld characters) tt fields }
 
 -- The patterns' records, up to the first record that is none.
 abbrev pub Listed : {A : Type 0} → (A → Type 0) → Records A → Type 0
@@ -168,11 +172,11 @@ pub patterns-good : (n : ℕ) (s : List ℕ) (at : ℕ) (fs : Fields) → Goods 
 patterns-good = patterns-by Goods fields-with
 
 -- A side behind its mark, and the sides.
-pub marked-good : (m : Mark) (s : List ℕ) (at : ℕ) → Found GoodSide (marked-side m s at)
+pub marked-good : (m : Mark) (s : List ℕ) (at : ℕ) → Found (GoodSide characters) (marked-side m s at)
 unfolding marked-side
 marked-good m s at =
-    cond-by (Found GoodSide) (ltb (bytes-left s at) 2) (λ _. tt)
-    (λ _. cond-by (Found GoodSide) (marked m s at) (λ _. side-good s at) (λ _. tt))
+    cond-by (Found (GoodSide characters)) (ltb (bytes-left s at) 2) (λ _. tt)
+    (λ _. cond-by (Found (GoodSide characters)) (marked m s at) (λ _. side-good s at) (λ _. tt))
 
 abbrev Asks : Reading → Type 0
 Asks (refused x at) = Unit {0}
@@ -183,12 +187,13 @@ unfolding read-end
 end-asks s at q g = cond-by Asks (ltb at (length s)) (λ _. tt) (λ _. g)
 
 right-asks : (s : List ℕ) (held : List Held) (l : Side) (x : Checked Side)
-    → GoodFields held → GoodSide l → Found GoodSide x → Asks (right-read s held l x)
+    → GoodFields characters held → GoodSide characters l → Found (GoodSide characters) x → Asks (right-read s held l x)
 right-asks s held l (fault x at) h g k = tt
 right-asks s held l (read r next) h g k =
-    end-asks s next (record { left = l; right = r; held = held }) (record { left = g; right = k; held = h })
+    end-asks s next (record { alphabet = code-39; left = l; right = r; held = held }) (record { alphabet = refl; left = g; right = k; held = h })
 
-left-asks : (s : List ℕ) (held : List Held) (x : Checked Side) → GoodFields held → Found GoodSide x → Asks (left-read s held x)
+left-asks : (s : List ℕ) (held : List Held) (x : Checked Side) → GoodFields characters held → Found (GoodSide characters) x
+    → Asks (left-read s held x)
 left-asks s held (fault x at) h k = tt
 left-asks s held (read l next) h k = right-asks s held l (marked-side RI s next) h k (marked-good RI s next)
 
@@ -202,20 +207,34 @@ sheet-good sheet q e =
     subst Asks e (sides-ask sheet (read-patterns (suc (length sheet)) sheet 0 open-fields) (patterns-good (suc (length sheet)) sheet 0 open-fields opens-good))
 
 -- Every field that stands in the sides is one of the fields.
-standing-known : (f : ℕ) (side : Side) → GoodSide side → stands-in f side ≡ true → f < fields
-standing-known f side g e =
+standing-known : (n f : ℕ) (side : Side) → GoodSide n side → stands-in f side ≡ true → f < fields
+standing-known n f side g e =
     let (t, d, k) = any-true (is-field f) side e in known t (g .tokens t d) k
   where
-    known : (t : Token) → InRange t → is-field f t ≡ true → f < fields
+    known : (t : Token) → InRange n t → is-field f t ≡ true → f < fields
     known (chr c) h k = absurd (true-false k refl)
     known (fld h) i k = rw (eqb-true f h k) i
 
 module _ (q : Question) (g : GoodQuestion q) (f : ℕ) (e : stands-in f (q .left ++ q .right) ≡ true) where
   pub fields-known : f < fields
   fields-known =
-      ⊎-elim (standing-known f (q .left) (g .left)) (standing-known f (q .right) (g .right))
+      ⊎-elim (standing-known (q .alphabet .characters) f (q .left) (g .left)) (standing-known (q .alphabet .characters) f (q .right) (g .right))
       (or-is-true (stands-in f (q .left)) (stands-in f (q .right)) (sym (any-append (is-field f) (q .left) (q .right)) ∙ e))
 
   -- A situation has a place set for each of them.
   pub fields-have-sets : f < set-fields
   fields-have-sets = omega (arith, fields-known)
+
+-- What rests on the alphabet being Code 39.
+module _ {q : Question} (g : GoodQuestion q) where
+  pub good-space : q .alphabet .space < q .alphabet .characters
+  good-space = rw (g .alphabet) (omega arith)
+
+  pub left-39 : GoodSide characters (q .left)
+  left-39 = rw (g .alphabet) at (g .left)
+
+  pub right-39 : GoodSide characters (q .right)
+  right-39 = rw (g .alphabet) at (g .right)
+
+  pub held-39 : GoodFields characters (q .held)
+  held-39 = rw (g .alphabet) at (g .held)

@@ -17,6 +17,7 @@ use Rattle.paper.specs.Pattern.{Held}
 use Rattle.paper.specs.Written.{Judged, judged, judge}
 use Rattle.paper.specs.Written as Written
 use Rattle.paper.specs.Equation.{Side}
+use Rattle.paper.specs.Alphabet.{code-39}
 use Rattle.paper.specs.Question.{Question}
 use Rattle.paper.specs.Sheet.{Fault, cut-short, wrong-mark, wrong-field, wrong-length, not-one-pattern, too-many-leaves, wrong-token}
 use Rattle.paper.specs.Sheet.{Checked, fault, read, FieldPattern, byte-at, bytes-left, body, Mark, PA, LE, RI, RU, marked}
@@ -121,7 +122,7 @@ module _ (s : List ℕ) where
 
   right-shown : (held : List Held) (l : Side) (x : Checked Side) → CheckShown x → SheetShown (right-read s held l x)
   right-shown held l (fault x at) h = h
-  right-shown held l (read r next) h = end-shown next (record { left = l; right = r; held = held })
+  right-shown held l (read r next) h = end-shown next (record { alphabet = code-39; left = l; right = r; held = held })
 
   left-shown : (held : List Held) (x : Checked Side) → CheckShown x → SheetShown (left-read s held x)
   left-shown held (fault x at) h = h

@@ -1,7 +1,7 @@
 -- The hidden fields (request K3): the question with its hidden fields, and the sheet's own.
 --   own-solves        : texts that solve the word equation with the hidden fields solve the sheet's question
 --   hidden-solves     : texts that solve the sheet's question solve the word equation, with some spaces for the hidden fields
---   hidden-searchable : it can be searched: its tokens are characters and fields that have place sets, its patterns are good
+--   hidden-searchable : the code can search it: its tokens are Code 39's characters and fields that have place sets, its patterns are good
 --   hidden-known      : its fields have place sets
 --   hidden-plain      : it is plain where the sheet's question is
 --   hidden-short      : its sides have at most one token more
@@ -17,7 +17,8 @@ use mathlib.Core.List.{List, [], _∷_, _++_, map, append-assoc, List·Memᴰ, L
 use lib.Dec.{eqb}
 use lib.ListN.{length, getD, replicate, length-append, length-map, List·getD-append}
 use Rattle.paper.specs.Lists.{upto, any, keep}
-use Rattle.paper.specs.Numbers.{characters, fields, hidden-left, hidden-right, set-fields, sheet-side, space}
+use Rattle.paper.specs.Numbers.{characters, fields, hidden-left, hidden-right, set-fields, sheet-side}
+use Rattle.paper.specs.Alphabet.{code-39}
 use Rattle.paper.specs.Pattern.{char, leaf, many, Held, some-text, Fits, one, none, more, Holds}
 use Rattle.paper.specs.Equation.{Token, chr, fld, Side, is-field, stands-in, Texts, label, Same, Over}
 use Rattle.paper.specs.Plain.{each-once, plain}
@@ -28,7 +29,7 @@ use Rattle.paper.proofs.base.Lists.{cons-eq, any-append, length-from, m
 use Rattle.paper.proofs.base.Listed.{keep-same, getD-map-upto}
 use Rattle.paper.proofs.equations.Labels.{label-same, label-with}
 use Rattle.paper.proofs.equations.TrailingSpaces.{padded-same, same-padded}
-use Rattle.paper.proofs.sheets.Asked.{InRange, GoodSide, GoodHeld, GoodQuestion, fields-known}
+use Rattle.paper.proofs.sheets.Asked.{InRange, GoodSide, GoodHeld, GoodQuestion, fields-known, good-space, left-39, right-39, held-39}
 
 -- The texts that a hidden field may hold: any number of spaces.
 fits-spaces : (x : ℕ) {w : List ℕ} → Fits (many (leaf (char x))) w → (n : ℕ) × (w ≡ replicate n x)
@@ -50,30 +51,32 @@ spaces-over x (suc n) k h c (List·Memᴰ·tail d) = spaces-over x n k h c d
 stands-with : (f g : ℕ) (side : Side) → stands-in f (side ++ (fld g ∷ [])) ≡ stands-in f side || eqb f g
 stands-with f g side = any-append (is-field f) side (fld g ∷ []) ∙ ap (λ (b : Bool). stands-in f side || b) (or-false (eqb f g))
 
--- A question that can be searched: its tokens are characters and fields that have place sets, and its patterns are good.
+-- A question that the code can search, whose tables are for Code 39: its tokens are its characters and fields that have place sets, and its patterns
+-- are good.
 abbrev pub HasSet : Token → Type 0
 HasSet (chr c) = c < characters
 HasSet (fld f) = f < set-fields
 
 pub record Searchable (q : Question) : Type 0 where
+  pub alphabet : q .alphabet ≡ code-39
   pub left : (t : Token) → List·Memᴰ t (q .left) → HasSet t
   pub right : (t : Token) → List·Memᴰ t (q .right) → HasSet t
-  pub held : (f : ℕ) → GoodHeld (held-by q f)
+  pub held : (f : ℕ) → GoodHeld characters (held-by q f)
 
-pub in-range-has-set : (t : Token) → InRange t → HasSet t
+pub in-range-has-set : (t : Token) → InRange characters t → HasSet t
 in-range-has-set (chr c) h = h
 in-range-has-set (fld f) h = omega arith
 
-pub has-sets-with : (side : Side) (f : ℕ) → GoodSide side → f < set-fields → (t : Token) → List·Memᴰ t (side ++ (fld f ∷ [])) → HasSet t
+pub has-sets-with : (side : Side) (f : ℕ) → GoodSide characters side → f < set-fields → (t : Token) → List·Memᴰ t (side ++ (fld f ∷ [])) → HasSet t
 has-sets-with side f g h t d =
     ⊎-elim (λ i. in-range-has-set t (g .tokens t i))
     (mem-cons-by HasSet h (λ u i. absurd (List·Memᴰ·not-nil i)) t)
     (List·Memᴰ·append-cases side d)
 
 -- a hidden field's leaf takes the space
-good-spaces : GoodHeld any-spaces
-good-spaces =
-    (record { some = space; taken = refl; character = λ c t. let e = eqb-true space c t in omega arith }, omega arith)
+good-spaces : (x n : ℕ) → x < n → GoodHeld n (any-spaces x)
+good-spaces x n h =
+    (record { some = x; taken = eqb-same x; character = λ c t. let e = eqb-true x c t in omega arith }, omega arith)
 
 -- no field of a sheet is hidden
 not-hidden : (f g : ℕ) → f < fields → fields ≤ g → eqb f g ≡ false
@@ -102,13 +105,16 @@ once-between a (fld f ∷ l) r e n =
     (once-between a l r (and-right (not (stands-in f (l ++ r))) (each-once (l ++ r)) e) (or-right-false (eqb a f) (stands-in a (l ++ r)) n))
 
 module _ (q : Question) where
+  abbrev space : ℕ
+  space = q .alphabet .space
+
   length-own : length (map (held-by q) (upto fields)) ≡ fields
   length-own = length-map (upto fields) (held-by q) ∙ length-from 0 fields
 
   -- what a field may hold
   held-own : (f : ℕ) → f < fields → held-by (hidden q) f ≡ held-by q f
   held-own f h =
-      List·getD-append (map (held-by q) (upto fields)) (any-spaces ∷ any-spaces ∷ []) some-text f (rw length-own h)
+      List·getD-append (map (held-by q) (upto fields)) (any-spaces space ∷ any-spaces space ∷ []) some-text f (rw length-own h)
       ∙ getD-map-upto (held-by q) some-text fields f h
 
   stands-hidden : (f : ℕ)
@@ -144,27 +150,31 @@ module _ (q : Question) where
   pub hidden-searchable : GoodQuestion q → Searchable (hidden q)
   hidden-searchable g =
       record {
-        left = has-sets-with (q .left) hidden-left (g .left) (omega arith);
-        right = has-sets-with (q .right) hidden-right (g .right) (omega arith);
+        alphabet = g .alphabet;
+        left = has-sets-with (q .left) hidden-left (left-39 g) (omega arith);
+        right = has-sets-with (q .right) hidden-right (right-39 g) (omega arith);
         held =
-            both-good (map (held-by q) (upto fields)) (any-spaces ∷ any-spaces ∷ [])
-            (each-good (held-by q) (g .held .good) (upto fields)) last-two;
+            both-good (map (held-by q) (upto fields)) (any-spaces space ∷ any-spaces space ∷ [])
+            (each-good (held-by q) (held-39 g .good) (upto fields)) last-two;
       }
     where
-      both-good : (k l : List Held) → ((f : ℕ) → GoodHeld (getD k f some-text)) → ((f : ℕ) → GoodHeld (getD l f some-text))
-          → (f : ℕ) → GoodHeld (getD (k ++ l) f some-text)
+      both-good : (k l : List Held) → ((f : ℕ) → GoodHeld characters (getD k f some-text)) → ((f : ℕ) → GoodHeld characters (getD l f some-text))
+          → (f : ℕ) → GoodHeld characters (getD (k ++ l) f some-text)
       both-good [] l h i f = i f
       both-good (x ∷ k) l h i zero = h zero
       both-good (x ∷ k) l h i (suc f) = both-good k l (λ j. h (suc j)) i f
 
-      each-good : (held : ℕ → Held) → ((f : ℕ) → GoodHeld (held f)) → (l : List ℕ) (f : ℕ) → GoodHeld (getD (map held l) f some-text)
+      each-good : (held : ℕ → Held) → ((f : ℕ) → GoodHeld characters (held f)) → (l : List ℕ) (f : ℕ) → GoodHeld characters (getD (map held l) f some-text)
       each-good held h [] f = tt
       each-good held h (x ∷ l) zero = h x
       each-good held h (x ∷ l) (suc f) = each-good held h l f
 
-      last-two : (f : ℕ) → GoodHeld (getD (any-spaces ∷ any-spaces ∷ []) f some-text)
-      last-two zero = good-spaces
-      last-two (suc zero) = good-spaces
+      space-39 : space < characters
+      space-39 = rw (g .alphabet) (omega arith)
+
+      last-two : (f : ℕ) → GoodHeld characters (getD (any-spaces space ∷ any-spaces space ∷ []) f some-text)
+      last-two zero = good-spaces space characters space-39
+      last-two (suc zero) = good-spaces space characters space-39
       last-two (suc (suc f)) = tt
 
   module _ (g : GoodQuestion q) where
@@ -241,10 +251,10 @@ module _ (q : Question) where
                 ∙ ap (λ (w : List ℕ). w ++ replicate (spaces .1) space) (sym (own-label (q .right) right-known))
                 ∙ sym (label-with with-spaces (q .right) hidden-right);
             over =
-                by-standing (λ (f : ℕ). Over characters (with-spaces f))
+                by-standing (λ (f : ℕ). Over (q .alphabet .characters) (with-spaces f))
                 (λ f e h. rw (own-text f h) (x .over f e))
-                (spaces-over space (spaces .0) characters (omega arith))
-                (spaces-over space (spaces .1) characters (omega arith));
+                (spaces-over space (spaces .0) (q .alphabet .characters) (good-space g))
+                (spaces-over space (spaces .1) (q .alphabet .characters) (good-space g));
             holds =
                 by-standing (λ (f : ℕ). Holds (held-by (hidden q) f) (with-spaces f))
                 (λ f e h. rw (own-text f h, held-own f h) (x .holds f e))

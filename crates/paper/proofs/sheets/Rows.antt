@@ -17,7 +17,7 @@ use Rattle.paper.specs.Question.{Question, hidden}
 use Rattle.paper.specs.Sheet.{Fault, cut-short, wrong-mark, wrong-field, wrong-length, not-one-pattern, too-many-leaves, wrong-token}
 use Rattle.paper.specs.Sheet.{fault-number, Reading, refused, asked}
 use Rattle.paper.specs.Outcome.{Outcome, room-of, searched, value-record, records, clash, answered, count-of, outcome-of}
-use Rattle.paper.specs.Demands.{Good, end-of, spelt, records-of, number-of}
+use Rattle.paper.specs.Demands.{Good, end-of, texts-spelt, records-of, demanded-number}
 use Rattle.paper.proofs.sheets.Hidden.{standing-hidden}
 use Rattle.paper.proofs.sheets.TextLength.{none-too-long}
 
@@ -32,11 +32,11 @@ fault-range wrong-token = omega arith
 
 -- the records of the texts that the way to an entry spells
 abbrev pub found-records : Question → Entry (Situation PlaceSet) Move → List ℕ
-found-records q e = records-of q (spelt (hidden q) e)
+found-records q e = records-of q (texts-spelt (hidden q) e)
 
 pub records-hidden : (q : Question) (e : Entry (Situation PlaceSet) Move) → records (hidden q) e ≡ found-records q e
 unfolding records
-records-hidden q e = ap (each (λ (f : ℕ). value-record f (spelt (hidden q) e f))) (standing-hidden q)
+records-hidden q e = ap (each (λ (f : ℕ). value-record f (texts-spelt (hidden q) e f))) (standing-hidden q)
 
 module _ (r : Reading) (work answer : List ℕ) where
   -- the rows of the table, by their number
@@ -81,21 +81,21 @@ in-row r work answer n e = subst (Row r work answer (outcome-of r work answer)) 
 
 -- The number and the count of a good reading are those of the search.
 clash-number : (q : Question) (n : ℕ) (e : Entry (Situation PlaceSet) Move) (work answer : List ℕ) → end-of (hidden q) work ≡ found e
-    → (clash (hidden q) n e work answer .number ≡ number-of q answer (found e)) × (clash (hidden q) n e work answer .count ≡ n)
+    → (clash (hidden q) n e work answer .number ≡ demanded-number q answer (found e)) × (clash (hidden q) n e work answer .count ≡ n)
 unfolding clash
 clash-number q n e work answer h =
     rw (none-too-long (hidden q) work e h, records-hidden q e)
     (by-bool (leb (length (found-records q e)) (length answer)) (λ k. rw k (refl, refl)) (λ k. rw k (refl, refl)))
 
 end-number : (q : Question) (n : ℕ) (x : End (Situation PlaceSet) Move) (work answer : List ℕ) → end-of (hidden q) work ≡ x
-    → (answered (hidden q) n x work answer .number ≡ number-of q answer x) × (answered (hidden q) n x work answer .count ≡ n)
+    → (answered (hidden q) n x work answer .number ≡ demanded-number q answer x) × (answered (hidden q) n x work answer .count ≡ n)
 end-number q n (found e) work answer h = clash-number q n e work answer h
 end-number q n used-up work answer h = (refl, refl)
 end-number q n no-room work answer h = (refl, refl)
 end-number q n too-long work answer h = (refl, refl)
 
 pub good-outcome : (r : Reading) (work answer : List ℕ) (q : Question) → Good r q
-    → (outcome-of r work answer .number ≡ number-of q answer (end-of (hidden q) work))
+    → (outcome-of r work answer .number ≡ demanded-number q answer (end-of (hidden q) work))
     × (outcome-of r work answer .count ≡ count-of (searched (hidden q) (room-of work)))
 good-outcome r work answer q g =
     rw g (end-number q (count-of (searched (hidden q) (room-of work))) (end-of (hidden q) work) work answer refl)
@@ -104,7 +104,7 @@ good-outcome r work answer q g =
 abbrev OfSearch : ℕ → Type 0
 OfSearch n = member n (0 ∷ 1 ∷ 18 ∷ 19 ∷ 20 ∷ []) ≡ true
 
-pub number-of-search : (q : Question) (answer : List ℕ) (x : End (Situation PlaceSet) Move) → OfSearch (number-of q answer x)
+pub number-of-search : (q : Question) (answer : List ℕ) (x : End (Situation PlaceSet) Move) → OfSearch (demanded-number q answer x)
 number-of-search q answer (found e) = cond-by OfSearch (leb (length (found-records q e)) (length answer)) (λ _. refl) (λ _. refl)
 number-of-search q answer used-up = refl
 number-of-search q answer no-room = refl

@@ -17,7 +17,7 @@ use Rattle.paper.specs.Situation.{Acceptor, Situation, Move, strike-left
 use Rattle.paper.specs.Way.{given, text-along, texts-of, search-from}
 use Rattle.paper.specs.Question.{Question, acceptor}
 use Rattle.paper.specs.Outcome.{room-of, searched, count-of, how-of, standing, some-text-too-long}
-use Rattle.paper.specs.Demands.{end-of, spelt}
+use Rattle.paper.specs.Demands.{end-of, texts-spelt}
 use Rattle.paper.proofs.base.Tests.{true-not, le-leb}
 use Rattle.paper.proofs.base.Lists.{length-only, none-any}
 use Rattle.paper.proofs.sheets.QuestionSearched.{equal, same, count-in-room}
@@ -36,7 +36,7 @@ module _ {P : Type 0} (A : Acceptor P) (f : ℕ) where
       omega (arith, length-append (given A f s m) (text-along A f next ms), given-short s m, text-short next ms)
 
 module _ (q : Question) (work : List ℕ) (e : Entry (Situation PlaceSet) Move) (h : end-of q work ≡ found e) where
-  pub text-below-count : (f : ℕ) → length (spelt q e f) < count-of (searched q (room-of work))
+  pub text-below-count : (f : ℕ) → length (texts-spelt q e f) < count-of (searched q (room-of work))
   unfolding texts-of how-of count-of searched search-from
   text-below-count f =
       let first = question (acceptor q) (q .left) (q .right) in
@@ -46,12 +46,12 @@ module _ (q : Question) (work : List ℕ) (e : Entry (Situation PlaceSet) Move) 
       (Searched.found-entered _ _ _ (equal q) (same q) (room-of work) first e h) in
       omega (arith, short, length-reverseAux (e .way) [], below)
 
-  pub text-short-enough : (f : ℕ) → length (spelt q e f) ≤ longest-text
+  pub text-short-enough : (f : ℕ) → length (texts-spelt q e f) ≤ longest-text
   unfolding room-of
   text-short-enough f = omega (arith, text-below-count f, count-in-room q work)
 
   pub none-too-long : some-text-too-long q e ≡ false
   unfolding some-text-too-long
   none-too-long =
-      none-any (λ (f : ℕ). not (leb (length (spelt q e f)) longest-text)) (standing q)
-      (λ f d. true-not (le-leb (length (spelt q e f)) longest-text (text-short-enough f)))
+      none-any (λ (f : ℕ). not (leb (length (texts-spelt q e f)) longest-text)) (standing q)
+      (λ f d. true-not (le-leb (length (texts-spelt q e f)) longest-text (text-short-enough f)))

@@ -7,9 +7,9 @@ use borrow.Author.Needs.{needs}
 use Rattle.paper.specs.Outcome.{Outcome, outcome}
 use Rattle.paper.specs.Printed.{printed-of}
 use Rattle.print_lines.specs.Lines.{longest-first-line, put-lines, put-where-room}
-use Rattle.print_clash.specs.Lines.{lined}
+use Rattle.print_clash.specs.ClashPrinted.{lined}
 use Rattle.print_clash.proofs.Making.{no-room, with-room}
-use Rattle.print_clash.proofs.Told.{printed-lines}
+use Rattle.print_clash.proofs.ClashLines.{printed-lines}
 use Rattle.print_clash.proofs.lines.Statement.{statement}
 use Rattle.print_clash.proofs.lines.Tie as tie
 

@@ -12,9 +12,9 @@ use Rattle.paper.specs.Numbers.{program-input}
 use Rattle.paper.specs.Outcome.{outcome}
 use Rattle.paper.specs.Printed.{printed-of, printed}
 use Rattle.print_lines.specs.Lines.{longest-first-line, Prints}
-use Rattle.print_clash.specs.Lines.{lined, no-work, no-answer}
+use Rattle.print_clash.specs.ClashPrinted.{lined, no-work, no-answer}
 use Rattle.print_clash.proofs.Making.{filled-bytes, program-prints}
-use Rattle.print_clash.proofs.Told.{printed-program}
+use Rattle.print_clash.proofs.ClashLines.{printed-program}
 use Rattle.print_clash.proofs.printed.Statement.{statement}
 use Rattle.print_clash.proofs.printed.Tie as tie
 

@@ -1,6 +1,6 @@
 -- `zeroed_answer` meets its contract: 4,096 zeros, by computation.
 use mathlib.Core.Path.{refl}
-use Rattle.print_clash.specs.Lines.{no-answer}
+use Rattle.print_clash.specs.ClashPrinted.{no-answer}
 use Rattle.print_clash.proofs.zeroed_answer.Statement.{statement}
 use Rattle.print_clash.proofs.zeroed_answer.Tie as tie
 

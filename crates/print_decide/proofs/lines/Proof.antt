@@ -5,11 +5,11 @@ use mathlib.Core.Path.{sym, ap, _∙_}
 use mathlib.Core.List.{List}
 use borrow.Author.Needs.{needs}
 use Rattle.paper_decide.specs.Deciding.{Decision, decision}
-use Rattle.paper_decide.specs.Printed.{printed-decision}
+use Rattle.paper_decide.specs.DecisionLine.{printed-decision}
 use Rattle.print_lines.specs.Lines.{longest-decided-line, put-decided, put-where-room}
 use Rattle.print_clash.proofs.Making.{no-room, with-room}
-use Rattle.print_decide.specs.Lines.{lined-decided}
-use Rattle.print_decide.proofs.Told.{printed-lines}
+use Rattle.print_decide.specs.DecisionPrinted.{lined-decided}
+use Rattle.print_decide.proofs.DecisionLines.{printed-lines}
 use Rattle.print_decide.proofs.lines.Statement.{statement}
 use Rattle.print_decide.proofs.lines.Tie as tie
 

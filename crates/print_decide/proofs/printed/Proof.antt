@@ -10,12 +10,12 @@ use lib.Seq.{take-all}
 use borrow.Author.Needs.{needs}
 use Rattle.paper.specs.Numbers.{program-input}
 use Rattle.paper_decide.specs.Deciding.{decision}
-use Rattle.paper_decide.specs.Printed.{printed-decision, printed-decided}
+use Rattle.paper_decide.specs.DecisionLine.{printed-decision, printed-decided}
 use Rattle.print_lines.specs.Lines.{longest-decided-line, Prints}
-use Rattle.print_clash.specs.Lines.{no-work, no-answer}
-use Rattle.print_decide.specs.Lines.{lined-decided}
+use Rattle.print_clash.specs.ClashPrinted.{no-work, no-answer}
+use Rattle.print_decide.specs.DecisionPrinted.{lined-decided}
 use Rattle.print_clash.proofs.Making.{filled-bytes, program-prints}
-use Rattle.print_decide.proofs.Told.{printed-program}
+use Rattle.print_decide.proofs.DecisionLines.{printed-program}
 use Rattle.print_decide.proofs.printed.Statement.{statement}
 use Rattle.print_decide.proofs.printed.Tie as tie
 

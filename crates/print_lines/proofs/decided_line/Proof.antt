@@ -2,7 +2,7 @@
 -- and `puts-then`.
 use native.Mathlib.Omega.{arith}
 use borrow.Author.Needs.{needs}
-use Rattle.paper.specs.Printed.{space}
+use Rattle.paper.specs.Printed.{blank-sign}
 use Rattle.print_lines.proofs.Decimal.{decimal-at-most}
 use Rattle.print_lines.proofs.Putting.{puts-then}
 use Rattle.print_lines.proofs.Walked.{three-numbers-length, decided-line-parts}
@@ -23,7 +23,7 @@ number-and-requires c κs =
       start .pre,
       at-three .three-numbers .kept .0,
       at-three .three-numbers .ensures .behind,
-      three-numbers-length (args .number) (args .count) (args .place) space,
+      three-numbers-length (args .number) (args .count) (args .place) blank-sign,
     )
 
 same-length : tie.Need-same-length

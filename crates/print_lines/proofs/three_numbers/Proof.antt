@@ -2,7 +2,7 @@
 use Prim.Native.Nat.{_≤_}
 use native.Mathlib.Omega.{arith}
 use borrow.Author.Needs.{needs}
-use Rattle.paper.specs.Printed.{space}
+use Rattle.paper.specs.Printed.{blank-sign}
 use Rattle.print_lines.proofs.Decimal.{decimal-at-most}
 use Rattle.print_lines.proofs.Putting.{puts-then}
 use Rattle.print_lines.proofs.Walked.{number-length}
@@ -14,12 +14,12 @@ number-and-requires c κs = omega (arith, decimal-at-most (c .before .before .ar
 
 -- the places behind the first number and behind the second
 behind-number : (c : tie.After-number-and) → c .number-and .result ≤ 21
-behind-number c = omega (arith, c .number-and .ensures .behind, number-length (c .before .before .before .args .number) space)
+behind-number c = omega (arith, c .number-and .ensures .behind, number-length (c .before .before .before .args .number) blank-sign)
 
 behind-count : (c : tie.After-number-and2) → c .number-and2 .result ≤ 42
 behind-count c =
     let first = c .before .before .before .before in
-    omega (arith, behind-number first, c .number-and2 .ensures .behind, number-length (first .before .before .before .args .count) space)
+    omega (arith, behind-number first, c .number-and2 .ensures .behind, number-length (first .before .before .before .args .count) blank-sign)
 
 number-and-requires-2 : tie.Need-number-and-requires-2
 number-and-requires-2 c κs =

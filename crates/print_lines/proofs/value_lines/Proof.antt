@@ -6,7 +6,7 @@ use mathlib.Core.Path.{_≡_, refl, _∙_}
 use lib.ListN.{length, getD}
 use borrow.Author.Needs.{needs}
 use Rattle.paper.specs.Printed.{value-lines}
-use Rattle.print_lines.specs.Writing.{record-head}
+use Rattle.print_lines.specs.Writing.{head-size}
 use Rattle.print_lines.proofs.Walked.{Underway, none-put, one-put, all-put, text, text-part, text-within, text-long, value-line-length}
 use Rattle.print_lines.proofs.value_lines.Statement.{statement}
 use Rattle.print_lines.proofs.value_lines.Tie as tie
@@ -35,7 +35,7 @@ text-length-requires c κs = search needs
 
 -- the text ends in the records
 within : (c : tie.After-text-length Inv-loop μ-loop)
-    → c .before .before .loop .from + record-head + c .text-length .result ≤ length (c .before .before .before .before .before .args .records .now)
+    → c .before .before .loop .from + head-size + c .text-length .result ≤ length (c .before .before .before .before .before .args .records .now)
 within c =
     let at-loop = c .before .before in
     rw (c .text-length .ensures) (text-within (at-loop .before .before .before .args .records .now) (at-loop .loop .from) (omega arith))

@@ -1,4 +1,4 @@
--- `fields::read` meets its contract. The loop's invariant: the records are read up to the offset. The measure is what is left.
+-- `read` meets its contract. The loop's invariant: the records are read up to the offset. The measure is what is left.
 -- Assumes nothing.
 use Prim.Native.Nat.{_-_}
 use native.Mathlib.Omega.{arith}
@@ -16,16 +16,19 @@ use Rattle.read_fields.proofs.read.Statement.{statement}
 use Rattle.read_fields.proofs.read.Tie as tie
 
 abbrev Inv-loop : tie.InvT-loop
-Inv-loop s tables₀ c₀ tables c = Reached s (c₀ .at) (c .at) (c .above) tables
+Inv-loop s tables₀ bodies₀ c₀ tables bodies c = Reached s (c₀ .at) (c .at) (c .above) tables bodies
 
 abbrev μ-loop : tie.MeasureT-loop
-μ-loop s tables₀ c₀ tables c = length s - c .at
+μ-loop s tables₀ bodies₀ c₀ tables bodies c = length s - c .at
 
 all-open-requires : tie.Need-all-open-requires Inv-loop μ-loop
 all-open-requires c κs = search needs
 
+no-bodies-requires : tie.Need-no-bodies-requires Inv-loop μ-loop
+no-bodies-requires c κs = search needs
+
 loop-holds : tie.Need-loop-holds Inv-loop μ-loop
-loop-holds c = reached-start _ _ _ (c .all-open .ensures)
+loop-holds c = reached-start _ _ _ (c .before .all-open .ensures) _ (c .no-bodies .ensures)
 
 next-is-pattern-requires : tie.Need-next-is-pattern-requires Inv-loop μ-loop
 next-is-pattern-requires c κs = search needs
@@ -33,23 +36,23 @@ next-is-pattern-requires c κs = search needs
 -- a pattern's record comes next
 marked-here : (c : tie.Then1 Inv-loop μ-loop) →
     let l = c .before .before in
-    next-is PA (now (l .before .before .before .args .s)) (l .loop .c .at) ≡ true
+    next-is PA (now (l .before .before .before .before .args .s)) (l .loop .c .at) ≡ true
 marked-here c = sym (c .before .next-is-pattern .ensures) ∙ c .if1 .taken
 
 -- what the checks on the record found, at what it is known to be
 found-so : (c : tie.After-pattern Inv-loop μ-loop) (f : Found) → c .pattern .result .found ≡ f →
     let l = c .before .before .before in
-    Pattern-read (now (l .before .before .before .args .s)) (l .loop .c .at) (l .loop .c .above) f (c .pattern .result)
+    Pattern-read (now (l .before .before .before .before .args .s)) (l .loop .c .at) (l .loop .c .above) f (c .pattern .result)
 found-so c f e =
     let l = c .before .before .before in
-    subst (λ (g : Found). Pattern-read (now (l .before .before .before .args .s)) (l .loop .c .at) (l .loop .c .above) g (c .pattern .result)) e
+    subst (λ (g : Found). Pattern-read (now (l .before .before .before .before .args .s)) (l .loop .c .at) (l .loop .c .above) g (c .pattern .result)) e
     (c .pattern .ensures)
 
 -- the record that is kept
 kept : (c : tie.After-enum-told Inv-loop μ-loop) →
     let p = c .before .before .before in
     let l = p .before .before .before in
-    Pattern-stands (now (l .before .before .before .args .s)) (l .loop .c .at) (l .loop .c .above) (p .pattern .result)
+    Pattern-stands (now (l .before .before .before .before .args .s)) (l .loop .c .at) (l .loop .c .above) (p .pattern .result)
 kept c = found-so (c .before .before .before) _ (c .enum-told .given .1)
 
 pattern-requires : tie.Need-pattern-requires Inv-loop μ-loop
@@ -65,7 +68,7 @@ returns : tie.Need-returns Inv-loop μ-loop
 returns c =
     let p = c .before .before .before .before .before in
     c .refuse .ensures
-    ∙ sym (ap fields-of (reached-fault (p .before .before .before .loop .inv) (fault-of (c .before .before .found .given .0 .0)) _ (marked-here (p .before))
+    ∙ sym (ap (fields-of _) (reached-fault (p .before .before .before .loop .inv) (fault-of (c .before .before .found .given .0 .0)) _ (marked-here (p .before))
     (found-so p _ (c .before .before .found .given .1))))
 
 enum-told : tie.Need-enum-told Inv-loop μ-loop
@@ -77,13 +80,20 @@ mul-tables c = omega (arith, kept (c .before) .known)
 array-set-from-tables : tie.Need-array-set-from-tables Inv-loop μ-loop
 array-set-from-tables c = kept (c .before) .known
 
+mul-bodies : tie.Need-mul-bodies Inv-loop μ-loop
+mul-bodies c = omega (arith, kept (c .before .before) .known)
+
+array-set-from-bodies : tie.Need-array-set-from-bodies Inv-loop μ-loop
+array-set-from-bodies c = kept (c .before .before) .known
+
 loop-less : tie.Need-loop-less Inv-loop μ-loop
-loop-less c = omega (arith, kept (c .before) .moves, kept (c .before) .goes-on)
+loop-less c = let k = kept (c .before .before) in omega (arith, k .moves, k .goes-on)
 
 loop-again : tie.Need-loop-again Inv-loop μ-loop
 loop-again c =
-    let p = c .before .before .before .before in
-    reached-next (p .before .before .before .loop .inv) (p .pattern .result) (marked-here (p .before)) (kept (c .before))
+    let told = c .before .before in
+    let p = told .before .before .before in
+    reached-next (p .before .before .before .loop .inv) (p .pattern .result) (marked-here (p .before)) (kept told)
 
 returns-2 : tie.Need-returns-2 Inv-loop μ-loop
 returns-2 c = reached-end (c .before .before .loop .inv) (sym (c .before .next-is-pattern .ensures) ∙ c .if1 .left)
@@ -95,6 +105,7 @@ read-spec =
     Inv-loop
     μ-loop
     all-open-requires
+    no-bodies-requires
     loop-holds
     next-is-pattern-requires
     pattern-requires
@@ -104,6 +115,8 @@ read-spec =
     enum-told
     mul-tables
     array-set-from-tables
+    mul-bodies
+    array-set-from-bodies
     loop-less
     loop-again
     returns-2)

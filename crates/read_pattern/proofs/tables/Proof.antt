@@ -10,7 +10,7 @@ use Rattle.paper.specs.Written.{read-part}
 use Rattle.paper.proofs.base.Tests.{not-is-true, not-is-false}
 use Rattle.read_pattern.specs.ReadPart.{Working, working, Read-as}
 use Rattle.read_pattern.specs.Worked.{worked-of}
-use Rattle.read_pattern.proofs.Judged.{unworked, judge-bad, judge-left, left-within, surplus-inside, judge-many, judge-good}
+use Rattle.read_pattern.proofs.PatternJudged.{unworked, judge-bad, judge-left, left-within, surplus-inside, judge-many, judge-good}
 use Rattle.read_pattern.proofs.tables.Statement.{statement}
 use Rattle.read_pattern.proofs.tables.Tie as tie
 

@@ -9,7 +9,7 @@ use lib.ListN.{length, drop, drop-of-length-le}
 use lib.Seq.{drop-cons}
 use Rattle.paper.specs.Lists.{any}
 use Rattle.paper.specs.Numbers.{longest-side}
-use Rattle.read_rule.specs.Read.{foreign-code}
+use Rattle.read_rule.specs.RuleRead.{foreign-code}
 use Rattle.read_rule.proofs.any_foreign.Statement.{statement}
 use Rattle.read_rule.proofs.any_foreign.Tie as tie
 

@@ -1,15 +1,16 @@
--- `rules::front` meets its contract, from what its parts are (`Parts`). Assumes nothing.
+-- `front` meets its contract, from what its parts are (`Parts`). Assumes nothing.
 use mathlib.Core.Path.{_≡_, sym, ap, _∙_}
 use mathlib.Core.Bool.{true}
 use denote.Ref.{now}
 use borrow.Author.Needs.{needs}
 use borrow.Author.Tests.{not-true, not-false}
 use Rattle.paper.specs.Sheet.{LE, RU, next-is, marked-side}
-use Rattle.read_side.proofs.Told.{SideTold, side-stands}
-use Rattle.read_side.proofs.Told as Told
-use Rattle.read_fields.proofs.Told.{Stand, fields-fault, fields-stand}
-use Rattle.read_rule.specs.Read.{rule-of}
-use Rattle.read_rule.proofs.Parts.{patterns-of, short, unmarked, patterns-fault, side-fault, whole}
+use Rattle.read_side.proofs.SideStruct.{SideTold, side-stands}
+use Rattle.read_side.proofs.SideStruct as Told
+use Rattle.read_fields.specs.Bodies.{bodies-in}
+use Rattle.read_fields.proofs.FieldsStruct.{Stand, fields-fault, fields-stand}
+use Rattle.read_rule.specs.RuleRead.{rule-of}
+use Rattle.read_rule.proofs.RuleParts.{patterns-of, short, unmarked, patterns-fault, side-fault, whole}
 use Rattle.read_rule.proofs.front.Statement.{statement}
 use Rattle.read_rule.proofs.front.Tie as tie
 
@@ -22,8 +23,9 @@ marked-here c = sym (c .before .next-is .ensures) ∙ not-false (c .before .next
 
 -- what was read, where no fault was found
 patterns : (c : tie.After-enum-told) →
-    let a = c .before .before .before in Stand (patterns-of (now (a .before .before .before .before .before .args .s))) (a .read .result)
-patterns c = let a = c .before .before .before in fields-stand (a .read .result) _ (a .read .ensures) (c .enum-told .given .1)
+    let a = c .before .before .before in let s = now (a .before .before .before .before .before .args .s) in
+    Stand (bodies-in s 2) (patterns-of s) (a .read .result)
+patterns c = let a = c .before .before .before in fields-stand (a .read .result) _ _ (a .read .ensures) (c .enum-told .given .1)
 
 its-side : (c : tie.After-enum-told2) →
     let a = c .before .before .before in
@@ -61,7 +63,7 @@ returns-3 c =
     let m = p .before in
     c .refuse3 .ensures
     ∙ sym (ap rule-of (patterns-fault _ (m .before .before .if1 .left) (marked-here m) _ _
-    (fields-fault (p .read .result) _ _ (p .read .ensures) (c .before .before .patterns-found .given .1))))
+    (fields-fault (p .read .result) _ _ _ (p .read .ensures) (c .before .before .patterns-found .given .1))))
 
 enum-told : tie.Need-enum-told
 enum-told c = search needs

@@ -1,8 +1,8 @@
 -- `rules::read` meets its contract, from what the front is (`Told`). Assumes nothing.
 use mathlib.Core.Path.{sym, ap, _∙_}
 use borrow.Author.Needs.{needs}
-use Rattle.read_rule.specs.Read.{rule-of}
-use Rattle.read_rule.proofs.Told.{fault-alone, byte-left, rule-alone}
+use Rattle.read_rule.specs.RuleRead.{rule-of}
+use Rattle.read_rule.proofs.RuleStruct.{fault-alone, byte-left, rule-alone}
 use Rattle.read_rule.proofs.read.Statement.{statement}
 use Rattle.read_rule.proofs.read.Tie as tie
 

@@ -1,12 +1,12 @@
--- `sheets::read` meets its contract, from what its parts are (`Whole`). Assumes nothing.
-use mathlib.Core.Path.{sym, ap, _∙_}
+-- `read` meets its contract, from what its parts are (`Whole`). Assumes nothing.
 use denote.Ref.{now}
 use borrow.Author.Needs.{needs}
 use Rattle.paper.specs.Sheet.{LE, RI, marked-side}
-use Rattle.read_side.proofs.Told.{SideTold, side-fault, side-stands}
-use Rattle.read_fields.proofs.Told.{Stand, fields-fault, fields-stand}
-use Rattle.read_sheet.specs.Read.{sheet-of}
-use Rattle.read_sheet.proofs.Whole.{patterns-of, patterns-fault, left-fault, right-fault, byte-left, whole}
+use Rattle.read_side.proofs.SideStruct.{SideTold, side-fault, side-stands}
+use Rattle.read_fields.specs.Bodies.{bodies-in}
+use Rattle.read_fields.proofs.FieldsStruct.{Stand, fields-fault, fields-stand}
+use Rattle.read_sheet.specs.SheetRead.{bodies-of}
+use Rattle.read_sheet.proofs.SheetWhole.{patterns-of, at-fault, patterns-fault, left-fault, right-fault, byte-left, whole}
 use Rattle.read_sheet.proofs.read.Statement.{statement}
 use Rattle.read_sheet.proofs.read.Tie as tie
 
@@ -21,8 +21,9 @@ refuse-requires c κs = search needs
 
 -- what was read, where no fault was found
 patterns : (c : tie.After-enum-told) →
-    let a = c .before .before .before in Stand (patterns-of (now (a .before .before .args .s))) (a .read .result)
-patterns c = let a = c .before .before .before in fields-stand (a .read .result) _ (a .read .ensures) (c .enum-told .given .1)
+    let a = c .before .before .before in let s = now (a .before .before .args .s) in
+    Stand (bodies-in s 0) (patterns-of s) (a .read .result)
+patterns c = let a = c .before .before .before in fields-stand (a .read .result) _ _ (a .read .ensures) (c .enum-told .given .1)
 
 left-side : (c : tie.After-enum-told2) →
     let a = c .before .before .before in
@@ -40,8 +41,8 @@ right-side c = let a = c .before .before .before in side-stands (a .side2 .resul
 returns : tie.Need-returns
 returns c =
     let p = c .before .before .before .before .before in
-    c .refuse .ensures
-    ∙ sym (ap sheet-of (patterns-fault _ _ _ (fields-fault (p .read .result) _ _ (p .read .ensures) (c .before .before .patterns-found .given .1))))
+    at-fault _ (c .refuse .ensures)
+    (patterns-fault _ _ _ (fields-fault (p .read .result) _ _ _ (p .read .ensures) (c .before .before .patterns-found .given .1)))
 
 enum-told : tie.Need-enum-told
 enum-told c = search needs
@@ -59,8 +60,8 @@ returns-2 : tie.Need-returns-2
 returns-2 c =
     let l = c .before .before .before .before .before in
     let p = patterns (l .before) in
-    c .refuse2 .ensures
-    ∙ sym (ap sheet-of (left-fault _ (p .fields) _ (p .reads) _ _ (side-fault (l .side .result) _ _ (l .side .ensures) (c .before .before .left-found .given .1))))
+    at-fault _ (c .refuse2 .ensures)
+    (left-fault _ (p .fields) _ (p .reads) _ _ (side-fault (l .side .result) _ _ (l .side .ensures) (c .before .before .left-found .given .1)))
 
 enum-told-2 : tie.Need-enum-told-2
 enum-told-2 c = search needs
@@ -79,8 +80,8 @@ returns-3 c =
     let r = c .before .before .before .before .before in
     let l = left-side (r .before) in
     let p = patterns (r .before .before .before .before .before) in
-    c .refuse3 .ensures
-    ∙ sym (ap sheet-of (right-fault _ (p .fields) _ (p .reads) (l .side) _ (l .reads) _ _ (side-fault (r .side2 .result) _ _ (r .side2 .ensures) (c .before .before .right-found .given .1))))
+    at-fault _ (c .refuse3 .ensures)
+    (right-fault _ (p .fields) _ (p .reads) (l .side) _ (l .reads) _ _ (side-fault (r .side2 .result) _ _ (r .side2 .ensures) (c .before .before .right-found .given .1)))
 
 enum-told-3 : tie.Need-enum-told-3
 enum-told-3 c = search needs
@@ -94,17 +95,18 @@ returns-4 c =
     let r = right-side e in
     let l = left-side (e .before .before .before .before) in
     let p = patterns (e .before .before .before .before .before .before .before .before) in
-    c .refuse4 .ensures
-    ∙ sym (ap sheet-of (byte-left _ (p .fields) _ (p .reads) (l .side) _ (l .reads) (r .side) _ (r .reads) (c .before .if1 .taken)))
+    at-fault _ (c .refuse4 .ensures)
+    (byte-left _ (p .fields) _ (p .reads) (l .side) _ (l .reads) (r .side) _ (r .reads) (c .before .if1 .taken))
 
 returns-5 : tie.Need-returns-5
+unfolding bodies-of
 returns-5 c =
-    let f = c .before .before .before in
+    let f = c .before .before .before .before in
     let e = f .before .before in
     let r = right-side e in
     let l = left-side (e .before .before .before .before) in
     let p = patterns (e .before .before .before .before .before .before .before .before) in
-    whole _ (p .fields) _ (p .reads) (l .side) _ (l .reads) (r .side) _ (r .reads) (f .if1 .left) _ _ _ (l .codes) (r .codes) (p .tables)
+    whole _ (p .fields) _ (p .reads) (l .side) _ (l .reads) (r .side) _ (r .reads) (f .if1 .left) _ _ _ _ (l .codes) (r .codes) (p .tables) _ (p .bodies-are)
 
 pub read-spec : {M : Type 1} → statement M
 read-spec =

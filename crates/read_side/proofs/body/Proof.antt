@@ -12,7 +12,7 @@ use lib.ListN.{length, take, drop, length-drop}
 use lib.Seq.{length-take-le}
 use Rattle.paper.specs.Lists.{all, leading}
 use Rattle.paper.specs.Sheet.{read, fault, wrong-token, is-token, token, body, byte-at, side-record}
-use Rattle.read_side.proofs.Bytes.{codes-of-tokens, fewer-lead, all-lead}
+use Rattle.read_side.proofs.SideBytes.{codes-of-tokens, fewer-lead, all-lead}
 use Rattle.read_side.proofs.body.Statement.{statement}
 use Rattle.read_side.proofs.body.Tie as tie
 

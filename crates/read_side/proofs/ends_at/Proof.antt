@@ -2,7 +2,7 @@
 use mathlib.Core.Path.{sym}
 use denote.Ref.{now}
 use borrow.Author.Needs.{needs}
-use Rattle.read_side.proofs.Bytes.{none-left}
+use Rattle.read_side.proofs.SideBytes.{none-left}
 use Rattle.read_side.proofs.ends_at.Statement.{statement}
 use Rattle.read_side.proofs.ends_at.Tie as tie
 

@@ -2,7 +2,7 @@
 use native.Mathlib.Omega.{arith}
 use borrow.Author.Tests.{lt-ltb, le-ltb}
 use Rattle.paper.specs.Numbers.{characters}
-use Rattle.read_side.proofs.Bytes.{field-range}
+use Rattle.read_side.proofs.SideBytes.{field-range}
 use borrow.Author.Needs.{needs}
 use Rattle.read_side.proofs.inner_code.Statement.{statement}
 use Rattle.read_side.proofs.inner_code.Tie as tie

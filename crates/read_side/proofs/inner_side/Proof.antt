@@ -9,8 +9,8 @@ use borrow.Author.Needs.{needs}
 use lib.ListN.{length, take, replicate}
 use Rattle.paper.specs.Numbers.{longest-side}
 use Rattle.base_codes.specs.Inner.{no-token}
-use Rattle.read_side.specs.Read.{code-of}
-use Rattle.read_side.proofs.Bytes.{coded-more, coded-all, token-at}
+use Rattle.read_side.specs.SideRead.{code-of}
+use Rattle.read_side.proofs.SideBytes.{coded-more, coded-all, token-at}
 use Rattle.read_side.proofs.inner_side.Statement.{statement}
 use Rattle.read_side.proofs.inner_side.Tie as tie
 

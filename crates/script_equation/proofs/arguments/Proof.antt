@@ -10,7 +10,7 @@ use borrow.Author.Needs.{needs}
 use Rattle.base_put.specs.Counted.{Counted}
 use Rattle.base_put.proofs.Counting.{counted-none, counted-then}
 use Rattle.script_equation.specs.Arguments.{argument}
-use Rattle.script_equation.proofs.Listing.{Put-so-far, one-more-argument, all-put}
+use Rattle.script_equation.proofs.TokenListing.{Put-so-far, one-more-argument, all-put}
 use Rattle.script_equation.proofs.arguments.Statement.{statement}
 use Rattle.script_equation.proofs.arguments.Tie as tie
 

@@ -2,7 +2,7 @@
 use Prim.Native.Nat.{ℕ}
 use mathlib.Core.Path.{sym, ap, _∙_}
 use Rattle.base_answers.specs.declared.Numbers.{Numbers}
-use Rattle.script_sheet.specs.Told.{scripted-numbers}
+use Rattle.script_sheet.specs.WrittenOut.{scripted-numbers}
 use borrow.Author.Needs.{needs}
 use Rattle.script_sheet.proofs.in_numbers.Statement.{statement}
 use Rattle.script_sheet.proofs.in_numbers.Tie as tie

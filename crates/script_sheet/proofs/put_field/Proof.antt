@@ -9,7 +9,7 @@ use Rattle.script_sheet.proofs.put_field.Statement.{statement}
 use Rattle.script_sheet.proofs.put_field.Tie as tie
 
 returns : tie.Need-returns
-returns c = λ q e. rw (eq-eqb (c .before .before .before .args .set) 0 (c .if1 .taken)) counted-none
+returns c = λ q e b. rw (eq-eqb (c .before .before .before .args .count) 0 (c .if1 .taken)) counted-none
 
 field-lines-requires : tie.Need-field-lines-requires
 field-lines-requires c κs = search needs
@@ -18,12 +18,12 @@ same-length : tie.Need-same-length
 same-length c = search needs
 
 returns-2 : tie.Need-returns-2
-returns-2 c = λ q e.
+returns-2 c = λ q e b.
     let told = c .before .before in
     let test = told .before .before in
     let start = test .before .before .before in
     let lines = field-lines (start .args .f) (held-by (hidden q) (start .args .f)) in
-    rw (neq-eqb (start .args .set) 0 (test .if1 .left), append-nil lines) (told .field-lines .ensures q e)
+    rw (neq-eqb (start .args .count) 0 (test .if1 .left), append-nil lines) (told .field-lines .ensures q e b)
 
 pub put-field-spec : {M : Type 1} → statement M
 put-field-spec = tie.close (tie.spec returns field-lines-requires same-length returns-2)

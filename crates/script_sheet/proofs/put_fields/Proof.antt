@@ -1,7 +1,7 @@
--- `put_fields` meets its contract. The loop's invariant: the lines of the marked fields below f were put.
+-- `put_fields` meets its contract. The loop's invariant: the lines of the standing fields below f were put.
 use Prim.Native.Nat.{ℕ, _-_, _≤_}
 use native.Mathlib.Omega.{arith}
-use mathlib.Core.Path.{_≡_, refl, _∙_}
+use mathlib.Core.Path.{_≡_, refl, ap, _∙_}
 use mathlib.Core.Bool.{Bool}
 use mathlib.Core.List.{List}
 use lib.ListN.{length}
@@ -10,23 +10,29 @@ use Rattle.paper.specs.Lists.{upto, keep}
 use Rattle.paper.specs.Numbers.{set-fields}
 use Rattle.paper.specs.Question.{Question}
 use Rattle.paper.specs.Sheet.{asked, read-sheet}
+use Rattle.read_sheet.specs.SheetRead.{bodies-of}
+use Rattle.base_question.specs.declared.Body.{Body}
 use Rattle.base_put.specs.Counted.{Counted}
 use Rattle.base_put.proofs.Counting.{counted-none, counted-then}
-use Rattle.script_sheet.specs.Told.{lines-of, marked}
-use Rattle.script_sheet.proofs.Listing.{one-more-field}
+use Rattle.script_sheet.specs.WrittenOut.{fields-lines, is-counted, body-of}
+use Rattle.script_sheet.proofs.Holding.{body-within}
+use Rattle.script_sheet.proofs.FieldListing.{one-more-field}
 use Rattle.script_sheet.proofs.put_fields.Statement.{statement}
 use Rattle.script_sheet.proofs.put_fields.Tie as tie
 
 abbrev Inv-loop : tie.InvT-loop
-Inv-loop out₀ at sheet sets end₀ f₀ out end f =
+Inv-loop out₀ at sheet bodies counts end₀ f₀ out end f =
     (f ≤ set-fields) × (length out ≡ length out₀)
-    × ((q : Question) → read-sheet sheet ≡ asked q → Counted out₀ out at end (lines-of q (keep (marked sets) (upto f))))
+    × ((q : Question) → read-sheet sheet ≡ asked q → bodies ≡ bodies-of sheet → Counted out₀ out at end (fields-lines q (keep (is-counted counts) (upto f))))
 
 abbrev μ-loop : tie.MeasureT-loop
-μ-loop out₀ at sheet sets end₀ f₀ out end f = set-fields - f
+μ-loop out₀ at sheet bodies counts end₀ f₀ out end f = set-fields - f
 
 loop-holds : tie.Need-loop-holds Inv-loop μ-loop
-loop-holds c = (omega arith, refl, λ q e. counted-none)
+loop-holds c = (omega arith, refl, λ q e b. counted-none)
+
+body-of-requires : tie.Need-body-of-requires Inv-loop μ-loop
+body-of-requires c κs = search needs
 
 mul-put-field : tie.Need-mul-put-field Inv-loop μ-loop
 mul-put-field c = search needs
@@ -35,7 +41,11 @@ array-read-put-field : tie.Need-array-read-put-field Inv-loop μ-loop
 array-read-put-field c = search needs
 
 put-field-requires : tie.Need-put-field-requires Inv-loop μ-loop
-put-field-requires c κs = search needs
+put-field-requires c κs =
+    let body = c .before in
+    let loop = body .before .before in
+    let start = loop .before .before .before in
+    (omega arith, body-within (start .args .sheet .now) (start .args .bodies) (start .pre) (loop .loop .f) (body .body-of .result) (body .body-of .ensures))
 
 add-f : tie.Need-add-f Inv-loop μ-loop
 add-f c = search needs
@@ -46,21 +56,25 @@ loop-less c = search needs
 loop-again : tie.Need-loop-again Inv-loop μ-loop
 loop-again c =
     let told = c .before .before in
-    let loop = told .before .before .before in
-    let sets = loop .before .before .before .args .t4 in (
+    let body = told .before .before in
+    let loop = body .before .before in
+    let f = loop .loop .f in
+    let counts = loop .before .before .before .args .t5 in (
       omega arith,
       told .put-field .kept .0 ∙ loop .loop .inv .1,
-      λ q e. rw (one-more-field q (marked sets) (loop .loop .f)) (counted-then (loop .loop .inv .2 q e) (told .put-field .ensures q e)),
+      λ q e b.
+          rw (one-more-field q (is-counted counts) f)
+          (counted-then (loop .loop .inv .2 q e b) (told .put-field .ensures q e (body .body-of .ensures ∙ ap (λ (x : List Body). body-of x f) b))),
     )
 
 same-length : tie.Need-same-length Inv-loop μ-loop
 same-length c = search needs
 
 returns : tie.Need-returns Inv-loop μ-loop
-returns c = λ q e.
+returns c = λ q e b.
     let loop = c .before in
     let all : loop .loop .f ≡ set-fields = omega arith in
-    rw all at (loop .loop .inv .2 q e)
+    rw all at (loop .loop .inv .2 q e b)
 
 pub put-fields-spec : {M : Type 1} → statement M
 put-fields-spec =
@@ -69,6 +83,7 @@ put-fields-spec =
     Inv-loop
     μ-loop
     loop-holds
+    body-of-requires
     mul-put-field
     array-read-put-field
     put-field-requires

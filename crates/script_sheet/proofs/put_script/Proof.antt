@@ -2,9 +2,8 @@
 use mathlib.Core.Path.{ap}
 use Rattle.paper_script.specs.Script.{script}
 use Rattle.base_put.proofs.Counting.{counted-then}
-use Rattle.base_codes.specs.declared.Situation.{Situation}
-use Rattle.search_trim.specs.Trimming.{question-coded}
-use Rattle.script_sheet.proofs.Whole.{all-marked, equation-put}
+use Rattle.base_question.specs.declared.Question.{Question}
+use Rattle.script_sheet.proofs.ScriptWhole.{all-counted, equation-put}
 use borrow.Author.Needs.{needs}
 use Rattle.script_sheet.proofs.put_script.Statement.{statement}
 use Rattle.script_sheet.proofs.put_script.Tie as tie
@@ -15,8 +14,8 @@ side-requires c κs = search needs
 side-requires-2 : tie.Need-side-requires-2
 side-requires-2 c κs = search needs
 
-question-requires : tie.Need-question-requires
-question-requires c κs = search needs
+standings-requires : tie.Need-standings-requires
+standings-requires c κs = search needs
 
 put-heading-requires : tie.Need-put-heading-requires
 put-heading-requires c κs = search needs
@@ -31,20 +30,22 @@ same-length : tie.Need-same-length
 same-length c = search needs
 
 returns : tie.Need-returns
-unfolding script question-coded
-returns c = λ q e l r.
+unfolding script
+returns c = λ q e i.
     let last = c .before .before in
     let fields = last .before .before .before .before in
     let first = fields .before .before .before .before in
-    let question = first .before .before .before in
-    let right = question .before in
+    let counts = first .before .before in
+    let right = counts .before in
     let left = right .before in
-    let a = left .before .before .before .args in
-    let marks = all-marked (a .sheet .now) q e (a .left) (a .right) l r (left .side .result) (right .side2 .result) (question .question .result .sets)
-    (left .side .ensures) (right .side2 .ensures) (ap (λ (s : Situation). s .sets) (question .question .ensures)) in
+    let a = left .before .before .before .before .before .before .args in
+    let l = ap (λ (x : Question). x .left) i in
+    let r = ap (λ (x : Question). x .right) i in
+    let stand = all-counted (a .sheet .now) q e (a .question .left) (a .question .right) l r (left .side .result) (right .side2 .result) (counts .standings .result)
+    (left .side .ensures) (right .side2 .ensures) (counts .standings .ensures) in
     counted-then
-    (counted-then (first .put-heading .ensures) (rw marks at (fields .put-fields .ensures q e)))
-    (rw (equation-put (a .sheet .now) q e (a .left) (a .right) l r) at (last .equation .ensures))
+    (counted-then (first .put-heading .ensures) (rw stand at (fields .put-fields .ensures q e (ap (λ (x : Question). x .bodies) i))))
+    (rw (equation-put (a .sheet .now) q e (a .question .left) (a .question .right) l r) at (last .equation .ensures))
 
 pub put-script-spec : {M : Type 1} → statement M
 put-script-spec =
@@ -52,7 +53,7 @@ put-script-spec =
     (tie.spec
     side-requires
     side-requires-2
-    question-requires
+    standings-requires
     put-heading-requires
     put-fields-requires
     equation-requires

@@ -1,8 +1,11 @@
 -- `script` meets its contract, by what reading the sheet tells and by how long its script is (`Answered`).
-use mathlib.Core.Path.{ap}
-use Rattle.read_sheet.specs.declared.Sheet.{Sheet}
-use Rattle.read_sheet.proofs.Told.{sheet-asks}
-use Rattle.script_sheet.proofs.Answered.{and-promised, sheet-at-fault, no-room, with-room}
+use mathlib.Core.Path.{sym, ap, subst}
+use denote.Ref.{now}
+use Rattle.base_question.specs.declared.Question.{Question}
+use Rattle.read_sheet.proofs.SheetStruct.{Asking, sheet-asks}
+use Rattle.read_sheet.proofs.SheetPatterns.{sheet-within}
+use Rattle.script_sheet.specs.WrittenOut.{Bodies-within}
+use Rattle.script_sheet.proofs.ScriptAnswered.{and-promised, sheet-at-fault, no-room, with-room}
 use borrow.Author.Needs.{needs}
 use Rattle.script_sheet.proofs.script.Statement.{statement}
 use Rattle.script_sheet.proofs.script.Tie as tie
@@ -30,8 +33,21 @@ part-put-script-start c = search needs
 part-put-script-end : tie.Need-part-put-script-end
 part-put-script-end c = search needs
 
+-- what the sheet asks
+abbrev read-at : tie.After-question → tie.After-read
+read-at c = c .before .before .before
+
+asking : (c : tie.After-question) → let r = read-at c in Asking (now (r .before .before .before .args .sheet)) (r .read .result)
+asking c = let r = read-at c in sheet-asks _ _ (r .read .ensures) (c .before .enum-told .given .1)
+
+within : (c : tie.After-question) → let r = read-at c in Bodies-within (now (r .before .before .before .args .sheet)) (r .read .result .question .bodies)
+within c =
+    let a = asking c in
+    let sheet = now (read-at c .before .before .before .args .sheet) in
+    subst (Bodies-within sheet) (sym (ap (λ (x : Question). x .bodies) (a .is))) (sheet-within sheet (a .question) (a .good))
+
 put-script-requires : tie.Need-put-script-requires
-put-script-requires c κs = search needs
+put-script-requires c κs = within (c .before)
 
 same-length : tie.Need-same-length
 same-length c = search needs
@@ -39,13 +55,11 @@ same-length c = search needs
 returns-2 : tie.Need-returns-2
 returns-2 c =
     let counted = c .before .before .before in
-    let r = counted .before .before .before .before .before .before in
-    let a = sheet-asks _ _ (r .read .ensures) (counted .before .before .before .before .enum-told .given .1) in
-    let put = counted .put-script .ensures (a .question) (a .good) (ap (λ (s : Sheet). s .left) (a .is)) (ap (λ (s : Sheet). s .right) (a .is)) in
-    and-promised _ _ _ (no-room _ _ (a .question) (a .good) put (c .if1 .taken))
+    let a = asking (counted .before .before) in
+    and-promised _ _ _ (no-room _ _ (a .question) (a .good) (counted .put-script .ensures (a .question) (a .good) (a .is)) (c .if1 .taken))
 
 put-script-requires-2 : tie.Need-put-script-requires-2
-put-script-requires-2 c κs = search needs
+put-script-requires-2 c κs = within (c .before .before .before .before .before .before)
 
 same-length-2 : tie.Need-same-length-2
 same-length-2 c = search needs
@@ -55,13 +69,10 @@ returns-3 c =
     let last = c .before .before in
     let test = last .before .before in
     let counted = test .before .before .before in
-    let r = counted .before .before .before .before .before .before in
-    let a = sheet-asks _ _ (r .read .ensures) (counted .before .before .before .before .enum-told .given .1) in
-    let left = ap (λ (s : Sheet). s .left) (a .is) in
-    let right = ap (λ (s : Sheet). s .right) (a .is) in
+    let a = asking (counted .before .before) in
     and-promised _ _ _
-    (with-room _ _ (a .question) (a .good) (counted .put-script .ensures (a .question) (a .good) left right) (test .if1 .left)
-    (last .put-script2 .ensures (a .question) (a .good) left right))
+    (with-room _ _ (a .question) (a .good) (counted .put-script .ensures (a .question) (a .good) (a .is)) (test .if1 .left)
+    (last .put-script2 .ensures (a .question) (a .good) (a .is)))
 
 pub script-spec : {M : Type 1} → statement M
 script-spec =

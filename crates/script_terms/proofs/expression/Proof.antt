@@ -2,7 +2,7 @@
 use native.Mathlib.Omega.{arith}
 use lib.ListN.{length}
 use borrow.Author.Needs.{needs}
-use Rattle.script_terms.specs.Spelt.{spelt}
+use Rattle.script_terms.specs.Spelt.{term-spelt}
 use Rattle.script_terms.proofs.expression.Statement.{statement}
 use Rattle.script_terms.proofs.expression.Tie as tie
 
@@ -13,7 +13,7 @@ same-length : tie.Need-same-length
 same-length c = search needs
 
 returns : tie.Need-returns
-unfolding spelt
+unfolding term-spelt
 returns c =
     let told = c .before .before in
     let a = told .before .before .before .before .args in

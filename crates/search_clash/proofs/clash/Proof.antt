@@ -1,6 +1,7 @@
 -- `clash`, the library's entry, meets its contract: the whole outcome, and with it demands 1, 2 and 3. Follows from the laws of `Answering`.
-use Rattle.search_clash.proofs.Answering.{good-asks, refused-told, promised}
+use denote.Ref.{now}
 use borrow.Author.Needs.{needs}
+use Rattle.search_clash.proofs.Answering.{refused-told, searched-told, promised}
 use Rattle.search_clash.proofs.clash.Statement.{statement}
 use Rattle.search_clash.proofs.clash.Tie as tie
 
@@ -13,10 +14,11 @@ enum-known-found c = search needs
 enum-told : tie.Need-enum-told
 enum-told c = search needs
 
-searched-requires : tie.Need-searched-requires
-searched-requires c κs =
-    let r = c .before .before .before .before in
-    good-asks _ _ (r .read .ensures) (c .before .before .enum-told .given .1)
+every-requires : tie.Need-every-requires
+every-requires c κs = search needs
+
+search-requires : tie.Need-search-requires
+search-requires c κs = search needs
 
 returns : tie.Need-returns
 returns c =
@@ -30,7 +32,13 @@ same-length-2 : tie.Need-same-length-2
 same-length-2 c = search needs
 
 returns-2 : tie.Need-returns-2
-returns-2 c = promised _ _ _ _ (c .before .before .before .before .searched .ensures)
+returns-2 c =
+    let s = c .before .before .before .before in
+    let every = s .before .before .before in
+    let told = every .before .before in
+    let r = told .before .before in
+    let a = r .before .before .before .before .args in
+    promised _ _ _ _ (searched-told _ _ (r .read .ensures) (told .enum-told .given .1) _ (every .every .ensures) (now (a .work)) (now (a .answer)) _ _ _ (s .search .ensures))
 
 pub clash-spec : {M : Type 1} → statement M
 clash-spec =
@@ -39,7 +47,8 @@ clash-spec =
     read-requires
     enum-known-found
     enum-told
-    searched-requires
+    every-requires
+    search-requires
     returns
     same-length
     same-length-2

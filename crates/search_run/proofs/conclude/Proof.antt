@@ -1,7 +1,6 @@
--- `conclude` meets its contract: each arm names the answer for the search's end. Follows from the laws of `Concluding`.
+-- `conclude` meets its contract: each arm names how it ends for the search's end. Follows from the laws of `Concluding`.
 use borrow.Author.Needs.{needs}
-use mathlib.Core.Path.{refl, ap}
-use Rattle.base_answers.specs.declared.Ended.the-variants.{NoClash, NoRoom, SideTooLong}
+use mathlib.Core.Path.{refl}
 use Rattle.search_run.specs.declared.search.Status.the-variants as Status
 use Rattle.search_run.proofs.Concluding.{some-entered, way-there, concluded-by, found-concluded}
 use Rattle.search_run.proofs.conclude.Statement.{statement}
@@ -37,16 +36,16 @@ returns c o =
     found-concluded o e (c .before .before .found .ensures (way-there o e))
 
 returns-2 : tie.Need-returns-2
-returns-2 c o = concluded-by o Status.UsedUp (c .enum-told2 .given .1) (ap NoClash (o .lent .entered)) refl
+returns-2 c o = concluded-by o Status.UsedUp (c .enum-told2 .given .1) refl refl
 
 returns-3 : tie.Need-returns-3
-returns-3 c o = concluded-by o Status.NoRoom (c .enum-told3 .given .1) (ap NoRoom (o .lent .entered)) refl
+returns-3 c o = concluded-by o Status.NoRoom (c .enum-told3 .given .1) refl refl
 
 returns-4 : tie.Need-returns-4
-returns-4 c o = concluded-by o Status.TooLong (c .enum-told4 .given .1) (ap SideTooLong (o .lent .entered)) refl
+returns-4 c o = concluded-by o Status.TooLong (c .enum-told4 .given .1) refl refl
 
 returns-5 : tie.Need-returns-5
-returns-5 c o = concluded-by o Status.Going (c .enum-told5 .given .1) (ap NoRoom (o .lent .entered)) refl
+returns-5 c o = concluded-by o Status.Going (c .enum-told5 .given .1) refl refl
 
 pub conclude-spec : {M : Type 1} → statement M
 conclude-spec =

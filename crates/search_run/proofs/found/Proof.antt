@@ -1,8 +1,9 @@
--- `found` meets its contract: each arm names the answer for what became of the records. Follows from what `answer_clash` promises.
+-- `found` meets its contract: each arm names the end for what became of the records. Follows from what `answer_clash` promises.
 use borrow.Author.Needs.{needs}
 use mathlib.Core.Path.{sym, ap}
-use Rattle.search_run.specs.Ended.{clash-end}
+use Rattle.search_run.specs.Ended.{clash-how}
 use Rattle.search_run.proofs.Concluding.{told-by}
+use Rattle.search_run.proofs.WaySpelt.{slot-there, answered-alike}
 use Rattle.search_run.proofs.found.Statement.{statement}
 use Rattle.search_run.proofs.found.Tie as tie
 
@@ -26,21 +27,21 @@ same-length c = search needs
 
 returns : tie.Need-returns
 returns c w =
-    told-by (w .slots) _ (c .before .before .before .before .answer-clash .ensures w) (ap (clash-end _) (sym (c .enum-told .given .1)))
+    told-by (w .slots) _ (answered-alike w (c .before .before .before .before .answer-clash .ensures (slot-there w))) (ap clash-how (sym (c .enum-told .given .1)))
 
 same-length-2 : tie.Need-same-length-2
 same-length-2 c = search needs
 
 returns-2 : tie.Need-returns-2
 returns-2 c w =
-    told-by (w .slots) _ (c .before .before .before .before .answer-clash .ensures w) (ap (clash-end _) (sym (c .enum-told2 .given .1)))
+    told-by (w .slots) _ (answered-alike w (c .before .before .before .before .answer-clash .ensures (slot-there w))) (ap clash-how (sym (c .enum-told2 .given .1)))
 
 same-length-3 : tie.Need-same-length-3
 same-length-3 c = search needs
 
 returns-3 : tie.Need-returns-3
 returns-3 c w =
-    told-by (w .slots) _ (c .before .before .before .before .before .answer-clash .ensures w) (ap (clash-end _) (sym (c .before .given .given .1)))
+    told-by (w .slots) _ (answered-alike w (c .before .before .before .before .before .answer-clash .ensures (slot-there w))) (ap clash-how (sym (c .before .given .given .1)))
 
 pub found-spec : {M : Type 1} → statement M
 found-spec =

@@ -7,7 +7,7 @@ use Rattle.paper.specs.Numbers.{longest-side}
 use Rattle.base_codes.specs.Inner.{tokens}
 use Rattle.base_codes.specs.Coded.{Coded, Short}
 use Rattle.search_trim.specs.Trimming.{question-coded}
-use Rattle.search_run.specs.Ended.{Over}
+use Rattle.search_run.specs.Ended.{Search-over}
 use Rattle.search_run.specs.Lent.{tables}
 use Rattle.search_run.proofs.Ending.{first-short, over, ended}
 use Rattle.search_run.proofs.run.Statement.{statement}
@@ -33,7 +33,7 @@ short c =
     first-short (c .args .left) (c .args .right) l r
 
 -- the search in the lent buffer is over
-abbrev is-over : (c : tie.After-search) → Over (c .search .last .0) (c .search .result)
+abbrev is-over : (c : tie.After-search) → Search-over (c .search .last .0) (c .search .result)
 is-over c =
     let p = c .before .before .before .before .before .before .before .before in
     over (tables (p .args .t3) (p .args .t4) (p .args .last)) (c .before .before .before .before .room-for .result) (first p)
@@ -57,7 +57,7 @@ returns c =
     let s = f .before .before .before .before .before .before in
     let p = s .before .before .before .before .before .before .before .before in
     let q = s .before .before .before .before .before .question in
-    let e = ended (tables (p .args .t3) (p .args .t4) (p .args .last)) (s .before .before .before .before .room-for .result) (first p) (q .result) (q .ensures) (f .conclude .ensures (is-over s)) in
+    let e = ended (tables (p .args .t3) (p .args .t4) (p .args .last)) (s .before .before .before .before .room-for .result) (first p) (q .result) _ (q .ensures) (f .conclude .ensures (is-over s)) (is-over s .lent .entered) in
     let n = s .before .before .before .before .room-for .ensures in (
       rw n at (e .0),
       (rw n at (e .1), c .before .before .clear .ensures ∙ ap (λ n. replicate n 0) (s .search .kept .0)),

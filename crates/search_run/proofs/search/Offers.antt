@@ -14,13 +14,13 @@ use Rattle.base_codes.specs.Coded.{Coded, same-coded}
 use Rattle.search_children.specs.Children.{Settled, dropped, above, made, as-child}
 use Rattle.search_run.specs.Lent.{Lent}
 use Rattle.search_run.specs.Run.{is-going, Running, enter-slot, offer-going, offer-slot, offer-slots}
-use Rattle.search_run.specs.Buckets.{Entered-at}
-use Rattle.search_run.specs.Slots.{Slot, no-slot}
+use Rattle.search_buckets.specs.Buckets.{Entered-at}
+use Rattle.search_slots.specs.Slots.{Slot, no-slot}
 use Rattle.search_run.specs.declared.search.Run.{Run}
 use Rattle.search_run.specs.declared.search.Status.{Status}
 use Rattle.search_run.specs.declared.search.Status.the-variants.{Going, Found, UsedUp, NoRoom, TooLong}
-use Rattle.search_run.specs.declared.buckets.Seen.the-variants.{At, Nowhere}
-use Rattle.search_run.proofs.slots.Rows.{each-snoc}
+use Rattle.search_buckets.specs.declared.Seen.the-variants.{At, Nowhere}
+use Rattle.search_slots.proofs.Rows.{each-snoc}
 
 module _ (room p : ℕ) where
   pub offers-append : (R : Running) (xs ys : List (Child Coded ℕ))

@@ -17,7 +17,7 @@ use Rattle.search_fronts.specs.declared.Front.{Front}
 use Rattle.search_children.specs.Children.{put-of, as-child}
 use Rattle.search_children.proofs.Short.{put-not-taken}
 use Rattle.search_run.specs.Lent.{Not-put, Starts-puts, Ends-puts}
-use Rattle.search_run.proofs.slots.Rows.{each-snoc}
+use Rattle.search_slots.proofs.Rows.{each-snoc}
 
 -- "a character in front must be c"
 other-character : (a c m : ℕ) → a < characters → (a ≡ c → ⊥) → takes-next a m c ≡ false

@@ -8,7 +8,7 @@ use lib.ListN.{length, drop, getD}
 use Rattle.paper.proofs.base.Tests.{eq-eqb, neq-eqb, lt-ltb, le-ltb, left-false, right-false}
 use Rattle.base_codes.specs.Inner.{field-code, is-char}
 use Rattle.search_trim.specs.Trimming.{alike-in-front}
-use Rattle.search_trim.proofs.Turns.{alike-more, alike-left-ends, alike-right-ends, alike-stops}
+use Rattle.search_trim.proofs.TrimTurns.{alike-more, alike-left-ends, alike-right-ends, alike-stops}
 use Rattle.search_trim.proofs.alike_in_front.Statement.{statement}
 use Rattle.search_trim.proofs.alike_in_front.Tie as tie
 

@@ -9,7 +9,7 @@ use borrow.Author.Needs.{needs}
 use Rattle.paper.specs.Numbers.{longest-side}
 use Rattle.base_codes.specs.InFront.{In-front}
 use Rattle.base_codes.proofs.InFront.{in-front-none, in-front-more, in-front-padded}
-use Rattle.search_trim.proofs.Turns.{copy-more}
+use Rattle.search_trim.proofs.TrimTurns.{copy-more}
 use Rattle.search_trim.proofs.padded_side.Statement.{statement}
 use Rattle.search_trim.proofs.padded_side.Tie as tie
 

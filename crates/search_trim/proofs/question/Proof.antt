@@ -4,7 +4,7 @@ use mathlib.Core.Path.{_≡_}
 use lib.ListN.{length}
 use borrow.Author.Needs.{needs}
 use Rattle.paper.specs.Numbers.{longest-side}
-use Rattle.search_trim.proofs.Turns.{part-length}
+use Rattle.search_trim.proofs.TrimTurns.{part-length}
 use Rattle.search_trim.proofs.question.Statement.{statement}
 use Rattle.search_trim.proofs.question.Tie as tie
 

@@ -7,7 +7,7 @@ use borrow.Author.Needs.{needs}
 use Rattle.paper.specs.Numbers.{longest-side}
 use Rattle.base_codes.specs.Inner.{padded}
 use Rattle.search_trim.specs.Trimming.{alike-in-front, trimmed-of}
-use Rattle.search_trim.proofs.Turns.{alike-within, rest-part}
+use Rattle.search_trim.proofs.TrimTurns.{alike-within, rest-part}
 use Rattle.search_trim.proofs.trim.Statement.{statement}
 use Rattle.search_trim.proofs.trim.Tie as tie
 

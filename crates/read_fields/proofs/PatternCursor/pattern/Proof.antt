@@ -1,10 +1,10 @@
--- `fields::PatternCursor::pattern` meets its contract: each way out is the case of the definition that the checks on the way leave.
+-- `PatternCursor::pattern` meets its contract: each way out is the case of the definition that the checks on the way leave.
 -- Assumes nothing.
 use Prim.Native.Nat.{ℕ, _+_, _-_, _<_}
 use native.Mathlib.Nat.{add-assoc}
 use native.Mathlib.Numerals.{add-one}
 use native.Mathlib.Omega.{arith}
-use mathlib.Core.Path.{_≡_, sym, _∙_}
+use mathlib.Core.Path.{_≡_, refl, sym, _∙_}
 use mathlib.Core.List.{List}
 use denote.Ref.{now}
 use borrow.Author.Needs.{needs}
@@ -155,8 +155,8 @@ field-known c =
     leb-false fields f
     (or-left-false (leb fields f) (ltb f (a .self .above)) (sym (c .before .wrong-field .ensures) ∙ c .if2 .left))
 
-add-t36 : tie.Need-add-t36
-add-t36 c = omega (arith, field-known (c .before .before .before .before .before .before .before .before .before))
+add-t37 : tie.Need-add-t37
+add-t37 c = omega (arith, field-known (c .before .before .before .before .before .before .before .before .before))
 
 -- the body, whose bytes are all there, and what it is judged
 abbrev its-body : tie.Else4 → List ℕ
@@ -247,6 +247,9 @@ returns-7 c =
       its = good .0;
       reads = reads-good at-body (good .0) (good .1 .0);
       works = good .1 .1;
+      stands = refl;
+      field = refl;
+      ends = simp (← add-assoc);
       known = field-known (at-body .before .before .before .before);
       rises = simp add-one;
       moves = omega arith;
@@ -290,7 +293,7 @@ pattern-spec =
     add-refuse-at-4
     refuse-at-requires-6
     enum-told-3
-    add-t36
+    add-t37
     returns-5
     returns-6
     returns-7)

@@ -3,7 +3,7 @@ use mathlib.Core.Path.{sym, _∙_}
 use denote.Ref.{now}
 use borrow.Author.Needs.{needs}
 use Rattle.paper.specs.Sheet.{next-is}
-use Rattle.read_side.proofs.Bytes.{two-left}
+use Rattle.read_side.proofs.SideBytes.{two-left}
 use Rattle.read_side.proofs.Cursor.next_is.Statement.{statement}
 use Rattle.read_side.proofs.Cursor.next_is.Tie as tie
 

@@ -4,7 +4,7 @@ use denote.Ref.{now}
 use borrow.Author.Needs.{needs}
 use borrow.Author.Tests.{not-true, not-false}
 use Rattle.paper.specs.Sheet.{marked-side}
-use Rattle.read_side.proofs.Bytes.{two-left}
+use Rattle.read_side.proofs.SideBytes.{two-left}
 use Rattle.read_side.proofs.Cursor.side.Statement.{statement}
 use Rattle.read_side.proofs.Cursor.side.Tie as tie
 

@@ -43,7 +43,7 @@ same-length c = search needs
 
 returns : tie.Need-returns
 unfolding field-lines
-returns c = λ q e.
+returns c = λ q e b.
     let last = c .before .before in
     let held = last .before .before .before .before .before in
     let named = held .before .before .before .before in
@@ -53,7 +53,7 @@ returns c = λ q e.
     counted-then
     (counted-then
     (counted-then (counted-then (counted-then (comment .put-all .ensures) (declared .digit-and .ensures)) (asserted .digit-and2 .ensures)) (named .digit-and3 .ensures))
-    (held .held .ensures q e))
+    (held .held .ensures q e b))
     (last .put-all2 .ensures)
 
 pub field-lines-spec : {M : Type 1} → statement M

@@ -1,4 +1,6 @@
 -- `held` meets its contract: the bytes that are spelt are those of what the field may hold (`Holding`).
+use native.Mathlib.Nat.{add-sub-cancel-left}
+use native.Mathlib.Omega.{arith}
 use Rattle.script_sheet.proofs.Holding.{spelt-spaces, spelt-open, spelt-body}
 use borrow.Author.Needs.{needs}
 use Rattle.script_sheet.proofs.memberships.held.Statement.{statement}
@@ -20,14 +22,11 @@ same-length : tie.Need-same-length
 same-length c = search needs
 
 returns : tie.Need-returns
-returns c = λ q e.
+returns c = λ q e b.
     let told = c .before .before in
     let test = told .before .before .before .before in
     let start = test .before .before .before in
-    rw (spelt-spaces q (start .args .f) (test .if1 .taken) (start .pre)) (told .expression .ensures)
-
-find-requires : tie.Need-find-requires
-find-requires c κs = search needs
+    rw (spelt-spaces q (start .args .sheet .now) e (start .args .f) (test .if1 .taken) (start .pre .0)) (told .expression .ensures)
 
 sub-expression-2 : tie.Need-sub-expression-2
 sub-expression-2 c = search needs
@@ -45,14 +44,16 @@ same-length-2 : tie.Need-same-length-2
 same-length-2 c = search needs
 
 returns-2 : tie.Need-returns-2
-returns-2 c = λ q e.
+returns-2 c = λ q e b.
     let told = c .before .before in
     let test = told .before .before .before .before in
-    let found = test .before in
-    let less = found .before in
+    let less = test .before in
     let start = less .before .before .before in
-    rw (spelt-open q (start .args .sheet .now) e (start .args .f) (less .if1 .left) (found .find .result) (found .find .ensures .0) (test .if2 .taken))
+    rw (spelt-open q (start .args .sheet .now) e (start .args .f) (less .if1 .left) (start .args .body) b (test .if2 .taken))
     (told .expression2 .ensures)
+
+add-expression : tie.Need-add-expression
+add-expression c = omega (arith, c .before .before .before .before .before .pre .1, c)
 
 sub-expression-3 : tie.Need-sub-expression-3
 sub-expression-3 c = search needs
@@ -70,14 +71,14 @@ same-length-3 : tie.Need-same-length-3
 same-length-3 c = search needs
 
 returns-3 : tie.Need-returns-3
-returns-3 c = λ q e.
+returns-3 c = λ q e b.
     let told = c .before .before in
     let test = told .before .before .before in
-    let found = test .before in
-    let less = found .before in
+    let less = test .before in
     let start = less .before .before .before in
-    rw (spelt-body q (start .args .sheet .now) e (start .args .f) (less .if1 .left) (found .find .result) (found .find .ensures .0) (test .if2 .left))
-    (told .expression3 .ensures)
+    let body = start .args .body in
+    rw (spelt-body q (start .args .sheet .now) e (start .args .f) (less .if1 .left) body b (test .if2 .left))
+    (rw (add-sub-cancel-left (body .start) (body .length)) at (told .expression3 .ensures))
 
 pub held-spec : {M : Type 1} → statement M
 held-spec =
@@ -89,13 +90,13 @@ held-spec =
     expression-requires
     same-length
     returns
-    find-requires
     sub-expression-2
     part-expression-start-2
     part-expression-end-2
     expression-requires-2
     same-length-2
     returns-2
+    add-expression
     sub-expression-3
     part-expression-start-3
     part-expression-end-3

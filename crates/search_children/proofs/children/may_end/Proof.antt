@@ -6,7 +6,7 @@ use lib.ListN.{length, List·getD-eq-default}
 use borrow.Author.Needs.{needs}
 use Rattle.paper.specs.Numbers.{set-fields}
 use Rattle.paper.proofs.base.Tests.{lt-leb, le-leb, lt-ltb, right-false}
-use Rattle.base_codes.specs.Inner.{field-code, no-token, field-of, is-field}
+use Rattle.base_codes.specs.Inner.{field-code, no-token, field-of, is-field-code}
 use Rattle.search_children.specs.Children.{may-end-at}
 use Rattle.search_children.proofs.children.may_end.Statement.{statement}
 use Rattle.search_children.proofs.children.may_end.Tie as tie
@@ -41,7 +41,7 @@ unfolding may-end-at
 returns-3 c =
     let a = c .before .before .before .args in
     let l : length (a .t1) ≡ set-fields = search needs in
-    rw (List·getD-eq-default (a .t1) 0 {n = field-of (a .b)} (omega arith)) (sym (right-false (is-field (a .b)) false refl))
+    rw (List·getD-eq-default (a .t1) 0 {n = field-of (a .b)} (omega arith)) (sym (right-false (is-field-code (a .b)) false refl))
 
 pub may-end-spec : {M : Type 1} → statement M
 may-end-spec =

@@ -6,7 +6,7 @@ use lib.Seq.{set-out}
 use borrow.Author.Needs.{needs}
 use Rattle.paper.specs.Numbers.{set-fields}
 use Rattle.base_codes.specs.Inner.{field-of}
-use Rattle.search_children.proofs.Sets.{with-set-none, with-set-field}
+use Rattle.search_children.proofs.ChildSets.{with-set-none, with-set-field}
 use Rattle.search_children.proofs.children.with_set.Statement.{statement}
 use Rattle.search_children.proofs.children.with_set.Tie as tie
 

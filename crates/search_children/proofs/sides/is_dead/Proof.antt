@@ -8,7 +8,7 @@ use borrow.Author.Needs.{needs}
 use Rattle.paper.proofs.base.Tests.{lt-ltb, le-ltb, eq-eqb, neq-eqb}
 use Rattle.base_codes.specs.Inner.{field-code, front, is-char}
 use Rattle.search_trim.specs.Trimming.{trimmed-sides}
-use Rattle.search_children.proofs.Judged.{left-front, right-front, left-length, right-length, none-true, none-false, dead-by-right, dead-by-left}
+use Rattle.search_children.proofs.ChildJudged.{left-front, right-front, left-length, right-length, none-true, none-false, dead-by-right, dead-by-left}
 use Rattle.search_children.proofs.sides.is_dead.Statement.{statement}
 use Rattle.search_children.proofs.sides.is_dead.Tie as tie
 

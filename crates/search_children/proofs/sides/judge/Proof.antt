@@ -9,7 +9,7 @@ use Rattle.paper.specs.Numbers.{longest-side}
 use Rattle.search_trim.specs.Trimming.{trimmed-sides}
 use Rattle.search_children.specs.Children.{dead-sides}
 use Rattle.search_children.specs.declared.Fate.the-variants.{Made}
-use Rattle.search_children.proofs.Judged.{left-length, right-length, all-made, judged-dead, judged-left-above, judged-right-above, judged-made}
+use Rattle.search_children.proofs.ChildJudged.{left-length, right-length, all-made, judged-dead, judged-left-above, judged-right-above, judged-made}
 use Rattle.search_children.proofs.sides.judge.Statement.{statement}
 use Rattle.search_children.proofs.sides.judge.Tie as tie
 

@@ -17,7 +17,7 @@ use Rattle.base_codes.specs.InFront.{In-front}
 use Rattle.search_children.specs.Laid.{Has}
 use Rattle.base_codes.proofs.InFront.{in-front-none, in-front-more, in-front-taken, in-front-left, in-front-part}
 use Rattle.base_codes.proofs.Tokens.{tokens-more, tokens-end, tokens-none}
-use Rattle.search_children.proofs.Turns.{put-more, all-passed}
+use Rattle.search_children.proofs.ChildTurns.{put-more, all-passed}
 use Rattle.search_children.proofs.sides.put_side.Statement.{statement}
 use Rattle.search_children.proofs.sides.put_side.Tie as tie
 

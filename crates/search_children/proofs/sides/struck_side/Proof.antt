@@ -15,7 +15,7 @@ use Rattle.search_children.specs.Children.{strike-codes}
 use Rattle.base_codes.specs.InFront.{In-front}
 use Rattle.search_children.specs.Laid.{Has}
 use Rattle.base_codes.proofs.InFront.{in-front-none, in-front-taken, in-front-left, in-front-part}
-use Rattle.search_children.proofs.Turns.{strike-more, all-passed}
+use Rattle.search_children.proofs.ChildTurns.{strike-more, all-passed}
 use Rattle.search_children.proofs.sides.struck_side.Statement.{statement}
 use Rattle.search_children.proofs.sides.struck_side.Tie as tie
 

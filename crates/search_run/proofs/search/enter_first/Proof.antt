@@ -1,4 +1,4 @@
--- `search::enter_first` meets its contract: no room, or the slot with the number 0. Follows from what `put_key`, `bucket_of` and
+-- `search::enter_first` meets its contract: no room, or the slot with the number 0. Follows from what `key_of`, `bucket_of` and
 -- `enter_with` ensure.
 use native.Mathlib.Omega.{arith}
 use mathlib.Core.Path.{sym, _∙_}
@@ -25,11 +25,8 @@ returns c =
           (record { kept = h; entered = c .no-room .ensures .0 ∙ sym l; status = c .no-room .ensures .1 });
     }
 
-slice-aggregate-put-key : tie.Need-slice-aggregate-put-key
-slice-aggregate-put-key c = search needs
-
-put-key-requires : tie.Need-put-key-requires
-put-key-requires c κs = search needs
+key-of-requires : tie.Need-key-of-requires
+key-of-requires c κs = search needs
 
 slice-aggregate-bucket-of : tie.Need-slice-aggregate-bucket-of
 slice-aggregate-bucket-of c = search needs
@@ -50,13 +47,15 @@ returns-2 : tie.Need-returns-2
 returns-2 c =
     let n = c .before .before in
     let u = n .before .before .before in
-    let p = u .before .before .before in
-    let work = p .before .before .before .before .args .work .now in
+    let p = u .before .before in
+    let start = p .before .before .before in
+    let work = start .args .work .now in
     record {
       within = n .enter-with .ensures .within;
       more = n .enter-with .ensures .more;
       lent = λ k ss e s h l.
-          n .enter-with .ensures .lent k ss e (key-put k e (p .put-key .ensures)) (bucket-put k e (p .put-key .ensures) work (u .bucket-of .ensures .1)) s h l;
+          n .enter-with .ensures .lent k ss (key-put k e (p .key-of .ensures))
+          (bucket-put k e (p .key-of .ensures) s work (omega (arith, start .pre)) (u .bucket-of .ensures)) s h l;
     }
 
 pub enter-first-spec : {M : Type 1} → statement M
@@ -65,8 +64,7 @@ enter-first-spec =
     (tie.spec
     no-room-requires
     returns
-    slice-aggregate-put-key
-    put-key-requires
+    key-of-requires
     slice-aggregate-bucket-of
     bucket-of-requires
     slice-aggregate-enter-with

@@ -12,7 +12,7 @@ use Rattle.base_codes.specs.Coded.{Coded, as-struct, Short}
 use Rattle.search_children.specs.Children.{Tables}
 use Rattle.search_run.specs.Lent.{Lent, tables}
 use Rattle.search_run.specs.Run.{Running, is-going, enter-slot, slot-search}
-use Rattle.search_run.proofs.buckets.Kept.{kept-none}
+use Rattle.search_buckets.proofs.Kept.{kept-none}
 use Rattle.search_run.proofs.search.Turns.{Standing, begun, ended, used-up, taken}
 use Rattle.search_run.proofs.search.search.Statement.{statement}
 use Rattle.search_run.proofs.search.search.Tie as tie

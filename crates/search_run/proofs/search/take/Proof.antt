@@ -5,7 +5,7 @@ use lib.ListN.{length}
 use borrow.Author.Needs.{needs}
 use Rattle.paper.proofs.base.Tests.{lt-ltb}
 use Rattle.search_run.specs.Run.{take-slot}
-use Rattle.search_run.specs.Slots.{slot-at}
+use Rattle.search_slots.specs.Slots.{slot-at}
 use Rattle.search_run.proofs.search.take.Statement.{statement}
 use Rattle.search_run.proofs.search.take.Tie as tie
 

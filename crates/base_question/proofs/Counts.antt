@@ -1,0 +1,66 @@
+-- Counting the tokens of a side, one after the other, and filling a list of counts.
+--   count-end, count-more, count-none : the tokens from a byte on
+--   count-append                      : those of two sides
+--   Counted                           : the counts below f are there; none yet, one more, all
+-- Follows from the definitions of `tokens` and `keep`, and from the laws of `set`.
+use Prim.Native.Nat.{ℕ, suc, _+_, _≤_, _<_}
+use native.Mathlib.Numerals.{add-one}
+use native.Mathlib.Omega.{arith}
+use mathlib.Core.Path.{_≡_, refl, sym, ap, _∙_}
+use mathlib.Core.Bool.{true, false}
+use mathlib.Core.List.{List, [], _∷_, _++_, map}
+use lib.Dec.{eqb}
+use lib.ListN.{length, getD, set, drop, drop-of-length-le, length-append, length-set, length-map}
+use lib.Seq.{drop-cons, ext-getD, getD-set-same, getD-set-other}
+use Rattle.paper.specs.Lists.{upto, only, keep}
+use Rattle.paper.proofs.base.Lists.{length-from}
+use Rattle.paper.proofs.base.Listed.{getD-map-upto}
+use Rattle.paper.proofs.base.Tests.{by-bool, eqb-true, eqb-false}
+use Rattle.base_codes.specs.Inner.{no-token, tokens}
+use Rattle.base_question.specs.Standings.{count}
+
+module _ (code : ℕ) where
+  pub count-end : (side : List ℕ) (i : ℕ) → i < length side → eqb (getD side i 0) no-token ≡ true → count code (tokens (drop i side)) ≡ 0
+  count-end side i h e = rw (drop-cons side i 0 h, e)
+
+  pub count-more : (side : List ℕ) (i : ℕ) → i < length side → eqb (getD side i 0) no-token ≡ false
+      → count code (tokens (drop i side)) ≡ length (only (eqb code (getD side i 0)) (getD side i 0)) + count code (tokens (drop (i + 1) side))
+  count-more side i h e =
+      let b = getD side i 0 in
+      rw (add-one, drop-cons side i 0 h, e) (length-append (only (eqb code b) b) (keep (eqb code) (tokens (drop (suc i) side))))
+
+  pub count-none : (side : List ℕ) (i : ℕ) → length side ≤ i → count code (tokens (drop i side)) ≡ 0
+  count-none side i h = rw (drop-of-length-le side h)
+
+  pub count-append : (l m : List ℕ) → count code (l ++ m) ≡ count code l + count code m
+  count-append [] m = omega arith
+  count-append (b ∷ l) m =
+      let first = only (eqb code b) b in
+      omega (arith, count-append l m, length-append first (keep (eqb code) (l ++ m)), length-append first (keep (eqb code) l))
+
+-- the counts of the numbers below f are there
+module _ (h : ℕ → ℕ) (n : ℕ) where
+  pub record Counted (counts : List ℕ) (f : ℕ) : Type 0 where
+    pub at-most : f ≤ n
+    pub long : length counts ≡ n
+    pub there : (g : ℕ) → g < f → getD counts g 0 ≡ h g
+
+  pub counted-none : (counts : List ℕ) → length counts ≡ n → Counted counts 0
+  counted-none counts e = record { at-most = omega arith; long = e; there = λ g k. absurd (omega arith) }
+
+  module _ (counts : List ℕ) (f : ℕ) (t : Counted counts f) where
+    pub counted-more : f < n → (x : ℕ) → x ≡ h f → Counted (set counts f x) (f + 1)
+    counted-more k x e =
+        record {
+          at-most = omega arith;
+          long = length-set counts f x ∙ t .long;
+          there = λ g l.
+              by-bool (eqb g f)
+              (λ s. let same : g ≡ f = eqb-true g f s in rw (same, getD-set-same counts f x 0 (omega (arith, t .long))) e)
+              (λ s. let other = eqb-false g f s in getD-set-other counts f g x 0 other ∙ t .there g (omega (arith, other)));
+        }
+
+    pub counted-all : n ≤ f → counts ≡ map h (upto n)
+    counted-all k =
+        ext-getD 0 counts (map h (upto n)) (t .long ∙ sym (length-map (upto n) h ∙ length-from 0 n))
+        (λ g l. t .there g (omega (arith, t .long)) ∙ sym (getD-map-upto h 0 n g (omega (arith, t .long))))

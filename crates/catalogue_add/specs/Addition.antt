@@ -1,0 +1,79 @@
+-- What the answers of a catalogue say, in 02's numbers; and what its pairs give on the way.
+use Prim.Native.Nat.{ℕ, _+_}
+use mathlib.Core.Path.{_≡_}
+use mathlib.Core.Bool.{Bool, false, _||_}
+use mathlib.Core.List.{List, map}
+use lib.Dec.{leb, ltb}
+use lib.ListN.{length}
+use Rattle.paper.specs.Numbers.{catalogue-rules}
+use Rattle.paper.specs.Sheet.{fault-number, records}
+use Rattle.paper.specs.Rule.{Rule, read-rule, foreign-field}
+use Rattle.paper.specs.Outcome.{room-of}
+use Rattle.paper_catalogue.specs.Catalogue.{Present, rules, form, Pairs, all-answered-1, not-answered-1, pairs-from, work-behind, is-full}
+use Rattle.paper_catalogue.specs.Catalogue as Catalogue
+use Rattle.base_codes.specs.Inner.{side-code, padded}
+use Rattle.base_places.specs.WorkedOut.{worked-out}
+use Rattle.base_places.specs.declared.PlaceTables.{PlaceTables}
+use Rattle.base_answers.specs.Faults.{fault-of}
+use Rattle.read_rule.specs.declared.Rule as Code
+use Rattle.catalogue_form.specs.declared.Kept.{Kept}
+use Rattle.catalogue_add.specs.declared.Added.{Added}
+use Rattle.catalogue_add.specs.declared.Added.the-variants as Added-as
+use Rattle.catalogue_add.specs.declared.Asked.{Asked}
+use Rattle.catalogue_add.specs.declared.Asked.the-variants as Asked-as
+use Rattle.catalogue_add.specs.declared.Withdrawn.{Withdrawn}
+use Rattle.catalogue_add.specs.declared.Withdrawn.the-variants as Withdrawn-as
+
+-- what adding tells, with both buffers as they are afterwards
+abbrev pub told-added : Added → List ℕ → List ℕ → Catalogue.Added
+told-added Added-as.Entered catalogue work =
+    record { number = 0; count = 0; place = 0; rule = 0; answer = 0; catalogue = catalogue; work = work }
+told-added (Added-as.Refused x at) catalogue work =
+    record { number = fault-number (fault-of x); count = 0; place = at; rule = 0; answer = 0; catalogue = catalogue; work = work }
+told-added (Added-as.NotApart i p) catalogue work =
+    record { number = 30; count = p .count; place = 0; rule = i; answer = p .answer; catalogue = catalogue; work = work }
+told-added Added-as.ForeignField catalogue work =
+    record { number = 31; count = 0; place = 0; rule = 0; answer = 0; catalogue = catalogue; work = work }
+told-added Added-as.Full catalogue work =
+    record { number = 32; count = 0; place = 0; rule = 0; answer = 0; catalogue = catalogue; work = work }
+told-added Added-as.NoCatalogue catalogue work =
+    record { number = 34; count = 0; place = 0; rule = 0; answer = 0; catalogue = catalogue; work = work }
+
+-- what withdrawing tells
+abbrev pub told-withdrawn : Withdrawn → List ℕ → Catalogue.Withdrawn
+told-withdrawn Withdrawn-as.Gone catalogue = record { number = 0; catalogue = catalogue }
+told-withdrawn Withdrawn-as.NoRule catalogue = record { number = 33; catalogue = catalogue }
+told-withdrawn Withdrawn-as.NoCatalogue catalogue = record { number = 34; catalogue = catalogue }
+
+-- 32, by what was read
+abbrev pub full-of : Kept → ℕ → ℕ → Bool
+full-of k bytes room = leb catalogue-rules (k .rules) || ltb room (k .used + bytes)
+
+-- what is known where the pairs are asked: the catalogue is of its form, and the side and the fields are those of a rule by itself
+pub record Ready-to-ask (catalogue : List ℕ) (count : ℕ) (side : List ℕ) (fields : List PlaceTables) : Type 0 where
+  pub rules-present : List Present
+  pub of-form : form catalogue ≡ rules rules-present
+  pub counted : count ≡ length rules-present
+  pub bytes : List ℕ
+  pub rule : Rule
+  pub its-bytes : ℕ
+  pub is-read : read-rule bytes ≡ records rule its-bytes
+  pub own : foreign-field rule ≡ false
+  pub side-is : side ≡ padded (side-code (rule .side))
+  pub fields-are : fields ≡ map worked-out (rule .fields .held)
+
+-- what asking them gives
+abbrev pub pairs-of : Asked → Pairs
+pairs-of Asked-as.Apart = all-answered-1
+pairs-of (Asked-as.NotApart i p) = not-answered-1 i (p .answer) (p .count)
+
+pub record Pairs-asked (rules-present : List Present) (rule : Rule) (work after : List ℕ) (r : Asked) : Type 0 where
+  pub pairs : pairs-of r ≡ pairs-from 0 rules-present rule (room-of work)
+  pub after-work : after ≡ work-behind rules-present work
+
+-- what is known where a rule is entered or not
+pub record Ready (catalogue bytes : List ℕ) (kept : Kept) (new : Code.Rule) : Type 0 where
+  pub asks : Ready-to-ask catalogue (kept .rules) (new .side) (new .fields)
+  pub same-bytes : asks .bytes ≡ bytes
+  pub used : kept .used ≡ Catalogue.used (asks .rules-present)
+  pub room : is-full (asks .rules-present) bytes catalogue ≡ false

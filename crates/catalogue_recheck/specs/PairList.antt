@@ -1,0 +1,67 @@
+-- What checking again tells, in request K3's numbers; and what its pairs give on the way.
+use Prim.Native.Nat.{ℕ, suc, _+_, _≤_, _<_}
+use mathlib.Core.Path.{_≡_}
+use mathlib.Core.Bool.{cond}
+use mathlib.Core.List.{List, [], map}
+use lib.Dec.{eqb}
+use lib.ListN.{length, take, drop}
+use Rattle.paper.specs.Outcome.{room-of}
+use Rattle.paper_catalogue.specs.Catalogue.{Present, used, work-behind}
+use Rattle.paper_catalogue.specs.Calls.{rule-at}
+use Rattle.paper_catalogue.specs.Recheck.{pair-record, listed-with, listed-from, work-after-pairs, not-listed}
+use Rattle.paper_catalogue.specs.Recheck as Recheck
+use Rattle.catalogue_form.specs.Kept.{Of-form}
+use Rattle.base_codes.specs.Inner.{side-code, padded}
+use Rattle.base_places.specs.WorkedOut.{worked-out}
+use Rattle.base_places.specs.declared.PlaceTables.{PlaceTables}
+use Rattle.catalogue_pair.specs.declared.Pair.{Pair}
+use Rattle.print_lines.specs.Writing.{Puts}
+use Rattle.catalogue_recheck.specs.declared.Rechecked.{Rechecked}
+use Rattle.catalogue_recheck.specs.declared.Rechecked.the-variants.{Listed, TooShort, NoCatalogue}
+
+-- what checking again tells, with both buffers as they are afterwards
+abbrev pub told-rechecked : Rechecked → List ℕ → List ℕ → Recheck.Rechecked
+told-rechecked (Listed pairs written) list work = record { number = 0; pairs = pairs; written = written; list = list; work = work }
+told-rechecked TooShort list work = not-listed 35 list work
+told-rechecked NoCatalogue list work = not-listed 34 list work
+
+-- the bytes of a pair in the list: none if it is answered 1
+abbrev pub pair-bytes-of : ℕ → ℕ → Pair → List ℕ
+pair-bytes-of lower higher p = cond (eqb (p .answer) 1) [] (pair-record lower higher (p .answer) (p .count))
+
+-- they are bytes, and fit behind the first n
+pub record Pair-fits (bytes : List ℕ) (n lower higher : ℕ) (p : Pair) : Type 0 where
+  pub lower-byte : lower < 256
+  pub higher-byte : higher < 256
+  pub answer-byte : p .answer < 256
+  pub two-bytes : p .count < 65536
+  pub room : n + length (pair-bytes-of lower higher p) ≤ length bytes
+
+-- the list of a rule's pairs with those behind it
+abbrev pub list-with : List Present → ℕ → List ℕ → List ℕ
+list-with l lower work = listed-with lower (rule-at l lower) (suc lower) (drop (suc lower) l) (room-of work)
+
+-- what is known where they are asked: side and fields are those of the rule with the lower number, the rules behind it stand from the offset on,
+-- and the list fits behind the first n bytes
+pub record Ready-to-list (catalogue : List ℕ) (count lower : ℕ) (side : List ℕ) (fields : List PlaceTables) (from : ℕ) (work bytes : List ℕ)
+    (n : ℕ) : Type 0 where
+  pub standing : Of-form catalogue count
+  pub there : lower < count
+  pub side-is : side ≡ padded (side-code (rule-at (standing .rules-present) lower .side))
+  pub fields-are : fields ≡ map worked-out (rule-at (standing .rules-present) lower .fields .held)
+  pub place : from ≡ used (take (suc lower) (standing .rules-present))
+  pub room : n + length (list-with (standing .rules-present) lower work) ≤ length bytes
+
+-- what asking them gives
+pub record With-listed (l : List Present) (lower : ℕ) (work after bytes filled : List ℕ) (n end : ℕ) : Type 0 where
+  pub puts : Puts bytes filled n end (list-with l lower work)
+  pub after-work : after ≡ work-behind (drop (suc lower) l) work
+
+-- the bytes of the 496 pairs of 32 rules
+abbrev pub longest-list : ℕ
+longest-list = 2480
+
+-- what asking every pair gives
+pub record All-listed (l : List Present) (work after bytes filled : List ℕ) (end : ℕ) : Type 0 where
+  pub puts : Puts bytes filled 0 end (listed-from 0 l (room-of work))
+  pub after-work : after ≡ work-after-pairs l work

@@ -1,0 +1,164 @@
+-- What is promised of carrying over: of every sheet, every rule, every catalogue and every buffer.
+--   promised           : Promised sheet out (spelling sheet out)
+--   rule-promised      : RulePromised rule out (rule-spelling rule out)
+--   catalogue-promised : CataloguePromised catalogue (carrying-over catalogue)
+--   fault-between      : the number of a fault is one of 11 to 17
+-- Follows from `Carried`, by what reading gives.
+use Prim.Native.Nat.{ℕ, _+_, _≤_}
+use native.Mathlib.Omega.{arith}
+use native.Mathlib.Nat.{mul-le-mul-right}
+use mathlib.Core.Path.{_≡_, refl, sym, ap, _∙_, subst}
+use mathlib.Core.List.{List, _++_}
+use lib.Dec.{ltb}
+use lib.ListN.{length, take, drop, length-append, length-drop}
+use lib.Seq.{take-append-seam}
+use Rattle.paper.specs.Question.{Question}
+use Rattle.paper.specs.Sheet.{Fault, cut-short, wrong-mark, wrong-field, wrong-length, not-one-pattern, too-many-leaves, wrong-token, fault-number}
+use Rattle.paper.specs.Sheet.{Records, faulty, records, Reading, refused, asked, read-sheet}
+use Rattle.paper.specs.Rule.{Rule, read-rule, foreign-field}
+use Rattle.paper.specs.Saying.{sheet-saying}
+use Rattle.paper_catalogue.specs.Catalogue.{Present, Form, no-catalogue, rules, form}
+use Rattle.paper.proofs.base.Tests.{cond-by, ltb-true, ltb-false}
+use Rattle.paper_catalogue.proofs.Form.{rules-at-most}
+use Rattle.paper_catalogue.proofs.GoodRule.{new-good}
+use Rattle.paper_carry.specs.Opened.{spelt-open, rule-open}
+use Rattle.paper_carry.specs.Spelling.{Spelling, put-into, spelling-of, spelling, rule-spelling-of, rule-spelling, rules-open}
+use Rattle.paper_carry.specs.Spelling.{carried-of, carrying-over, longest-sheet, longest-rule, longest-rules}
+use Rattle.paper_carry.specs.Spelling.{CarriedSheet, CarriedRule, CarriedCatalogue, CarryPromised, RulePromised, CataloguePromised}
+use Rattle.paper_carry.proofs.Carried.{sheet-carried, sheet-fits, sheet-same, rule-carried, rule-fits, rule-same, rules-carried, rules-fit}
+
+-- a fault's number is between 11 and 17
+pub fault-between : (x : Fault) → (11 ≤ fault-number x) × (fault-number x ≤ 17)
+fault-between cut-short = (omega arith, omega arith)
+fault-between wrong-mark = (omega arith, omega arith)
+fault-between wrong-field = (omega arith, omega arith)
+fault-between wrong-length = (omega arith, omega arith)
+fault-between not-one-pattern = (omega arith, omega arith)
+fault-between too-many-leaves = (omega arith, omega arith)
+fault-between wrong-token = (omega arith, omega arith)
+
+-- what was read is one thing
+abbrev question-of : Question → Reading → Question
+question-of p (refused x at) = p
+question-of p (asked q) = q
+
+abbrev rule-of : Rule → Records Rule → Rule
+rule-of p (faulty x at) = p
+rule-of p (records r n) = r
+
+abbrev rules-of : List Present → Form → List Present
+rules-of m no-catalogue = m
+rules-of m (rules l) = l
+
+-- Bytes put into a buffer.
+record Put (P : List ℕ → Type 0) (out : List ℕ) (most : ℕ) (s : Spelling) : Type 0 where
+  its : s .number ≡ 0 → P (take (s .written) (s .out))
+  unchanged : (s .number ≡ 0 → ⊥) → s .out ≡ out
+  enough : most ≤ length out → s .number ≡ 41 → ⊥
+
+puts : (P : List ℕ → Type 0) (bytes out : List ℕ) (most : ℕ) → length bytes ≤ most → P bytes → Put P out most (put-into bytes out)
+puts P bytes out most fits p =
+    cond-by (Put P out most) (ltb (length out) (length bytes))
+    (λ t. record {
+      its = λ (z : 41 ≡ 0). absurd (omega arith);
+      unchanged = λ n. refl;
+      enough = λ (h : most ≤ length out) z. let short = ltb-true (length out) (length bytes) t in omega arith;
+    })
+    (λ t. record {
+      its = λ z. rw (take-append-seam bytes (drop (length bytes) out)) p;
+      unchanged = λ n. absurd (n refl);
+      enough = λ h (z : 0 ≡ 41). omega arith;
+    })
+
+promised-of : (sheet out : List ℕ) (r : Reading) → read-sheet sheet ≡ r → CarryPromised sheet out (spelling-of r out)
+promised-of sheet out (refused x at) e =
+    let (low, high) = fault-between x in
+    record {
+      carried = λ q h (z : fault-number x ≡ 0). absurd (omega arith);
+      nothing-to-add = λ q h none (z : fault-number x ≡ 0). absurd (omega arith);
+      unchanged = λ n. refl;
+      enough = λ h (z : fault-number x ≡ 41). omega arith;
+    }
+promised-of sheet out (asked q) e =
+    let bytes = sheet-saying (spelt-open q) in
+    let same : (p : Question) → read-sheet sheet ≡ asked p → q ≡ p = λ p h. ap (question-of q) (sym e ∙ h) in
+    let p = puts (λ (l : List ℕ). l ≡ bytes) bytes out longest-sheet (sheet-fits sheet q e) refl in
+    record {
+      carried = λ x h z. rw (p .its z) (subst (λ (y : Question). CarriedSheet y bytes) (same x h) (sheet-carried sheet q e));
+      nothing-to-add = λ x h none z.
+          p .its z ∙ subst (λ (y : Question). sheet-saying (spelt-open y) ≡ sheet) (sym (same x h)) (sheet-same sheet x h none);
+      unchanged = p .unchanged;
+      enough = p .enough;
+    }
+
+pub promised : (sheet out : List ℕ) → CarryPromised sheet out (spelling sheet out)
+unfolding spelling
+promised sheet out = promised-of sheet out (read-sheet sheet) refl
+
+rule-promised-of : (bytes out : List ℕ) (x : Records Rule) → read-rule bytes ≡ x → RulePromised bytes out (rule-spelling-of x out)
+rule-promised-of bytes out (faulty x at) e =
+    let (low, high) = fault-between x in
+    record {
+      carried = λ r n h (z : fault-number x ≡ 0). absurd (omega arith);
+      nothing-to-add = λ r n h none (z : fault-number x ≡ 0). absurd (omega arith);
+      unchanged = λ n. refl;
+      enough = λ h (z : fault-number x ≡ 41). omega arith;
+    }
+rule-promised-of bytes out (records q m) e =
+    let new = rule-open q in
+    let same : (p : Rule) (n : ℕ) → read-rule bytes ≡ records p n → q ≡ p = λ p n h. ap (rule-of q) (sym e ∙ h) in
+    cond-by (RulePromised bytes out) (foreign-field q)
+    (λ t. record {
+      carried = λ r n h (z : 31 ≡ 0). absurd (omega arith);
+      nothing-to-add = λ r n h none (z : 31 ≡ 0). absurd (omega arith);
+      unchanged = λ n. refl;
+      enough = λ h (z : 31 ≡ 41). omega arith;
+    })
+    (λ own.
+    let good = new-good bytes e own in
+    let p = puts (λ (l : List ℕ). l ≡ new) new out longest-rule (rule-fits q good) refl in
+    record {
+      carried = λ x n h z. rw (p .its z) (subst (λ (y : Rule). CarriedRule y new) (same x n h) (rule-carried q good own));
+      nothing-to-add = λ x n h none z.
+          p .its z ∙ subst (λ (y : Rule). rule-open y ≡ bytes) (sym (same x n h)) (rule-same bytes h none);
+      unchanged = p .unchanged;
+      enough = p .enough;
+    })
+
+pub rule-promised : (bytes out : List ℕ) → RulePromised bytes out (rule-spelling bytes out)
+unfolding rule-spelling
+rule-promised bytes out = rule-promised-of bytes out (read-rule bytes) refl
+
+catalogue-promised-of : (c : List ℕ) (f : Form) → form c ≡ f → CataloguePromised c (carried-of f c)
+catalogue-promised-of c no-catalogue e =
+    record {
+      carried = λ l h (z : _≡_ {A = ℕ} 34 0). absurd (omega arith);
+      same-length = refl;
+      unchanged = λ n. refl;
+      enough = λ h (z : _≡_ {A = ℕ} 34 32). omega arith;
+    }
+catalogue-promised-of c (rules l) e =
+    let bytes = rules-open l in
+    let same : (m : List Present) → form c ≡ rules m → l ≡ m = λ m h. ap (rules-of l) (sym e ∙ h) in
+    let fits : length bytes ≤ longest-rules =
+    omega (arith, rules-fit c e, mul-le-mul-right longest-rule (rules-at-most c e)) in
+    cond-by (CataloguePromised c) (ltb (length c) (length bytes))
+    (λ t. record {
+      carried = λ m h (z : _≡_ {A = ℕ} 32 0). absurd (omega arith);
+      same-length = refl;
+      unchanged = λ n. refl;
+      enough = λ (h : longest-rules ≤ length c) z. let short = ltb-true (length c) (length bytes) t in omega arith;
+    })
+    (λ t. record {
+      carried = λ m h z.
+          subst (λ (y : List Present). CarriedCatalogue y (bytes ++ drop (length bytes) c)) (same m h) (rules-carried c e);
+      same-length =
+          let room = ltb-false (length c) (length bytes) t in
+          omega (arith, length-append bytes (drop (length bytes) c), length-drop (length bytes) c);
+      unchanged = λ n. absurd (n refl);
+      enough = λ h (z : _≡_ {A = ℕ} 0 32). omega arith;
+    })
+
+pub catalogue-promised : (c : List ℕ) → CataloguePromised c (carrying-over c)
+unfolding carrying-over
+catalogue-promised c = catalogue-promised-of c (form c) refl

@@ -1,0 +1,2 @@
+-- slots looked up by buckets
+pub mod Buckets

@@ -1,0 +1,44 @@
+// A question, searched: its hidden fields, the tables of its fields, and the search over them. A sheet asks one, a pair of rules, or a question with
+// each standing apart.
+use base_answers::Ended;
+use base_codes::HIDDEN_LEFT;
+use base_codes::HIDDEN_RIGHT;
+use base_places::CHARACTERS;
+use base_question::Question;
+ghost use mathlib.Core.Path.{_≡_};
+ghost use lib.ListN.{length, replicate};
+ghost use Rattle.paper.specs.Numbers.{characters};
+ghost use Rattle.paper_chosen.specs.Chosen.{every};
+ghost use Rattle.search_tables.specs.Cut.{listed-by};
+ghost use Rattle.search_question.specs.Over.{ended-over, buffer-over};
+
+// Every character.
+pub fn every() -> [bool; CHARACTERS]
+    ensures { λ r. ⌜ r ≡ listed-by every characters ⌝ }
+{
+    [true; CHARACTERS]
+}
+
+// Searches the question over these characters. The working buffer is all zero afterwards.
+pub fn search(
+    question: Question,
+    among: [bool; CHARACTERS],
+    work: &mut [u8],
+    answer: &mut [u8],
+) -> Ended
+    ensures ended { λ r. ⌜ r ≡ ended-over among question (length (now (work .entry))) (now (answer .entry)) ⌝ }
+    ensures answer { λ _. ⌜ now (answer .exit) ≡ buffer-over among question (length (now (work .entry))) (now (answer .entry)) ⌝ }
+    ensures work { λ _. ⌜ now (work .exit) ≡ replicate (length (now (work .entry))) 0 ⌝ }
+{
+    let own_left = question.left;
+    let own_right = question.right;
+    let own_fields = question.fields;
+    let left = search_hidden::side(own_left, HIDDEN_LEFT);
+    let right = search_hidden::side(own_right, HIDDEN_RIGHT);
+    let fields = search_hidden::fields(own_fields);
+    let follow = search_tables::follow_sets(fields);
+    let taking = search_tables::taking_sets(fields);
+    let last = search_tables::last_sets(fields);
+    let some = search_tables::only_taking(&taking, among);
+    search_run::run(left, right, follow, some, last, work, answer)
+}

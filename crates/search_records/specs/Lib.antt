@@ -1,0 +1,2 @@
+-- the answer of a clash
+pub mod Records

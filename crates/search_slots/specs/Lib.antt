@@ -1,0 +1,4 @@
+-- numbers in bytes
+pub mod LowFirst
+-- the slot of a situation
+pub mod Slots
