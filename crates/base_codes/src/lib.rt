@@ -1,5 +1,6 @@
 // Inner codes: how tokens, sides, steps and situations stand in the library, whatever bytes a sheet has for them. A character is its
 // value, a field its number behind 192, and 255 is no token: a side ends at its first 255.
+use base_places::PlaceSet;
 ghost use mathlib.Core.Path.{_≡_};
 ghost use Prim.Native.Nat.{_≤_};
 ghost use lib.ListN.{length, take};
@@ -19,6 +20,9 @@ pub const RIGHT_STRUCK: u8 = 255;
 
 // "a side above 48 tokens gives 19"
 pub const LONGEST_SIDE: usize = 48;
+
+// A side by inner codes: it ends at its first 255.
+pub type CodedSide = [u8; LONGEST_SIDE];
 
 // "field byte 0 to 7": how many fields a sheet may name, and so an answer may have
 pub const SHEET_FIELDS: usize = 8;
@@ -42,7 +46,7 @@ pub fn field_of(b: u8) -> usize
 }
 
 // How many tokens a side has.
-pub fn length_of(side: [u8; LONGEST_SIDE]) -> usize
+pub fn length_of(side: CodedSide) -> usize
     ensures { λ r. ⌜ (r ≤ longest-side) × (r ≡ length (tokens side)) × (take r side ≡ tokens side) ⌝ }
 {
     let mut n: usize = 0;
@@ -58,7 +62,7 @@ pub fn length_of(side: [u8; LONGEST_SIDE]) -> usize
 // "A situation is the two token lists and the place set of each field still standing in them." A side ends at its first 255; the set of a
 // field that is gone is 0.
 pub struct Situation {
-    pub left: [u8; LONGEST_SIDE],
-    pub right: [u8; LONGEST_SIDE],
-    pub sets: [u64; FIELDS],
+    pub left: CodedSide,
+    pub right: CodedSide,
+    pub sets: [PlaceSet; FIELDS],
 }

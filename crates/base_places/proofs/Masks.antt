@@ -19,7 +19,7 @@ use Rattle.paper.specs.Numbers.{most-leaves, characters}
 use Rattle.paper.specs.Pattern.{Held, some-text, pattern}
 use Rattle.paper.specs.Places.{leaves, leaf-takes, follows, ends-at, PlaceSet, leaf-places, first-set, set-after, may-end, is-empty}
 use Rattle.paper.proofs.base.Listed.{any-same, keep-same, keep-none}
-use Rattle.paper.proofs.base.Tests.{by-bool, same-tests, and-left, and-right, both-true, eqb-true, eqb-false, neq-eqb, eqb-symmetric}
+use Rattle.paper.proofs.base.Tests.{by-bool, same-tests, and-left, and-right, both-true, eqb-true, eqb-false, neq-eqb}
 use Rattle.paper.proofs.base.Lists.{cons-eq, mem-cons-by, any-true, mem-any, none-any, mem-keep, keep-mem, mem-from, from-mem, mem-upto, upto-mem, member-true, mem-member}
 use Rattle.paper.proofs.places.Parts.{takes-within}
 use Rattle.paper.proofs.places.Rising.{Rising, none, more, rising-first, rising-after, leaf-after}

@@ -13,32 +13,35 @@ pub const PLACES: usize = 64;
 // "Code 39, by value": 0 to 42.
 pub const CHARACTERS: usize = 43;
 
+// A place set: bit i is the place i.
+pub type PlaceSet = u64;
+
 // Every place; every place but the start; and the place behind the start of an open field.
-const ALL: u64 = 0xFFFF_FFFF_FFFF_FFFF;
+const ALL: PlaceSet = 0xFFFF_FFFF_FFFF_FFFF;
 
-const NOT_THE_START: u64 = 0xFFFF_FFFF_FFFF_FFFE;
+const NOT_THE_START: PlaceSet = 0xFFFF_FFFF_FFFF_FFFE;
 
-const BEHIND_START: u64 = 2;
+const BEHIND_START: PlaceSet = 2;
 
 // What is worked out once of a pattern.
 pub struct PlaceTables {
     // for every place the places that may follow
-    pub follow: [u64; PLACES],
+    pub follow: [PlaceSet; PLACES],
     // for every character the places that take it
-    pub taking: [u64; CHARACTERS],
+    pub taking: [PlaceSet; CHARACTERS],
     // the places that may be the last one: "the start may, if the pattern takes the empty text"
-    pub last: u64,
+    pub last: PlaceSet,
 }
 
 // The set that holds the place i alone; no place, where i is none.
-pub fn place(i: usize) -> u64
+pub fn place(i: usize) -> PlaceSet
     ensures { λ r. ⌜ r ≡ mask-of (λ (q : ℕ). eqb i q) ⌝ }
 {
     if i < PLACES { 1 << i } else { 0 }
 }
 
 // The other set, if the place i stands in the first one; else no place.
-pub fn when_holds(set: u64, i: usize, other: u64) -> u64
+pub fn when_holds(set: PlaceSet, i: usize, other: PlaceSet) -> PlaceSet
     ensures { λ r. ⌜ r ≡ cond (in-mask set i) other 0 ⌝ }
 {
     if PLACES <= i {
@@ -49,7 +52,7 @@ pub fn when_holds(set: u64, i: usize, other: u64) -> u64
 
 // All places that may follow some place of the set. The set after a character is what of these takes it. Most patterns have few leaves: behind the
 // last place of the set none is looked at.
-pub fn followers(follow: [u64; PLACES], set: u64) -> u64
+pub fn followers(follow: [PlaceSet; PLACES], set: PlaceSet) -> PlaceSet
     ensures { λ r. ⌜ r ≡ followers-of follow set ⌝ }
 {
     let mut r = 0;

@@ -5,11 +5,11 @@
 --   counted-outside            : into no bytes nothing is put; set-outside : past the end nothing is stored
 -- Follows from the laws of stores one after the other.
 use Prim.Native.Nat.{ℕ, zero, suc, _+_, _≤_, _<_}
-use native.Mathlib.Nat.{add-zero, add-suc, suc-add, zero-add}
+use native.Mathlib.Nat.{add-zero, zero-add}
 use native.Mathlib.Omega.{arith}
 use mathlib.Core.Path.{_≡_, refl, sym, _∙_, ap}
 use mathlib.Core.List.{List, [], _∷_, _++_}
-use lib.ListN.{length, set, drop, take}
+use lib.ListN.{length, set, drop}
 use lib.Seq.{sets, sets-eq}
 use Rattle.paper.proofs.base.Tests.{lt-ltb}
 use Rattle.base_put.specs.Counted.{last-place, next-place, place-behind, put-from, Counted}

@@ -1,4 +1,5 @@
 // The question: both sides, what is worked out of each field's pattern, and where that pattern stands.
+use base_codes::CodedSide;
 use base_codes::FIELD_CODE;
 use base_codes::FIELDS;
 use base_codes::LONGEST_SIDE;
@@ -16,9 +17,6 @@ ghost use Rattle.base_question.specs.Bodies.{no-bodies};
 ghost use Rattle.base_question.specs.Asked.{no-question};
 ghost use Rattle.base_question.specs.Standings.{count, standing-times};
 
-// A side by inner codes: it ends at its first 255.
-pub type Side = [u8; LONGEST_SIDE];
-
 // Where a field's pattern stands in the bytes that were read: the offset of its first byte, and how many it has. Both are 0 where there is none.
 pub struct Body {
     pub start: usize,
@@ -28,8 +26,8 @@ pub struct Body {
 // What is asked. A sheet asks it, or a pair of rules, or a question with each standing apart; where the patterns stand in no one sheet there are no
 // bodies.
 pub struct Question {
-    pub left: Side,
-    pub right: Side,
+    pub left: CodedSide,
+    pub right: CodedSide,
     pub fields: [PlaceTables; SHEET_FIELDS],
     pub bodies: [Body; SHEET_FIELDS],
 }
@@ -61,7 +59,7 @@ pub fn no_question() -> Question
 }
 
 // How often each field stands in the two sides, the hidden fields among them.
-pub fn standings(left: Side, right: Side) -> [usize; FIELDS]
+pub fn standings(left: CodedSide, right: CodedSide) -> [usize; FIELDS]
     ensures { λ r. ⌜ r ≡ standing-times left right ⌝ }
 {
     let mut counts: [usize; FIELDS] = [0; FIELDS];
@@ -75,7 +73,7 @@ pub fn standings(left: Side, right: Side) -> [usize; FIELDS]
 }
 
 // How many tokens of a side are this one.
-fn times(side: Side, token: u8) -> usize
+fn times(side: CodedSide, token: u8) -> usize
     ensures { λ r. ⌜ (r ≤ longest-side) × (r ≡ count token (tokens side)) ⌝ }
 {
     let mut n: usize = 0;

@@ -27,7 +27,7 @@ use Rattle.paper.proofs.saying.Code.{judged-code}
 use Rattle.paper_catalogue.proofs.GoodRule.{GoodRule, own-in-range}
 use Rattle.base_codes.specs.Inner.{token-code, side-code, tokens, padded}
 use Rattle.base_codes.proofs.Tokens.{tokens-padded}
-use Rattle.base_question.specs.Standings.{standing-times}
+use Rattle.base_question.specs.Standings.{standing-times, is-counted}
 use Rattle.base_question.specs.declared.Body.{Body}
 use Rattle.base_question.proofs.HowOften.{standings-are, stands-times}
 use Rattle.read_fields.proofs.PatternsStanding.{Stands, no-pattern, its-pattern, AllStand}
@@ -37,7 +37,7 @@ use Rattle.search_hidden.proofs.Codes.{side-back}
 use Rattle.paper_carry.specs.Opened.{opened, stands-asked, spelt-open, rule-saying, held-open, rule-open}
 use Rattle.paper_carry.proofs.Opening.{opened-alike}
 use Rattle.paper_carry.proofs.SaidBack.{said-back}
-use Rattle.carry_records.specs.Opening.{bytes-of, from-field, opened-from, stands}
+use Rattle.carry_records.specs.Opening.{bytes-of, from-field, opened-from}
 use Rattle.carry_records.proofs.FromSaid.{HasBytes, Have-bytes, from-said}
 use Rattle.carry_open.specs.CarriedOver.{put-whole}
 
@@ -78,7 +78,7 @@ records-whole s from held side rest stand has-set every bodies b left right code
     ap (λ (n : ℕ). from-field n s from 0 bodies counts) (sym every)
     ∙ from-said held s from 0 bodies counts (side-saying LE side ++ rest) b e
     ∙ ap (λ (l : List Held). patterns-saying 0 l ++ (side-saying LE side ++ rest))
-    (opened-alike (stands counts) (λ (f : ℕ). stands-in f stand) held 0
+    (opened-alike (is-counted counts) (λ (f : ℕ). stands-in f stand) held 0
     (λ f h. ap (λ (n : ℕ). not (eqb n 0)) (standings-are stand has-set left right codes (0 + f) (omega (arith, every))) ∙ stands-times (0 + f) stand))
 
 module _ (s : List ℕ) (q : Question) (asks : read-sheet s ≡ asked q) where

@@ -32,10 +32,11 @@ use Rattle.base_answers.specs.declared.Found.the-variants as Found
 use Rattle.read_sheet.specs.SheetRead.{bodies-of, sheet-of}
 use Rattle.read_sheet.specs.declared.Sheet.{Sheet}
 use Rattle.read_sheet.proofs.SheetStruct.{sheet-refused}
-use Rattle.read_rule.specs.RuleRead.{rule-of}
+use Rattle.read_rule.specs.RuleRead.{rule-bodies, rule-of}
 use Rattle.read_rule.specs.declared.Rule as Read
 use Rattle.read_rule.proofs.RuleStruct.{rule-fault}
 use Rattle.catalogue_form.specs.Kept.{Of-form}
+use Rattle.catalogue_form.specs.declared.Kept.{Kept}
 use Rattle.catalogue_bytes.specs.Moving.{put-at}
 use Rattle.catalogue_bytes.proofs.Within.{is-put}
 use Rattle.carry_open.specs.CarriedOver.{told-spelt, told-carried}
@@ -77,10 +78,10 @@ module _ (bytes out : List ℕ) where
   pub and-rule-promised : (s : Spelling) → s ≡ rule-spelling bytes out → (s ≡ rule-spelling bytes out) × RulePromised bytes out s
   and-rule-promised s e = (e, subst (RulePromised bytes out) (sym e) (rule-promised bytes out))
 
-  pub rule-at-fault : (r : Read.Rule) → r ≡ rule-of (read-rule bytes) → (x : Code.Fault) → r .found ≡ Found.Refused x
+  pub rule-at-fault : (r : Read.Rule) → r ≡ rule-of (rule-bodies bytes) (read-rule bytes) → (x : Code.Fault) → r .found ≡ Found.Refused x
       → told-spelt (Refused x (r .place)) out ≡ rule-spelling bytes out
   unfolding rule-spelling
-  rule-at-fault r e x h = rw (rule-fault r (read-rule bytes) x e h)
+  rule-at-fault r e x h = rw (rule-fault r _ (read-rule bytes) x e h)
 
   module _ (r : Rule) (n : ℕ) (reads : read-rule bytes ≡ records r n) where
     pub rule-foreign : foreign-field r ≡ true → told-spelt ForeignField out ≡ rule-spelling bytes out
@@ -99,7 +100,7 @@ pub none-kept : (c : List ℕ) → form c ≡ no-catalogue → told-carried NoCa
 unfolding carrying-over
 none-kept c e = rw e
 
-module _ {c : List ℕ} {count : ℕ} (x : Of-form c count) {before bytes : List ℕ} {n : ℕ} (p : Counted before bytes 0 n (rules-open (x .rules-present))) where
+module _ {c : List ℕ} {kept : Kept} (x : Of-form c kept) {before bytes : List ℕ} {n : ℕ} (p : Counted before bytes 0 n (rules-open (x .rules-present))) where
   abbrev all : List ℕ
   all = rules-open (x .rules-present)
 

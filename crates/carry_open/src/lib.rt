@@ -6,6 +6,7 @@ use base_answers::Found;
 use base_answers::NO_CATALOGUE;
 use base_answers::Numbers;
 use base_answers::SHEET_TOO_SHORT;
+use base_codes::CodedSide;
 use base_codes::FIELDS;
 use base_codes::LONGEST_SIDE;
 use base_codes::NO_TOKEN;
@@ -13,7 +14,7 @@ use base_codes::SHEET_FIELDS;
 use base_put::put_all;
 use base_question::Body;
 use catalogue_form::CATALOGUE_RULES;
-use read_side::Cursor;
+use catalogue_form::Kept;
 ghost use mathlib.Core.Path.{_≡_};
 ghost use mathlib.Core.List.{[]};
 ghost use Prim.Native.Nat.{_≤_};
@@ -92,8 +93,7 @@ pub fn rule(rule: &[u8], out: &mut [u8]) -> SpeltOpen
         return SpeltOpen::ForeignField;
     }
     let side = read.side;
-    let patterns = read_fields::read(rule, Cursor { at: RULE_MARK });
-    let bodies = patterns.bodies;
+    let bodies = read.bodies;
     let counts = rule_counts(side);
     write_out(rule, RULE_MARK, bodies, counts, out)
 }
@@ -103,12 +103,12 @@ pub fn catalogue(catalogue: &mut [u8]) -> CarriedOver
     ensures whole { λ r. ⌜ told-carried r (now (catalogue .exit)) ≡ carrying-over (now (catalogue .entry)) ⌝ }
     ensures promised { λ r. ⌜ CataloguePromised (now (catalogue .entry)) (told-carried r (now (catalogue .exit))) ⌝ }
 {
-    let kept = catalogue_form::find(catalogue, 0);
+    let kept = catalogue_form::find(catalogue);
     if !kept.good {
         return CarriedOver::NoCatalogue;
     }
     let mut bytes = no_bytes();
-    let n = put_rules(catalogue, kept.rules, &mut bytes);
+    let n = put_rules(catalogue, kept, &mut bytes);
     if catalogue.len() < n {
         return CarriedOver::Full;
     }
@@ -196,14 +196,14 @@ fn write_out(
 }
 
 // How often each field stands in the side of a rule.
-fn rule_counts(side: [u8; LONGEST_SIDE]) -> [usize; FIELDS]
+fn rule_counts(side: CodedSide) -> [usize; FIELDS]
     ensures { λ r. ⌜ r ≡ standing-times side (padded []) ⌝ }
 {
     let none = no_side();
     base_question::standings(side, none)
 }
 
-fn no_side() -> [u8; LONGEST_SIDE]
+fn no_side() -> CodedSide
     ensures { λ r. ⌜ r ≡ padded [] ⌝ }
 {
     [NO_TOKEN; LONGEST_SIDE]
@@ -216,22 +216,20 @@ fn no_bytes() -> [u8; LONGEST_RULES]
 }
 
 // The records of all rules, one behind the other.
-fn put_rules(catalogue: &[u8], count: usize, bytes: &mut [u8]) -> usize
-    requires { ⌜ Of-form (now catalogue) count ⌝ }
-    ensures { λ r. ⌜ ((x : Of-form (now (catalogue .entry)) count) → Counted (now (bytes .entry)) (now (bytes .exit)) 0 r (rules-open (x .rules-present))) ⌝ }
+fn put_rules(catalogue: &[u8], kept: Kept, bytes: &mut [u8]) -> usize
+    requires { ⌜ Of-form (now catalogue) kept ⌝ }
+    ensures { λ r. ⌜ ((x : Of-form (now (catalogue .entry)) kept) → Counted (now (bytes .entry)) (now (bytes .exit)) 0 r (rules-open (x .rules-present))) ⌝ }
 {
     let mut end = 0;
-    let mut at = 0;
     let mut i = 0;
-    while i < count {
-        let present = read_rule::front(&catalogue[at..]);
+    while i < kept.rules {
+        let at = kept.begins[i];
+        let present = catalogue_form::rule_at(catalogue, at);
         let next = at + present.bytes;
         let side = present.side;
-        let patterns = read_fields::read(&catalogue[at..], Cursor { at: RULE_MARK });
-        let bodies = patterns.bodies;
+        let bodies = present.bodies;
         let counts = rule_counts(side);
         end = put_whole(bytes, end, &catalogue[at..next], RULE_MARK, bodies, counts);
-        at = next;
         i += 1;
     }
     end

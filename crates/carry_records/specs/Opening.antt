@@ -1,7 +1,7 @@
 -- Records with 68 65 0 42 written out, from the bytes of what was read, by where the fields' patterns stand in them and by how often each field
 -- does: for all bytes. What it has to do with the question of a good sheet, and with a rule, is proved (`FromSaid`).
 use Prim.Native.Nat.{ℕ, zero, suc, _+_}
-use mathlib.Core.Bool.{Bool, cond, not}
+use mathlib.Core.Bool.{cond}
 use mathlib.Core.List.{List, [], _++_}
 use lib.Dec.{ltb, eqb}
 use lib.ListN.{getD, drop}
@@ -37,7 +37,3 @@ from-field (suc n) s at f bodies counts =
 
 unfoldable pub opened-from : List ℕ → ℕ → List Body → List ℕ → List ℕ
 opened-from s from bodies counts = from-field fields s from 0 bodies counts
-
--- the fields that stand, by how often each does
-abbrev pub stands : List ℕ → ℕ → Bool
-stands counts f = not (eqb (getD counts f 0) 0)

@@ -1,22 +1,21 @@
 -- What adding and withdrawing come to, by what was read and asked on the way. Follows from the definitions of `adding` and `withdrawing` by the
 -- tests that they make.
-use Prim.Native.Nat.{ℕ, zero, suc, _+_, _≤_, _<_}
+use Prim.Native.Nat.{ℕ, zero, suc, _+_, _-_, _≤_, _<_}
 use native.Mathlib.Omega.{arith}
 use mathlib.Core.Path.{_≡_, refl, sym, _∙_}
 use mathlib.Core.Bool.{Bool, true, false}
-use mathlib.Core.List.{List, [], _∷_, map}
-use lib.ListN.{length, getD}
+use mathlib.Core.List.{List, [], _∷_}
+use lib.ListN.{length}
 use Rattle.paper.specs.Sheet.{Fault, fault-number, faulty, records}
 use Rattle.paper.specs.Rule.{Rule, read-rule, foreign-field}
 use Rattle.paper_catalogue.specs.Catalogue.{Present, no-catalogue, rules, form, used, is-full, not-entered, adding, withdrawing, withdrawn-from}
 use Rattle.paper_catalogue.specs.Catalogue as Catalogue
 use Rattle.paper_catalogue.specs.Calls.{present-at}
-use Rattle.paper.proofs.base.Tests.{lt-ltb}
 use Rattle.paper_catalogue.proofs.Form.{offset-of, rule-fits, record-inside}
 use Rattle.paper_catalogue.proofs.Withdrawing.{leaves}
-use Rattle.catalogue_form.specs.Kept.{record-at, record-bytes}
+use Rattle.catalogue_form.specs.Kept.{Of-form}
 use Rattle.catalogue_form.specs.declared.Kept.{Kept}
-use Rattle.catalogue_form.proofs.FormFound.{Rules}
+use Rattle.catalogue_form.proofs.RulesStanding.{begin-in, begins-are, next-begin}
 use Rattle.catalogue_bytes.specs.Moving.{put-at, closed-at}
 use Rattle.catalogue_bytes.proofs.Within.{is-put, is-closed}
 use Rattle.catalogue_pair.specs.declared.Pair.{Pair}
@@ -54,17 +53,17 @@ module _ {c bytes : List ℕ} {kept : Kept} {new : Code.Rule} (x : Ready c bytes
   is-read : read-rule bytes ≡ records (x .asks .rule) (x .asks .its-bytes)
   is-read = rw (← x .same-bytes) (x .asks .is-read)
 
-  pub adds-rule : Pairs-asked (x .asks .rules-present) (x .asks .rule) work after Apart → (catalogue : List ℕ) → catalogue ≡ put-at (kept .used) bytes c
+  pub adds-rule : Pairs-asked (x .asks .standing .rules-present) (x .asks .rule) work after Apart → (catalogue : List ℕ) → catalogue ≡ put-at (kept .used) bytes c
       → Told.told-added Added.Entered catalogue after ≡ adding c bytes work
   unfolding adding
   adds-rule a catalogue e =
-      let put = is-put (used (x .asks .rules-present)) bytes c (rule-fits c (x .asks .of-form) bytes (x .room)) in
-      rw (e, x .used, put, x .asks .of-form, is-read, x .asks .own, x .room, ← a .pairs, a .after-work)
+      let put = is-put (used (x .asks .standing .rules-present)) bytes c (rule-fits c (x .asks .standing .of-form) bytes (x .room)) in
+      rw (e, x .asks .standing .its-used, put, x .asks .standing .of-form, is-read, x .asks .own, x .room, ← a .pairs, a .after-work)
 
-  pub adds-not : (i : ℕ) (p : Pair) → Pairs-asked (x .asks .rules-present) (x .asks .rule) work after (NotApart i p)
+  pub adds-not : (i : ℕ) (p : Pair) → Pairs-asked (x .asks .standing .rules-present) (x .asks .rule) work after (NotApart i p)
       → Told.told-added (Added.NotApart i p) c after ≡ adding c bytes work
   unfolding adding
-  adds-not i p a = rw (x .asks .of-form, is-read, x .asks .own, x .room, ← a .pairs, a .after-work)
+  adds-not i p a = rw (x .asks .standing .of-form, is-read, x .asks .own, x .room, ← a .pairs, a .after-work)
 
 -- Withdrawing.
 module _ (c : List ℕ) (i : ℕ) where
@@ -83,24 +82,14 @@ module _ (c : List ℕ) (i : ℕ) where
   unfolding withdrawing
   takes-none l e h = rw e (none-there 0 l i h)
 
-  at-is : (l : List Present) → i < length l → record-at l i ≡ offset-of l i
-  unfolding record-at
-  at-is l h = rw (lt-ltb i (length l) h)
-
-  bytes-at : (l : List Present) (n : ℕ) → n < length l → getD (map (λ (r : Present). r .bytes) l) n 0 ≡ present-at l n .bytes
-  bytes-at [] n h = absurd (omega arith)
-  bytes-at (r ∷ l) zero h = refl
-  bytes-at (r ∷ l) (suc n) h = bytes-at l n (omega arith)
-
-  bytes-are : (l : List Present) → i < length l → record-bytes l i ≡ present-at l i .bytes
-  unfolding record-bytes
-  bytes-are l h = bytes-at l i h
-
-  pub takes-one : (k : Kept) (x : Rules i (form c) k) → i < k .rules → (catalogue : List ℕ) → catalogue ≡ closed-at (k .at) (k .bytes) c
+  pub takes-one : (k : Kept) (x : Of-form c k) → i < k .rules → (at next : ℕ) → at ≡ begin-in k i → next ≡ begin-in k (i + 1)
+      → (catalogue : List ℕ) → catalogue ≡ closed-at at (next - at) c
       → _≡_ {A = Catalogue.Withdrawn} (record { number = 0; catalogue = catalogue }) (withdrawing c i)
-  takes-one k x h catalogue e =
+  takes-one k x h at next a n catalogue e =
       let l = x .rules-present in
       let there : i < length l = omega (arith, x .counted) in
-      let closed = is-closed (offset-of l i) (present-at l i .bytes) c (record-inside c (x .is) i there) in
-      rw (e, x .its-at, x .its-bytes, at-is l there, bytes-are l there, closed)
-      (sym (leaves c i (record { rules-present = l; of-form = x .is; there = there })))
+      let its-begin : at ≡ offset-of l i = a ∙ begins-are x i (omega arith) in
+      let its-bytes : next - at ≡ present-at l i .bytes = omega (arith, a, n, next-begin x i there) in
+      let closed = is-closed (offset-of l i) (present-at l i .bytes) c (record-inside c (x .of-form) i there) in
+      rw (e, its-bytes, its-begin, closed)
+      (sym (leaves c i (record { rules-present = l; of-form = x .of-form; there = there })))

@@ -1,5 +1,5 @@
 -- How far the pairs of a new rule are asked: those before number i are all answered 1. One more, the first that is not answered 1, the end.
--- Follows from where the rules of a catalogue stand (`Standing`) and from what a pair is answered (`told-in-room`).
+-- Follows from the definition of `pairs-from`; what a pair is answered follows from where the rules stand (`RulesStanding`) and from `told-in-room`.
 use Prim.Native.Nat.{ℕ, suc, _+_, _≤_, _<_}
 use native.Mathlib.Numerals.{add-one}
 use native.Mathlib.Omega.{arith}
@@ -7,17 +7,17 @@ use mathlib.Core.Path.{_≡_, refl, sym, ap, _∙_}
 use mathlib.Core.List.{List, [], _∷_}
 use lib.ListN.{length, take, drop, replicate, length-replicate, drop-of-length-le}
 use lib.Seq.{take-all}
-use Rattle.paper.specs.Rule.{Rule, rule-front}
+use Rattle.paper.specs.Rule.{Rule}
 use Rattle.paper.specs.Outcome.{room-of, cleared}
 use Rattle.paper_catalogue.specs.Catalogue.{Present, pairs-from, work-behind}
 use Rattle.paper_catalogue.specs.Calls.{rule-at}
 use Rattle.paper.proofs.base.Tests.{eq-eqb, neq-eqb}
-use Rattle.paper_catalogue.proofs.Form.{offset-of}
 use Rattle.paper_catalogue.proofs.GoodRule.{new-good}
 use Rattle.base_places.specs.declared.PlaceTables.{PlaceTables}
-use Rattle.read_rule.specs.RuleRead.{rule-of}
 use Rattle.read_rule.specs.declared.Rule as Code
-use Rattle.catalogue_form.proofs.RulesStanding.{in-front, standing-good, standing-is, next-place}
+use Rattle.catalogue_form.specs.Kept.{rule-there}
+use Rattle.catalogue_form.specs.declared.Kept.{Kept}
+use Rattle.catalogue_form.proofs.RulesStanding.{in-front, begin-in, standing-good, standing-side, standing-fields}
 use Rattle.catalogue_pair.specs.Ask.{pair-of, pair-ended}
 use Rattle.catalogue_pair.specs.declared.Pair.{Pair}
 use Rattle.catalogue_pair.proofs.Asking.{Pair-told}
@@ -25,9 +25,8 @@ use Rattle.catalogue_pair.proofs.InRoom.{told-in-room}
 use Rattle.catalogue_add.specs.declared.Asked.the-variants.{Apart, NotApart}
 use Rattle.catalogue_add.specs.Addition.{Ready-to-ask, Pairs-asked}
 
-pub record Going (l : List Present) (new : Rule) (lent work : List ℕ) (at i : ℕ) : Type 0 where
+pub record Going (l : List Present) (new : Rule) (lent work : List ℕ) (i : ℕ) : Type 0 where
   pub below : i ≤ length l
-  pub place : at ≡ offset-of l i
   pub pairs : pairs-from 0 l new (room-of lent) ≡ pairs-from i (drop i l) new (room-of lent)
   pub behind : work ≡ work-behind (take i l) lent
 
@@ -45,54 +44,51 @@ all-behind : (l : List Present) (i : ℕ) (lent : List ℕ) → i < length l →
 all-behind [] i lent h = absurd (omega arith)
 all-behind (r ∷ l) i lent h = refl
 
-module _ {catalogue : List ℕ} {count : ℕ} {side : List ℕ} {fields : List PlaceTables} (x : Ready-to-ask catalogue count side fields) where
-  pub going-start : (lent : List ℕ) → Going (x .rules-present) (x .rule) lent lent 0 0
-  going-start lent = record { below = omega arith; place = refl; pairs = refl; behind = refl }
+-- The walk, whatever the answers are.
+module _ {l : List Present} {new : Rule} where
+  pub going-start : (lent : List ℕ) → Going l new lent lent 0
+  going-start lent = record { below = omega arith; pairs = refl; behind = refl }
 
-  module _ {lent work : List ℕ} {at i : ℕ} (g : Going (x .rules-present) (x .rule) lent work at i) where
+  module _ {lent work : List ℕ} {i : ℕ} (g : Going l new lent work i) where
     same-length : length work ≡ length lent
-    same-length = ap length (g .behind) ∙ behind-length (take i (x .rules-present)) lent
+    same-length = ap length (g .behind) ∙ behind-length (take i l) lent
 
-    pub going-ends : length (x .rules-present) ≤ i → Pairs-asked (x .rules-present) (x .rule) lent work Apart
+    pub going-ends : length l ≤ i → Pairs-asked l new lent work Apart
     going-ends h =
         record {
-          pairs = sym (g .pairs ∙ rw (drop-of-length-le (x .rules-present) {i = i} h));
-          after-work = g .behind ∙ ap (λ (l : List Present). work-behind l lent) (take-all i (x .rules-present) h);
+          pairs = sym (g .pairs ∙ rw (drop-of-length-le l {i = i} h));
+          after-work = g .behind ∙ ap (λ (m : List Present). work-behind m lent) (take-all i l h);
         }
 
-    -- one more rule, and its pair with the new one
-    module _ (h : i < length (x .rules-present)) (present : Code.Rule) (p : present ≡ rule-of (rule-front (drop at catalogue)))
-        (pair : Pair) (a : pair ≡ pair-of (pair-ended (present .side) side (present .fields) fields (length work))) where
-      told : Pair-told (rule-at (x .rules-present) i) (x .rule) (room-of lent) pair
-      told =
-          let is = standing-is catalogue (x .of-form) i h at (g .place) present p in
-          told-in-room
-          (record {
-            good = standing-good catalogue (x .of-form) i h;
-            side-is = ap (λ (r : Code.Rule). r .side) is;
-            fields-are = ap (λ (r : Code.Rule). r .fields) is;
-          })
-          (record { good = new-good (x .bytes) (x .is-read) (x .own); side-is = x .side-is; fields-are = x .fields-are })
-          work lent same-length pair a
+    -- the pair of one more rule with the new one, told
+    module _ (h : i < length l) {pair : Pair} (told : Pair-told (rule-at l i) new (room-of lent) pair) {after : List ℕ} (w : after ≡ replicate (length work) 0) where
+      cleared-lent : after ≡ cleared lent
+      cleared-lent = w ∙ rw same-length
 
-      module _ (after : List ℕ) (w : after ≡ replicate (length work) 0) where
-        cleared-lent : after ≡ cleared lent
-        cleared-lent = w ∙ rw same-length
+      pub going-more : pair .answer ≡ 1 → Going l new lent after (i + 1)
+      going-more e =
+          record {
+            below = omega arith;
+            pairs = g .pairs ∙ rw (in-front l i h, ← told .answer, eq-eqb (pair .answer) 1 e, add-one i);
+            behind = cleared-lent ∙ sym (rw (add-one i) (some-behind l i lent h));
+          }
 
-        pub going-more : pair .answer ≡ 1 → Going (x .rules-present) (x .rule) lent after (at + present .bytes) (i + 1)
-        going-more e =
-            record {
-              below = omega arith;
-              place = next-place catalogue (x .of-form) i h at (g .place) present p;
-              pairs = g .pairs ∙ rw (in-front (x .rules-present) i h, ← told .answer, eq-eqb (pair .answer) 1 e, add-one i);
-              behind = cleared-lent ∙ sym (rw (add-one i) (some-behind (x .rules-present) i lent h));
-            }
+      pub going-stops : (pair .answer ≡ 1 → ⊥) → Pairs-asked l new lent after (NotApart i pair)
+      going-stops d =
+          record {
+            pairs = sym (g .pairs ∙ rw (in-front l i h, ← told .answer, ← told .count, neq-eqb (pair .answer) 1 d));
+            after-work = cleared-lent ∙ sym (all-behind l i lent h);
+          }
 
-        pub going-stops : (pair .answer ≡ 1 → ⊥) → Pairs-asked (x .rules-present) (x .rule) lent after (NotApart i pair)
-        going-stops d =
-            record {
-              pairs =
-                  sym (g .pairs
-                  ∙ rw (in-front (x .rules-present) i h, ← told .answer, ← told .count, neq-eqb (pair .answer) 1 d));
-              after-work = cleared-lent ∙ sym (all-behind (x .rules-present) i lent h);
-            }
+-- What asking the pair of a rule that stands with the new one tells.
+pub asked-told : {catalogue : List ℕ} {kept : Kept} {side : List ℕ} {fields : List PlaceTables} (x : Ready-to-ask catalogue kept side fields)
+    (i : ℕ) → i < length (x .standing .rules-present) → (present : Code.Rule) → present ≡ rule-there (drop (begin-in kept i) catalogue)
+    → (work lent : List ℕ) → length work ≡ length lent
+    → (pair : Pair) → pair ≡ pair-of (pair-ended (present .side) side (present .fields) fields (length work))
+    → Pair-told (rule-at (x .standing .rules-present) i) (x .rule) (room-of lent) pair
+asked-told x i h present p work lent same pair a =
+    let s = x .standing in
+    told-in-room
+    (record { good = standing-good s i h; side-is = standing-side s i h present p; fields-are = standing-fields s i h present p })
+    (record { good = new-good (x .bytes) (x .is-read) (x .own); side-is = x .side-is; fields-are = x .fields-are })
+    work lent same pair a

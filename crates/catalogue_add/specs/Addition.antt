@@ -4,18 +4,18 @@ use mathlib.Core.Path.{_≡_}
 use mathlib.Core.Bool.{Bool, false, _||_}
 use mathlib.Core.List.{List, map}
 use lib.Dec.{leb, ltb}
-use lib.ListN.{length}
 use Rattle.paper.specs.Numbers.{catalogue-rules}
 use Rattle.paper.specs.Sheet.{fault-number, records}
 use Rattle.paper.specs.Rule.{Rule, read-rule, foreign-field}
 use Rattle.paper.specs.Outcome.{room-of}
-use Rattle.paper_catalogue.specs.Catalogue.{Present, rules, form, Pairs, all-answered-1, not-answered-1, pairs-from, work-behind, is-full}
+use Rattle.paper_catalogue.specs.Catalogue.{Present, Pairs, all-answered-1, not-answered-1, pairs-from, work-behind, is-full}
 use Rattle.paper_catalogue.specs.Catalogue as Catalogue
 use Rattle.base_codes.specs.Inner.{side-code, padded}
 use Rattle.base_places.specs.WorkedOut.{worked-out}
 use Rattle.base_places.specs.declared.PlaceTables.{PlaceTables}
 use Rattle.base_answers.specs.Faults.{fault-of}
 use Rattle.read_rule.specs.declared.Rule as Code
+use Rattle.catalogue_form.specs.Kept.{Of-form}
 use Rattle.catalogue_form.specs.declared.Kept.{Kept}
 use Rattle.catalogue_add.specs.declared.Added.{Added}
 use Rattle.catalogue_add.specs.declared.Added.the-variants as Added-as
@@ -50,10 +50,8 @@ abbrev pub full-of : Kept → ℕ → ℕ → Bool
 full-of k bytes room = leb catalogue-rules (k .rules) || ltb room (k .used + bytes)
 
 -- what is known where the pairs are asked: the catalogue is of its form, and the side and the fields are those of a rule by itself
-pub record Ready-to-ask (catalogue : List ℕ) (count : ℕ) (side : List ℕ) (fields : List PlaceTables) : Type 0 where
-  pub rules-present : List Present
-  pub of-form : form catalogue ≡ rules rules-present
-  pub counted : count ≡ length rules-present
+pub record Ready-to-ask (catalogue : List ℕ) (kept : Kept) (side : List ℕ) (fields : List PlaceTables) : Type 0 where
+  pub standing : Of-form catalogue kept
   pub bytes : List ℕ
   pub rule : Rule
   pub its-bytes : ℕ
@@ -73,7 +71,6 @@ pub record Pairs-asked (rules-present : List Present) (rule : Rule) (work after 
 
 -- what is known where a rule is entered or not
 pub record Ready (catalogue bytes : List ℕ) (kept : Kept) (new : Code.Rule) : Type 0 where
-  pub asks : Ready-to-ask catalogue (kept .rules) (new .side) (new .fields)
+  pub asks : Ready-to-ask catalogue kept (new .side) (new .fields)
   pub same-bytes : asks .bytes ≡ bytes
-  pub used : kept .used ≡ Catalogue.used (asks .rules-present)
-  pub room : is-full (asks .rules-present) bytes catalogue ≡ false
+  pub room : is-full (asks .standing .rules-present) bytes catalogue ≡ false

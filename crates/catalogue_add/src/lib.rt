@@ -39,7 +39,7 @@ pub enum Withdrawn {
 pub fn add(catalogue: &mut [u8], bytes: &[u8], work: &mut [u8]) -> Added
     ensures { λ r. ⌜ told-added r (now (catalogue .exit)) (now (work .exit)) ≡ adding (now (catalogue .entry)) (now (bytes .entry)) (now (work .entry)) ⌝ }
 {
-    let kept = catalogue_form::find(catalogue, 0);
+    let kept = catalogue_form::find(catalogue);
     if !kept.good {
         return Added::NoCatalogue;
     }
@@ -78,7 +78,7 @@ fn enter(catalogue: &mut [u8], kept: Kept, bytes: &[u8], new: Rule, work: &mut [
     requires { ⌜ Ready (now catalogue) (now bytes) kept new ⌝ }
     ensures { λ r. ⌜ told-added r (now (catalogue .exit)) (now (work .exit)) ≡ adding (now (catalogue .entry)) (now (bytes .entry)) (now (work .entry)) ⌝ }
 {
-    let asked = ask_all(catalogue, kept.rules, new, work);
+    let asked = ask_all(catalogue, kept, new, work);
     match asked {
         Asked::NotApart { rule, pair } => Added::NotApart { rule, pair },
         Asked::Apart => {
@@ -95,23 +95,22 @@ pub enum Asked {
 }
 
 // Asks the pairs of the rules present with a new one, by rising number, up to the first that is not answered 1.
-fn ask_all(catalogue: &[u8], count: usize, new: Rule, work: &mut [u8]) -> Asked
-    requires { ⌜ Ready-to-ask (now catalogue) count (new .side) (new .fields) ⌝ }
-    ensures { λ r. ⌜ ((x : Ready-to-ask (now (catalogue .entry)) count (new .side) (new .fields)) → Pairs-asked (x .rules-present) (x .rule) (now (work .entry)) (now (work .exit)) r) ⌝ }
+fn ask_all(catalogue: &[u8], kept: Kept, new: Rule, work: &mut [u8]) -> Asked
+    requires { ⌜ Ready-to-ask (now catalogue) kept (new .side) (new .fields) ⌝ }
+    ensures { λ r. ⌜ ((x : Ready-to-ask (now (catalogue .entry)) kept (new .side) (new .fields)) → Pairs-asked (x .standing .rules-present) (x .rule) (now (work .entry)) (now (work .exit)) r) ⌝ }
 {
     let right = new.side;
     let second = new.fields;
-    let mut at = 0;
     let mut i = 0;
-    while i < count {
-        let present = read_rule::front(&catalogue[at..]);
+    while i < kept.rules {
+        let at = kept.begins[i];
+        let present = catalogue_form::rule_at(catalogue, at);
         let left = present.side;
         let first = present.fields;
         let pair = catalogue_pair::ask(left, right, first, second, work);
         if pair.answer != 1 {
             return Asked::NotApart { rule: i, pair };
         }
-        at += present.bytes;
         i += 1;
     }
     Asked::Apart
@@ -121,13 +120,15 @@ fn ask_all(catalogue: &[u8], count: usize, new: Rule, work: &mut [u8]) -> Asked
 pub fn withdraw(catalogue: &mut [u8], number: usize) -> Withdrawn
     ensures { λ r. ⌜ told-withdrawn r (now (catalogue .exit)) ≡ withdrawing (now (catalogue .entry)) number ⌝ }
 {
-    let kept = catalogue_form::find(catalogue, number);
+    let kept = catalogue_form::find(catalogue);
     if !kept.good {
         return Withdrawn::NoCatalogue;
     }
     if kept.rules <= number {
         return Withdrawn::NoRule;
     }
-    catalogue_bytes::close(catalogue, kept.at, kept.bytes);
+    let at = kept.begins[number];
+    let next = kept.begins[number + 1];
+    catalogue_bytes::close(catalogue, at, next - at);
     Withdrawn::Gone
 }

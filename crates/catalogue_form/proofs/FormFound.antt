@@ -4,33 +4,29 @@ use native.Mathlib.Omega.{arith}
 use mathlib.Core.Path.{_≡_, refl, ap}
 use mathlib.Core.Bool.{true, false}
 use mathlib.Core.List.{List}
-use lib.ListN.{length}
-use Rattle.paper_catalogue.specs.Catalogue.{Present, Form, no-catalogue, rules, used}
-use Rattle.catalogue_form.specs.Kept.{kept-of, record-at, record-bytes}
+use Rattle.paper_catalogue.specs.Catalogue.{Form, no-catalogue, rules, form}
+use Rattle.catalogue_form.specs.Kept.{kept-of, Of-form}
 use Rattle.catalogue_form.specs.declared.Kept.{Kept}
 
--- the rules that stand, where one with the number i was asked for
-pub record Rules (i : ℕ) (f : Form) (k : Kept) : Type 0 where
-  pub rules-present : List Present
-  pub is : f ≡ rules rules-present
-  pub counted : k .rules ≡ length rules-present
-  pub its-used : k .used ≡ used rules-present
-  pub its-at : k .at ≡ record-at rules-present i
-  pub its-bytes : k .bytes ≡ record-bytes rules-present i
+module _ (k : Kept) where
+  none-of : (f : Form) → k ≡ kept-of f → k .good ≡ false → f ≡ no-catalogue
+  none-of no-catalogue e h = refl
+  none-of (rules l) e h = let z : _≡_ {A = ℕ} 0 1 = cc in absurd (omega arith)
 
-module _ (k : Kept) (i : ℕ) where
-  pub no-rules : (f : Form) → k ≡ kept-of i f → k .good ≡ false → f ≡ no-catalogue
-  no-rules no-catalogue e h = refl
-  no-rules (rules l) e h = let z : _≡_ {A = ℕ} 0 1 = cc in absurd (omega arith)
-
-  pub some-rules : (f : Form) → k ≡ kept-of i f → k .good ≡ true → Rules i f k
-  some-rules no-catalogue e h = let z : _≡_ {A = ℕ} 0 1 = cc in absurd (omega arith)
-  some-rules (rules l) e h =
+  some-of : (catalogue : List ℕ) (f : Form) → form catalogue ≡ f → k ≡ kept-of f → k .good ≡ true → Of-form catalogue k
+  some-of catalogue no-catalogue g e h = let z : _≡_ {A = ℕ} 0 1 = cc in absurd (omega arith)
+  some-of catalogue (rules l) g e h =
       record {
         rules-present = l;
-        is = refl;
+        of-form = g;
         counted = ap (λ (x : Kept). x .rules) e;
         its-used = ap (λ (x : Kept). x .used) e;
-        its-at = ap (λ (x : Kept). x .at) e;
-        its-bytes = ap (λ (x : Kept). x .bytes) e;
+        its-begins = ap (λ (x : Kept). x .begins) e;
       }
+
+  module _ (catalogue : List ℕ) (e : k ≡ kept-of (form catalogue)) where
+    pub no-rules : k .good ≡ false → form catalogue ≡ no-catalogue
+    no-rules h = none-of (form catalogue) e h
+
+    pub some-rules : k .good ≡ true → Of-form catalogue k
+    some-rules h = some-of catalogue (form catalogue) refl e h

@@ -15,29 +15,28 @@ use Rattle.paper.proofs.base.Tests.{by-bool, le-leb, lt-leb, leb-false}
 use Rattle.paper_catalogue.proofs.Local.{rule-bounds}
 use Rattle.base_answers.specs.declared.Fault.{Fault}
 use Rattle.base_answers.specs.declared.Found.the-variants.{NoFault, Refused}
-use Rattle.read_rule.specs.RuleRead.{rule-of}
 use Rattle.read_rule.specs.declared.Rule as Code
 use Rattle.read_rule.proofs.RuleStruct.{rule-fault, rule-stands}
-use Rattle.catalogue_form.specs.Kept.{front-bytes}
+use Rattle.catalogue_form.specs.Kept.{front-bytes, rule-there}
 
 module _ (n : ℕ) (s : List ℕ) where
   -- By the struct of the rule.
   pub full : catalogue-rules ≤ n → front-bytes n s ≡ 0
   full h = rw (le-leb catalogue-rules n h)
 
-  module _ (few : n < catalogue-rules) (r : Code.Rule) (e : r ≡ rule-of (rule-front s)) where
+  module _ (few : n < catalogue-rules) (r : Code.Rule) (e : r ≡ rule-there s) where
     pub front-fault : (f : Fault) → r .found ≡ Refused f → front-bytes n s ≡ 0
-    front-fault f h = let k = rule-fault r (rule-front s) f e h in rw (lt-leb catalogue-rules n few, k)
+    front-fault f h = let k = rule-fault r _ (rule-front s) f e h in rw (lt-leb catalogue-rules n few, k)
 
     pub front-foreign : r .found ≡ NoFault → r .foreign ≡ true → front-bytes n s ≡ 0
     front-foreign h k =
-        let t = rule-stands r (rule-front s) e h in
+        let t = rule-stands r _ (rule-front s) e h in
         let own : foreign-field (t .rule) ≡ true = sym (t .foreign) ∙ k in
         rw (lt-leb catalogue-rules n few, t .reads, own)
 
     pub front-own : r .found ≡ NoFault → r .foreign ≡ false → front-bytes n s ≡ r .bytes
     front-own h k =
-        let t = rule-stands r (rule-front s) e h in
+        let t = rule-stands r _ (rule-front s) e h in
         let own : foreign-field (t .rule) ≡ false = sym (t .foreign) ∙ k in
         rw (lt-leb catalogue-rules n few, t .reads, own)
 

@@ -1,16 +1,19 @@
--- One rule more at the end of a list: how many bytes the records have, where the record of the rule with a number stands and how many bytes it has;
--- and rules that were read before others.
--- Follows by induction on the list.
-use Prim.Native.Nat.{ℕ, zero, suc, _+_}
+-- One rule more at the end of a list: how many bytes the records have and where each begins; and rules that were read before others.
+-- Follows by induction on the list, and from what stands at each place of `begins-of`.
+use Prim.Native.Nat.{ℕ, suc, _+_, _≤_, _<_}
 use native.Mathlib.Omega.{arith}
-use mathlib.Core.Path.{_≡_, refl, ap, _∙_}
+use mathlib.Core.Path.{_≡_, refl, sym, ap, _∙_}
 use mathlib.Core.List.{List, [], _∷_, _++_}
-use lib.Dec.{ltb}
-use lib.ListN.{length, getD, length-append}
-use lib.Seq.{take-append-le, take-at}
+use lib.Dec.{leb, eqb}
+use lib.ListN.{length, getD, set, length-append, length-map, length-set}
+use lib.Seq.{take-append-le, take-all, ext-getD, getD-set-same, getD-set-other}
+use Rattle.paper.specs.Lists.{upto}
+use Rattle.paper.specs.Numbers.{catalogue-rules}
 use Rattle.paper_catalogue.specs.Catalogue.{Present, Form, no-catalogue, rules, rule-behind, used}
-use Rattle.paper.proofs.base.Tests.{by-bool, lt-ltb, le-ltb, ltb-true, ltb-false}
-use Rattle.catalogue_form.specs.Kept.{record-at, bytes-each, record-bytes}
+use Rattle.paper.proofs.base.Lists.{length-from}
+use Rattle.paper.proofs.base.Listed.{getD-map-upto}
+use Rattle.paper.proofs.base.Tests.{by-bool, le-leb, lt-leb, leb-true, leb-false, eqb-true, eqb-false}
+use Rattle.catalogue_form.specs.Kept.{begin-of, begins-of, no-begins}
 
 abbrev pub and-last : List Present → Present → List Present
 and-last l r = l ++ (r ∷ [])
@@ -22,37 +25,54 @@ pub used-last : (l : List Present) (r : Present) → used (and-last l r) ≡ use
 used-last [] r = omega arith
 used-last (x ∷ l) r = let e = used-last l r in omega arith
 
--- where the last record stands, and where the others do
-pub at-last : (l : List Present) (r : Present) (i : ℕ) → length l ≡ i → record-at (and-last l r) i ≡ used l
-unfolding record-at
-at-last l r i e = rw (lt-ltb i (length (and-last l r)) (omega (arith, length-last l r)), take-at l (r ∷ []) i e)
+-- Where each rule begins.
+pub length-begins : (l : List Present) → length (begins-of l) ≡ suc catalogue-rules
+unfolding begins-of
+length-begins l = length-map (upto (suc catalogue-rules)) (begin-of l) ∙ length-from 0 (suc catalogue-rules)
 
-pub at-other : (l : List Present) (r : Present) (i : ℕ) → (length l ≡ i → ⊥) → record-at (and-last l r) i ≡ record-at l i
-unfolding record-at
-at-other l r i d =
-    by-bool (ltb i (length l))
-    (λ h. let k = ltb-true i (length l) h in
-    rw (h, lt-ltb i (length (and-last l r)) (omega (arith, length-last l r)), take-append-le i l (r ∷ []) (omega arith)))
-    (λ h. let k = ltb-false i (length l) h in rw (h, le-ltb i (length (and-last l r)) (omega (arith, d, length-last l r))))
+pub begins-at : (l : List Present) (i : ℕ) → i ≤ catalogue-rules → getD (begins-of l) i 0 ≡ begin-of l i
+unfolding begins-of
+begins-at l i h = getD-map-upto (begin-of l) 0 (suc catalogue-rules) i (omega arith)
 
--- how many bytes the last record has, and how many the others have
-each-last : (l : List Present) (r : Present) → getD (bytes-each (and-last l r)) (length l) 0 ≡ r .bytes
-each-last [] r = refl
-each-last (x ∷ l) r = each-last l r
+pub none-begin : no-begins ≡ begins-of []
+unfolding no-begins begins-of
+none-begin = refl
 
-each-other : (l : List Present) (r : Present) (i : ℕ) → (length l ≡ i → ⊥) → getD (bytes-each (and-last l r)) i 0 ≡ getD (bytes-each l) i 0
-each-other [] r zero d = absurd (d refl)
-each-other [] r (suc i) d = refl
-each-other (x ∷ l) r zero d = refl
-each-other (x ∷ l) r (suc i) d = each-other l r i (λ (e : length l ≡ i). d (ap suc e))
+-- the last one ends behind the others, and these begin where they did
+end-last : (l : List Present) (r : Present) → begin-of (and-last l r) (suc (length l)) ≡ used l + r .bytes
+end-last l r =
+    let e = length-last l r in
+    rw (le-leb (suc (length l)) (length (and-last l r)) (omega (arith, e)), take-all (suc (length l)) (and-last l r) (omega (arith, e)))
+    (used-last l r)
 
-pub bytes-last : (l : List Present) (r : Present) (i : ℕ) → length l ≡ i → record-bytes (and-last l r) i ≡ r .bytes
-unfolding record-bytes
-bytes-last l r i e = rw (← e) (each-last l r)
+begin-other : (l : List Present) (r : Present) (i : ℕ) → (i ≡ suc (length l) → ⊥) → begin-of l i ≡ begin-of (and-last l r) i
+begin-other l r i d =
+    by-bool (leb i (length l))
+    (λ h. let k = leb-true i (length l) h in
+    rw (h, le-leb i (length (and-last l r)) (omega (arith, length-last l r)), take-append-le i l (r ∷ []) k))
+    (λ h. let k = leb-false i (length l) h in rw (h, lt-leb i (length (and-last l r)) (omega (arith, d, length-last l r))))
 
-pub bytes-other : (l : List Present) (r : Present) (i : ℕ) → (length l ≡ i → ⊥) → record-bytes (and-last l r) i ≡ record-bytes l i
-unfolding record-bytes
-bytes-other l r i d = each-other l r i d
+pub begins-last : (l : List Present) (r : Present) → length l < catalogue-rules
+    → set (begins-of l) (suc (length l)) (used l + r .bytes) ≡ begins-of (and-last l r)
+begins-last l r few =
+    let x = used l + r .bytes in
+    let n = suc (length l) in
+    ext-getD 0 (set (begins-of l) n x) (begins-of (and-last l r))
+    (length-set (begins-of l) n x ∙ length-begins l ∙ sym (length-begins (and-last l r)))
+    (λ i h.
+    let low : i ≤ catalogue-rules = omega (arith, length-set (begins-of l) n x, length-begins l) in
+    by-bool (eqb i n)
+    (λ (e : eqb i n ≡ _).
+    ap (λ (j : ℕ). getD (set (begins-of l) n x) j 0) (eqb-true i n e)
+    ∙ getD-set-same (begins-of l) n x 0 (omega (arith, length-begins l))
+    ∙ sym (end-last l r)
+    ∙ ap (begin-of (and-last l r)) (sym (eqb-true i n e))
+    ∙ sym (begins-at (and-last l r) i low))
+    (λ (e : eqb i n ≡ _).
+    getD-set-other (begins-of l) n i x 0 (eqb-false i n e)
+    ∙ begins-at l i low
+    ∙ begin-other l r i (eqb-false i n e)
+    ∙ sym (begins-at (and-last l r) i low)))
 
 -- the form of a catalogue whose first rules are known
 abbrev pub behind-all : List Present → Form → Form

@@ -2,25 +2,25 @@
 -- record, another makes the buffer none of a catalogue's form, and where zero bytes are left it is done.
 -- Follows from the definition of `form-within` by the tests that it makes (`FrontBytes`), and from one rule more (`OneMore`).
 use Prim.Native.Nat.{ℕ, zero, suc, _+_, _≤_, _<_}
+use native.Mathlib.Numerals.{add-one}
 use native.Mathlib.Omega.{arith}
 use mathlib.Core.Path.{_≡_, refl, sym, ap, _∙_}
 use mathlib.Core.Bool.{true, false}
 use mathlib.Core.List.{List, []}
-use lib.ListN.{length, drop, length-drop}
+use lib.ListN.{length, set, drop, length-drop}
 use lib.Seq.{drop-drop}
 use Rattle.paper.specs.Numbers.{catalogue-rules}
 use Rattle.paper_catalogue.specs.Catalogue.{Present, no-catalogue, rules, rule-behind, all-zero, form-within, form}
 use Rattle.paper_catalogue.specs.Catalogue as Catalogue
-use Rattle.paper.proofs.base.Tests.{le-ltb}
 use Rattle.paper_catalogue.proofs.Local.{rule-bounds}
-use Rattle.catalogue_form.specs.Kept.{record-at, record-bytes, kept-of, front-bytes}
+use Rattle.catalogue_form.specs.Kept.{begins-of, no-begins, kept-of, front-bytes}
 use Rattle.catalogue_form.specs.declared.Kept.{Kept}
 use Rattle.catalogue_form.proofs.FrontBytes.{Next, no-front}
-use Rattle.catalogue_form.proofs.OneMore.{and-last, length-last, used-last, at-last, at-other, bytes-last, bytes-other}
+use Rattle.catalogue_form.proofs.OneMore.{and-last, length-last, used-last, none-begin, begins-last}
 use Rattle.catalogue_form.proofs.OneMore.{behind-all, behind-last, behind-none, behind-end}
 
--- so many rules are read, whose records have so many bytes; so many more may stand
-pub record Reached (catalogue : List ℕ) (number rules used at bytes : ℕ) : Type 0 where
+-- so many rules are read, whose records have so many bytes and begin there; so many more may stand
+pub record Reached (catalogue begins : List ℕ) (rules used : ℕ) : Type 0 where
   pub done : List Present
   pub left : ℕ
   pub most : left + rules ≡ catalogue-rules
@@ -28,16 +28,15 @@ pub record Reached (catalogue : List ℕ) (number rules used at bytes : ℕ) : T
   pub rules-of : rules ≡ length done
   pub used-of : used ≡ Catalogue.used done
   pub inside : used ≤ length catalogue
-  pub at-of : at ≡ record-at done number
-  pub bytes-of : bytes ≡ record-bytes done number
+  pub begins-are : begins ≡ begins-of done
 
 zero-end : (left : ℕ) (s : List ℕ) → all-zero s ≡ true → form-within left s ≡ rules []
 zero-end zero s z = rw z
 zero-end (suc left) s z = rw z
 
-pub reached-start : (catalogue : List ℕ) (number : ℕ) → Reached catalogue number 0 0 0 0
-unfolding form record-at record-bytes
-reached-start catalogue number =
+pub reached-start : (catalogue begins : List ℕ) → begins ≡ no-begins → Reached catalogue begins 0 0
+unfolding form
+reached-start catalogue begins e =
     record {
       done = [];
       left = catalogue-rules;
@@ -46,17 +45,16 @@ reached-start catalogue number =
       rules-of = refl;
       used-of = refl;
       inside = omega arith;
-      at-of = rw (le-ltb number 0 (omega arith));
-      bytes-of = refl;
+      begins-are = e ∙ none-begin;
     }
 
-module _ {catalogue : List ℕ} {number rules used at bytes : ℕ} (r : Reached catalogue number rules used at bytes) where
+module _ {catalogue begins : List ℕ} {rules used : ℕ} (r : Reached catalogue begins rules used) where
   pub reached-end : all-zero (drop used catalogue) ≡ true →
-      _≡_ {A = Kept} (record { good = true; rules = rules; used = used; at = at; bytes = bytes }) (kept-of number (form catalogue))
+      _≡_ {A = Kept} (record { good = true; rules = rules; used = used; begins = begins }) (kept-of (form catalogue))
   reached-end z =
       let left = zero-end (r .left) (drop used catalogue) z in
       let e : form catalogue ≡ Catalogue.rules (r .done) = r .forms ∙ ap (behind-all (r .done)) left ∙ behind-end (r .done) in
-      rw (e, r .rules-of, r .used-of, r .at-of, r .bytes-of)
+      rw (e, r .rules-of, r .used-of, r .begins-are)
 
   -- a rule that stands there lies inside
   pub next-inside : {next : ℕ} → Next rules (drop used catalogue) next → (0 < next) × (used + next ≤ length catalogue)
@@ -78,12 +76,15 @@ module _ {catalogue : List ℕ} {number rules used at bytes : ℕ} (r : Reached 
       behind-this : (left : ℕ) → form-within (suc left) (drop used catalogue) ≡ rule-behind this (form-within left (drop (used + next) catalogue))
       behind-this left = rw (z, n .reads, n .own, drop-drop next used catalogue)
 
-      one-more : (more-at more-bytes : ℕ) → more-at ≡ record-at (and-last (r .done) this) number
-          → more-bytes ≡ record-bytes (and-last (r .done) this) number → Reached catalogue number (rules + 1) (used + next) more-at more-bytes
-      one-more more-at more-bytes e f = turn (r .left) (r .most) (r .forms)
+      begins-more : set begins (rules + 1) (used + next) ≡ begins-of (and-last (r .done) this)
+      begins-more =
+          rw (add-one rules, r .rules-of, r .used-of, r .begins-are) (begins-last (r .done) this (omega (arith, n .few, r .rules-of)))
+
+      pub reached-more : Reached catalogue (set begins (rules + 1) (used + next)) (rules + 1) (used + next)
+      reached-more = turn (r .left) (r .most) (r .forms)
         where
           turn : (left : ℕ) → left + rules ≡ catalogue-rules → form catalogue ≡ behind-all (r .done) (form-within left (drop used catalogue))
-              → Reached catalogue number (rules + 1) (used + next) more-at more-bytes
+              → Reached catalogue (set begins (rules + 1) (used + next)) (rules + 1) (used + next)
           turn zero m g = absurd (omega (arith, n .few))
           turn (suc left) m g =
               record {
@@ -94,24 +95,5 @@ module _ {catalogue : List ℕ} {number rules used at bytes : ℕ} (r : Reached 
                 rules-of = omega (arith, r .rules-of, length-last (r .done) this);
                 used-of = omega (arith, r .used-of, used-last (r .done) this);
                 inside = next-inside n .1;
-                at-of = e;
-                bytes-of = f;
+                begins-are = begins-more;
               }
-
-      -- its number is the one asked for, or not
-      module _ (more-at more-bytes : ℕ) where
-        pub reached-this : rules ≡ number → more-at ≡ used → more-bytes ≡ next
-            → Reached catalogue number (rules + 1) (used + next) more-at more-bytes
-        reached-this e a b =
-            let k = sym (r .rules-of) ∙ e in
-            one-more more-at more-bytes
-            (a ∙ r .used-of ∙ sym (at-last (r .done) this number k))
-            (b ∙ sym (bytes-last (r .done) this number k))
-
-        pub reached-other : (rules ≡ number → ⊥) → more-at ≡ at → more-bytes ≡ bytes
-            → Reached catalogue number (rules + 1) (used + next) more-at more-bytes
-        reached-other d a b =
-            let k : length (r .done) ≡ number → ⊥ = λ e. d (r .rules-of ∙ e) in
-            one-more more-at more-bytes
-            (a ∙ r .at-of ∙ sym (at-other (r .done) this number k))
-            (b ∙ r .bytes-of ∙ sym (bytes-other (r .done) this number k))

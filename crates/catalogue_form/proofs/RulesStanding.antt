@@ -1,19 +1,32 @@
--- The rule with the number i, read where its record stands: what the struct of a rule says of it, that it is good, and where the next one stands.
+-- The walk of a catalogue of its form: the rule with the number i stands where it begins.
+--   begins-are                     : the i-th begin is where the records before it end
+--   standing-reads, standing-good  : there its record stands, and it is a good rule
+--   standing-side, -fields, -bytes : reading there gives its side, what is worked out of its fields and how many bytes it has
+--   standing-bodies                : and where its patterns stand
+--   next-begin, record-within      : its record ends where the next one begins, within the catalogue
 -- Follows from where the rules of a catalogue stand (`read-at`).
 use Prim.Native.Nat.{ℕ, zero, suc, _+_, _≤_, _<_}
-use native.Mathlib.Numerals.{add-one}
 use native.Mathlib.Omega.{arith}
-use mathlib.Core.Path.{_≡_, refl, ap, _∙_}
-use mathlib.Core.List.{List, [], _∷_}
-use lib.ListN.{length, drop}
+use mathlib.Core.Path.{_≡_, refl, sym, ap, _∙_, subst}
+use mathlib.Core.List.{List, [], _∷_, map}
+use lib.ListN.{length, getD, drop}
 use Rattle.paper.specs.Sheet.{records}
 use Rattle.paper.specs.Rule.{rule-front}
-use Rattle.paper_catalogue.specs.Catalogue.{Present, rules, form}
+use Rattle.paper_catalogue.specs.Catalogue.{Present}
 use Rattle.paper_catalogue.specs.Calls.{present-at, rule-at}
-use Rattle.paper_catalogue.proofs.Form.{offset-of, offset-next, read-at, own-fields, record-inside}
+use Rattle.paper.proofs.base.Tests.{le-leb}
+use Rattle.paper_catalogue.proofs.Form.{offset-of, offset-next, rules-at-most, read-at, own-fields, record-inside}
 use Rattle.paper_catalogue.proofs.GoodRule.{GoodRule, rule-good}
-use Rattle.read_rule.specs.RuleRead.{rule-of}
+use Rattle.base_codes.specs.Inner.{side-code, padded}
+use Rattle.base_places.specs.WorkedOut.{worked-out}
+use Rattle.base_question.specs.declared.Body.{Body}
+use Rattle.read_fields.proofs.PatternsStanding.{AllStand}
+use Rattle.read_rule.specs.RuleRead.{rule-bodies, rule-of}
 use Rattle.read_rule.specs.declared.Rule.{Rule}
+use Rattle.read_rule.proofs.RulePatterns.{front-stands}
+use Rattle.catalogue_form.specs.Kept.{Of-form, rule-there}
+use Rattle.catalogue_form.specs.declared.Kept.{Kept}
+use Rattle.catalogue_form.proofs.OneMore.{begins-at}
 
 -- the rule with the number i in front
 pub in-front : (l : List Present) (i : ℕ) → i < length l → drop i l ≡ present-at l i ∷ drop (suc i) l
@@ -21,23 +34,59 @@ in-front [] i h = absurd (omega arith)
 in-front (r ∷ l) zero h = refl
 in-front (r ∷ l) (suc i) h = in-front l i (omega arith)
 
-module _ (catalogue : List ℕ) {l : List Present} (e : form catalogue ≡ rules l) (i : ℕ) (h : i < length l) where
-  pub standing-good : GoodRule (rule-at l i)
-  standing-good = rule-good (drop (offset-of l i) catalogue) (read-at catalogue e i h) (own-fields catalogue e i h)
+-- where the rule with a number begins, by what was read
+abbrev pub begin-in : Kept → ℕ → ℕ
+begin-in kept i = getD (kept .begins) i 0
 
-  -- at its offset
-  module _ (at : ℕ) (place : at ≡ offset-of l i) where
-    pub standing-inside : at ≤ length catalogue
-    standing-inside = omega (arith, place, record-inside catalogue e i h)
+module _ {catalogue : List ℕ} {kept : Kept} (x : Of-form catalogue kept) where
+  abbrev l : List Present
+  l = x .rules-present
 
-    module _ (present : Rule) (p : present ≡ rule-of (rule-front (drop at catalogue))) where
-      pub standing-is : present ≡ rule-of (records (rule-at l i) (present-at l i .bytes))
-      standing-is = p ∙ rw place (ap rule-of (read-at catalogue e i h))
+  -- no more than 32
+  pub rules-few : kept .rules ≤ 32
+  rules-few = omega (arith, x .counted, rules-at-most catalogue (x .of-form))
 
-      pub next-place : at + present .bytes ≡ offset-of l (i + 1)
-      next-place = rw (add-one i, offset-next l i h, ← place) (ap (λ (r : Rule). at + r .bytes) standing-is)
+  pub begins-are : (i : ℕ) → i ≤ length l → begin-in kept i ≡ offset-of l i
+  begins-are i h =
+      ap (λ (b : List ℕ). getD b i 0) (x .its-begins)
+      ∙ begins-at l i (omega (arith, rules-at-most catalogue (x .of-form)))
+      ∙ rw (le-leb i (length l) h)
 
-      pub next-inside : at + present .bytes ≤ length catalogue
-      next-inside =
-          let b : present .bytes ≡ present-at l i .bytes = ap (λ (r : Rule). r .bytes) standing-is in
-          omega (arith, place, b, record-inside catalogue e i h)
+  module _ (i : ℕ) (h : i < length l) where
+    abbrev its-begin : ℕ
+    its-begin = begin-in kept i
+
+    pub standing-good : GoodRule (rule-at l i)
+    standing-good = rule-good (drop (offset-of l i) catalogue) (read-at catalogue (x .of-form) i h) (own-fields catalogue (x .of-form) i h)
+
+    pub standing-reads : rule-front (drop its-begin catalogue) ≡ records (rule-at l i) (present-at l i .bytes)
+    standing-reads = rw (begins-are i (omega arith)) (read-at catalogue (x .of-form) i h)
+
+    -- what is read there
+    module _ (present : Rule) (p : present ≡ rule-there (drop its-begin catalogue)) where
+      standing-is : present ≡ rule-of (rule-bodies (drop its-begin catalogue)) (records (rule-at l i) (present-at l i .bytes))
+      standing-is = p ∙ ap (rule-of (rule-bodies (drop its-begin catalogue))) standing-reads
+
+      pub standing-side : present .side ≡ padded (side-code (rule-at l i .side))
+      standing-side = ap (λ (r : Rule). r .side) standing-is
+
+      pub standing-fields : present .fields ≡ map worked-out (rule-at l i .fields .held)
+      standing-fields = ap (λ (r : Rule). r .fields) standing-is
+
+      pub standing-bytes : present .bytes ≡ present-at l i .bytes
+      standing-bytes = ap (λ (r : Rule). r .bytes) standing-is
+
+      pub standing-bodies : AllStand (drop its-begin catalogue) (present .bodies) (rule-at l i .fields .held)
+      standing-bodies =
+          subst (λ (b : List Body). AllStand (drop its-begin catalogue) b (rule-at l i .fields .held)) (sym (ap (λ (r : Rule). r .bodies) standing-is))
+          (front-stands (drop its-begin catalogue) standing-reads)
+
+    -- where the next one begins
+    pub next-begin : begin-in kept (i + 1) ≡ its-begin + present-at l i .bytes
+    next-begin = omega (arith, begins-are i (omega arith), begins-are (suc i) h, offset-next l i h, ap (begin-in kept) next)
+      where
+        next : i + 1 ≡ suc i
+        next = omega arith
+
+    pub record-within : its-begin + present-at l i .bytes ≤ length catalogue
+    record-within = omega (arith, begins-are i (omega arith), record-inside catalogue (x .of-form) i h)

@@ -1,12 +1,17 @@
 // The form of a catalogue: "Records stand one behind the other from the buffer's start, then zero bytes."
 use base_answers::Found;
+use read_rule::Rule;
 ghost use mathlib.Core.Path.{_≡_};
 ghost use mathlib.Core.Bool.{false};
+ghost use lib.ListN.{drop};
 ghost use Rattle.paper_catalogue.specs.Catalogue.{all-zero, form};
-ghost use Rattle.catalogue_form.specs.Kept.{front-bytes, kept-of};
+ghost use Rattle.catalogue_form.specs.Kept.{no-begins, front-bytes, kept-of, rule-there};
 
 // "a catalogue of up to 32 rules"
 pub const CATALOGUE_RULES: usize = 32;
+
+// Where each of them begins, and where the last one ends.
+pub const BEGINS: usize = CATALOGUE_RULES + 1;
 
 // What stands in a catalogue.
 pub struct Kept {
@@ -15,50 +20,50 @@ pub struct Kept {
     // how many rules stand, and how many bytes their records have
     pub rules: usize,
     pub used: usize,
-    // where the record of the rule with the number asked for stands, and how many bytes it has; 0 where there is none
-    pub at: usize,
-    pub bytes: usize,
+    // where the rule with each number begins; the number of rules has the end of the last one, those above it 0
+    pub begins: [usize; BEGINS],
 }
 
-// Reads a catalogue, in one pass: its rules, and where the one with this number stands.
-pub fn find(catalogue: &[u8], number: usize) -> Kept
-    ensures { λ r. ⌜ r ≡ kept-of number (form (now (catalogue .entry))) ⌝ }
+// Reads a catalogue, in one pass: its rules, and where each begins.
+pub fn find(catalogue: &[u8]) -> Kept
+    ensures { λ r. ⌜ r ≡ kept-of (form (now (catalogue .entry))) ⌝ }
 {
+    let mut begins = no_begins();
     let mut rules = 0;
     let mut used = 0;
-    let mut at = 0;
-    let mut bytes = 0;
     while !is_zero(&catalogue[used..]) {
-        let next = rule_at(&catalogue[used..], rules);
+        let next = front_bytes(&catalogue[used..], rules);
         if next == 0 {
             return no_catalogue();
         }
-        if rules == number {
-            at = used;
-            bytes = next;
-        }
         used += next;
         rules += 1;
+        begins[rules] = used;
     }
     Kept {
         good: true,
         rules,
         used,
-        at,
-        bytes,
+        begins,
     }
 }
 
 fn no_catalogue() -> Kept
-    ensures { λ r. ⌜ r ≡ record { good = false; rules = 0; used = 0; at = 0; bytes = 0 } ⌝ }
+    ensures { λ r. ⌜ r ≡ record { good = false; rules = 0; used = 0; begins = no-begins } ⌝ }
 {
+    let begins = no_begins();
     Kept {
         good: false,
         rules: 0,
         used: 0,
-        at: 0,
-        bytes: 0,
+        begins,
     }
+}
+
+fn no_begins() -> [usize; BEGINS]
+    ensures { λ r. ⌜ r ≡ no-begins ⌝ }
+{
+    [0; BEGINS]
 }
 
 // Are all of these zero?
@@ -76,7 +81,7 @@ fn is_zero(s: &[u8]) -> bool
 }
 
 // How many bytes the rule at the front has, if one may stand behind so many; else 0.
-fn rule_at(s: &[u8], rules: usize) -> usize
+fn front_bytes(s: &[u8], rules: usize) -> usize
     ensures { λ r. ⌜ r ≡ front-bytes rules (now (s .entry)) ⌝ }
 {
     if CATALOGUE_RULES <= rules {
@@ -91,4 +96,14 @@ fn rule_at(s: &[u8], rules: usize) -> usize
         return 0;
     }
     r.bytes
+}
+
+// The rule that begins at the offset; behind the end there is none, and it is cut short.
+pub fn rule_at(catalogue: &[u8], at: usize) -> Rule
+    ensures { λ r. ⌜ r ≡ rule-there (drop at (now (catalogue .entry))) ⌝ }
+{
+    if catalogue.len() < at {
+        return read_rule::front(&catalogue[0..0]);
+    }
+    read_rule::front(&catalogue[at..])
 }

@@ -1,5 +1,6 @@
 // A pair of rules: "the present rule is the left side, the new one the right, with its fields as 4 to 7". No text is written.
 use base_answers::Ended;
+use base_codes::CodedSide;
 use base_codes::FIELD_CODE;
 use base_codes::LONGEST_SIDE;
 use base_codes::SHEET_FIELDS;
@@ -22,8 +23,8 @@ const MOVABLE: u8 = 251;
 
 // Can the two rules make the same label? Their sides by inner codes, what is worked out of their fields' patterns.
 pub fn ask(
-    left: [u8; LONGEST_SIDE],
-    right: [u8; LONGEST_SIDE],
+    left: CodedSide,
+    right: CodedSide,
     first: [PlaceTables; SHEET_FIELDS],
     second: [PlaceTables; SHEET_FIELDS],
     work: &mut [u8],
@@ -40,8 +41,8 @@ pub fn ask(
 
 // What the pair asks. Its patterns stand in no one sheet.
 fn asked(
-    left: [u8; LONGEST_SIDE],
-    right: [u8; LONGEST_SIDE],
+    left: CodedSide,
+    right: CodedSide,
     first: [PlaceTables; SHEET_FIELDS],
     second: [PlaceTables; SHEET_FIELDS],
 ) -> Question
@@ -70,7 +71,7 @@ fn answer_of(ended: Ended) -> Pair
 }
 
 // The side with its fields as 4 to 7.
-fn moved_up(side: [u8; LONGEST_SIDE]) -> [u8; LONGEST_SIDE]
+fn moved_up(side: CodedSide) -> CodedSide
     ensures { λ r. ⌜ r ≡ map moved-code side ⌝ }
 {
     let mut moved = side;

@@ -16,13 +16,14 @@ use Rattle.catalogue_bytes.proofs.Within.{is-put}
 use Rattle.print_lines.proofs.Putting.{puts-in-front}
 use Rattle.catalogue_recheck.specs.PairList.{told-rechecked, longest-list, All-listed}
 use Rattle.catalogue_form.specs.Kept.{Of-form}
+use Rattle.catalogue_form.specs.declared.Kept.{Kept}
 use Rattle.catalogue_recheck.specs.declared.Rechecked.the-variants.{Listed}
 
 pub rechecks-none : (catalogue work list : List ℕ) → form catalogue ≡ no-catalogue → not-listed 34 list work ≡ rechecking catalogue work list
 unfolding rechecking
 rechecks-none catalogue work list e = rw e
 
-module _ {catalogue : List ℕ} {count : ℕ} (x : Of-form catalogue count) {work after before bytes : List ℕ} {n : ℕ}
+module _ {catalogue : List ℕ} {kept : Kept} (x : Of-form catalogue kept) {work after before bytes : List ℕ} {n : ℕ}
     (a : All-listed (x .rules-present) work after before bytes n) where
   abbrev all : List ℕ
   all = listed-from 0 (x .rules-present) (room-of work)

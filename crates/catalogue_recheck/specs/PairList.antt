@@ -4,13 +4,14 @@ use mathlib.Core.Path.{_≡_}
 use mathlib.Core.Bool.{cond}
 use mathlib.Core.List.{List, [], map}
 use lib.Dec.{eqb}
-use lib.ListN.{length, take, drop}
+use lib.ListN.{length, drop}
 use Rattle.paper.specs.Outcome.{room-of}
-use Rattle.paper_catalogue.specs.Catalogue.{Present, used, work-behind}
+use Rattle.paper_catalogue.specs.Catalogue.{Present, work-behind}
 use Rattle.paper_catalogue.specs.Calls.{rule-at}
 use Rattle.paper_catalogue.specs.Recheck.{pair-record, listed-with, listed-from, work-after-pairs, not-listed}
 use Rattle.paper_catalogue.specs.Recheck as Recheck
 use Rattle.catalogue_form.specs.Kept.{Of-form}
+use Rattle.catalogue_form.specs.declared.Kept.{Kept}
 use Rattle.base_codes.specs.Inner.{side-code, padded}
 use Rattle.base_places.specs.WorkedOut.{worked-out}
 use Rattle.base_places.specs.declared.PlaceTables.{PlaceTables}
@@ -41,15 +42,13 @@ pub record Pair-fits (bytes : List ℕ) (n lower higher : ℕ) (p : Pair) : Type
 abbrev pub list-with : List Present → ℕ → List ℕ → List ℕ
 list-with l lower work = listed-with lower (rule-at l lower) (suc lower) (drop (suc lower) l) (room-of work)
 
--- what is known where they are asked: side and fields are those of the rule with the lower number, the rules behind it stand from the offset on,
--- and the list fits behind the first n bytes
-pub record Ready-to-list (catalogue : List ℕ) (count lower : ℕ) (side : List ℕ) (fields : List PlaceTables) (from : ℕ) (work bytes : List ℕ)
+-- what is known where they are asked: side and fields are those of the rule with the lower number, and the list fits behind the first n bytes
+pub record Ready-to-list (catalogue : List ℕ) (kept : Kept) (lower : ℕ) (side : List ℕ) (fields : List PlaceTables) (work bytes : List ℕ)
     (n : ℕ) : Type 0 where
-  pub standing : Of-form catalogue count
-  pub there : lower < count
+  pub standing : Of-form catalogue kept
+  pub there : lower < length (standing .rules-present)
   pub side-is : side ≡ padded (side-code (rule-at (standing .rules-present) lower .side))
   pub fields-are : fields ≡ map worked-out (rule-at (standing .rules-present) lower .fields .held)
-  pub place : from ≡ used (take (suc lower) (standing .rules-present))
   pub room : n + length (list-with (standing .rules-present) lower work) ≤ length bytes
 
 -- what asking them gives

@@ -1,4 +1,5 @@
 // A kept catalogue checked again: its pairs are all searched, and those not answered 1 are listed.
+use catalogue_form::Kept;
 use catalogue_pair::Pair;
 use read_rule::Rule;
 ghost use mathlib.Core.Path.{_≡_};
@@ -28,12 +29,12 @@ pub enum Rechecked {
 pub fn recheck(catalogue: &[u8], work: &mut [u8], list: &mut [u8]) -> Rechecked
     ensures { λ r. ⌜ told-rechecked r (now (list .exit)) (now (work .exit)) ≡ rechecking (now (catalogue .entry)) (now (work .entry)) (now (list .entry)) ⌝ }
 {
-    let kept = catalogue_form::find(catalogue, 0);
+    let kept = catalogue_form::find(catalogue);
     if !kept.good {
         return Rechecked::NoCatalogue;
     }
     let mut bytes = no_bytes();
-    let n = list_all(catalogue, kept.rules, work, &mut bytes);
+    let n = list_all(catalogue, kept, work, &mut bytes);
     if list.len() < n {
         return Rechecked::TooShort;
     }
@@ -51,49 +52,46 @@ fn no_bytes() -> [u8; LONGEST_LIST]
 }
 
 // Puts every pair of the rules that is not answered 1 in front of the bytes, and tells how many bytes that makes.
-fn list_all(catalogue: &[u8], count: usize, work: &mut [u8], bytes: &mut [u8]) -> usize
-    requires catalogue { ⌜ Of-form (now catalogue) count ⌝ }
+fn list_all(catalogue: &[u8], kept: Kept, work: &mut [u8], bytes: &mut [u8]) -> usize
+    requires catalogue { ⌜ Of-form (now catalogue) kept ⌝ }
     requires bytes { ⌜ length (now bytes) ≡ longest-list ⌝ }
-    ensures { λ r. ⌜ ((x : Of-form (now (catalogue .entry)) count) → All-listed (x .rules-present) (now (work .entry)) (now (work .exit)) (now (bytes .entry)) (now (bytes .exit)) r) ⌝ }
+    ensures { λ r. ⌜ ((x : Of-form (now (catalogue .entry)) kept) → All-listed (x .rules-present) (now (work .entry)) (now (work .exit)) (now (bytes .entry)) (now (bytes .exit)) r) ⌝ }
 {
-    let mut at = 0;
     let mut i = 0;
     let mut n = 0;
-    while i < count {
-        let rule = read_rule::front(&catalogue[at..]);
-        at += rule.bytes;
-        n = list_with(catalogue, count, i, rule, at, work, bytes, n);
+    while i < kept.rules {
+        let at = kept.begins[i];
+        let rule = catalogue_form::rule_at(catalogue, at);
+        n = list_with(catalogue, kept, i, rule, work, bytes, n);
         i += 1;
     }
     n
 }
 
-// Puts the pairs of a rule with those behind it, which stand from the offset on, behind the first n bytes.
+// Puts the pairs of a rule with those behind it behind the first n bytes.
 fn list_with(
     catalogue: &[u8],
-    count: usize,
+    kept: Kept,
     lower: usize,
     rule: Rule,
-    from: usize,
     work: &mut [u8],
     bytes: &mut [u8],
     n: usize,
 ) -> usize
-    requires { ⌜ Ready-to-list (now catalogue) count lower (rule .side) (rule .fields) from (now work) (now bytes) n ⌝ }
-    ensures { λ r. ⌜ ((x : Ready-to-list (now (catalogue .entry)) count lower (rule .side) (rule .fields) from (now (work .entry)) (now (bytes .entry)) n) → With-listed (x .standing .rules-present) lower (now (work .entry)) (now (work .exit)) (now (bytes .entry)) (now (bytes .exit)) n r) ⌝ }
+    requires { ⌜ Ready-to-list (now catalogue) kept lower (rule .side) (rule .fields) (now work) (now bytes) n ⌝ }
+    ensures { λ r. ⌜ ((x : Ready-to-list (now (catalogue .entry)) kept lower (rule .side) (rule .fields) (now (work .entry)) (now (bytes .entry)) n) → With-listed (x .standing .rules-present) lower (now (work .entry)) (now (work .exit)) (now (bytes .entry)) (now (bytes .exit)) n r) ⌝ }
 {
     let left = rule.side;
     let first = rule.fields;
-    let mut at = from;
     let mut j = lower + 1;
     let mut end = n;
-    while j < count {
-        let other = read_rule::front(&catalogue[at..]);
+    while j < kept.rules {
+        let at = kept.begins[j];
+        let other = catalogue_form::rule_at(catalogue, at);
         let right = other.side;
         let second = other.fields;
         let pair = catalogue_pair::ask(left, right, first, second, work);
         end = put_pair(bytes, end, lower, j, pair);
-        at += other.bytes;
         j += 1;
     }
     end

@@ -2,7 +2,7 @@
 --   least-read : the marks of the least ones are those of `is-least (hidden q)`
 --   few-read   : the marks of the few are those of `is-few (hidden q)`
 -- Follows from `LeastRead` and `FewRead`, and from what the hidden fields are.
-use mathlib.Core.Path.{_≡_, refl, ap₂, _∙_}
+use mathlib.Core.Path.{_≡_, ap₂}
 use mathlib.Core.List.{List, _++_}
 use Rattle.paper.specs.Numbers.{characters}
 use Rattle.paper.specs.Alphabet.{code-39}

@@ -1,10 +1,12 @@
 // Which characters of a question are searched: the least ones of those alike, and a few of these.
+use base_codes::CodedSide;
 use base_codes::FIELD_CODE;
 use base_codes::FIELDS;
 use base_codes::LONGEST_SIDE;
 use base_codes::NO_TOKEN;
 use base_places::CHARACTERS;
 use base_places::PLACES;
+use base_places::PlaceSet;
 use base_places::when_holds;
 use base_question::Question;
 ghost use mathlib.Core.Bool.{cond, _&&_, _||_, not};
@@ -20,7 +22,7 @@ ghost use Rattle.decide_alike.specs.AlikeCoded.{fixed-coded, standing-co
 ghost use Rattle.decide_alike.specs.AlikeCoded.{first-taken, free-coded, choice-coded, chosen-at, chosen-within, chosen-coded, some-coded, few-coded};
 
 // Does the token stand in the side?
-fn stands(side: [u8; LONGEST_SIDE], token: u8) -> bool
+fn stands(side: CodedSide, token: u8) -> bool
     ensures { λ r. ⌜ r ≡ member token (tokens side) ⌝ }
 {
     let mut i: usize = 0;
@@ -38,7 +40,7 @@ fn stands(side: [u8; LONGEST_SIDE], token: u8) -> bool
 }
 
 // Does it stand in either side?
-fn stands_in_either(left: [u8; LONGEST_SIDE], right: [u8; LONGEST_SIDE], token: u8) -> bool
+fn stands_in_either(left: CodedSide, right: CodedSide, token: u8) -> bool
     ensures { λ r. ⌜ r ≡ member token (tokens left ++ tokens right) ⌝ }
 {
     if stands(left, token) {
@@ -48,7 +50,7 @@ fn stands_in_either(left: [u8; LONGEST_SIDE], right: [u8; LONGEST_SIDE], token: 
 }
 
 // The characters that stand fixed in a side.
-fn fixed_ones(left: [u8; LONGEST_SIDE], right: [u8; LONGEST_SIDE]) -> [bool; CHARACTERS]
+fn fixed_ones(left: CodedSide, right: CodedSide) -> [bool; CHARACTERS]
     ensures { λ r. ⌜ r ≡ fixed-coded (tokens left ++ tokens right) ⌝ }
 {
     let mut fixed = [false; CHARACTERS];
@@ -61,7 +63,7 @@ fn fixed_ones(left: [u8; LONGEST_SIDE], right: [u8; LONGEST_SIDE]) -> [bool; CHA
 }
 
 // The fields that stand.
-fn standing_fields(left: [u8; LONGEST_SIDE], right: [u8; LONGEST_SIDE]) -> [bool; FIELDS]
+fn standing_fields(left: CodedSide, right: CodedSide) -> [bool; FIELDS]
     ensures { λ r. ⌜ r ≡ standing-coded (tokens left ++ tokens right) ⌝ }
 {
     let mut standing = [false; FIELDS];
@@ -74,7 +76,7 @@ fn standing_fields(left: [u8; LONGEST_SIDE], right: [u8; LONGEST_SIDE]) -> [bool
 }
 
 // Are the masks of two characters the same in a field, if it stands?
-fn same_masks(stands: bool, a: u64, b: u64) -> bool
+fn same_masks(stands: bool, a: PlaceSet, b: PlaceSet) -> bool
     ensures { λ r. ⌜ r ≡ (not stands || eqb a b) ⌝ }
 {
     if stands { a == b } else { true }
@@ -83,7 +85,7 @@ fn same_masks(stands: bool, a: u64, b: u64) -> bool
 // Does every leaf of every standing field take both or neither?
 fn same_places(
     standing: [bool; FIELDS],
-    taking: &[[u64; CHARACTERS]; FIELDS],
+    taking: &[[PlaceSet; CHARACTERS]; FIELDS],
     a: usize,
     b: usize,
 ) -> bool
@@ -104,7 +106,7 @@ fn same_places(
 fn alike(
     fixed: [bool; CHARACTERS],
     standing: [bool; FIELDS],
-    taking: &[[u64; CHARACTERS]; FIELDS],
+    taking: &[[PlaceSet; CHARACTERS]; FIELDS],
     a: usize,
     b: usize,
 ) -> bool
@@ -124,7 +126,7 @@ fn alike(
 fn is_least(
     fixed: [bool; CHARACTERS],
     standing: [bool; FIELDS],
-    taking: &[[u64; CHARACTERS]; FIELDS],
+    taking: &[[PlaceSet; CHARACTERS]; FIELDS],
     c: usize,
 ) -> bool
     requires { ⌜ c < characters ⌝ }
@@ -143,7 +145,7 @@ fn is_least(
 fn least_from(
     fixed: [bool; CHARACTERS],
     standing: [bool; FIELDS],
-    taking: &[[u64; CHARACTERS]; FIELDS],
+    taking: &[[PlaceSet; CHARACTERS]; FIELDS],
 ) -> [bool; CHARACTERS]
     ensures { λ r. ⌜ r ≡ least-from fixed standing (now (taking .entry)) ⌝ }
 {
@@ -184,7 +186,7 @@ pub fn least_ones(question: Question) -> LeastOnes
 }
 
 // Is it one of these, and does the place p, one of its mask, take it?
-fn is_taken(among: bool, mask: u64, p: usize) -> bool
+fn is_taken(among: bool, mask: PlaceSet, p: usize) -> bool
     ensures { λ r. ⌜ r ≡ (among && in-mask mask p) ⌝ }
 {
     if among {
@@ -195,7 +197,7 @@ fn is_taken(among: bool, mask: u64, p: usize) -> bool
 }
 
 // The first of these that the place p takes; behind the last character, where it takes none.
-fn first_taken(among: [bool; CHARACTERS], row: [u64; CHARACTERS], p: usize) -> usize
+fn first_taken(among: [bool; CHARACTERS], row: [PlaceSet; CHARACTERS], p: usize) -> usize
     ensures { λ r. ⌜ r ≡ first-taken among row p ⌝ }
 {
     let mut c: usize = 0;
@@ -231,7 +233,7 @@ fn free_ones(fixed: [bool; CHARACTERS], least: [bool; CHARACTERS]) -> [bool; CHA
 fn choice(
     free: [bool; CHARACTERS],
     least: [bool; CHARACTERS],
-    row: [u64; CHARACTERS],
+    row: [PlaceSet; CHARACTERS],
     p: usize,
 ) -> usize
     ensures { λ r. ⌜ r ≡ choice-coded free least row p ⌝ }
@@ -247,7 +249,7 @@ fn choice(
 fn chosen_at(
     free: [bool; CHARACTERS],
     least: [bool; CHARACTERS],
-    row: [u64; CHARACTERS],
+    row: [PlaceSet; CHARACTERS],
     p: usize,
     mut chosen: [bool; CHARACTERS],
 ) -> [bool; CHARACTERS]
@@ -268,7 +270,7 @@ fn chosen_at(
 fn chosen_within(
     free: [bool; CHARACTERS],
     least: [bool; CHARACTERS],
-    row: [u64; CHARACTERS],
+    row: [PlaceSet; CHARACTERS],
     earlier: [bool; CHARACTERS],
 ) -> [bool; CHARACTERS]
     ensures { λ r. ⌜ r ≡ chosen-within free least row earlier ⌝ }
@@ -288,7 +290,7 @@ fn chosen_of(
     free: [bool; CHARACTERS],
     least: [bool; CHARACTERS],
     stands: bool,
-    row: [u64; CHARACTERS],
+    row: [PlaceSet; CHARACTERS],
     chosen: [bool; CHARACTERS],
 ) -> [bool; CHARACTERS]
     ensures { λ r. ⌜ r ≡ cond stands (chosen-within free least row chosen) chosen ⌝ }
@@ -303,7 +305,7 @@ fn chosen_ones(
     free: [bool; CHARACTERS],
     least: [bool; CHARACTERS],
     standing: [bool; FIELDS],
-    taking: &[[u64; CHARACTERS]; FIELDS],
+    taking: &[[PlaceSet; CHARACTERS]; FIELDS],
 ) -> [bool; CHARACTERS]
     ensures { λ r. ⌜ r ≡ chosen-coded free least standing (now (taking .entry)) ⌝ }
 {

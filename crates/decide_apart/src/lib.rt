@@ -1,5 +1,6 @@
 // "Each standing apart. Every standing of a field becomes a field of its own with the same pattern, if there are at most 8 standings": numbered from
 // 0, over the left side and then the right.
+use base_codes::CodedSide;
 use base_codes::FIELD_CODE;
 use base_codes::LONGEST_SIDE;
 use base_codes::NO_TOKEN;
@@ -82,7 +83,7 @@ fn next(k: usize, b: u8) -> usize
 }
 
 // How many standings a side has.
-fn count(side: [u8; LONGEST_SIDE]) -> usize
+fn count(side: CodedSide) -> usize
     ensures { λ r. ⌜ (r ≤ longest-side) × (r ≡ length (standings-coded side)) ⌝ }
 {
     let mut n = 0;
@@ -103,7 +104,7 @@ fn code(k: usize, b: u8) -> u8
 }
 
 // The side with its standings numbered.
-fn numbered(side: [u8; LONGEST_SIDE], first: usize) -> [u8; LONGEST_SIDE]
+fn numbered(side: CodedSide, first: usize) -> CodedSide
     requires { ⌜ first + length (standings-coded side) ≤ fields ⌝ }
     ensures { λ r. ⌜ r ≡ numbered-coded first side ⌝ }
 {
@@ -133,7 +134,7 @@ fn tables_at(own: [PlaceTables; SHEET_FIELDS], f: usize) -> PlaceTables
 
 // The tables of each standing, from field `first` on.
 fn filled(
-    side: [u8; LONGEST_SIDE],
+    side: CodedSide,
     first: usize,
     own: [PlaceTables; SHEET_FIELDS],
     into: [PlaceTables; SHEET_FIELDS],

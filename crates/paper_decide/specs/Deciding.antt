@@ -2,7 +2,7 @@
 -- buffer, any lists of bytes, to the outcome and the number of the search that decided.
 use Prim.Native.Nat.{ℕ, suc, _+_}
 use mathlib.Core.Bool.{Bool, true, false, cond}
-use mathlib.Core.List.{List, [], _∷_, _++_}
+use mathlib.Core.List.{List, [], _∷_}
 use Rattle.paper.specs.Lists.{only}
 use Rattle.paper.specs.Places.{PlaceSet}
 use Rattle.paper.specs.Search.{End, found, used-up, no-room, too-long}

@@ -6,8 +6,8 @@
 -- Follows from the checks on the records, test by test: both walks go from one record to the next.
 use Prim.Native.Nat.{ℕ, zero, suc, _+_, _≤_, _<_}
 use native.Mathlib.Omega.{arith}
-use mathlib.Core.Path.{_≡_, refl, sym, _∙_, subst}
-use mathlib.Core.Bool.{false, _||_}
+use mathlib.Core.Path.{_≡_, refl, _∙_, subst}
+use mathlib.Core.Bool.{_||_}
 use mathlib.Core.List.{List}
 use lib.Dec.{leb, ltb, eqb}
 use lib.ListN.{length, getD, set, length-set, length-replicate, getD-replicate}
@@ -18,7 +18,7 @@ use Rattle.paper.specs.Written.{Judged, judged, judge}
 use Rattle.paper.specs.Written as Written
 use Rattle.paper.specs.Sheet.{Checked, fault, read, FieldPattern, byte-at, bytes-left, body, PA, pattern-judged, pattern-record}
 use Rattle.paper.specs.Sheet.{next-is, records, Fields, open-fields, with-pattern, pattern-read, read-patterns}
-use Rattle.paper.proofs.base.Tests.{cond-by, by-bool, or-left-false, or-right-false, leb-false, ltb-false, eqb-true, eqb-false}
+use Rattle.paper.proofs.base.Tests.{cond-by, by-bool, or-left-false, or-right-false, ltb-false, eqb-true, eqb-false}
 use Rattle.paper.proofs.sheets.Asked.{Listed}
 use Rattle.base_question.specs.Bodies.{nowhere, no-bodies}
 use Rattle.base_question.specs.declared.Body.{Body}

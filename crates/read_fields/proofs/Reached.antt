@@ -16,7 +16,10 @@ use Rattle.base_places.specs.WorkedOut.{worked-out}
 use Rattle.base_places.specs.declared.PlaceTables.{PlaceTables}
 use Rattle.base_question.specs.Bodies.{no-bodies}
 use Rattle.base_question.specs.declared.Body.{Body}
-use Rattle.base_answers.specs.declared.Found.the-variants.{NoFault}
+use Rattle.base_answers.specs.Faults.{fault-of}
+use Rattle.base_answers.specs.declared.Fault as Answer
+use Rattle.base_answers.specs.declared.Found.the-variants.{NoFault, Refused}
+use Rattle.base_answers.proofs.Same.{same-fault}
 use Rattle.read_fields.specs.declared.Fields as Code
 use Rattle.read_fields.specs.declared.PatternRecord.{PatternRecord}
 use Rattle.read_fields.specs.Bodies.{bodies-from, bodies-in}
@@ -42,10 +45,10 @@ map-set f [] i x = refl
 map-set f (y ∷ l) zero x = refl
 map-set f (y ∷ l) (suc i) x = ap (λ (m : List _). f y ∷ m) (map-set f l i x)
 
-pub reached-start : (s : List ℕ) (from : ℕ) (works : List PlaceTables) → works ≡ replicate fields (worked-out some-text)
-    → (bodies : List Body) → bodies ≡ no-bodies → Reached s from from 0 works bodies
+pub reached-start : (s : List ℕ) (from : ℕ) (open-one : PlaceTables) → open-one ≡ worked-out some-text
+    → (bodies : List Body) → bodies ≡ no-bodies → Reached s from from 0 (replicate fields open-one) bodies
 unfolding bodies-in
-reached-start s from works e bodies f =
+reached-start s from open-one e bodies f =
     record {
       held = replicate fields some-text;
       turns = length s;
@@ -53,7 +56,7 @@ reached-start s from works e bodies f =
       reads = refl;
       stand = rw f;
       all = refl;
-      worked = e;
+      worked = ap (λ (t : PlaceTables). replicate fields t) e;
     }
 
 module _ {s : List ℕ} {from at above : ℕ} {works : List PlaceTables} {bodies : List Body} (r : Reached s from at above works bodies) where
@@ -83,6 +86,12 @@ module _ {s : List ℕ} {from at above : ℕ} {works : List PlaceTables} {bodies
       _≡_ {A = Code.Fields} (record { found = NoFault; next = record { at = at }; above = above; tables = works; bodies = bodies })
       (fields-of (bodies-in s from) (all-read s from))
   reached-end p = rw (r .reads, r .stand, p, r .worked)
+
+-- a record with a fault: all fields are open, and no pattern stands anywhere
+pub fault-told : (x : Answer.Fault) (at : ℕ) (open-one : PlaceTables) → open-one ≡ worked-out some-text → (none : List Body) → none ≡ no-bodies →
+    _≡_ {A = Code.Fields} (record { found = Refused x; next = record { at = at }; above = 0; tables = replicate fields open-one; bodies = none })
+    (fields-of no-bodies (faulty (fault-of x) at))
+fault-told x at open-one e none f = rw (same-fault x, e, f)
 
 -- two bytes are left where a mark stands
 pub mark-left : (m : Mark) (s : List ℕ) (at : ℕ) → next-is m s at ≡ true → at + 2 ≤ length s

@@ -11,14 +11,10 @@ ghost use mathlib.Core.Path.{_≡_};
 ghost use mathlib.Core.Bool.{_||_};
 ghost use Prim.Native.Nat.{suc, _+_, _≤_};
 ghost use lib.Dec.{leb, ltb, eqb};
-ghost use lib.ListN.{length, replicate};
+ghost use lib.ListN.{length};
 ghost use Rattle.paper.specs.Numbers.{fields, pattern-bytes};
-ghost use Rattle.paper.specs.Pattern.{some-text};
-ghost use Rattle.paper.specs.Sheet.{PA, next-is, faulty, open-fields, read-patterns};
-ghost use Rattle.base_places.specs.WorkedOut.{worked-out};
-ghost use Rattle.base_answers.specs.Faults.{fault-of};
+ghost use Rattle.paper.specs.Sheet.{PA, next-is, open-fields, read-patterns};
 ghost use Rattle.base_answers.specs.declared.Found.the-variants as Found;
-ghost use Rattle.base_question.specs.Bodies.{no-bodies};
 ghost use Rattle.read_fields.specs.Bodies.{bodies-in};
 ghost use Rattle.read_fields.specs.Walk.{fields-of, Pattern-read};
 
@@ -38,19 +34,13 @@ pub struct Fields {
     pub bodies: [Body; SHEET_FIELDS],
 }
 
-// "A field without `PA` is open": before the first record every field is.
-fn all_open() -> [PlaceTables; SHEET_FIELDS]
-    ensures { λ r. ⌜ r ≡ replicate fields (worked-out some-text) ⌝ }
-{
-    let open = base_places::open_tables();
-    [open; SHEET_FIELDS]
-}
-
 // Reads them: "Reading goes on from where the last record ended."
 pub fn read(s: &[u8], start: Cursor) -> Fields
     ensures { λ r. ⌜ r ≡ fields-of (bodies-in (now (s .entry)) (start .at)) (read-patterns (suc (length (now (s .entry)))) (now (s .entry)) (start .at) open-fields) ⌝ }
 {
-    let mut tables = all_open();
+    // "A field without `PA` is open": before the first record every field is.
+    let open = base_places::open_tables();
+    let mut tables = [open; SHEET_FIELDS];
     let mut bodies = base_question::no_bodies();
     let mut c = PatternCursor {
         at: start.at,
@@ -61,7 +51,16 @@ pub fn read(s: &[u8], start: Cursor) -> Fields
         let found = r.found;
         let next = r.next;
         if let Found::Refused(x) = found {
-            return refuse(x, next.at);
+            // made in place, and not by a function: a frame that holds the tables twice would be live while a pattern is read
+            tables = [open; SHEET_FIELDS];
+            bodies = base_question::no_bodies();
+            return Fields {
+                found: Found::Refused(x),
+                next: Cursor { at: next.at },
+                above: 0,
+                tables,
+                bodies,
+            };
         }
         let field = r.field;
         let its = r.tables;
@@ -74,20 +73,6 @@ pub fn read(s: &[u8], start: Cursor) -> Fields
         found: Found::NoFault,
         next: Cursor { at: c.at },
         above: c.above,
-        tables,
-        bodies,
-    }
-}
-
-fn refuse(x: Fault, at: usize) -> Fields
-    ensures { λ r. ⌜ r ≡ fields-of no-bodies (faulty (fault-of x) at) ⌝ }
-{
-    let tables = all_open();
-    let bodies = base_question::no_bodies();
-    Fields {
-        found: Found::Refused(x),
-        next: Cursor { at },
-        above: 0,
         tables,
         bodies,
     }

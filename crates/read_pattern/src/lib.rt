@@ -7,6 +7,7 @@ use base_places::PLACES;
 use base_places::PlaceTables;
 use base_places::place;
 use place_sets::when;
+use reader::laid;
 use reader::read;
 ghost use mathlib.Core.Path.{_≡_};
 ghost use Rattle.paper.specs.Written.{judge};
@@ -33,7 +34,9 @@ pub fn tables(s: &[u8]) -> Worked
 {
     let mut follow = [0; PLACES];
     let mut taking = [0; CHARACTERS];
-    let r = read(s, 1, &mut follow, &mut taking);
+    let mut out = [s.len() as u64, 1, 0, 0, 0, 0];
+    let ok = read(s, &mut follow, &mut taking, &mut out);
+    let r = laid(ok, out);
     if !r.ok {
         return refused(Verdict::NotOnePattern, s.len() - r.left);
     }

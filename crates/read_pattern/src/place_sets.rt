@@ -1,6 +1,7 @@
 // Place sets joined to tables of them: the sets of places that may follow each place, or that take each character.
 use base_places::CHARACTERS;
 use base_places::PLACES;
+use base_places::PlaceSet;
 use base_places::when_holds;
 ghost use mathlib.Core.Path.{_≡_};
 ghost use mathlib.Core.Bool.{cond};
@@ -11,14 +12,14 @@ ghost use Rattle.base_places.specs.Masks.{places, in-mask};
 ghost use Rattle.read_pattern.specs.ReadPart.{Adds};
 
 // The set, or no place.
-pub fn when(b: bool, set: u64) -> u64
+pub fn when(b: bool, set: PlaceSet) -> PlaceSet
     ensures { λ r. ⌜ r ≡ cond b set 0 ⌝ }
 {
     if b { set } else { 0 }
 }
 
 // Lets every place of `first` follow every place of `last`.
-pub fn link(follow: &mut [u64; PLACES], last: u64, first: u64)
+pub fn link(follow: &mut [PlaceSet; PLACES], last: PlaceSet, first: PlaceSet)
     ensures { λ _. ⌜ Adds places (λ (i : ℕ). cond (in-mask last i) first 0) (now (follow .entry)) (now (follow .exit)) ⌝ }
 {
     let mut i = 0;
@@ -40,7 +41,7 @@ fn between(lo: u8, c: usize, hi: u8) -> bool
 }
 
 // Lets the set take the characters from lo to hi.
-pub fn mark(taking: &mut [u64; CHARACTERS], lo: u8, hi: u8, set: u64)
+pub fn mark(taking: &mut [PlaceSet; CHARACTERS], lo: u8, hi: u8, set: PlaceSet)
     ensures { λ _. ⌜ Adds characters (λ (c : ℕ). cond (takes (range lo hi) c) set 0) (now (taking .entry)) (now (taking .exit)) ⌝ }
 {
     let mut c = 0;

@@ -4,6 +4,7 @@ use crate::place_sets::mark;
 use crate::place_sets::when;
 use base_places::CHARACTERS;
 use base_places::PLACES;
+use base_places::PlaceSet;
 use base_places::place;
 ghost use mathlib.Core.Path.{_≡_};
 ghost use mathlib.Core.Bool.{cond};
@@ -16,6 +17,7 @@ ghost use Rattle.paper.specs.Pattern.{empty, then, either};
 ghost use Rattle.paper.specs.Written.{read-range};
 ghost use Rattle.base_places.specs.Masks.{places};
 ghost use Rattle.read_pattern.specs.ReadPart.{Not-read, working, Read-as, Reading-of, Single, Leaf-read, Joined, Repeated};
+ghost use Rattle.read_pattern.specs.Laid.{numbers, laid-as, read-as, left-in, next-in, last-bytes, Begins};
 
 // "0 to 42: that character".
 const CHARACTER_END: u8 = CHARACTERS as u8;
@@ -43,8 +45,8 @@ pub struct ReadPart {
     // it takes the empty text
     pub empty: bool,
     // the places that may be first, and last
-    pub first: u64,
-    pub last: u64,
+    pub first: PlaceSet,
+    pub last: PlaceSet,
 }
 
 impl ReadPart {
@@ -80,7 +82,7 @@ impl ReadPart {
 
     // "one character with lo ≤ value ≤ hi (a leaf)": so many bytes from its first on, so many behind it
     fn leaf(
-        taking: &mut [u64; CHARACTERS],
+        taking: &mut [PlaceSet; CHARACTERS],
         from: usize,
         left: usize,
         o: usize,
@@ -153,7 +155,7 @@ fn earlier(a: usize, b: usize) -> usize
 
 // "65 lo hi: one character with lo ≤ value ≤ hi ≤ 42": what stands behind the 65. "The lo byte if lo is above 42, else the hi byte if that is
 // above 42 or below lo."
-fn read_range(s: &[u8], o: usize, taking: &mut [u64; CHARACTERS]) -> ReadPart
+fn read_range(s: &[u8], o: usize, taking: &mut [PlaceSet; CHARACTERS]) -> ReadPart
     requires { ⌜ (o + 1 < 2 ^ 64) × (length (now s) + 1 < 2 ^ 64) ⌝ }
     ensures { λ r. ⌜ ((follow : List ℕ) → Read-as (read-range (now (s .entry))) o (working follow (now (taking .entry))) (working follow (now (taking .exit))) r) ⌝ }
 {
@@ -179,7 +181,7 @@ fn read_range(s: &[u8], o: usize, taking: &mut [u64; CHARACTERS]) -> ReadPart
 }
 
 // A pattern that has no part: a leaf or the empty text.
-fn read_single(s: &[u8], o: usize, taking: &mut [u64; CHARACTERS]) -> ReadPart
+fn read_single(s: &[u8], o: usize, taking: &mut [PlaceSet; CHARACTERS]) -> ReadPart
     requires { ⌜ (o + length (now s) < 2 ^ 64) × (0 < length (now s)) × (getD (now s) 0 0 < then-code) ⌝ }
     ensures { λ r. ⌜ ((follow : List ℕ) → Reading-of (now (s .entry)) o (working follow (now (taking .entry))) (working follow (now (taking .exit))) r) ⌝ }
 {
@@ -196,44 +198,100 @@ fn read_single(s: &[u8], o: usize, taking: &mut [u64; CHARACTERS]) -> ReadPart
     ReadPart::none(s.len())
 }
 
-// The pattern at the front of the bytes, its first leaf at the place o. "A or B, each again a pattern": reading, nullability
-// and follow sets go down the pattern together, and the bytes left fall at each call. What is first in a part may follow what is
-// last in the part before it: in B after A, and in A after A, any number of times.
+// A reading as numbers in a lent array, so that a call which waits for another holds little: how many there are, and what stands where.
+pub const NUMBERS: usize = 6;
+
+const LEFT: usize = 0;
+
+const NEXT: usize = 1;
+
+const FIRST: usize = 2;
+
+const SURPLUS: usize = 3;
+
+const LAST: usize = 4;
+
+const EMPTY: usize = 5;
+
+// Lays a reading there. Is there a pattern?
+fn lay(out: &mut [u64; NUMBERS], r: ReadPart) -> bool
+    requires { ⌜ length (now out) ≡ numbers ⌝ }
+    ensures { λ ok. ⌜ (ok ≡ r .ok) × (now (out .exit) ≡ laid-as r) ⌝ }
+{
+    out[LEFT] = r.left as u64;
+    out[NEXT] = r.next as u64;
+    out[FIRST] = r.first;
+    out[SURPLUS] = r.surplus as u64;
+    out[LAST] = r.last;
+    out[EMPTY] = when(r.empty, 1);
+    r.ok
+}
+
+// The reading that lies there.
+pub fn laid(ok: bool, out: [u64; NUMBERS]) -> ReadPart
+    ensures { λ r. ⌜ r ≡ read-as ok out ⌝ }
+{
+    ReadPart {
+        ok,
+        left: out[LEFT] as usize,
+        next: out[NEXT] as usize,
+        surplus: out[SURPLUS] as usize,
+        empty: out[EMPTY] == 1,
+        first: out[FIRST],
+        last: out[LAST],
+    }
+}
+
+// The pattern at the front of the last so many bytes, its first leaf at a given place: both numbers lie in the lent array, where the reading is laid.
+// "A or B, each again a pattern": reading, nullability and follow sets go down the pattern together, and the bytes left fall at each call. What is
+// first in a part may follow what is last in the part before it: in B after A, and in A after A, any number of times. Where A has been read, the
+// array has what B begins with.
 pub fn read(
     s: &[u8],
-    o: usize,
-    follow: &mut [u64; PLACES],
-    taking: &mut [u64; CHARACTERS],
-) -> ReadPart
-    requires { ⌜ o + length (now s) < 2 ^ 64 ⌝ }
-    ensures { λ r. ⌜ Reading-of (now (s .entry)) o (working (now (follow .entry)) (now (taking .entry))) (working (now (follow .exit)) (now (taking .exit))) r ⌝ }
+    follow: &mut [PlaceSet; PLACES],
+    taking: &mut [PlaceSet; CHARACTERS],
+    out: &mut [u64; NUMBERS],
+) -> bool
+    requires { ⌜ Begins (now s) (now out) ⌝ }
+    ensures { λ ok. ⌜ (length (now (out .exit)) ≡ numbers) × Reading-of (last-bytes (left-in (now (out .entry))) (now (s .entry))) (next-in (now (out .entry))) (working (now (follow .entry)) (now (taking .entry))) (working (now (follow .exit)) (now (taking .exit))) (read-as ok (now (out .exit))) ⌝ }
 {
-    if s.len() == 0 {
-        return ReadPart::none(0);
+    let left = out[LEFT] as usize;
+    if left == 0 {
+        return false;
     }
-    let b = s[0];
+    let at = s.len() - left;
+    let b = s[at];
     if b < THEN_CODE {
-        return read_single(s, o, taking);
+        let o = out[NEXT] as usize;
+        let single = read_single(&s[at..], o, taking);
+        return lay(out, single);
     }
     if MANY_CODE < b {
-        return ReadPart::none(s.len());
+        return false;
     }
-    let first = read(&s[1..], o, follow, taking);
-    if !first.ok {
-        return first;
+    out[LEFT] = (left - 1) as u64;
+    let one = read(s, follow, taking, out);
+    if !one {
+        return one;
     }
+    let its = *out;
+    let first = laid(one, its);
     if b == MANY_CODE {
         link(follow, first.last, first.first);
-        return first.many();
+        let many = first.many();
+        return lay(out, many);
     }
-    let behind = s.len() - first.left;
-    let second = read(&s[behind..], first.next, follow, taking);
-    if !second.ok {
-        return second;
+    let two = read(s, follow, taking, out);
+    if !two {
+        return two;
     }
+    let its = *out;
+    let second = laid(two, its);
     if b == THEN_CODE {
         link(follow, first.last, second.first);
-        return first.then(second);
+        let both = first.then(second);
+        return lay(out, both);
     }
-    first.or(second)
+    let either = first.or(second);
+    lay(out, either)
 }

@@ -18,8 +18,10 @@ use Rattle.paper.proofs.sheets.Asked.{InRange, GoodSide, marked-good}
 use Rattle.base_codes.specs.Inner.{field-code, no-token, token-code, side-code, padded}
 use Rattle.base_places.specs.WorkedOut.{worked-out}
 use Rattle.base_places.specs.declared.PlaceTables.{PlaceTables}
+use Rattle.base_question.specs.declared.Body.{Body}
 use Rattle.base_answers.specs.declared.Found.the-variants.{NoFault}
-use Rattle.read_rule.specs.RuleRead.{foreign-code, rule-of}
+use Rattle.read_fields.specs.Bodies.{bodies-in}
+use Rattle.read_rule.specs.RuleRead.{foreign-code, rule-bodies, rule-of}
 use Rattle.read_rule.specs.declared.Rule.{Rule}
 
 -- a token's inner code is foreign exactly if the token is
@@ -80,8 +82,10 @@ module _ (s : List ℕ) where
         good-side : GoodSide characters l
         good-side = rw f at (marked-good LE s at)
 
-        pub whole : (codes : List ℕ) (tables : List PlaceTables) (foreign : Bool)
+        pub whole : (codes : List ℕ) (tables : List PlaceTables) (foreign : Bool) (bodies : List Body)
             → codes ≡ padded (side-code l) → tables ≡ map worked-out (fs .held) → foreign ≡ (ltb rule-fields (fs .above) || any foreign-code codes)
-            → _≡_ {A = Rule} (record { found = NoFault; place = 0; bytes = next; foreign = foreign; side = codes; fields = tables }) (rule-of (rule-front s))
-        unfolding foreign-field
-        whole codes tables foreign a b c = rw (stands, c, a, b, side-foreign l good-side)
+            → bodies ≡ bodies-in s 2
+            → _≡_ {A = Rule} (record { found = NoFault; place = 0; bytes = next; foreign = foreign; side = codes; fields = tables; bodies = bodies })
+            (rule-of (rule-bodies s) (rule-front s))
+        unfolding foreign-field rule-bodies
+        whole codes tables foreign bodies a b c d = rw (stands, c, a, b, d, side-foreign l good-side)

@@ -1,8 +1,8 @@
 -- What reading a rule hands on: the fault with its place, or how many bytes it has, whether it names a field above 3, its side by inner
--- codes and what is worked out of its fields' patterns.
+-- codes, what is worked out of its fields' patterns and where those stand.
 use Prim.Native.Nat.{ℕ, _+_}
 use mathlib.Core.Bool.{Bool, false, _&&_, not}
-use mathlib.Core.List.{[], map}
+use mathlib.Core.List.{List, [], map}
 use lib.Dec.{leb, eqb}
 use lib.ListN.{replicate}
 use Rattle.paper.specs.Numbers.{fields, rule-fields}
@@ -12,16 +12,24 @@ use Rattle.paper.specs.Rule as Paper
 use Rattle.paper.specs.Sheet.{Records, faulty, records}
 use Rattle.base_codes.specs.Inner.{field-code, no-token, side-code, padded}
 use Rattle.base_places.specs.WorkedOut.{worked-out}
+use Rattle.base_question.specs.Bodies.{no-bodies}
+use Rattle.base_question.specs.declared.Body.{Body}
 use Rattle.base_answers.specs.Faults.{as-fault}
 use Rattle.base_answers.specs.declared.Found.the-variants.{NoFault, Refused}
+use Rattle.read_fields.specs.Bodies.{bodies-in}
 use Rattle.read_rule.specs.declared.Rule.{Rule}
 
 -- the inner code of a field above 3
 abbrev pub foreign-code : ℕ → Bool
 foreign-code b = leb (field-code + rule-fields) b && not (eqb b no-token)
 
-abbrev pub rule-of : Records Paper.Rule → Rule
-rule-of (faulty x at) =
+-- where the patterns of the rule stand: behind "the mark `RU`"
+unfoldable pub rule-bodies : List ℕ → List Body
+rule-bodies s = bodies-in s 2
+
+-- what reading a rule hands on, its patterns standing there
+abbrev pub rule-of : List Body → Records Paper.Rule → Rule
+rule-of bodies (faulty x at) =
     record {
       found = Refused (as-fault x);
       place = at;
@@ -29,8 +37,9 @@ rule-of (faulty x at) =
       foreign = false;
       side = padded [];
       fields = replicate fields (worked-out some-text);
+      bodies = no-bodies;
     }
-rule-of (records r next) =
+rule-of bodies (records r next) =
     record {
       found = NoFault;
       place = 0;
@@ -38,4 +47,5 @@ rule-of (records r next) =
       foreign = foreign-field r;
       side = padded (side-code (r .side));
       fields = map worked-out (r .fields .held);
+      bodies = bodies;
     }

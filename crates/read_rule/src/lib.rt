@@ -1,11 +1,13 @@
 // A rule of a catalogue: from any bytes to the rule at their front, or to the first fault met with its place.
 use base_answers::Fault;
 use base_answers::Found;
+use base_codes::CodedSide;
 use base_codes::FIELD_CODE;
 use base_codes::LONGEST_SIDE;
 use base_codes::NO_TOKEN;
 use base_codes::SHEET_FIELDS;
 use base_places::PlaceTables;
+use base_question::Body;
 use read_side::Cursor;
 use read_side::Mark;
 ghost use mathlib.Core.Path.{_≡_};
@@ -16,7 +18,8 @@ ghost use Rattle.paper.specs.Numbers.{rule-fields};
 ghost use Rattle.paper.specs.Rule.{rule-front, read-rule};
 ghost use Rattle.paper.specs.Sheet.{faulty};
 ghost use Rattle.base_answers.specs.Faults.{fault-of};
-ghost use Rattle.read_rule.specs.RuleRead.{foreign-code, rule-of};
+ghost use Rattle.base_question.specs.Bodies.{no-bodies};
+ghost use Rattle.read_rule.specs.RuleRead.{foreign-code, rule-bodies, rule-of};
 
 // "its own fields, numbered 0 to 3"
 pub const RULE_FIELDS: usize = 4;
@@ -31,14 +34,16 @@ pub struct Rule {
     // a pattern or a token of the side names a field above 3
     pub foreign: bool,
     // the side of a good rule, by inner codes; it ends at its first 255
-    pub side: [u8; LONGEST_SIDE],
+    pub side: CodedSide,
     // what is worked out of each field's pattern; the fields of a rule with a fault are open
     pub fields: [PlaceTables; SHEET_FIELDS],
+    // where each field's pattern stands, from the rule's first byte on; with a fault none does
+    pub bodies: [Body; SHEET_FIELDS],
 }
 
 // The rule at the front of the bytes: "the mark `RU`, the `PA` records of its own fields .. and one `LE`, its end as `RI` is a sheet's".
 pub fn front(s: &[u8]) -> Rule
-    ensures { λ r. ⌜ r ≡ rule-of (rule-front (now (s .entry))) ⌝ }
+    ensures { λ r. ⌜ r ≡ rule-of (rule-bodies (now (s .entry))) (rule-front (now (s .entry))) ⌝ }
 {
     if s.len() < 2 {
         return refuse(Fault::CutShort, s.len());
@@ -62,6 +67,7 @@ pub fn front(s: &[u8]) -> Rule
     let side = l.codes;
     let foreign = foreign(p.above, side);
     let fields = p.tables;
+    let bodies = p.bodies;
     Rule {
         found: Found::NoFault,
         place: 0,
@@ -69,12 +75,13 @@ pub fn front(s: &[u8]) -> Rule
         foreign,
         side,
         fields,
+        bodies,
     }
 }
 
 // A rule by itself: behind it any byte left gives 12, as behind `RI`.
 pub fn read(s: &[u8]) -> Rule
-    ensures { λ r. ⌜ r ≡ rule-of (read-rule (now (s .entry))) ⌝ }
+    ensures { λ r. ⌜ r ≡ rule-of (rule-bodies (now (s .entry))) (read-rule (now (s .entry))) ⌝ }
 {
     let r = front(s);
     let found = r.found;
@@ -90,10 +97,11 @@ pub fn read(s: &[u8]) -> Rule
 
 // A rule with a fault.
 fn refuse(x: Fault, place: usize) -> Rule
-    ensures { λ r. ⌜ r ≡ rule-of (faulty (fault-of x) place) ⌝ }
+    ensures { λ r. ⌜ r ≡ rule-of no-bodies (faulty (fault-of x) place) ⌝ }
 {
     let open = base_places::open_tables();
     let fields = [open; SHEET_FIELDS];
+    let bodies = base_question::no_bodies();
     Rule {
         found: Found::Refused(x),
         place,
@@ -101,11 +109,12 @@ fn refuse(x: Fault, place: usize) -> Rule
         foreign: false,
         side: [NO_TOKEN; LONGEST_SIDE],
         fields,
+        bodies,
     }
 }
 
 // "31 for a field above 3": does a pattern or a token of the side name one? Field numbers rise, so the last pattern's is the highest.
-fn foreign(above: usize, side: [u8; LONGEST_SIDE]) -> bool
+fn foreign(above: usize, side: CodedSide) -> bool
     ensures { λ r. ⌜ r ≡ (ltb rule-fields above || any foreign-code side) ⌝ }
 {
     if RULE_FIELDS < above {
@@ -115,7 +124,7 @@ fn foreign(above: usize, side: [u8; LONGEST_SIDE]) -> bool
 }
 
 // Does a token of the side name one?
-fn any_foreign(side: [u8; LONGEST_SIDE]) -> bool
+fn any_foreign(side: CodedSide) -> bool
     ensures { λ r. ⌜ r ≡ any foreign-code side ⌝ }
 {
     let mut i = 0;

@@ -1,3 +1,4 @@
 pub mod SheetWhole
 pub mod SheetStruct
 pub mod SheetPatterns
+pub mod SidesTold

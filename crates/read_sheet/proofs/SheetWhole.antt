@@ -1,6 +1,6 @@
 -- A sheet by what its parts are: the patterns' records, the sides, the end. Follows from the definition of `read-sheet` by its cases.
 use Prim.Native.Nat.{ℕ, suc, _≤_, _<_}
-use mathlib.Core.Path.{_≡_, sym, ap, _∙_}
+use mathlib.Core.Path.{_≡_}
 use mathlib.Core.List.{List, map}
 use lib.ListN.{length}
 use Rattle.paper.specs.Equation.{Side}
@@ -17,19 +17,13 @@ use Rattle.base_answers.specs.declared.Found.the-variants.{NoFault}
 use Rattle.base_question.specs.declared.Body.{Body}
 use Rattle.base_question.specs.declared.Question as Code
 use Rattle.read_sheet.specs.declared.Sheet.{Sheet}
-use Rattle.base_question.specs.Bodies.{no-bodies}
-use Rattle.read_sheet.specs.SheetRead.{bodies-of, sheet-of}
+use Rattle.read_sheet.specs.SheetRead.{sheet-of}
 
 -- what the patterns' records of the sheet give
 abbrev pub patterns-of : List ℕ → Records Fields
 patterns-of s = read-patterns (suc (length s)) s 0 open-fields
 
 module _ (s : List ℕ) where
-  -- with a fault it is the same where its patterns stand
-  pub at-fault : {r : Sheet} {x : Fault} {at : ℕ} → r ≡ sheet-of no-bodies (refused x at) → read-sheet s ≡ refused x at
-      → r ≡ sheet-of (bodies-of s) (read-sheet s)
-  at-fault e k = e ∙ sym (ap (sheet-of (bodies-of s)) k)
-
   pub patterns-fault : (x : Fault) (at : ℕ) → patterns-of s ≡ faulty x at → read-sheet s ≡ refused x at
   unfolding read-sheet
   patterns-fault x at e = rw e

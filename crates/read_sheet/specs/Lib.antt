@@ -1,1 +1,2 @@
 pub mod SheetRead
+pub mod SidesRead

@@ -1,14 +1,18 @@
 // The question sheet: from any bytes to the question, or to the first fault met with its place.
 use base_answers::Fault;
 use base_answers::Found;
+use base_codes::CodedSide;
+use base_codes::LONGEST_SIDE;
+use base_codes::NO_TOKEN;
+use base_codes::SHEET_FIELDS;
 use base_question::Question;
 use read_side::Cursor;
 use read_side::Mark;
 ghost use mathlib.Core.Path.{_≡_};
-ghost use Rattle.paper.specs.Sheet.{refused, read-sheet};
-ghost use Rattle.base_answers.specs.Faults.{fault-of};
-ghost use Rattle.base_question.specs.Bodies.{no-bodies};
+ghost use Rattle.paper.specs.Sheet.{read-sheet};
+ghost use Rattle.read_fields.specs.declared.Fields.{Fields};
 ghost use Rattle.read_sheet.specs.SheetRead.{bodies-of, sheet-of};
+ghost use Rattle.read_sheet.specs.SidesRead.{fields-read, no-sides, Sides-told};
 
 // What a sheet says.
 pub struct Sheet {
@@ -19,14 +23,53 @@ pub struct Sheet {
     pub question: Question,
 }
 
-// Reads a sheet, in one walk: "no, one or several `PA`, field numbers rising; one `LE`; one `RI`; the end".
+// What stands behind the patterns' records: the first fault of the sheet with its place, or its two sides.
+struct Sides {
+    found: Found,
+    place: usize,
+    // with a fault they have no token
+    left: CodedSide,
+    right: CodedSide,
+}
+
+// Reads a sheet, in one walk: "no, one or several `PA`, field numbers rising; one `LE`; one `RI`; the end". With a fault all fields are open again:
+// their tables are written over in place, for while a pattern is read each copy of them is so much more stack.
 pub fn read(s: &[u8]) -> Sheet
     ensures { λ r. ⌜ r ≡ sheet-of (bodies-of (now (s .entry))) (read-sheet (now (s .entry))) ⌝ }
 {
-    let p = read_fields::read(s, Cursor { at: 0 });
+    let mut p = read_fields::read(s, Cursor { at: 0 });
     let c = p.next;
-    let patterns_found = p.found;
-    if let Found::Refused(x) = patterns_found {
+    let patterns = p.found;
+    let b = both_sides(s, patterns, c);
+    let found = b.found;
+    if let Found::Refused(_) = found {
+        let open = base_places::open_tables();
+        p.tables = [open; SHEET_FIELDS];
+        let none = base_question::no_bodies();
+        p.bodies = none;
+    }
+    let left = b.left;
+    let right = b.right;
+    let fields = p.tables;
+    let bodies = p.bodies;
+    let question = Question {
+        left,
+        right,
+        fields,
+        bodies,
+    };
+    Sheet {
+        found,
+        place: b.place,
+        question,
+    }
+}
+
+// "one `LE`; one `RI`; the end", behind patterns' records of which this was found.
+fn both_sides(s: &[u8], patterns: Found, c: Cursor) -> Sides
+    ensures { λ r. ⌜ ((p : Fields) → p .found ≡ patterns → p .next ≡ c → p ≡ fields-read (now (s .entry)) → Sides-told (now (s .entry)) p (r .found) r) ⌝ }
+{
+    if let Found::Refused(x) = patterns {
         return refuse(x, c.at);
     }
     let l = c.side(s, Mark::LE);
@@ -46,29 +89,22 @@ pub fn read(s: &[u8]) -> Sheet
     }
     let left = l.codes;
     let right = r.codes;
-    let fields = p.tables;
-    let bodies = p.bodies;
-    let question = Question {
-        left,
-        right,
-        fields,
-        bodies,
-    };
-    Sheet {
+    Sides {
         found: Found::NoFault,
         place: 0,
-        question,
+        left,
+        right,
     }
 }
 
-// A sheet with a fault.
-fn refuse(x: Fault, place: usize) -> Sheet
-    ensures { λ r. ⌜ r ≡ sheet-of no-bodies (refused (fault-of x) place) ⌝ }
+// A fault, and no tokens.
+fn refuse(x: Fault, place: usize) -> Sides
+    ensures { λ r. ⌜ r ≡ no-sides x place ⌝ }
 {
-    let question = base_question::no_question();
-    Sheet {
+    Sides {
         found: Found::Refused(x),
         place,
-        question,
+        left: [NO_TOKEN; LONGEST_SIDE],
+        right: [NO_TOKEN; LONGEST_SIDE],
     }
 }

@@ -1,6 +1,7 @@
 // Marks and sides: 01's checks on a side's record, from an offset to the next.
 use base_answers::Fault;
 use base_answers::Found;
+use base_codes::CodedSide;
 use base_codes::FIELD_CODE;
 use base_codes::LONGEST_SIDE;
 use base_codes::NO_TOKEN;
@@ -111,7 +112,7 @@ impl Cursor {
 // What the checks on a side find: the first fault, or its tokens by inner codes.
 pub struct SideRecord {
     pub found: Found,
-    pub codes: [u8; LONGEST_SIDE],
+    pub codes: CodedSide,
     // behind the side, or at the byte at fault
     pub next: Cursor,
 }
@@ -185,7 +186,7 @@ fn leading_tokens(side: &[u8]) -> usize
 }
 
 // The side of these tokens.
-fn inner_side(side: &[u8]) -> [u8; LONGEST_SIDE]
+fn inner_side(side: &[u8]) -> CodedSide
     requires { ⌜ (length (now side) ≤ sheet-side) × (all is-token (now side) ≡ true) ⌝ }
     ensures { λ r. ⌜ r ≡ padded (map code-of (now (side .entry))) ⌝ }
 {

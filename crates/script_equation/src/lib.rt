@@ -1,8 +1,8 @@
 // The equation of two sides, as a script for string solvers has it: each side is its tokens and its hidden field, joined.
+use base_codes::CodedSide;
 use base_codes::FIELD_CODE;
 use base_codes::HIDDEN_LEFT;
 use base_codes::HIDDEN_RIGHT;
-use base_codes::LONGEST_SIDE;
 use base_codes::length_of;
 use base_put::put;
 use base_put::put_all;
@@ -51,7 +51,7 @@ fn argument(out: &mut [u8], at: usize, literal: bool, token: u8) -> usize
 }
 
 // The first n tokens as arguments.
-fn arguments(out: &mut [u8], at: usize, side: [u8; LONGEST_SIDE], n: usize) -> usize
+fn arguments(out: &mut [u8], at: usize, side: CodedSide, n: usize) -> usize
     requires { ⌜ n ≤ longest-side ⌝ }
     ensures { λ r. ⌜ Counted (now (out .entry)) (now (out .exit)) at r (all-arguments (take n side)) ⌝ }
 {
@@ -90,7 +90,7 @@ fn digit(token: u8) -> u8
 }
 
 // A side and its hidden field; alone it is no sum.
-fn side_term(out: &mut [u8], at: usize, side: [u8; LONGEST_SIDE], hidden: u8) -> usize
+fn side_term(out: &mut [u8], at: usize, side: CodedSide, hidden: u8) -> usize
     ensures { λ r. ⌜ Counted (now (out .entry)) (now (out .exit)) at r (side-spelt (tokens side) hidden) ⌝ }
 {
     let n = length_of(side);
@@ -105,12 +105,7 @@ fn side_term(out: &mut [u8], at: usize, side: [u8; LONGEST_SIDE], hidden: u8) ->
 }
 
 // The equation, and the check command.
-pub fn equation(
-    out: &mut [u8],
-    at: usize,
-    left: [u8; LONGEST_SIDE],
-    right: [u8; LONGEST_SIDE],
-) -> usize
+pub fn equation(out: &mut [u8], at: usize, left: CodedSide, right: CodedSide) -> usize
     ensures { λ r. ⌜ Counted (now (out .entry)) (now (out .exit)) at r (equation-spelt (tokens left) (tokens right)) ⌝ }
 {
     let begun = put_all(out, at, b"(assert (= ");

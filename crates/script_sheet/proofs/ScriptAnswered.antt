@@ -3,19 +3,18 @@
 --   and-promised                       : and so all that is promised of it
 use Prim.Native.Nat.{ℕ, _≤_, _<_}
 use native.Mathlib.Omega.{arith}
-use mathlib.Core.Path.{_≡_, refl, sym, ap, _∙_, subst}
+use mathlib.Core.Path.{_≡_, sym, ap, subst}
 use mathlib.Core.List.{List, [], _++_}
-use lib.ListN.{length, drop}
+use lib.ListN.{length}
 use Rattle.paper.specs.Question.{Question}
-use Rattle.paper.specs.Sheet.{asked, refused, read-sheet}
+use Rattle.paper.specs.Sheet.{asked, read-sheet}
 use Rattle.paper.proofs.base.Tests.{le-leb, lt-leb}
-use Rattle.paper_script.specs.Script.{script, longest-script}
+use Rattle.paper_script.specs.Script.{script}
 use Rattle.paper_script.specs.Scripting.{Scripting, scripting, ScriptPromised}
 use Rattle.paper_script.proofs.Length.{script-fits}
 use Rattle.paper_script.proofs.ScriptPromised.{promised}
 use Rattle.base_put.specs.Counted.{last-place, Counted}
 use Rattle.base_put.proofs.Counting.{counted-length, counted-in-front, counted-outside}
-use Rattle.base_answers.specs.Faults.{fault-of}
 use Rattle.base_answers.specs.declared.Fault as Code
 use Rattle.base_answers.specs.declared.Found.the-variants as Found
 use Rattle.read_sheet.specs.SheetRead.{bodies-of, sheet-of}

@@ -2,7 +2,7 @@
 --   all-counted  : standing-fields of how often each field stands ≡ all-standing (hidden q)
 --   equation-put : equation-spelt of the sides that were read ≡ equation (q .left) (q .right)
 -- Follows from the laws of good sheets and of inner codes.
-use Prim.Native.Nat.{ℕ, _+_, _<_}
+use Prim.Native.Nat.{ℕ, _+_}
 use native.Mathlib.Omega.{arith}
 use mathlib.Core.Path.{_≡_, sym, ap, ap₂, _∙_}
 use mathlib.Core.Logic.{⊎-elim}
@@ -20,12 +20,12 @@ use Rattle.paper.proofs.sheets.Asked.{GoodQuestion, sheet-good, left-39, right-
 use Rattle.paper.proofs.sheets.Hidden.{HasSet, hidden-searchable}
 use Rattle.paper_script.specs.Script.{all-standing, equation}
 use Rattle.base_codes.specs.Inner.{field-code, token-code, side-code, tokens, padded}
-use Rattle.base_question.specs.Standings.{standing-times}
+use Rattle.base_question.specs.Standings.{standing-times, is-counted}
 use Rattle.base_question.proofs.HowOften.{standings-are, stands-times}
 use Rattle.search_hidden.specs.Behind.{side-with}
 use Rattle.search_hidden.proofs.Codes.{side-back, side-behind}
 use Rattle.script_equation.specs.Arguments.{equation-spelt}
-use Rattle.script_sheet.specs.WrittenOut.{is-counted, fields-counted}
+use Rattle.script_sheet.specs.WrittenOut.{fields-counted}
 use Rattle.script_equation.proofs.Sides.{equation-alike}
 
 module _ (sheet : List ℕ) (q : Question) (asks : read-sheet sheet ≡ asked q) where

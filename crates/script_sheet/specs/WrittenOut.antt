@@ -1,8 +1,8 @@
 -- What the answer of the script tells, and what is put on the way.
 use Prim.Native.Nat.{ℕ, _+_, _≤_, _<_}
-use mathlib.Core.Bool.{Bool, cond, not}
+use mathlib.Core.Bool.{cond}
 use mathlib.Core.List.{List}
-use lib.Dec.{ltb, eqb}
+use lib.Dec.{ltb}
 use lib.ListN.{length, getD}
 use Rattle.paper.specs.Lists.{upto, keep, each}
 use Rattle.paper.specs.Numbers.{fields, set-fields}
@@ -11,6 +11,7 @@ use Rattle.paper.specs.Sheet.{fault-number}
 use Rattle.paper_script.specs.Script.{field-lines}
 use Rattle.paper_script.specs.Scripting.{Scripting, scripting-told}
 use Rattle.base_question.specs.Bodies.{nowhere}
+use Rattle.base_question.specs.Standings.{is-counted}
 use Rattle.base_question.specs.declared.Body.{Body}
 use Rattle.base_answers.specs.Faults.{fault-of}
 use Rattle.base_answers.specs.declared.Numbers.{Numbers}
@@ -30,9 +31,6 @@ abbrev pub fields-lines : Question → List ℕ → List ℕ
 fields-lines q fs = each (λ (f : ℕ). field-lines f (held-by (hidden q) f)) fs
 
 -- the fields that stand, by how often each does
-abbrev pub is-counted : List ℕ → ℕ → Bool
-is-counted counts f = not (eqb (getD counts f 0) 0)
-
 abbrev pub fields-counted : List ℕ → List ℕ
 fields-counted counts = keep (is-counted counts) (upto set-fields)
 

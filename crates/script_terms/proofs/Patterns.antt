@@ -6,18 +6,16 @@ use Prim.Native.Nat.{ℕ, zero, suc, _+_, _≤_, _<_}
 use native.Mathlib.Nat.{add-zero}
 use native.Mathlib.Omega.{arith}
 use mathlib.Core.Path.{_≡_, refl, sym, ap, _∙_, subst}
-use mathlib.Core.Bool.{true, false}
-use mathlib.Core.List.{List, [], _∷_}
-use lib.Dec.{leb, eqb}
+use mathlib.Core.List.{List, _∷_}
 use lib.ListN.{length, getD, drop, length-drop}
 use lib.Seq.{getD-drop, drop-drop}
-use Rattle.paper.specs.Numbers.{characters, empty-code, range-code, then-code, or-code, many-code}
+use Rattle.paper.specs.Numbers.{empty-code, range-code, then-code, or-code, many-code}
 use Rattle.paper.specs.Pattern.{Pattern}
 use Rattle.paper.specs.Written.{part, judged, judge}
 use Rattle.paper.proofs.base.Tests.{lt-leb, le-ltb, neq-eqb}
 use Rattle.paper.proofs.places.Reader.{is-then, is-or, Reads, a-character, empty-text, a-range, both-parts, starred, Judges, as-pattern, judges, shorter}
 use Rattle.paper_script.specs.Script.{expression}
-use Rattle.script_terms.specs.Spelt.{Term-spelling, term-spelling, spelt-at, term-spelt}
+use Rattle.script_terms.specs.Spelt.{Term-spelling, spelt-at, term-spelt}
 
 -- what is spelt from the offset on is the expression of p, and `rest` is left behind it
 pub record Spelt-as (s : List ℕ) (p : Pattern) (rest : List ℕ) (x : Term-spelling) : Type 0 where

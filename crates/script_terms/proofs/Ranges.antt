@@ -1,7 +1,7 @@
 -- One more character of a choice. Follows from the laws of counted lists.
 use Prim.Native.Nat.{ℕ, suc, _+_, _-_, _≤_}
 use native.Mathlib.Omega.{arith}
-use mathlib.Core.Path.{_≡_, refl, ap, _∙_}
+use mathlib.Core.Path.{_≡_, ap, _∙_}
 use mathlib.Core.List.{List, [], _∷_, _++_, append-nil}
 use Rattle.paper.specs.Lists.{from, each}
 use Rattle.paper.proofs.base.Listed.{from-snoc, each-append}

@@ -1,7 +1,7 @@
 -- How sides are judged, test by test: what stands in front, dead, too long, made. Follows from the definitions.
 use Prim.Native.Nat.{ℕ, _≤_, _<_}
 use native.Mathlib.Omega.{arith}
-use mathlib.Core.Path.{_≡_, refl, sym}
+use mathlib.Core.Path.{_≡_, refl}
 use mathlib.Core.Bool.{true, false, _&&_, _||_, or-true, or-false}
 use mathlib.Core.List.{List, [], _∷_}
 use lib.ListN.{length, getD, take}

@@ -1,23 +1,16 @@
 -- Laws of the place sets by field: the sets with a field's new one, and the first sets. Follows from the definitions, by cases on their
 -- tests.
 use Prim.Native.Nat.{ℕ, _+_, _≤_, _<_}
-use native.Mathlib.Nat.{zero-add}
-use native.Mathlib.Numerals.{add-one}
 use native.Mathlib.Omega.{arith}
-use mathlib.Core.Path.{_≡_, refl, sym, ap, _∙_}
-use mathlib.Core.Bool.{true, false, or-true, _||_}
-use mathlib.Core.List.{List, [], _∷_, _++_, map}
-use lib.Dec.{ltb, eqb}
+use mathlib.Core.Path.{_≡_, refl, sym}
+use mathlib.Core.List.{List}
+use lib.Dec.{ltb}
 use lib.ListN.{length, set}
 use lib.Seq.{set-out}
-use Rattle.paper.specs.Lists.{upto, member}
 use Rattle.paper.specs.Numbers.{set-fields}
-use Rattle.paper.proofs.base.Lists.{any-append, map-append}
-use Rattle.paper.proofs.base.Listed.{from-snoc}
 use Rattle.paper.proofs.base.Tests.{cond-by, le-leb, lt-leb, ltb-false}
 use Rattle.base_codes.specs.Inner.{field-code, no-token, field-of}
 use Rattle.search_children.specs.Children.{with-set}
-use Rattle.search_trim.specs.Trimming.{first-mask}
 
 -- The sets with a field's new one.
 pub with-set-none : (b m : ℕ) (sets : List ℕ) → b < field-code → with-set b m sets ≡ sets

@@ -6,13 +6,14 @@ use base_codes::FIELD_CODE;
 use base_codes::FIELDS;
 use base_codes::Situation;
 use base_codes::field_of;
+use base_places::PlaceSet;
 ghost use mathlib.Core.Path.{_≡_};
 ghost use Rattle.base_codes.specs.Coded.{denoted};
 ghost use Rattle.search_children.specs.Children.{with-set, struck, put-child, may-end-at, left-strike, right-strike};
 ghost use Rattle.search_children.specs.Laid.{child-of};
 
 // The sets with the new one of the field with the token b, if it is a field's.
-fn with_set(mut sets: [u64; FIELDS], b: u8, m: u64) -> [u64; FIELDS]
+fn with_set(mut sets: [PlaceSet; FIELDS], b: u8, m: PlaceSet) -> [PlaceSet; FIELDS]
     ensures { λ r. ⌜ r ≡ with-set b m sets ⌝ }
 {
     if b < FIELD_CODE {
@@ -26,7 +27,7 @@ fn with_set(mut sets: [u64; FIELDS], b: u8, m: u64) -> [u64; FIELDS]
 }
 
 // "a field whose set may end"
-fn may_end(sets: [u64; FIELDS], b: u8, last: [u64; FIELDS]) -> bool
+fn may_end(sets: [PlaceSet; FIELDS], b: u8, last: [PlaceSet; FIELDS]) -> bool
     ensures { λ r. ⌜ r ≡ may-end-at sets last b ⌝ }
 {
     if b < FIELD_CODE {
@@ -54,7 +55,7 @@ fn strike(s: Situation, b: u8) -> Child
 }
 
 // "1. the left front is a field whose set may end: strike it everywhere"
-pub fn strike_left(s: Situation, last: [u64; FIELDS]) -> Child
+pub fn strike_left(s: Situation, last: [PlaceSet; FIELDS]) -> Child
     ensures { λ r. ⌜ r ≡ child-of (left-strike last (denoted s)) ⌝ }
 {
     let sets = s.sets;
@@ -66,7 +67,7 @@ pub fn strike_left(s: Situation, last: [u64; FIELDS]) -> Child
 }
 
 // "2. the right front is a field, not the same as the left front, whose set may end: strike it everywhere"
-pub fn strike_right(s: Situation, last: [u64; FIELDS]) -> Child
+pub fn strike_right(s: Situation, last: [PlaceSet; FIELDS]) -> Child
     ensures { λ r. ⌜ r ≡ child-of (right-strike last (denoted s)) ⌝ }
 {
     let sets = s.sets;
@@ -83,7 +84,7 @@ pub fn strike_right(s: Situation, last: [u64; FIELDS]) -> Child
 
 // "3. .. put c before each front field wherever that field stands, and give the field its new set": m on the left, n on the right. Whether
 // both fronts take c is asked before.
-pub fn put(s: Situation, c: u8, m: u64, n: u64) -> Child
+pub fn put(s: Situation, c: u8, m: PlaceSet, n: PlaceSet) -> Child
     ensures { λ r. ⌜ r ≡ child-of (put-child (denoted s) c m n) ⌝ }
 {
     let a = sides::front_in(&s.left);

@@ -6,6 +6,7 @@ use base_codes::FIELDS;
 use base_codes::LONGEST_SIDE;
 use base_codes::NO_TOKEN;
 use base_codes::Situation;
+use base_places::PlaceSet;
 use search_trim::Trimmed;
 ghost use mathlib.Core.Bool.{_&&_, _||_};
 ghost use mathlib.Core.List.{List};
@@ -127,7 +128,7 @@ fn is_dead(t: Trimmed) -> bool
 }
 
 // "dead is dropped; a side above 48 tokens gives 19"
-fn judge(t: Trimmed, sets: [u64; FIELDS]) -> Child
+fn judge(t: Trimmed, sets: [PlaceSet; FIELDS]) -> Child
     ensures { λ child. ⌜ ((l r : List ℕ) → t ≡ trimmed-sides l r → child ≡ child-of (judged-sides l r sets)) ⌝ }
 {
     if is_dead(t) {
@@ -149,7 +150,7 @@ fn judge(t: Trimmed, sets: [u64; FIELDS]) -> Child
 }
 
 // "Each child is trimmed", then judged.
-pub fn settle(l: &[u8], r: &[u8], sets: [u64; FIELDS]) -> Child
+pub fn settle(l: &[u8], r: &[u8], sets: [PlaceSet; FIELDS]) -> Child
     ensures { λ child. ⌜ child ≡ child-of (settle (now (l .entry)) (now (r .entry)) sets) ⌝ }
 {
     judge(search_trim::trim(l, r), sets)

@@ -5,6 +5,7 @@ use base_codes::NO_TOKEN;
 use base_codes::field_of;
 use base_places::CHARACTERS;
 use base_places::PLACES;
+use base_places::PlaceSet;
 ghost use mathlib.Core.Bool.{_&&_};
 ghost use mathlib.Core.List.{[]};
 ghost use mathlib.Core.Path.{_≡_};
@@ -17,12 +18,12 @@ ghost use Rattle.search_fronts.specs.Fronts.{row-at, front-from, takes-n
 // each character lets through.
 pub struct Front {
     pub token: u8,
-    pub followers: u64,
-    pub row: [u64; CHARACTERS],
+    pub followers: PlaceSet,
+    pub row: [PlaceSet; CHARACTERS],
 }
 
 // The places that may follow those of the set of the field with the token b.
-fn gather(sets: [u64; FIELDS], b: u8, follow: &[[u64; PLACES]; FIELDS]) -> u64
+fn gather(sets: [PlaceSet; FIELDS], b: u8, follow: &[[PlaceSet; PLACES]; FIELDS]) -> PlaceSet
     ensures { λ r. ⌜ r ≡ followers-of (getD (now (follow .entry)) (field-of b) []) (getD sets (field-of b) 0) ⌝ }
 {
     let f = field_of(b);
@@ -34,7 +35,7 @@ fn gather(sets: [u64; FIELDS], b: u8, follow: &[[u64; PLACES]; FIELDS]) -> u64
 }
 
 // What each character lets through in the field with the token b.
-fn row(b: u8, taking: &[[u64; CHARACTERS]; FIELDS]) -> [u64; CHARACTERS]
+fn row(b: u8, taking: &[[PlaceSet; CHARACTERS]; FIELDS]) -> [PlaceSet; CHARACTERS]
     ensures { λ r. ⌜ r ≡ row-at (now (taking .entry)) b ⌝ }
 {
     let f = field_of(b);
@@ -44,9 +45,9 @@ fn row(b: u8, taking: &[[u64; CHARACTERS]; FIELDS]) -> [u64; CHARACTERS]
 // What is worked out once of a token in front.
 pub fn front_with(
     token: u8,
-    sets: [u64; FIELDS],
-    follow: &[[u64; PLACES]; FIELDS],
-    taking: &[[u64; CHARACTERS]; FIELDS],
+    sets: [PlaceSet; FIELDS],
+    follow: &[[PlaceSet; PLACES]; FIELDS],
+    taking: &[[PlaceSet; CHARACTERS]; FIELDS],
 ) -> Front
     ensures { λ r. ⌜ r ≡ front-from (now (follow .entry)) (now (taking .entry)) sets token ⌝ }
 {
@@ -60,7 +61,7 @@ pub fn front_with(
 }
 
 // "a character in front must be c, and each front field's set after c must not be empty"
-fn takes(b: u8, next: u64, c: u8) -> bool
+fn takes(b: u8, next: PlaceSet, c: u8) -> bool
     ensures { λ r. ⌜ r ≡ takes-next b next c ⌝ }
 {
     if b < FIELD_CODE {
@@ -73,7 +74,7 @@ fn takes(b: u8, next: u64, c: u8) -> bool
 }
 
 // Do both tokens in front take c, where the sets of their fields after c are m and n?
-pub fn both_take(a: u8, m: u64, b: u8, n: u64, c: u8) -> bool
+pub fn both_take(a: u8, m: PlaceSet, b: u8, n: PlaceSet, c: u8) -> bool
     ensures { λ r. ⌜ r ≡ (takes-next a m c && takes-next b n c) ⌝ }
 {
     takes(a, m, c) && takes(b, n, c)

@@ -2,7 +2,7 @@
 -- buffer.
 --   put-behind, no-room-behind : the side with the token, where there is room and where there is none
 --   one-more                   : one field more has its tables
-use Prim.Native.Nat.{ℕ, suc, _+_, _≤_, _<_}
+use Prim.Native.Nat.{ℕ, suc, _+_, _<_}
 use native.Mathlib.Omega.{arith}
 use mathlib.Core.Path.{_≡_, sym, ap, _∙_}
 use mathlib.Core.List.{List, [], _∷_, _++_, append-assoc}

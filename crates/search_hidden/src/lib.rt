@@ -1,5 +1,6 @@
 // The hidden fields: "Each side is to be read as if one hidden field, of any number of spaces, stood at its end: field 8 on the left and 9 on the
 // right".
+use base_codes::CodedSide;
 use base_codes::FIELDS;
 use base_codes::HIDDEN_LEFT;
 use base_codes::HIDDEN_RIGHT;
@@ -9,6 +10,7 @@ use base_codes::SHEET_FIELDS;
 use base_codes::length_of;
 use base_places::CHARACTERS;
 use base_places::PLACES;
+use base_places::PlaceSet;
 use base_places::PlaceTables;
 use base_question::Question;
 ghost use mathlib.Core.Path.{_≡_};
@@ -21,14 +23,14 @@ ghost use Rattle.base_places.specs.WorkedOut.{worked-out};
 ghost use Rattle.search_hidden.specs.Behind.{side-with, with-hidden};
 
 // a side of no token, to be written over
-fn no_side() -> [u8; LONGEST_SIDE]
+fn no_side() -> CodedSide
     ensures { λ r. ⌜ r ≡ replicate longest-side no-token ⌝ }
 {
     [NO_TOKEN; LONGEST_SIDE]
 }
 
 // The side with this token behind its last one, if there is room for it.
-pub fn side(side: [u8; LONGEST_SIDE], token: u8) -> [u8; LONGEST_SIDE]
+pub fn side(side: CodedSide, token: u8) -> CodedSide
     ensures { λ r. ⌜ r ≡ side-with token side ⌝ }
 {
     let n = length_of(side);
@@ -45,9 +47,9 @@ pub fn side(side: [u8; LONGEST_SIDE], token: u8) -> [u8; LONGEST_SIDE]
 }
 
 // The one leaf of "any number of spaces", and the start with it.
-const LEAF: u64 = 2;
+const LEAF: PlaceSet = 2;
 
-const START_AND_LEAF: u64 = 3;
+const START_AND_LEAF: PlaceSet = 3;
 
 // "Code 39, by value": the space
 const SPACE: usize = 38;
@@ -85,8 +87,8 @@ pub fn fields(own: [PlaceTables; SHEET_FIELDS]) -> [PlaceTables; FIELDS]
 
 // A question with its hidden fields.
 pub struct Hidden {
-    pub left: [u8; LONGEST_SIDE],
-    pub right: [u8; LONGEST_SIDE],
+    pub left: CodedSide,
+    pub right: CodedSide,
     pub fields: [PlaceTables; FIELDS],
 }
 

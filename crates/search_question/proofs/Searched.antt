@@ -3,14 +3,14 @@
 --   search-told-every : over every character it is 01's search of `hidden q`
 -- for the struct of the question, wherever its patterns stand. Follows from `run-told-over`, from what the hidden fields and the cut tables are.
 use Prim.Native.Nat.{ℕ}
-use mathlib.Core.Path.{_≡_, refl, ap, _∙_}
+use mathlib.Core.Path.{_≡_, ap, _∙_}
 use mathlib.Core.Bool.{Bool}
 use mathlib.Core.List.{List, map}
 use lib.ListN.{length, replicate}
 use Rattle.paper.specs.Numbers.{characters}
 use Rattle.paper.specs.Alphabet.{code-39}
 use Rattle.paper.specs.Question.{Question, held-by, hidden}
-use Rattle.paper.specs.Outcome.{room-of, searched, cleared, answered, count-of, how-of}
+use Rattle.paper.specs.Outcome.{room-of, searched, answered, count-of, how-of}
 use Rattle.paper.proofs.sheets.Asked.{GoodSide}
 use Rattle.paper.proofs.sheets.Hidden.{Searchable}
 use Rattle.paper_chosen.specs.Chosen.{every, searched-over}
@@ -26,7 +26,7 @@ use Rattle.search_tables.specs.Cut.{listed-by, cut-coded}
 use Rattle.search_tables.specs.Tables.{follow-of, taking-of, last-of}
 use Rattle.search_tables.proofs.CutOver.{cut-over}
 use Rattle.search_trim.specs.Trimming.{question-coded}
-use Rattle.search_children.specs.Coding.{tables-of, taking-over, tables-over}
+use Rattle.search_children.specs.Coding.{taking-over, tables-over}
 use Rattle.search_run.specs.Ended.{room-for, ended-with, buffer-with, told-end}
 use Rattle.search_run.specs.Lent.{tables}
 use Rattle.search_run.proofs.RunIsSearch.{run-told-over}

@@ -3,6 +3,7 @@ use base_codes::FIELD_CODE;
 use base_codes::FIELDS;
 use base_codes::SHEET_FIELDS;
 use base_places::CHARACTERS;
+use base_places::PlaceSet;
 use search_slots::KEY;
 use search_slots::NUMBER;
 use search_slots::RIGHT;
@@ -163,7 +164,7 @@ fn write_record(out: &mut [u8], work: &[u8], last: usize, f: u8) -> usize
 }
 
 // Is a text above 65,535 characters?
-fn some_text_above(work: &[u8], last: usize, sets: [u64; FIELDS]) -> bool
+fn some_text_above(work: &[u8], last: usize, sets: [PlaceSet; FIELDS]) -> bool
     requires { ⌜ Slot-in (now work) last ⌝ }
     ensures { λ r. ⌜ r ≡ text-above sets (way-spelt (now (work .entry)) last) ⌝ }
 {
@@ -180,7 +181,7 @@ fn some_text_above(work: &[u8], last: usize, sets: [u64; FIELDS]) -> bool
 }
 
 // How many bytes the records have.
-fn records_length(work: &[u8], last: usize, sets: [u64; FIELDS]) -> usize
+fn records_length(work: &[u8], last: usize, sets: [PlaceSet; FIELDS]) -> usize
     requires { ⌜ Slot-in (now work) last ⌝ }
     ensures { λ r. ⌜ r ≡ length (value-records sets (way-spelt (now (work .entry)) last)) ⌝ }
 {
@@ -196,7 +197,7 @@ fn records_length(work: &[u8], last: usize, sets: [u64; FIELDS]) -> usize
 }
 
 // "each record written directly behind the one before"
-fn write_records(answer: &mut [u8], work: &[u8], last: usize, sets: [u64; FIELDS])
+fn write_records(answer: &mut [u8], work: &[u8], last: usize, sets: [PlaceSet; FIELDS])
     requires { ⌜ Slot-in (now work) last ⌝ }
     requires { ⌜ Records-fit sets (way-spelt (now work) last) (now answer) ⌝ }
     ensures { λ _. ⌜ now (answer .exit) ≡ in-front (value-records sets (way-spelt (now (work .entry)) last)) (now (answer .entry)) ⌝ }
@@ -212,7 +213,7 @@ fn write_records(answer: &mut [u8], work: &[u8], last: usize, sets: [u64; FIELDS
 }
 
 // The answer of a clash whose finish is in the last slot. A field stands in the question's sides if its first place set isn't 0. Where there is no such slot nothing is written. "21 comes before 20", and both before any byte is written.
-pub fn answer_clash(answer: &mut [u8], work: &[u8], last: usize, sets: [u64; FIELDS]) -> Given
+pub fn answer_clash(answer: &mut [u8], work: &[u8], last: usize, sets: [PlaceSet; FIELDS]) -> Given
     ensures { λ r. ⌜ (last < length (now (work .entry)) / situation-bytes → Answered sets (way-spelt (now (work .entry)) last) (now (answer .entry)) (now (answer .exit)) r) ⌝ }
 {
     if slots_in(work.len()) <= last {

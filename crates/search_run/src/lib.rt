@@ -3,10 +3,11 @@ mod search;
 
 use base_answers::Ended;
 use base_answers::How;
+use base_codes::CodedSide;
 use base_codes::FIELDS;
-use base_codes::LONGEST_SIDE;
 use base_places::CHARACTERS;
 use base_places::PLACES;
+use base_places::PlaceSet;
 use search::Run;
 use search::Status;
 use search_records::Given;
@@ -24,11 +25,11 @@ const MOST_ROOM: usize = 65535;
 
 // Searches the question of these sides, whose fields have these tables. The working buffer is all zero afterwards.
 pub fn run(
-    left: [u8; LONGEST_SIDE],
-    right: [u8; LONGEST_SIDE],
-    follow: [[u64; PLACES]; FIELDS],
-    taking: [[u64; CHARACTERS]; FIELDS],
-    last: [u64; FIELDS],
+    left: CodedSide,
+    right: CodedSide,
+    follow: [[PlaceSet; PLACES]; FIELDS],
+    taking: [[PlaceSet; CHARACTERS]; FIELDS],
+    last: [PlaceSet; FIELDS],
     work: &mut [u8],
     answer: &mut [u8],
 ) -> Ended
@@ -57,7 +58,7 @@ fn room_for(bytes: usize) -> usize
 }
 
 // How it ends once the search is over. The first situation's sets say which fields stand.
-fn conclude(answer: &mut [u8], work: &[u8], run: Run, sets: [u64; FIELDS]) -> How
+fn conclude(answer: &mut [u8], work: &[u8], run: Run, sets: [PlaceSet; FIELDS]) -> How
     requires { ⌜ Search-over (now work) run ⌝ }
     ensures { λ r. ⌜ ((o : Search-over (now (work .entry)) run) → Concluded (o .search) sets (now (answer .entry)) (now (answer .exit)) r) ⌝ }
 {
@@ -72,7 +73,7 @@ fn conclude(answer: &mut [u8], work: &[u8], run: Run, sets: [u64; FIELDS]) -> Ho
 }
 
 // How a clash ends, whose finish is in the last slot.
-fn found(answer: &mut [u8], work: &[u8], count: usize, sets: [u64; FIELDS]) -> How
+fn found(answer: &mut [u8], work: &[u8], count: usize, sets: [PlaceSet; FIELDS]) -> How
     requires { ⌜ 0 < count ⌝ }
     requires { ⌜ Way-to (now work) (count - 1) ⌝ }
     ensures { λ r. ⌜ ((w : Way-to (now (work .entry)) (count - 1)) → Clash-told (w .slots) count sets (now (answer .entry)) (now (answer .exit)) r) ⌝ }

@@ -5,6 +5,7 @@ use base_codes::RIGHT_STRUCK;
 use base_codes::Situation;
 use base_places::CHARACTERS;
 use base_places::PLACES;
+use base_places::PlaceSet;
 use search_buckets::Seen;
 use search_children::Child;
 use search_children::Fate;
@@ -208,9 +209,9 @@ fn offer_children(
     run: Run,
     parent: usize,
     s: Situation,
-    follow: &[[u64; PLACES]; FIELDS],
-    taking: &[[u64; CHARACTERS]; FIELDS],
-    last: [u64; FIELDS],
+    follow: &[[PlaceSet; PLACES]; FIELDS],
+    taking: &[[PlaceSet; CHARACTERS]; FIELDS],
+    last: [PlaceSet; FIELDS],
 ) -> Run
     requires { ⌜ Roomy (now work) room (run .entered) parent ⌝ }
     requires { ⌜ 0 < run .entered ⌝ }
@@ -253,9 +254,9 @@ fn take(
     room: usize,
     run: Run,
     k: usize,
-    follow: &[[u64; PLACES]; FIELDS],
-    taking: &[[u64; CHARACTERS]; FIELDS],
-    last: [u64; FIELDS],
+    follow: &[[PlaceSet; PLACES]; FIELDS],
+    taking: &[[PlaceSet; CHARACTERS]; FIELDS],
+    last: [PlaceSet; FIELDS],
 ) -> Run
     requires { ⌜ Roomy (now work) room (run .entered) k ⌝ }
     requires { ⌜ k < run .entered ⌝ }
@@ -270,9 +271,9 @@ pub fn search(
     work: &mut [u8],
     room: usize,
     first: Situation,
-    follow: &[[u64; PLACES]; FIELDS],
-    taking: &[[u64; CHARACTERS]; FIELDS],
-    last: [u64; FIELDS],
+    follow: &[[PlaceSet; PLACES]; FIELDS],
+    taking: &[[PlaceSet; CHARACTERS]; FIELDS],
+    last: [PlaceSet; FIELDS],
 ) -> Run
     requires { ⌜ (situation-bytes * room ≤ length (now work)) × (room ≤ most-room) ⌝ }
     ensures { λ r. ⌜ Searches room (tables (now (follow .entry)) (now (taking .entry)) last) first (now (work .exit)) r ⌝ }

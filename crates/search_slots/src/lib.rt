@@ -1,10 +1,12 @@
 // A situation in the working buffer: its slot of 184 bytes.
 pub mod numbers;
 
+use base_codes::CodedSide;
 use base_codes::FIELDS;
 use base_codes::LONGEST_SIDE;
 use base_codes::NO_TOKEN;
 use base_codes::Situation;
+use base_places::PlaceSet;
 use numbers::number;
 use numbers::put_number;
 ghost use mathlib.Core.Path.{_≡_};
@@ -52,14 +54,14 @@ fn put(to: &mut [u8], from: &[u8])
     }
 }
 
-fn put_mask(to: &mut [u8], mask: u64)
+fn put_mask(to: &mut [u8], mask: PlaceSet)
     requires { ⌜ length (now to) ≡ mask-width ⌝ }
     ensures { λ _. ⌜ now (to .exit) ≡ mask-bytes mask ⌝ }
 {
     put_number(to, mask);
 }
 
-fn put_sets(to: &mut [u8], sets: &[u64])
+fn put_sets(to: &mut [u8], sets: &[PlaceSet])
     requires { ⌜ length (now to) ≡ mask-width * length (now sets) ⌝ }
     ensures { λ _. ⌜ now (to .exit) ≡ each mask-bytes (now (sets .entry)) ⌝ }
 {
@@ -135,7 +137,7 @@ pub fn put_slot(to: &mut [u8], key: &[u8], parent: u16, step: u8)
     put_origin(&mut to[KEY..HELD], parent, step);
 }
 
-fn side_of(from: &[u8]) -> [u8; LONGEST_SIDE]
+fn side_of(from: &[u8]) -> CodedSide
     requires { ⌜ length (now from) ≡ longest-side ⌝ }
     ensures { λ r. ⌜ r ≡ now (from .entry) ⌝ }
 {
@@ -144,14 +146,14 @@ fn side_of(from: &[u8]) -> [u8; LONGEST_SIDE]
     side
 }
 
-fn mask_of(from: &[u8]) -> u64
+fn mask_of(from: &[u8]) -> PlaceSet
     requires { ⌜ length (now from) ≡ mask-width ⌝ }
     ensures { λ r. ⌜ ((m : ℕ) → now (from .entry) ≡ mask-bytes m → r ≡ m) ⌝ }
 {
     number(from)
 }
 
-fn sets_of(from: &[u8]) -> [u64; FIELDS]
+fn sets_of(from: &[u8]) -> [PlaceSet; FIELDS]
     requires { ⌜ length (now from) ≡ sets-bytes ⌝ }
     ensures { λ r. ⌜ ((ms : List ℕ) → length ms ≡ set-fields → now (from .entry) ≡ each mask-bytes ms → r ≡ ms) ⌝ }
 {

@@ -3,6 +3,7 @@
 use base_codes::FIELDS;
 use base_places::CHARACTERS;
 use base_places::PLACES;
+use base_places::PlaceSet;
 use base_places::PlaceTables;
 ghost use mathlib.Core.Path.{_≡_};
 ghost use mathlib.Core.List.{map};
@@ -11,7 +12,7 @@ ghost use Rattle.search_tables.specs.Cut.{cut-row, cut-coded};
 ghost use Rattle.search_tables.specs.Tables.{follow-of, taking-of, last-of};
 
 // "For every field and every place, the set of places that may follow".
-pub fn follow_sets(fields: [PlaceTables; FIELDS]) -> [[u64; PLACES]; FIELDS]
+pub fn follow_sets(fields: [PlaceTables; FIELDS]) -> [[PlaceSet; PLACES]; FIELDS]
     ensures { λ r. ⌜ r ≡ map follow-of fields ⌝ }
 {
     let mut sets = [[0; PLACES]; FIELDS];
@@ -26,7 +27,7 @@ pub fn follow_sets(fields: [PlaceTables; FIELDS]) -> [[u64; PLACES]; FIELDS]
 }
 
 // For every field and every character the set of places that take it.
-pub fn taking_sets(fields: [PlaceTables; FIELDS]) -> [[u64; CHARACTERS]; FIELDS]
+pub fn taking_sets(fields: [PlaceTables; FIELDS]) -> [[PlaceSet; CHARACTERS]; FIELDS]
     ensures { λ r. ⌜ r ≡ map taking-of fields ⌝ }
 {
     let mut sets = [[0; CHARACTERS]; FIELDS];
@@ -41,7 +42,7 @@ pub fn taking_sets(fields: [PlaceTables; FIELDS]) -> [[u64; CHARACTERS]; FIELDS]
 }
 
 // For every field the set of places that may be the last one of a text.
-pub fn last_sets(fields: [PlaceTables; FIELDS]) -> [u64; FIELDS]
+pub fn last_sets(fields: [PlaceTables; FIELDS]) -> [PlaceSet; FIELDS]
     ensures { λ r. ⌜ r ≡ map last-of fields ⌝ }
 {
     let mut sets = [0; FIELDS];
@@ -56,14 +57,14 @@ pub fn last_sets(fields: [PlaceTables; FIELDS]) -> [u64; FIELDS]
 }
 
 // The mask, or no place.
-fn mask_if(among: bool, mask: u64) -> u64
+fn mask_if(among: bool, mask: PlaceSet) -> PlaceSet
     ensures { λ r. ⌜ r ≡ cond among mask 0 ⌝ }
 {
     if among { mask } else { 0 }
 }
 
 // What a field's places take of these.
-fn cut(among: [bool; CHARACTERS], row: [u64; CHARACTERS]) -> [u64; CHARACTERS]
+fn cut(among: [bool; CHARACTERS], row: [PlaceSet; CHARACTERS]) -> [PlaceSet; CHARACTERS]
     ensures { λ r. ⌜ r ≡ cut-row among row ⌝ }
 {
     let mut masks = [0u64; CHARACTERS];
@@ -77,9 +78,9 @@ fn cut(among: [bool; CHARACTERS], row: [u64; CHARACTERS]) -> [u64; CHARACTERS]
 
 // "tables in which no place takes another character"
 pub fn only_taking(
-    taking: &[[u64; CHARACTERS]; FIELDS],
+    taking: &[[PlaceSet; CHARACTERS]; FIELDS],
     among: [bool; CHARACTERS],
-) -> [[u64; CHARACTERS]; FIELDS]
+) -> [[PlaceSet; CHARACTERS]; FIELDS]
     ensures { λ r. ⌜ r ≡ cut-coded (now (taking .entry)) among ⌝ }
 {
     let mut tables = [[0u64; CHARACTERS]; FIELDS];

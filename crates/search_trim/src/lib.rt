@@ -1,10 +1,12 @@
 // Trimming: equal characters dropped from both fronts; and the trimmed question.
+use base_codes::CodedSide;
 use base_codes::FIELD_CODE;
 use base_codes::FIELDS;
 use base_codes::LONGEST_SIDE;
 use base_codes::NO_TOKEN;
 use base_codes::Situation;
 use base_codes::length_of;
+use base_places::PlaceSet;
 ghost use mathlib.Core.List.{_++_};
 ghost use mathlib.Core.Path.{_≡_};
 ghost use Prim.Native.Nat.{_≤_, _<_};
@@ -17,8 +19,8 @@ ghost use Rattle.search_trim.specs.Trimming.{alike-in-front, trimmed-of,
 
 // Two sides behind their equal characters in front, each in its 48 bytes as far as it has room, and how many tokens each has.
 pub struct Trimmed {
-    pub left: [u8; LONGEST_SIDE],
-    pub right: [u8; LONGEST_SIDE],
+    pub left: CodedSide,
+    pub right: CodedSide,
     pub left_len: usize,
     pub right_len: usize,
 }
@@ -46,14 +48,14 @@ fn alike_in_front(l: &[u8], r: &[u8]) -> usize
 }
 
 // a side of no token, to be written over
-fn no_side() -> [u8; LONGEST_SIDE]
+fn no_side() -> CodedSide
     ensures { λ r. ⌜ r ≡ replicate longest-side no-token ⌝ }
 {
     [NO_TOKEN; LONGEST_SIDE]
 }
 
 // The side in its 48 bytes, as far as it has room.
-fn padded_side(side: &[u8]) -> [u8; LONGEST_SIDE]
+fn padded_side(side: &[u8]) -> CodedSide
     ensures { λ r. ⌜ r ≡ padded (take longest-side (now (side .entry))) ⌝ }
 {
     let n = if side.len() < LONGEST_SIDE {
@@ -101,7 +103,7 @@ fn stands(side: &[u8], token: u8) -> bool
 }
 
 // The mask of the start for a field that stands in either side, 0 for one that does not.
-fn first_mask(l: &[u8], r: &[u8], f: usize) -> u64
+fn first_mask(l: &[u8], r: &[u8], f: usize) -> PlaceSet
     requires { ⌜ f < set-fields ⌝ }
     ensures { λ m. ⌜ m ≡ first-mask (now (l .entry) ++ now (r .entry)) f ⌝ }
 {
@@ -116,7 +118,7 @@ fn first_mask(l: &[u8], r: &[u8], f: usize) -> u64
 }
 
 // "at first it holds only the start"
-fn first_masks(l: &[u8], r: &[u8]) -> [u64; FIELDS]
+fn first_masks(l: &[u8], r: &[u8]) -> [PlaceSet; FIELDS]
     ensures { λ sets. ⌜ sets ≡ first-masks (now (l .entry) ++ now (r .entry)) ⌝ }
 {
     let mut sets = [0u64; FIELDS];
@@ -141,7 +143,7 @@ fn asked(l: &[u8], r: &[u8]) -> Situation
 }
 
 // "The trimmed question", from its two sides.
-pub fn question(left: [u8; LONGEST_SIDE], right: [u8; LONGEST_SIDE]) -> Situation
+pub fn question(left: CodedSide, right: CodedSide) -> Situation
     ensures { λ r. ⌜ r ≡ as-struct (question-coded (tokens left) (tokens right)) ⌝ }
 {
     let left_len = length_of(left);

@@ -1,7 +1,7 @@
 -- `standings` meets its contract. The loop's invariant: the fields below f are counted (`Counted`).
 use Prim.Native.Nat.{ℕ, _+_, _-_}
 use native.Mathlib.Omega.{arith}
-use mathlib.Core.Path.{_≡_, refl, sym, ap₂, _∙_}
+use mathlib.Core.Path.{refl, sym, ap₂, _∙_}
 use mathlib.Core.List.{_++_}
 use borrow.Author.Needs.{needs}
 use Rattle.paper.specs.Numbers.{set-fields}

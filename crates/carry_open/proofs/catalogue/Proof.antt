@@ -23,16 +23,15 @@ same-length c = search needs
 returns : tie.Need-returns
 returns c =
     let f = c .before .before in
-    and-kept-promised _ _ (none-kept _ (no-rules (f .find .result) _ _ (f .find .ensures) (not-true (f .find .result .good) (c .if1 .taken))))
+    and-kept-promised _ _ (none-kept _ (no-rules (f .find .result) _ (f .find .ensures) (not-true (f .find .result .good) (c .if1 .taken))))
 
 -- the rules that stand
 standing : (c : tie.Else1) →
     let f = c .before .before in
-    Of-form (now (f .before .before .before .args .catalogue)) (f .find .result .rules)
+    Of-form (now (f .before .before .before .args .catalogue)) (f .find .result)
 standing c =
     let f = c .before .before in
-    let r = some-rules (f .find .result) _ _ (f .find .ensures) (not-false (f .find .result .good) (c .if1 .left)) in
-    record { rules-present = r .rules-present; of-form = r .is; counted = r .counted }
+    some-rules (f .find .result) _ (f .find .ensures) (not-false (f .find .result .good) (c .if1 .left))
 
 -- room for the longest rules
 room : (c : tie.After-no-bytes) → length (c .no-bytes .result) ≡ longest-rules

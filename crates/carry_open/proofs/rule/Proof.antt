@@ -1,13 +1,17 @@
 -- `rule` meets its contract, by what reading the rule tells and by what is put of it (`Whole`, `Answered`).
 use native.Mathlib.Omega.{arith}
-use mathlib.Core.Path.{_≡_, sym, ap, _∙_}
+use mathlib.Core.Path.{_≡_, sym, ap, _∙_, subst}
 use mathlib.Core.Bool.{false}
+use mathlib.Core.List.{List}
 use denote.Ref.{now}
 use lib.ListN.{length}
 use lib.Seq.{take-all}
 use Rattle.paper.specs.Rule.{foreign-field, read-rule}
 use Rattle.paper_catalogue.proofs.Local.{rule-whole, rule-bounds}
 use Rattle.paper_catalogue.proofs.GoodRule.{new-good}
+use Rattle.base_question.specs.declared.Body.{Body}
+use Rattle.read_fields.proofs.PatternsStanding.{AllStand}
+use Rattle.read_rule.specs.RuleRead.{rule-bodies}
 use Rattle.read_rule.proofs.RuleStruct.{RuleTold, rule-stands}
 use Rattle.read_rule.proofs.RulePatterns.{front-stands}
 use Rattle.paper_carry.specs.Opened.{rule-open}
@@ -34,8 +38,9 @@ returns c =
 -- the rule that was read
 told : (e : tie.After-enum-told) →
     let r = e .before .before in
-    RuleTold (read-rule (now (r .before .before .before .args .rule))) (r .read .result)
-told e = let r = e .before .before in rule-stands (r .read .result) _ (r .read .ensures) (e .enum-told .given .1)
+    let bytes = now (r .before .before .before .args .rule) in
+    RuleTold (rule-bodies bytes) (read-rule bytes) (r .read .result)
+told e = let r = e .before .before in rule-stands (r .read .result) _ _ (r .read .ensures) (e .enum-told .given .1)
 
 enum-told : tie.Need-enum-told
 enum-told c = search needs
@@ -51,25 +56,21 @@ own e = sym (told (e .before) .foreign) ∙ e .if1 .left
 
 -- what is put of it
 whole : (s : tie.After-rule-counts) →
-    let p = s .before .before in
-    let e = p .before .before in
-    put-whole (now (e .before .before .before .before .before .before .args .rule)) 2 (p .read2 .result .bodies) (s .rule-counts .result)
-    ≡ rule-open (told (e .before) .rule)
+    let e = s .before .before .before in
+    let r = e .before .before .before in
+    put-whole (now (r .before .before .before .args .rule)) 2 (r .read .result .bodies) (s .rule-counts .result) ≡ rule-open (told (e .before) .rule)
 whole s =
-    let p = s .before .before in
-    let e = p .before .before in
+    let e = s .before .before .before in
+    let r = e .before .before .before in
     let t = told (e .before) in
-    let bytes = now (e .before .before .before .before .before .before .args .rule) in
+    let bytes = now (r .before .before .before .args .rule) in
     let (front, all) = rule-whole bytes (t .reads) in
     let good = new-good bytes (t .reads) (own e) in
-    Whole.rule-whole (t .rule) good bytes (rule-said-back bytes front ∙ take-all (e .before .before .before .read .result .bytes) bytes (omega (arith, all)))
-    _ (t .side) (p .read2 .result .bodies)
-    (Whole.have-bytes bytes (t .rule .fields .held) (p .read2 .result .bodies) (good .held .each-field)
-    (front-stands bytes front (p .read2 .result) (p .read2 .ensures)))
+    let stand = subst (λ (b : List Body). AllStand bytes b (t .rule .fields .held)) (sym (t .bodies-are)) (front-stands bytes front) in
+    Whole.rule-whole (t .rule) good bytes (rule-said-back bytes front ∙ take-all (r .read .result .bytes) bytes (omega (arith, all)))
+    _ (t .side) (r .read .result .bodies)
+    (Whole.have-bytes bytes (t .rule .fields .held) (r .read .result .bodies) (good .held .each-field) stand)
     _ (s .rule-counts .ensures)
-
-read-requires-2 : tie.Need-read-requires-2
-read-requires-2 c κs = search needs
 
 rule-counts-requires : tie.Need-rule-counts-requires
 rule-counts-requires c κs = search needs
@@ -77,7 +78,7 @@ rule-counts-requires c κs = search needs
 write-out-requires : tie.Need-write-out-requires
 write-out-requires c κs =
     let s = c .before in
-    let e = s .before .before .before .before in
+    let e = s .before .before .before in
     let t = told (e .before) in
     let bytes = now (e .before .before .before .before .before .before .args .rule) in
     let (low, high) = rule-bounds bytes (rule-whole bytes (t .reads) .0) in
@@ -90,7 +91,7 @@ returns-3 : tie.Need-returns-3
 returns-3 c =
     let w = c .before .before in
     let s = w .before .before in
-    let e = s .before .before .before .before in
+    let e = s .before .before .before in
     let t = told (e .before) in
     and-rule-promised _ _ _ (rule-put _ _ (t .rule) _ (t .reads) (own e) _ (whole s) _ (w .write-out .ensures))
 
@@ -103,7 +104,6 @@ rule-spec =
     returns
     enum-told
     returns-2
-    read-requires-2
     rule-counts-requires
     write-out-requires
     same-length

@@ -4,9 +4,11 @@ use denote.Ref.{now}
 use borrow.Author.Needs.{needs}
 use borrow.Author.Tests.{not-true, not-false}
 use Rattle.paper.specs.Rule.{read-rule}
-use Rattle.paper_catalogue.specs.Catalogue.{form, is-full}
+use Rattle.paper_catalogue.specs.Catalogue.{is-full}
+use Rattle.read_rule.specs.RuleRead.{rule-bodies}
 use Rattle.read_rule.proofs.RuleStruct.{RuleTold, rule-fault, rule-stands}
-use Rattle.catalogue_form.proofs.FormFound.{Rules, no-rules, some-rules}
+use Rattle.catalogue_form.specs.Kept.{Of-form}
+use Rattle.catalogue_form.proofs.FormFound.{no-rules, some-rules}
 use Rattle.catalogue_add.proofs.Entering.{full-is, adds-to-none, adds-fault, adds-foreign, adds-full}
 use Rattle.catalogue_add.proofs.add.Statement.{statement}
 use Rattle.catalogue_add.proofs.add.Tie as tie
@@ -20,7 +22,7 @@ same-length c = search needs
 returns : tie.Need-returns
 returns c =
     let f = c .before .before in
-    adds-to-none _ _ _ (no-rules (f .find .result) _ _ (f .find .ensures) (not-true (f .find .result .good) (c .if1 .taken)))
+    adds-to-none _ _ _ (no-rules (f .find .result) _ (f .find .ensures) (not-true (f .find .result .good) (c .if1 .taken)))
 
 read-requires : tie.Need-read-requires
 read-requires c κs = search needs
@@ -34,16 +36,17 @@ same-length-2 c = search needs
 -- the rules that stand
 rules-present : (c : tie.Else1) →
     let f = c .before .before in
-    Rules 0 (form (now (f .before .before .before .before .before .args .catalogue))) (f .find .result)
+    Of-form (now (f .before .before .before .before .before .args .catalogue)) (f .find .result)
 rules-present c =
     let f = c .before .before in
-    some-rules (f .find .result) _ _ (f .find .ensures) (not-false (f .find .result .good) (c .if1 .left))
+    some-rules (f .find .result) _ (f .find .ensures) (not-false (f .find .result .good) (c .if1 .left))
 
 -- the rule that was read
 its-rule : (c : tie.After-enum-told) →
     let r = c .before .before in
-    RuleTold (read-rule (now (r .before .before .before .before .before .before .before .before .args .bytes))) (r .read .result)
-its-rule c = let r = c .before .before in rule-stands (r .read .result) _ (r .read .ensures) (c .enum-told .given .1)
+    let bytes = now (r .before .before .before .before .before .before .before .before .args .bytes) in
+    RuleTold (rule-bodies bytes) (read-rule bytes) (r .read .result)
+its-rule c = let r = c .before .before in rule-stands (r .read .result) _ _ (r .read .ensures) (c .enum-told .given .1)
 
 -- whether it fits
 full-here : (c : tie.After-is-full) →
@@ -61,7 +64,7 @@ returns-2 : tie.Need-returns-2
 returns-2 c =
     let r = c .before .before .before in
     let x = rules-present (r .before) in
-    adds-fault _ _ _ (x .rules-present) (x .is) _ _ (rule-fault (r .read .result) _ _ (r .read .ensures) (c .before .found .given .1))
+    adds-fault _ _ _ (x .rules-present) (x .of-form) _ _ (rule-fault (r .read .result) _ _ _ (r .read .ensures) (c .before .found .given .1))
 
 enum-told : tie.Need-enum-told
 enum-told c = search needs
@@ -74,7 +77,7 @@ returns-3 c =
     let e = c .before in
     let x = rules-present (e .before .before .before) in
     let r = its-rule e in
-    adds-foreign _ _ _ (x .rules-present) (x .is) (r .rule) _ (r .reads) (sym (r .foreign) ∙ c .if2 .taken)
+    adds-foreign _ _ _ (x .rules-present) (x .of-form) (r .rule) _ (r .reads) (sym (r .foreign) ∙ c .if2 .taken)
 
 is-full-requires : tie.Need-is-full-requires
 is-full-requires c κs = search needs
@@ -88,7 +91,7 @@ returns-4 c =
     let e = f .before .before in
     let x = rules-present (e .before .before .before) in
     let r = its-rule e in
-    adds-full _ _ _ (x .rules-present) (x .is) (r .rule) _ (r .reads) (sym (r .foreign) ∙ f .before .if2 .left) (full-here f ∙ c .if3 .taken)
+    adds-full _ _ _ (x .rules-present) (x .of-form) (r .rule) _ (r .reads) (sym (r .foreign) ∙ f .before .if2 .left) (full-here f ∙ c .if3 .taken)
 
 enter-requires : tie.Need-enter-requires
 enter-requires c κs =
@@ -99,9 +102,7 @@ enter-requires c κs =
     let r = its-rule e in
     record {
       asks = record {
-        rules-present = x .rules-present;
-        of-form = x .is;
-        counted = x .counted;
+        standing = x;
         bytes = _;
         rule = r .rule;
         its-bytes = _;
@@ -111,7 +112,6 @@ enter-requires c κs =
         fields-are = r .fields;
       };
       same-bytes = refl;
-      used = x .its-used;
       room = full-here f ∙ d .if3 .left;
     }
 

@@ -1,90 +1,74 @@
--- `storeroom::ask_all` meets its contract. The loop's invariant: the pairs before number `i` are all answered 1 (`Going`). Assumes nothing.
-use Prim.Native.Nat.{ℕ, _-_, _≤_}
+-- `ask_all` meets its contract. The loop's invariant: the pairs before number `i` are all answered 1 (`Going`). Assumes nothing.
+use Prim.Native.Nat.{_-_}
 use native.Mathlib.Omega.{arith}
 use mathlib.Core.Path.{_≡_, refl, ap, _∙_}
-use mathlib.Core.List.{List}
 use denote.Ref.{now}
 use borrow.Author.Needs.{needs}
-use borrow.Rule.Slice.PartAt.{part-to-end}
-use lib.ListN.{length, drop, length-replicate}
-use Rattle.paper.specs.Rule.{rule-front}
-use Rattle.read_rule.specs.RuleRead.{rule-of}
-use Rattle.catalogue_form.proofs.RulesStanding.{standing-inside, next-inside}
+use lib.ListN.{length, length-replicate}
+use Rattle.paper.specs.Outcome.{room-of}
+use Rattle.paper_catalogue.specs.Calls.{rule-at}
+use Rattle.catalogue_form.proofs.RulesStanding.{rules-few}
+use Rattle.catalogue_pair.proofs.Asking.{Pair-told}
 use Rattle.catalogue_add.specs.Addition.{Ready-to-ask}
-use Rattle.catalogue_add.proofs.Going.{Going, going-start, going-more, going-stops, going-ends}
+use Rattle.catalogue_add.proofs.Going.{Going, going-start, going-more, going-stops, going-ends, asked-told}
 use Rattle.catalogue_add.proofs.ask_all.Statement.{statement}
 use Rattle.catalogue_add.proofs.ask_all.Tie as tie
 
 abbrev Inv-loop : tie.InvT-loop
-Inv-loop catalogue count work₀ right second at₀ i₀ work at i =
-    (length work ≡ length work₀) × ((x : Ready-to-ask catalogue count right second) → Going (x .rules-present) (x .rule) work₀ work at i)
+Inv-loop catalogue work₀ kept right second i₀ work i =
+    (length work ≡ length work₀)
+    × ((x : Ready-to-ask catalogue kept right second) → Going (x .standing .rules-present) (x .rule) work₀ work i)
 
 abbrev μ-loop : tie.MeasureT-loop
-μ-loop catalogue count work₀ right second at₀ i₀ work at i = count - i
+μ-loop catalogue work₀ kept right second i₀ work i = kept .rules - i
 
 loop-holds : tie.Need-loop-holds Inv-loop μ-loop
-loop-holds c = (refl, λ x. going-start x _)
+loop-holds c = (refl, λ x. going-start _)
 
 -- what is known of the catalogue and the new rule
-ready : (l : tie.At-loop Inv-loop μ-loop) →
-    let a = l .before .before .before .before .before .args in
-    Ready-to-ask (now (a .catalogue)) (a .count) (a .new .side) (a .new .fields)
-ready l = l .before .before .before .before .before .pre
+abbrev start : tie.At-loop Inv-loop μ-loop → tie.Start Inv-loop μ-loop
+start l = l .before .before .before .before .before
 
-inside : (c : tie.In-loop Inv-loop μ-loop) →
-    let l = c .before in l .loop .at ≤ length (now (l .before .before .before .before .before .args .catalogue))
-inside c =
-    let l = c .before in
-    let x = ready l in
-    standing-inside _ (x .of-form) (l .loop .i) (omega (arith, x .counted, c .loop-test .taken)) _ (l .loop .inv .1 x .place)
+mul-at : tie.Need-mul-at Inv-loop μ-loop
+mul-at c = omega (arith, c .loop-test .taken, rules-few (start (c .before) .pre .standing))
 
-sub-front : tie.Need-sub-front Inv-loop μ-loop
-sub-front c = inside c
+element-copy-out-at : tie.Need-element-copy-out-at Inv-loop μ-loop
+element-copy-out-at c = omega (arith, c .loop-test .taken, rules-few (start (c .before) .pre .standing))
 
-part-front-start : tie.Need-part-front-start Inv-loop μ-loop
-part-front-start c = inside c
-
-part-front-end : tie.Need-part-front-end Inv-loop μ-loop
-part-front-end c = search needs
-
-front-requires : tie.Need-front-requires Inv-loop μ-loop
-front-requires c κs = search needs
-
--- the rule that stands at the offset
-front-is : (f : tie.After-front Inv-loop μ-loop) →
-    let l = f .before .before .before in
-    f .front .result ≡ rule-of (rule-front (drop (l .loop .at) (now (l .before .before .before .before .before .args .catalogue))))
-front-is f =
-    let l = f .before .before .before in
-    f .front .ensures
-    ∙ ap (λ (s : List ℕ). rule-of (rule-front s)) (part-to-end (now (l .before .before .before .before .before .args .catalogue)) (l .loop .at))
+rule-at-requires : tie.Need-rule-at-requires Inv-loop μ-loop
+rule-at-requires c κs = search needs
 
 ask-requires : tie.Need-ask-requires Inv-loop μ-loop
 ask-requires c κs = search needs
 
+-- where the loop is, behind a pair that was asked
+abbrev in-loop : tie.After-ask Inv-loop μ-loop → tie.In-loop Inv-loop μ-loop
+in-loop k = k .before .before .before .before .before .before
+
+-- what the pair tells
+told : (k : tie.After-ask Inv-loop μ-loop) →
+    let l = in-loop k .before in
+    let a = start l .args in
+    (x : Ready-to-ask (now (a .catalogue)) (a .t2) (a .new .side) (a .new .fields))
+    → Pair-told (rule-at (x .standing .rules-present) (l .loop .i)) (x .rule) (room-of (now (a .work))) (k .ask .result)
+told k =
+    let l = in-loop k .before in
+    let f = k .before .before .before .before in
+    λ x.
+    asked-told x (l .loop .i) (omega (arith, x .standing .counted, in-loop k .loop-test .taken)) (f .rule-at .result) (f .rule-at .ensures) (l .loop .work) _ (l .loop .inv .0)
+    (k .ask .result) (k .ask .ensures .0)
+
 same-length : tie.Need-same-length Inv-loop μ-loop
 same-length c =
     let k = c .before .before .before .before in
-    let l = k .before .before .before .before .before .before .before in
-    ap length (k .ask .ensures .1) ∙ length-replicate _ 0 ∙ l .loop .inv .0
+    ap length (k .ask .ensures .1) ∙ length-replicate _ 0 ∙ in-loop k .before .loop .inv .0
 
 returns : tie.Need-returns Inv-loop μ-loop
 returns c =
     let k = c .before .before .before .before in
-    let f = k .before .before .before .before in
-    let l = f .before .before .before in
+    let l = in-loop k .before in
     λ x.
-    going-stops x (l .loop .inv .1 x) (omega (arith, x .counted, f .before .before .loop-test .taken)) _ (front-is f) _ (k .ask .ensures .0) _ (k .ask .ensures .1) (c .if1 .taken)
-
-add-at : tie.Need-add-at Inv-loop μ-loop
-add-at c =
-    let k = c .before .before .before .before .before in
-    let f = k .before .before .before .before in
-    let l = f .before .before .before in
-    let x = ready l in
-    let within =
-    next-inside _ (x .of-form) (l .loop .i) (omega (arith, x .counted, f .before .before .loop-test .taken)) _ (l .loop .inv .1 x .place) _ (front-is f) in
-    omega (arith, within)
+    going-stops (l .loop .inv .1 x) (omega (arith, x .standing .counted, in-loop k .loop-test .taken)) (told k x) (k .ask .ensures .1) (c .if1 .taken)
 
 add-i : tie.Need-add-i Inv-loop μ-loop
 add-i c = search needs
@@ -94,19 +78,18 @@ loop-less c = search needs
 
 loop-again : tie.Need-loop-again Inv-loop μ-loop
 loop-again c =
-    let k = c .before .before .before .before .before in
-    let f = k .before .before .before .before in
-    let l = f .before .before .before in (
+    let k = c .before .before .before .before in
+    let l = in-loop k .before in (
       ap length (k .ask .ensures .1) ∙ length-replicate _ 0 ∙ l .loop .inv .0,
       λ x.
-          going-more x (l .loop .inv .1 x) (omega (arith, x .counted, f .before .before .loop-test .taken)) _ (front-is f) _ (k .ask .ensures .0) _ (k .ask .ensures .1) (c .before .if1 .left),
+          going-more (l .loop .inv .1 x) (omega (arith, x .standing .counted, in-loop k .loop-test .taken)) (told k x) (k .ask .ensures .1) (c .if1 .left),
     )
 
 same-length-2 : tie.Need-same-length-2 Inv-loop μ-loop
 same-length-2 c = search needs
 
 returns-2 : tie.Need-returns-2 Inv-loop μ-loop
-returns-2 c = λ x. going-ends x (c .before .loop .inv .1 x) (omega (arith, x .counted, c .loop-test .left))
+returns-2 c = λ x. going-ends (c .before .loop .inv .1 x) (omega (arith, x .standing .counted, c .loop-test .left))
 
 pub ask-all-spec : {M : Type 1} → statement M
 ask-all-spec =
@@ -115,14 +98,12 @@ ask-all-spec =
     Inv-loop
     μ-loop
     loop-holds
-    sub-front
-    part-front-start
-    part-front-end
-    front-requires
+    mul-at
+    element-copy-out-at
+    rule-at-requires
     ask-requires
     same-length
     returns
-    add-at
     add-i
     loop-less
     loop-again

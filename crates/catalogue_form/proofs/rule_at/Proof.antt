@@ -1,39 +1,59 @@
--- `kept::rule_at` meets its contract, from what the rule at the front says (`FrontBytes`). Assumes nothing.
-use mathlib.Core.Path.{sym}
+-- `rule_at` meets its contract: behind the end of the catalogue nothing is left to read. Assumes nothing.
+use mathlib.Core.Path.{sym, ap, _∙_}
+use native.Mathlib.Omega.{arith}
+use denote.Ref.{now}
 use borrow.Author.Needs.{needs}
-use Rattle.catalogue_form.proofs.FrontBytes.{full, front-fault, front-foreign, front-own}
+use borrow.Rule.Slice.PartAt.{part-to-end}
+use lib.ListN.{drop-of-length-le}
+use Rattle.catalogue_form.specs.Kept.{rule-there}
 use Rattle.catalogue_form.proofs.rule_at.Statement.{statement}
 use Rattle.catalogue_form.proofs.rule_at.Tie as tie
 
-returns : tie.Need-returns
-returns c = sym (full _ _ (c .if1 .taken))
+sub-front : tie.Need-sub-front
+sub-front c = search needs
+
+part-front-start : tie.Need-part-front-start
+part-front-start c = search needs
+
+part-front-end : tie.Need-part-front-end
+part-front-end c = search needs
 
 front-requires : tie.Need-front-requires
 front-requires c κs = search needs
 
-enum-told : tie.Need-enum-told
-enum-told c = search needs
+returns : tie.Need-returns
+returns c =
+    let a = c .before .before .before .before .args in
+    c .front .ensures ∙ ap rule-there (sym (drop-of-length-le (now (a .catalogue)) {i = a .at} (omega (arith, c .before .before .if1 .taken))))
+
+sub-front-2 : tie.Need-sub-front-2
+sub-front-2 c = search needs
+
+part-front-start-2 : tie.Need-part-front-start-2
+part-front-start-2 c = search needs
+
+part-front-end-2 : tie.Need-part-front-end-2
+part-front-end-2 c = search needs
+
+front-requires-2 : tie.Need-front-requires-2
+front-requires-2 c κs = search needs
 
 returns-2 : tie.Need-returns-2
 returns-2 c =
-    let f = c .before .before in
-    sym (front-fault _ _ (f .before .if1 .left) (f .front .result) (f .front .ensures) _ (c .enum-told .given .1))
-
-enum-told-2 : tie.Need-enum-told-2
-enum-told-2 c = search needs
-
-returns-3 : tie.Need-returns-3
-returns-3 c =
-    let t = c .before in
-    let f = t .before .before in
-    sym (front-foreign _ _ (f .before .if1 .left) (f .front .result) (f .front .ensures) (t .enum-told2 .given .1) (c .if2 .taken))
-
-returns-4 : tie.Need-returns-4
-returns-4 c =
-    let t = c .before in
-    let f = t .before .before in
-    sym (front-own _ _ (f .before .if1 .left) (f .front .result) (f .front .ensures) (t .enum-told2 .given .1) (c .if2 .left))
+    let a = c .before .before .before .before .args in
+    c .front2 .ensures ∙ ap rule-there (part-to-end (now (a .catalogue)) (a .at))
 
 pub rule-at-spec : {M : Type 1} → statement M
 rule-at-spec =
-    tie.close (tie.spec returns front-requires enum-told returns-2 enum-told-2 returns-3 returns-4)
+    tie.close
+    (tie.spec
+    sub-front
+    part-front-start
+    part-front-end
+    front-requires
+    returns
+    sub-front-2
+    part-front-start-2
+    part-front-end-2
+    front-requires-2
+    returns-2)

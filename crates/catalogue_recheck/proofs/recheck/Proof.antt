@@ -20,7 +20,7 @@ find-requires c κs = search needs
 returns : tie.Need-returns
 returns c =
     let f = c .before .before in
-    rechecks-none _ _ _ (no-rules (f .find .result) _ _ (f .find .ensures) (not-true (f .find .result .good) (c .if1 .taken)))
+    rechecks-none _ _ _ (no-rules (f .find .result) _ (f .find .ensures) (not-true (f .find .result .good) (c .if1 .taken)))
 
 no-bytes-requires : tie.Need-no-bytes-requires
 no-bytes-requires c κs = search needs
@@ -31,11 +31,10 @@ slice-aggregate-list-all c = search needs
 -- the rules that stand
 standing : (c : tie.Else1) →
     let f = c .before .before in
-    Of-form (now (f .before .before .before .before .args .catalogue)) (f .find .result .rules)
+    Of-form (now (f .before .before .before .before .args .catalogue)) (f .find .result)
 standing c =
     let f = c .before .before in
-    let r = some-rules (f .find .result) _ _ (f .find .ensures) (not-false (f .find .result .good) (c .if1 .left)) in
-    record { rules-present = r .rules-present; of-form = r .is; counted = r .counted }
+    some-rules (f .find .result) _ (f .find .ensures) (not-false (f .find .result .good) (c .if1 .left))
 
 -- room for the longest list
 room : (c : tie.After-no-bytes) → length (c .no-bytes .result) ≡ longest-list

@@ -12,15 +12,15 @@ use Prim.Native.Nat.{ℕ, zero, suc, _+_, _≤_, _<_}
 use native.Mathlib.Omega.{arith}
 use mathlib.Core.Path.{_≡_, refl, sym, ap, ap₂, _∙_, subst}
 use mathlib.Core.Logic.{⊎-elim}
-use mathlib.Core.Bool.{Bool, true, false, cond, not, _||_, _&&_, or-false}
+use mathlib.Core.Bool.{Bool, true, false, cond, not, _||_, or-false}
 use mathlib.Core.List.{List, [], _∷_, _++_, map, append-assoc, List·Memᴰ, List·Memᴰ·head, List·Memᴰ·tail, List·Memᴰ·not-nil, List·Memᴰ·append-cases}
 use lib.Dec.{eqb}
 use lib.ListN.{length, getD, replicate, length-append, length-map, List·getD-append}
-use Rattle.paper.specs.Lists.{upto, any, keep}
+use Rattle.paper.specs.Lists.{upto, any}
 use Rattle.paper.specs.Numbers.{characters, fields, hidden-left, hidden-right, set-fields, sheet-side}
 use Rattle.paper.specs.Alphabet.{code-39}
 use Rattle.paper.specs.Pattern.{char, leaf, many, Held, some-text, Fits, one, none, more, Holds}
-use Rattle.paper.specs.Equation.{Token, chr, fld, Side, is-field, stands-in, Texts, label, Same, Over}
+use Rattle.paper.specs.Equation.{Token, chr, fld, Side, is-field, stands-in, Texts, label, Over}
 use Rattle.paper.specs.Plain.{each-once, plain}
 use Rattle.paper.specs.Question.{Question, held-by, Solution, any-spaces, hidden, Equated}
 use Rattle.paper.specs.Outcome.{standing}

@@ -11,24 +11,24 @@ use Rattle.paper.specs.Sheet.{PA, next-is}
 use Rattle.base_answers.specs.Faults.{fault-of}
 use Rattle.base_answers.specs.declared.Found.{Found}
 use Rattle.read_fields.specs.Walk.{fields-of, Pattern-stands, Pattern-read}
-use Rattle.read_fields.proofs.Reached.{Reached, reached-start, reached-fault, reached-next, reached-end, mark-left}
+use Rattle.read_fields.proofs.Reached.{Reached, reached-start, reached-fault, reached-next, reached-end, fault-told, mark-left}
 use Rattle.read_fields.proofs.read.Statement.{statement}
 use Rattle.read_fields.proofs.read.Tie as tie
 
 abbrev Inv-loop : tie.InvT-loop
-Inv-loop s tables₀ bodies₀ c₀ tables bodies c = Reached s (c₀ .at) (c .at) (c .above) tables bodies
+Inv-loop s open₀ tables₀ bodies₀ c₀ tables bodies c = Reached s (c₀ .at) (c .at) (c .above) tables bodies
 
 abbrev μ-loop : tie.MeasureT-loop
-μ-loop s tables₀ bodies₀ c₀ tables bodies c = length s - c .at
+μ-loop s open₀ tables₀ bodies₀ c₀ tables bodies c = length s - c .at
 
-all-open-requires : tie.Need-all-open-requires Inv-loop μ-loop
-all-open-requires c κs = search needs
+open-tables-requires : tie.Need-open-tables-requires Inv-loop μ-loop
+open-tables-requires c κs = search needs
 
 no-bodies-requires : tie.Need-no-bodies-requires Inv-loop μ-loop
 no-bodies-requires c κs = search needs
 
 loop-holds : tie.Need-loop-holds Inv-loop μ-loop
-loop-holds c = reached-start _ _ _ (c .before .all-open .ensures) _ (c .no-bodies .ensures)
+loop-holds c = reached-start _ _ _ (c .before .open-tables .ensures) _ (c .no-bodies .ensures)
 
 next-is-pattern-requires : tie.Need-next-is-pattern-requires Inv-loop μ-loop
 next-is-pattern-requires c κs = search needs
@@ -61,15 +61,16 @@ pattern-requires c κs = mark-left PA _ _ (marked-here c)
 enum-known-found : tie.Need-enum-known-found Inv-loop μ-loop
 enum-known-found c = search needs
 
-refuse-requires : tie.Need-refuse-requires Inv-loop μ-loop
-refuse-requires c κs = search needs
+no-bodies-requires-2 : tie.Need-no-bodies-requires-2 Inv-loop μ-loop
+no-bodies-requires-2 c κs = search needs
 
 returns : tie.Need-returns Inv-loop μ-loop
 returns c =
     let p = c .before .before .before .before .before in
-    c .refuse .ensures
-    ∙ sym (ap (fields-of _) (reached-fault (p .before .before .before .loop .inv) (fault-of (c .before .before .found .given .0 .0)) _ (marked-here (p .before))
-    (found-so p _ (c .before .before .found .given .1))))
+    let l = p .before .before .before in
+    let x = c .before .before .found .given .0 .0 in
+    fault-told x _ _ (l .before .before .open-tables .ensures) _ (c .no-bodies2 .ensures)
+    ∙ sym (ap (fields-of _) (reached-fault (l .loop .inv) (fault-of x) _ (marked-here (p .before)) (found-so p _ (c .before .before .found .given .1))))
 
 enum-told : tie.Need-enum-told Inv-loop μ-loop
 enum-told c = search needs
@@ -104,13 +105,13 @@ read-spec =
     (tie.spec
     Inv-loop
     μ-loop
-    all-open-requires
+    open-tables-requires
     no-bodies-requires
     loop-holds
     next-is-pattern-requires
     pattern-requires
     enum-known-found
-    refuse-requires
+    no-bodies-requires-2
     returns
     enum-told
     mul-tables

@@ -34,7 +34,7 @@ its-side : (c : tie.After-enum-told2) →
 its-side c = let a = c .before .before .before in side-stands (a .side .result) _ (a .side .ensures) (c .enum-told2 .given .1)
 
 returns : tie.Need-returns
-returns c = c .refuse .ensures ∙ sym (ap rule-of (short _ (c .before .if1 .taken)))
+returns c = c .refuse .ensures ∙ sym (ap (rule-of _) (short _ (c .before .if1 .taken)))
 
 next-is-requires : tie.Need-next-is-requires
 next-is-requires c κs = search needs
@@ -46,7 +46,7 @@ returns-2 : tie.Need-returns-2
 returns-2 c =
     let n = c .before .before in
     c .refuse2 .ensures
-    ∙ sym (ap rule-of (unmarked _ (n .before .if1 .left) (sym (n .next-is .ensures) ∙ not-true (n .next-is .result) (c .before .if2 .taken))))
+    ∙ sym (ap (rule-of _) (unmarked _ (n .before .if1 .left) (sym (n .next-is .ensures) ∙ not-true (n .next-is .result) (c .before .if2 .taken))))
 
 read-requires : tie.Need-read-requires
 read-requires c κs = search needs
@@ -62,7 +62,7 @@ returns-3 c =
     let p = c .before .before .before .before .before in
     let m = p .before in
     c .refuse3 .ensures
-    ∙ sym (ap rule-of (patterns-fault _ (m .before .before .if1 .left) (marked-here m) _ _
+    ∙ sym (ap (rule-of _) (patterns-fault _ (m .before .before .if1 .left) (marked-here m) _ _
     (fields-fault (p .read .result) _ _ _ (p .read .ensures) (c .before .before .patterns-found .given .1))))
 
 enum-told : tie.Need-enum-told
@@ -83,7 +83,7 @@ returns-4 c =
     let p = patterns (l .before) in
     let m = l .before .before .before .before .before in
     c .refuse4 .ensures
-    ∙ sym (ap rule-of (side-fault _ (m .before .before .if1 .left) (marked-here m) (p .fields) _ (p .reads) _ _
+    ∙ sym (ap (rule-of _) (side-fault _ (m .before .before .if1 .left) (marked-here m) (p .fields) _ (p .reads) _ _
     (Told.side-fault (l .side .result) _ _ (l .side .ensures) (c .before .before .side-found .given .1))))
 
 enum-told-2 : tie.Need-enum-told-2
@@ -94,13 +94,13 @@ foreign-requires c κs = search needs
 
 returns-5 : tie.Need-returns-5
 returns-5 c =
-    let e = c .before .before .before in
+    let e = c .before .before .before .before in
     let l = its-side e in
     let d = e .before .before .before .before in
     let p = patterns d in
     let m = d .before .before .before .before in
-    whole _ (m .before .before .if1 .left) (marked-here m) (p .fields) _ (p .reads) (l .side) _ (l .reads) _ _ _ (l .codes) (p .tables)
-    (rw (← p .above) (c .before .foreign .ensures))
+    whole _ (m .before .before .if1 .left) (marked-here m) (p .fields) _ (p .reads) (l .side) _ (l .reads) _ _ _ _ (l .codes) (p .tables)
+    (rw (← p .above) (c .before .before .foreign .ensures)) (p .bodies-are)
 
 pub front-spec : {M : Type 1} → statement M
 front-spec =

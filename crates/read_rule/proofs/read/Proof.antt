@@ -25,7 +25,7 @@ returns-2 : tie.Need-returns-2
 returns-2 c =
     let t = c .before .before in
     let f = t .before .before in
-    c .refuse .ensures ∙ sym (ap rule-of (byte-left (f .front .result) _ (f .front .ensures) (t .enum-told2 .given .1) (c .before .if1 .taken)))
+    c .refuse .ensures ∙ sym (ap (rule-of _) (byte-left (f .front .result) _ (f .front .ensures) (t .enum-told2 .given .1) (c .before .if1 .taken)))
 
 returns-3 : tie.Need-returns-3
 returns-3 c =

@@ -1,8 +1,7 @@
 -- `put_fields` meets its contract. The loop's invariant: the lines of the standing fields below f were put.
-use Prim.Native.Nat.{ℕ, _-_, _≤_}
+use Prim.Native.Nat.{_-_, _≤_}
 use native.Mathlib.Omega.{arith}
 use mathlib.Core.Path.{_≡_, refl, ap, _∙_}
-use mathlib.Core.Bool.{Bool}
 use mathlib.Core.List.{List}
 use lib.ListN.{length}
 use borrow.Author.Needs.{needs}
@@ -14,7 +13,8 @@ use Rattle.read_sheet.specs.SheetRead.{bodies-of}
 use Rattle.base_question.specs.declared.Body.{Body}
 use Rattle.base_put.specs.Counted.{Counted}
 use Rattle.base_put.proofs.Counting.{counted-none, counted-then}
-use Rattle.script_sheet.specs.WrittenOut.{fields-lines, is-counted, body-of}
+use Rattle.base_question.specs.Standings.{is-counted}
+use Rattle.script_sheet.specs.WrittenOut.{fields-lines, body-of}
 use Rattle.script_sheet.proofs.Holding.{body-within}
 use Rattle.script_sheet.proofs.FieldListing.{one-more-field}
 use Rattle.script_sheet.proofs.put_fields.Statement.{statement}

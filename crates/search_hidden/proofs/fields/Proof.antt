@@ -8,7 +8,7 @@ use mathlib.Core.List.{_++_}
 use borrow.Author.Needs.{needs}
 use lib.ListN.{length, take, drop}
 use lib.Seq.{take-all}
-use Rattle.paper.specs.Numbers.{fields, set-fields}
+use Rattle.paper.specs.Numbers.{fields}
 use Rattle.search_hidden.proofs.Put.{one-more}
 use Rattle.search_hidden.proofs.fields.Statement.{statement}
 use Rattle.search_hidden.proofs.fields.Tie as tie

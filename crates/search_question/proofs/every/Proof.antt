@@ -1,6 +1,5 @@
 -- `every` meets its contract: both are computed.
 use mathlib.Core.Path.{refl}
-use borrow.Author.Needs.{needs}
 use Rattle.search_tables.specs.Cut.{listed-by}
 use Rattle.search_question.proofs.every.Statement.{statement}
 use Rattle.search_question.proofs.every.Tie as tie

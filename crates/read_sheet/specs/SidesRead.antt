@@ -1,0 +1,44 @@
+-- What reading the sides hands on, behind patterns' records that were read: with it, and with the fields, the sheet is told.
+use Prim.Native.Nat.{ℕ, suc}
+use mathlib.Core.Path.{_≡_}
+use mathlib.Core.List.{List, []}
+use lib.ListN.{length, replicate}
+use Rattle.paper.specs.Numbers.{fields}
+use Rattle.paper.specs.Pattern.{some-text}
+use Rattle.paper.specs.Sheet.{open-fields, read-patterns, read-sheet}
+use Rattle.base_codes.specs.Inner.{padded}
+use Rattle.base_places.specs.WorkedOut.{worked-out}
+use Rattle.base_places.specs.declared.PlaceTables.{PlaceTables}
+use Rattle.base_question.specs.Bodies.{no-bodies}
+use Rattle.base_question.specs.declared.Body.{Body}
+use Rattle.base_answers.specs.declared.Fault.{Fault}
+use Rattle.base_answers.specs.declared.Found.{Found}
+use Rattle.base_answers.specs.declared.Found.the-variants.{NoFault, Refused}
+use Rattle.read_fields.specs.Bodies.{bodies-in}
+use Rattle.read_fields.specs.Walk.{fields-of}
+use Rattle.read_fields.specs.declared.Fields.{Fields}
+use Rattle.read_sheet.specs.SheetRead.{bodies-of, sheet-of}
+use Rattle.read_sheet.specs.declared.Sheet.{Sheet}
+use Rattle.read_sheet.specs.declared.Sides.{Sides}
+
+-- what the patterns' records of the sheet give
+abbrev pub fields-read : List ℕ → Fields
+fields-read s = fields-of (bodies-in s 0) (read-patterns (suc (length s)) s 0 open-fields)
+
+-- a fault, and no tokens
+abbrev pub no-sides : Fault → ℕ → Sides
+no-sides x at = record { found = Refused x; place = at; left = padded []; right = padded [] }
+
+-- the sheet of the sides, with these fields
+abbrev pub with-fields : Sides → List PlaceTables → List Body → Sheet
+with-fields r tables bodies =
+    record {
+      found = r .found;
+      place = r .place;
+      question = record { left = r .left; right = r .right; fields = tables; bodies = bodies };
+    }
+
+-- with the fields that were read, or with open ones, it is what the sheet is read as
+abbrev pub Sides-told : List ℕ → Fields → Found → Sides → Type 0
+Sides-told s p NoFault r = with-fields r (p .tables) (p .bodies) ≡ sheet-of (bodies-of s) (read-sheet s)
+Sides-told s p (Refused x) r = with-fields r (replicate fields (worked-out some-text)) no-bodies ≡ sheet-of (bodies-of s) (read-sheet s)
