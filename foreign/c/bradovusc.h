@@ -16,9 +16,9 @@
  * The static library libexported.a, for x86-64 Linux, defines nine functions: bradovusc_clash, bradovusc_decide, bradovusc_script,
  * bradovusc_add, bradovusc_withdraw, bradovusc_recheck, bradovusc_spell_open, bradovusc_spell_open_rule and
  * bradovusc_spell_open_catalogue. They keep nothing from one call to the next, ask for no memory, and touch nothing but what they are
- * lent, so calls in several threads don't meet. bradovusc_decide takes at most about 165 KiB of stack, bradovusc_spell_open_catalogue
- * about 120, the others about 110; 156, 115 and 106 were measured. So a thread with 128 KiB is enough for all but bradovusc_decide,
- * and one with 192 KiB for that. All else is in this header: bradovusc_ask, bradovusc_settle,
+ * lent, so calls in several threads don't meet. bradovusc_decide takes at most about 125 KiB of stack, bradovusc_spell_open_catalogue
+ * about 90, the others about 80; 118, 85 and 76 were measured. So a thread with 96 KiB is enough for all but bradovusc_decide, and
+ * one with 128 KiB for that. All else is in this header: bradovusc_ask, bradovusc_settle,
  * bradovusc_write_script, bradovusc_enter, bradovusc_remove, bradovusc_check_again, bradovusc_carry_sheet, bradovusc_carry_rule and
  * bradovusc_carry_catalogue call them with any buffers, bradovusc_text and bradovusc_catalogue_text say a number in words,
  * bradovusc_next walks the texts of a clash, bradovusc_next_pair the pairs that were listed, bradovusc_sign and bradovusc_value go

@@ -1,10 +1,11 @@
 // Places: a place set is a 64-bit mask. Its lowest bit is the start, the others are the leaves in the order of reading.
 ghost use mathlib.Core.Path.{_≡_};
 ghost use mathlib.Core.Bool.{cond};
-ghost use Prim.Native.Nat.{ℕ};
+ghost use Prim.Native.Nat.{ℕ, _^_, _<_};
+ghost use lib.Bits.{bitOr};
 ghost use lib.Dec.{eqb};
 ghost use Rattle.paper.specs.Pattern.{some-text};
-ghost use Rattle.base_places.specs.Masks.{mask-of, in-mask, followers-of};
+ghost use Rattle.base_places.specs.Masks.{places, mask-of, in-mask, followers-of};
 ghost use Rattle.base_places.specs.WorkedOut.{worked-out};
 
 // "63 leaves, which with the start make 64 places".
@@ -50,19 +51,28 @@ pub fn when_holds(set: PlaceSet, i: usize, other: PlaceSet) -> PlaceSet
     if (set >> i) % 2 == 1 { other } else { 0 }
 }
 
-// All places that may follow some place of the set. The set after a character is what of these takes it. Most patterns have few leaves: behind the
-// last place of the set none is looked at.
-pub fn followers(follow: [PlaceSet; PLACES], set: PlaceSet) -> PlaceSet
-    ensures { λ r. ⌜ r ≡ followers-of follow set ⌝ }
+// The places of either set. (Of a set in a lent table only a function that it is handed to knows that it has 64 bits.)
+fn joined(one: PlaceSet, other: PlaceSet) -> PlaceSet
+    ensures { λ r. ⌜ (r ≡ bitOr one other) × (other < 2 ^ places) ⌝ }
+{
+    one | other
+}
+
+// All places that may follow some place of the set. The set after a character is what of these takes it. Only the places of the set are looked at:
+// from each the next one is as many places on as what is left of the set has zeros below its lowest digit.
+pub fn followers(follow: &[PlaceSet; PLACES], set: PlaceSet) -> PlaceSet
+    ensures { λ r. ⌜ r ≡ followers-of (now (follow .entry)) set ⌝ }
 {
     let mut r = 0;
-    let mut i = 0;
+    let mut i: usize = 0;
     while i < PLACES {
-        if set >> i == 0 {
+        let rest = set >> i;
+        if rest == 0 {
             return r;
         }
-        r = r | when_holds(set, i, follow[i]);
-        i += 1;
+        let next = i + u64::trailing_zeros(rest) as usize;
+        r = joined(r, follow[next]);
+        i = next + 1;
     }
     r
 }

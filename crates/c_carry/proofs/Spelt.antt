@@ -1,10 +1,11 @@
--- What the answers of carrying over and their numbers say of its definitions. Follows from the definitions of the answers.
+-- What the answers of carrying over and their numbers say of its definitions. Follows from the definitions of the answers. And the elements, known
+-- by hand.
 use Prim.Native.Nat.{ℕ, _<_}
 use native.Mathlib.Omega.{arith}
-use mathlib.Core.Path.{_≡_, ap, _∙_}
-use mathlib.Core.List.{List}
+use mathlib.Core.Path.{_≡_, refl, ap, _∙_}
+use mathlib.Core.List.{List, [], _∷_}
 use lib.Dec.{lit<}
-use Rattle.paper_carry.specs.Spelling.{Spelling}
+use Rattle.paper_carry.specs.Spelling.{Spelling, spelling-told}
 use Rattle.paper_carry.specs.Spelling as Spelling
 use Rattle.paper_carry.proofs.CarryPromised.{fault-between}
 use Rattle.base_answers.specs.Faults.{fault-of}
@@ -48,3 +49,12 @@ pub carried-promised : (c : CarriedOver) (n : ℕ) {catalogue : List ℕ} {o : S
     → n ≡ carried-number c → (n ≡ o .number) × (catalogue ≡ o .catalogue)
 carried-promised c n whole named =
     (named ∙ ap (λ (o : Spelling.CarriedOver). o .number) whole, ap (λ (o : Spelling.CarriedOver). o .catalogue) whole)
+
+-- Which element has which number: 0 at 0, for there is no count, the place at 1, the written length at 2. Those behind are left, and there may be
+-- fewer.
+abbrev known : Spelling
+known = spelling-told 1 2 3 (4 ∷ [])
+
+elements-known :
+    telling-spelt (90 ∷ 91 ∷ 92 ∷ 93 ∷ []) known ∷ telling-spelt (90 ∷ 91 ∷ []) known ∷ [] ≡ (0 ∷ 2 ∷ 3 ∷ 93 ∷ []) ∷ (0 ∷ 2 ∷ []) ∷ []
+elements-known = refl

@@ -1,7 +1,8 @@
 -- What the catalogue's answers and their numbers say of `adding`, `withdrawing` and `rechecking`. Follows from the definitions of the answers.
+-- And the elements, known by hand.
 use Prim.Native.Nat.{ℕ, _<_}
 use mathlib.Core.Path.{_≡_, ap, _∙_, refl}
-use mathlib.Core.List.{List}
+use mathlib.Core.List.{List, [], _∷_}
 use native.Mathlib.Omega.{arith}
 use lib.Dec.{lit<}
 use lib.ListN.{set}
@@ -122,3 +123,17 @@ rechecked-promised r totals {list = list} {work = work} before whole named first
         (ap (λ (o : Recheck.Rechecked). o .list) same, ap (λ (o : Recheck.Rechecked). o .work) same),
       ),
     )
+
+-- Which element has which number. Of an addition: the count at 0, the place at 1, the rule at 2, its pair's answer at 3. Of checking again: the pairs
+-- at 0, the bytes at 1. Those behind are left, and there may be fewer.
+abbrev known-added : Catalogue.Added
+known-added = record { number = 1; count = 2; place = 3; rule = 4; answer = 5; catalogue = 6 ∷ []; work = 7 ∷ [] }
+
+abbrev known-rechecked : Recheck.Rechecked
+known-rechecked = record { number = 1; pairs = 2; written = 3; list = 4 ∷ []; work = 5 ∷ [] }
+
+elements-known :
+    telling-added (90 ∷ 91 ∷ 92 ∷ 93 ∷ 94 ∷ []) known-added ∷ telling-added (90 ∷ 91 ∷ 92 ∷ []) known-added
+    ∷ telling-rechecked (90 ∷ 91 ∷ 92 ∷ []) known-rechecked ∷ telling-rechecked (90 ∷ []) known-rechecked ∷ []
+    ≡ (2 ∷ 3 ∷ 4 ∷ 5 ∷ 94 ∷ []) ∷ (2 ∷ 3 ∷ 4 ∷ []) ∷ (2 ∷ 3 ∷ 92 ∷ []) ∷ (2 ∷ []) ∷ []
+elements-known = refl

@@ -1,7 +1,7 @@
--- What a decision and its numbers say of its definition. Follows from the definitions of the answer.
+-- What a decision and its numbers say of its definition. Follows from the definitions of the answer. And the elements, known by hand.
 use Prim.Native.Nat.{ℕ}
-use mathlib.Core.Path.{_≡_, ap, _∙_}
-use mathlib.Core.List.{List}
+use mathlib.Core.Path.{_≡_, refl, ap, _∙_}
+use mathlib.Core.List.{List, [], _∷_}
 use lib.ListN.{set}
 use Rattle.paper_decide.specs.Deciding.{Decision}
 use Rattle.base_answers.specs.AnswerNumbers.{as-numbers}
@@ -29,3 +29,13 @@ promised d numbers before whole named third fourth = (
     (ap (λ (x : Decision). x .outcome .answer) whole, ap (λ (x : Decision). x .outcome .work) whole),
   ),
 )
+
+-- Which element has which number: the count at 0, the place at 1, the written length at 2, the search at 3. Those behind are left, and there may be
+-- fewer.
+abbrev known : Decision
+known = record { outcome = record { number = 1; count = 2; place = 3; written = 4; answer = 5 ∷ []; work = 6 ∷ [] }; search = 7 }
+
+elements-known :
+    telling-decided (90 ∷ 91 ∷ 92 ∷ 93 ∷ 94 ∷ []) known ∷ telling-decided (90 ∷ 91 ∷ 92 ∷ []) known ∷ []
+    ≡ (2 ∷ 3 ∷ 4 ∷ 7 ∷ 94 ∷ []) ∷ (2 ∷ 3 ∷ 4 ∷ []) ∷ []
+elements-known = refl

@@ -1,10 +1,11 @@
--- What the answer of the script and its numbers say of `scripting`. Follows from the definitions of the answer.
+-- What the answer of the script and its numbers say of `scripting`. Follows from the definitions of the answer. And the elements, known by
+-- hand.
 use Prim.Native.Nat.{ℕ, _<_}
-use mathlib.Core.Path.{_≡_, ap, _∙_}
-use mathlib.Core.List.{List}
+use mathlib.Core.Path.{_≡_, refl, ap, _∙_}
+use mathlib.Core.List.{List, [], _∷_}
 use native.Mathlib.Omega.{arith}
 use lib.Dec.{lit<}
-use Rattle.paper_script.specs.Scripting.{Scripting}
+use Rattle.paper_script.specs.Scripting.{Scripting, scripting-told}
 use Rattle.base_answers.specs.Faults.{fault-of}
 use Rattle.base_answers.specs.declared.Numbers.{Numbers}
 use Rattle.script_sheet.specs.WrittenOut.{scripted-numbers, told-scripted}
@@ -33,3 +34,12 @@ scripted-promised s numbers before whole named written = (
     ap (λ (o : Scripting). o .script) whole,
   ),
 )
+
+-- Which element has which number: 0 at 0, for there is no count, the place at 1, the written length at 2. Those behind are left, and there may be
+-- fewer.
+abbrev known : Scripting
+known = scripting-told 1 2 3 (4 ∷ [])
+
+elements-known :
+    telling-scripted (90 ∷ 91 ∷ 92 ∷ 93 ∷ []) known ∷ telling-scripted (90 ∷ 91 ∷ []) known ∷ [] ≡ (0 ∷ 2 ∷ 3 ∷ 93 ∷ []) ∷ (0 ∷ 2 ∷ []) ∷ []
+elements-known = refl

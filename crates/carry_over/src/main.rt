@@ -1,19 +1,24 @@
 // `carry_over`: reads a question sheet, a rule of a catalogue or a whole catalogue from standard input and writes it with 68 65 0 42 for every standing
-// field without a pattern. A sheet begins with `PA` or `LE`, the others with `RU`; a catalogue keeps its length. There is no exit status: a refusal or a
-// failure is told on standard error, and nothing is written.
+// field without a pattern. A sheet begins with `PA` or `LE`, the others with `RU`, and a catalogue of no rules is zeros; a catalogue keeps its length.
+// There is no exit status: a refusal or a failure is told on standard error, and of what is refused nothing is written.
 //
 // The stored sheet: field 0 is a digit and stands on both sides; fields 1 and 3 stand without a pattern; field 2 has a pattern and doesn't stand.
 use base_answers::Fault;
 use carry_open::CarriedOver;
 use carry_open::SpeltOpen;
 use print_failures::refuse;
+use print_out::How;
 use print_out::read_first;
 use print_out::tell;
+use print_out::tell_end;
 use read_side::Cursor;
 use read_side::Mark;
 
 // more than a catalogue of 32 of the longest rules has
-const INPUT: usize = 65536;
+const MOST: usize = 65536;
+
+// and a byte by which a longer input is seen
+const INPUT: usize = MOST + 1;
 
 // No sheet and no rule is longer: `enough`, which `carry_open::sheet` and `carry_open::rule` promise.
 const LONGEST: usize = 1622;
@@ -22,41 +27,39 @@ fn main() {
     let mut input = [0u8; INPUT];
     let got = read_first(&mut input);
     let n = got.bytes;
-    if got.read {
-        carry(&mut input[0..n]);
+    if !got.read {
+        tell_end(b"carry_over", How::NotRead);
+    } else if MOST < n {
+        tell(b"carry_over: more than 65,536 bytes\n");
     } else {
-        tell(b"carry_over: standard input can't be read\n");
+        carry(&mut input[0..n]);
     }
 }
 
+// What is no sheet and no rule by itself may be a catalogue.
 fn carry(bytes: &mut [u8]) {
     let mut out = [0u8; LONGEST];
+    let spelt = spelt_open(bytes, &mut out);
+    match spelt {
+        SpeltOpen::Refused { fault, place } => carry_catalogue(bytes, fault, place),
+        _ => show(spelt, &out),
+    }
+}
+
+fn spelt_open(bytes: &[u8], out: &mut [u8]) -> SpeltOpen {
     let start = Cursor { at: 0 };
     if start.next_is(bytes, Mark::RU) {
-        carry_rule(bytes, &mut out);
-    } else {
-        carry_sheet(bytes, &mut out);
+        return carry_open::rule(bytes, out);
     }
+    carry_open::sheet(bytes, out)
 }
 
-fn carry_sheet(sheet: &[u8], out: &mut [u8]) {
-    let spelt = carry_open::sheet(sheet, out);
-    match spelt {
-        SpeltOpen::Refused { fault, place } => refuse(b"carry_over", fault, place),
-        _ => show(spelt, out),
-    }
-}
-
-// What is no rule by itself may be a catalogue.
-fn carry_rule(rule: &mut [u8], out: &mut [u8]) {
-    let spelt = carry_open::rule(rule, out);
-    match spelt {
-        SpeltOpen::Refused { fault, place } => carry_catalogue(rule, fault, place),
-        _ => show(spelt, out),
-    }
-}
-
+// No bytes at all are a sheet cut short, and not a catalogue: more likely than one without a byte is an input that went missing.
 fn carry_catalogue(catalogue: &mut [u8], fault: Fault, place: usize) {
+    if catalogue.len() == 0 {
+        refuse(b"carry_over", fault, place);
+        return;
+    }
     let carried = carry_open::catalogue(catalogue);
     match carried {
         CarriedOver::Done => print(catalogue),
@@ -77,7 +80,5 @@ fn show(spelt: SpeltOpen, out: &[u8]) {
 }
 
 fn print(bytes: &[u8]) {
-    if !print_out::print(bytes) {
-        tell(b"carry_over: standard output can't be written\n");
-    }
+    tell_end(b"carry_over", print_out::print(How::Going, bytes));
 }

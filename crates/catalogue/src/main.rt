@@ -113,21 +113,22 @@ mod input;
 mod output;
 
 use input::Mark;
-use input::read_bytes;
 use input::read_mark;
-use input::read_number;
-use input::read_rule;
 use output::print_added;
-use output::print_carried;
+use output::print_changed;
 use output::print_rechecked;
-use output::print_withdrawn;
+use print_out::How;
 use print_out::WORK;
 use print_out::WORK_FILL;
 use print_out::fill;
+use print_out::is_going;
+use print_out::least;
+use print_out::read_all;
+use print_out::read_number;
 use print_out::tell;
-ghost use Prim.Native.Nat.{_≤_};
+use print_out::tell_end;
 
-// the longest rule that two bytes can tell
+// The longest rule that two bytes can tell. The list of pairs is lent in the same place: no call has both.
 const RULE: usize = 65535;
 
 const CATALOGUE: usize = 8192;
@@ -141,180 +142,70 @@ const LIST: usize = 2560;
 // each byte of the list before a call
 const LIST_FILL: u8 = 165;
 
-// What is printed of a call.
-pub enum Shown {
-    // a line with what it tells, and one for each pair that is listed
-    Lines,
-    // the same, and every byte of the lent buffers as they are afterwards
-    Bytes,
-}
-
-// How far the operations are.
-pub enum How {
-    // there may be more of them
-    Going,
-    // all are done
-    Done,
-    // the next one is cut short, has another mark or asks for more than is allowed
-    Stopped,
-    // standard input can't be read
-    NotRead,
-    // standard output can't be written
-    NotWritten,
-}
-
-// How far they are, what is printed, and how much of each buffer is lent to a call.
+// How far the operations are, whether every byte of the lent buffers is printed, and how much of each is lent to a call.
 pub struct State {
     pub how: How,
-    pub shown: Shown,
+    pub bytes: bool,
     pub catalogue: usize,
     pub work: usize,
 }
 
 fn main() {
-    let mut rule = [0u8; RULE];
+    let mut given = [0u8; RULE];
     let mut catalogue = [0u8; CATALOGUE];
     let mut work = [0u8; WORK];
-    let mut list = [0u8; LIST];
-    let ended = run_each(&mut rule, &mut catalogue, &mut work, &mut list);
+    let ended = run_each(&mut given, &mut catalogue, &mut work);
     match ended {
-        How::Going => {}
-        How::Done => {}
         How::Stopped => tell(b"catalogue: an operation is cut short or not allowed\n"),
-        How::NotRead => tell(b"catalogue: standard input can't be read\n"),
-        How::NotWritten => tell(b"catalogue: standard output can't be written\n"),
+        _ => tell_end(b"catalogue", ended),
     }
 }
 
 // A proved loop has to end, and nothing says that a stream does: the turns are counted down from a number that no run uses up.
-fn run_each(rule: &mut [u8], catalogue: &mut [u8], work: &mut [u8], list: &mut [u8]) -> How {
+fn run_each(given: &mut [u8], catalogue: &mut [u8], work: &mut [u8]) -> How {
     let mut state = State {
         how: How::Going,
-        shown: Shown::Lines,
+        bytes: false,
         catalogue: CATALOGUE,
         work: FIRST_WORK,
     };
     let mut turns = u64::MAX;
-    while turns > 0 && is_going(state) {
-        state = run_next(rule, catalogue, work, list, state);
+    while turns > 0 && goes_on(state) {
+        state = run_next(given, catalogue, work, state);
         turns -= 1;
     }
     let how = state.how;
     how
 }
 
-fn is_going(state: State) -> bool {
+fn goes_on(state: State) -> bool {
     let how = state.how;
-    match how {
-        How::Going => true,
-        _ => false,
-    }
+    is_going(how)
 }
 
-fn run_next(
-    rule: &mut [u8],
-    catalogue: &mut [u8],
-    work: &mut [u8],
-    list: &mut [u8],
-    state: State,
-) -> State {
-    let shown = state.shown;
-    let catalogue_len = least(state.catalogue, catalogue.len());
-    let work_len = least(state.work, work.len());
+fn run_next(given: &mut [u8], catalogue: &mut [u8], work: &mut [u8], state: State) -> State {
     let mark = read_mark();
     match mark {
-        Mark::Add => with(
-            add(
-                rule,
-                &mut catalogue[0..catalogue_len],
-                &mut work[0..work_len],
-                shown,
-            ),
-            state,
-        ),
-        Mark::Withdraw => with(withdraw(&mut catalogue[0..catalogue_len], shown), state),
         Mark::Catalogue => new_catalogue(catalogue, state),
         Mark::Work => new_work(work.len(), state),
         Mark::Show => new_shown(state),
-        Mark::Recheck => with(
-            check_again(
-                &catalogue[0..catalogue_len],
-                &mut work[0..work_len],
-                list,
-                shown,
-            ),
-            state,
-        ),
-        Mark::Carry => with(carry(&mut catalogue[0..catalogue_len], shown), state),
-        Mark::None(how) => with(how, state),
+        _ => call(mark, given, catalogue, work, state),
     }
-}
-
-// `AD`: a length in two bytes, so many bytes.
-fn add(rule: &mut [u8], catalogue: &mut [u8], work: &mut [u8], shown: Shown) -> How {
-    let read = read_rule(rule);
-    let n = read.number;
-    if !read.there {
-        return How::Stopped;
-    }
-    fill(work, WORK_FILL);
-    let told = catalogue_numbers::added(catalogue_add::add(catalogue, &rule[0..n], work));
-    print_added(told, catalogue, work, shown)
-}
-
-// `WI`: a rule's number in one byte.
-fn withdraw(catalogue: &mut [u8], shown: Shown) -> How {
-    let rule = read_number(1, 255);
-    if !rule.there {
-        return How::Stopped;
-    }
-    let told = catalogue_numbers::withdrawn(catalogue_add::withdraw(catalogue, rule.number));
-    print_withdrawn(told, catalogue, shown)
-}
-
-// `RE`: the list's length in two bytes.
-fn check_again(catalogue: &[u8], work: &mut [u8], list: &mut [u8], shown: Shown) -> How {
-    let length = read_number(2, list.len());
-    if !length.there {
-        return How::Stopped;
-    }
-    let n = length.number;
-    list_pairs(catalogue, work, &mut list[0..n], shown)
-}
-
-fn list_pairs(catalogue: &[u8], work: &mut [u8], list: &mut [u8], shown: Shown) -> How {
-    fill(work, WORK_FILL);
-    fill(list, LIST_FILL);
-    let told = catalogue_numbers::rechecked(catalogue_recheck::recheck(catalogue, work, list));
-    print_rechecked(told, list, catalogue, work, shown)
-}
-
-// `SO`
-fn carry(catalogue: &mut [u8], shown: Shown) -> How {
-    let told = carry_open::number(carry_open::catalogue(catalogue));
-    print_carried(told, catalogue, shown)
 }
 
 // `CA`: the catalogue's length and that of its front in two bytes each, the front. The rest are zeros.
 fn new_catalogue(catalogue: &mut [u8], state: State) -> State {
-    let length = read_number(2, catalogue.len());
+    let length = read_number(How::Going, 2, catalogue.len());
     let catalogue_len = length.number;
-    let front = read_number(2, catalogue_len);
+    let so_far = length.how;
+    let front = read_number(so_far, 2, catalogue_len);
     let front_len = front.number;
-    if !length.there {
-        return with(How::Stopped, state);
-    }
-    if !front.there {
-        return with(How::Stopped, state);
-    }
-    if !read_bytes(&mut catalogue[0..front_len]) {
-        return with(How::Stopped, state);
-    }
+    let headed = front.how;
+    let how = read_all(headed, &mut catalogue[0..front_len]);
     fill(&mut catalogue[front_len..catalogue_len], 0);
-    let shown = state.shown;
     State {
-        how: How::Going,
-        shown,
+        how,
+        bytes: state.bytes,
         catalogue: catalogue_len,
         work: state.work,
     }
@@ -322,14 +213,11 @@ fn new_catalogue(catalogue: &mut [u8], state: State) -> State {
 
 // `WO`: the working buffer's length in four bytes.
 fn new_work(most: usize, state: State) -> State {
-    let length = read_number(4, most);
-    if !length.there {
-        return with(How::Stopped, state);
-    }
-    let shown = state.shown;
+    let length = read_number(How::Going, 4, most);
+    let how = length.how;
     State {
-        how: How::Going,
-        shown,
+        how,
+        bytes: state.bytes,
         catalogue: state.catalogue,
         work: length.number,
     }
@@ -337,35 +225,108 @@ fn new_work(most: usize, state: State) -> State {
 
 // `SH`: 0 for lines, 1 for every byte, in one byte.
 fn new_shown(state: State) -> State {
-    let bytes = read_number(1, 1);
-    if !bytes.there {
-        return with(How::Stopped, state);
-    }
-    let shown = shown_by(bytes.number == 1);
-    State {
-        how: How::Going,
-        shown,
-        catalogue: state.catalogue,
-        work: state.work,
-    }
-}
-
-fn shown_by(bytes: bool) -> Shown {
-    if bytes { Shown::Bytes } else { Shown::Lines }
-}
-
-fn with(how: How, state: State) -> State {
-    let shown = state.shown;
+    let bytes = read_number(How::Going, 1, 1);
+    let how = bytes.how;
     State {
         how,
-        shown,
+        bytes: bytes.number == 1,
         catalogue: state.catalogue,
         work: state.work,
     }
 }
 
-fn least(a: usize, b: usize) -> usize
-    ensures { λ r. ⌜ r ≤ b ⌝ }
-{
-    if a < b { a } else { b }
+// A call, with the fronts of the buffers.
+fn call(
+    mark: Mark,
+    given: &mut [u8],
+    catalogue: &mut [u8],
+    work: &mut [u8],
+    state: State,
+) -> State {
+    let c = least(state.catalogue, catalogue.len());
+    let w = least(state.work, work.len());
+    let bytes = state.bytes;
+    let how = call_by(mark, given, &mut catalogue[0..c], &mut work[0..w], bytes);
+    State {
+        how,
+        bytes,
+        catalogue: state.catalogue,
+        work: state.work,
+    }
+}
+
+fn call_by(
+    mark: Mark,
+    given: &mut [u8],
+    catalogue: &mut [u8],
+    work: &mut [u8],
+    bytes: bool,
+) -> How {
+    match mark {
+        Mark::Add => add(given, catalogue, work, bytes),
+        Mark::Withdraw => withdraw(catalogue, bytes),
+        Mark::Recheck => check_again(catalogue, work, given, bytes),
+        Mark::Carry => carry(catalogue, bytes),
+        Mark::None(how) => how,
+        _ => How::Stopped,
+    }
+}
+
+// `AD`: a length in two bytes, so many bytes.
+fn add(rule: &mut [u8], catalogue: &mut [u8], work: &mut [u8], bytes: bool) -> How {
+    let length = read_number(How::Going, 2, rule.len());
+    let n = length.number;
+    let so_far = length.how;
+    add_rule(so_far, &mut rule[0..n], catalogue, work, bytes)
+}
+
+fn add_rule(
+    so_far: How,
+    rule: &mut [u8],
+    catalogue: &mut [u8],
+    work: &mut [u8],
+    bytes: bool,
+) -> How {
+    let how = read_all(so_far, rule);
+    if !is_going(how) {
+        return how;
+    }
+    fill(work, WORK_FILL);
+    let told = catalogue_numbers::added(catalogue_add::add(catalogue, rule, work));
+    print_added(told, catalogue, work, bytes)
+}
+
+// `WI`: a rule's number in one byte.
+fn withdraw(catalogue: &mut [u8], bytes: bool) -> How {
+    let rule = read_number(How::Going, 1, 255);
+    let how = rule.how;
+    if !is_going(how) {
+        return how;
+    }
+    let told = catalogue_numbers::withdrawn(catalogue_add::withdraw(catalogue, rule.number));
+    print_changed(b"withdraw", told, catalogue, bytes)
+}
+
+// `RE`: the list's length in two bytes.
+fn check_again(catalogue: &[u8], work: &mut [u8], list: &mut [u8], bytes: bool) -> How {
+    let length = read_number(How::Going, 2, least(LIST, list.len()));
+    let n = length.number;
+    let how = length.how;
+    if !is_going(how) {
+        return how;
+    }
+    list_pairs(catalogue, work, &mut list[0..n], bytes)
+}
+
+fn list_pairs(catalogue: &[u8], work: &mut [u8], list: &mut [u8], bytes: bool) -> How {
+    fill(work, WORK_FILL);
+    fill(list, LIST_FILL);
+    let told = catalogue_numbers::rechecked(catalogue_recheck::recheck(catalogue, work, list));
+    print_rechecked(told, list, catalogue, work, bytes)
+}
+
+// `SO`
+fn carry(catalogue: &mut [u8], bytes: bool) -> How {
+    let told = carry_open::number(carry_open::catalogue(catalogue));
+    print_changed(b"carry", told, catalogue, bytes)
 }

@@ -3,6 +3,7 @@ use Prim.Native.Nat.{ℕ}
 use mathlib.Core.Path.{_≡_, refl}
 use mathlib.Core.List.{List, [], _∷_, _++_, map}
 use lib.ListN.{replicate}
+use Rattle.paper.specs.Lists.{upto, each}
 use Rattle.paper.specs.Written.{judge}
 use Rattle.paper.specs.Sheet.{marked, pattern-record, side-record, read-end, marked-side, next-is, read-sheet}
 use Rattle.paper.specs.Rule.{rule-front, read-rule, foreign-field}
@@ -11,6 +12,7 @@ use Rattle.paper_catalogue.specs.Catalogue.{form}
 use Rattle.paper.proofs.known.KnownSheet.{PA, LE, RI}
 use Rattle.paper_carry.specs.Opened.{rule-open}
 use Rattle.paper_carry.specs.Spelling.{spelling-told, spelling, rule-spelling, CarriedOver, rules-open, carrying-over}
+use Rattle.paper_carry.specs.Spelling.{longest-sheet, longest-rule, longest-rules}
 
 -- 68 65 0 42
 abbrev any : List ℕ
@@ -66,3 +68,24 @@ catalogues-known :
     ∷ carried 0 (0 ∷ 0 ∷ []) ∷ []
 unfolding judge marked pattern-record side-record marked-side next-is rule-front foreign-field form rule-open rules-open carrying-over
 catalogues-known = refl
+
+-- The bytes that are always enough.
+pub enough-known : longest-sheet ∷ longest-rule ∷ longest-rules ∷ [] ≡ 1622 ∷ 813 ∷ 26016 ∷ []
+enough-known = refl
+
+-- A sheet and a rule that take them all: each field with a pattern of 192 bytes, each side with 24 tokens.
+abbrev full-pattern : ℕ → List ℕ
+full-pattern f = PA f (replicate 191 68 ++ 0 ∷ [])
+
+abbrev full-sheet : List ℕ
+full-sheet = each full-pattern (upto 8) ++ LE (replicate 24 10) ++ RI (replicate 24 10)
+
+abbrev full-rule : List ℕ
+full-rule = RU ++ each full-pattern (upto 4) ++ LE (replicate 24 10)
+
+pub none-to-spare :
+    spelling full-sheet (lent 1622) .number ∷ spelling full-sheet (lent 1621) .number ∷ rule-spelling full-rule (lent 813) .number
+    ∷ rule-spelling full-rule (lent 812) .number ∷ []
+    ≡ 0 ∷ 41 ∷ 0 ∷ 41 ∷ []
+unfolding judge marked pattern-record side-record read-end marked-side next-is read-sheet sheet-saying spelling rule-front read-rule foreign-field rule-open rule-spelling
+none-to-spare = refl

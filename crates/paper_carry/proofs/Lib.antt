@@ -6,3 +6,4 @@ pub mod Lengths
 pub mod Carried
 pub mod CarryPromised
 pub mod KnownSpelt
+pub mod KnownApart

@@ -8,14 +8,14 @@ use mathlib.Core.List.{List, _++_}
 use lib.Dec.{leb, ltb}
 use lib.ListN.{length, take, drop}
 use Rattle.paper.specs.Lists.{each}
-use Rattle.paper.specs.Numbers.{fields, rule-fields, pattern-bytes, sheet-side, catalogue-rules}
-use Rattle.paper.specs.Equation.{Texts}
+use Rattle.paper.specs.Numbers.{space, fields, rule-fields, pattern-bytes, sheet-side, catalogue-rules}
+use Rattle.paper.specs.Equation.{Texts, Same}
 use Rattle.paper.specs.Question.{Question, Solution}
 use Rattle.paper.specs.Sheet.{fault-number, Records, faulty, records, Reading, refused, asked, read-sheet}
 use Rattle.paper.specs.Rule.{Rule, Makes, read-rule, foreign-field}
 use Rattle.paper.specs.Saying.{sheet-saying}
 use Rattle.paper_catalogue.specs.Catalogue.{Present, Form, no-catalogue, rules, form}
-use Rattle.paper_catalogue.specs.Calls.{rule-at}
+use Rattle.paper_catalogue.specs.Calls.{rule-at, Apart}
 use Rattle.paper_carry.specs.Opened.{spelt-open, rule-open, SolutionBefore, MadeBefore, stands-asked, stands-ruled, NoneOpen}
 
 pub record Spelling : Type 0 where
@@ -98,12 +98,20 @@ pub record CarriedCatalogue (l : List Present) (catalogue : List ℕ) : Type 0 w
   pub as-many : length new ≡ length l
   pub same-labels : (i : ℕ) → i < length l → (w : List ℕ) → MadeBefore (rule-at l i) w ↔ Makes (rule-at new i) w
 
+-- no two of the rules made labels that are the same
+abbrev pub ApartBefore : List Present → Type 0
+ApartBefore l = (i j : ℕ) → i < length l → j < length l → (i ≡ j → ⊥)
+    → (u w : List ℕ) → Same space u w → MadeBefore (rule-at l i) u → MadeBefore (rule-at l j) w → ⊥
+
 -- What is promised: of every sheet and every buffer. "everything else byte for byte as it was": where there is nothing to add, every byte is.
 pub record CarryPromised (sheet out : List ℕ) (s : Spelling) : Type 0 where
   pub carried : (q : Question) → read-sheet sheet ≡ asked q → s .number ≡ 0 → CarriedSheet q (take (s .written) (s .out))
   pub nothing-to-add : (q : Question) → read-sheet sheet ≡ asked q → NoneOpen (stands-asked q) (q .held) → s .number ≡ 0
       → take (s .written) (s .out) ≡ sheet
   pub unchanged : (s .number ≡ 0 → ⊥) → s .out ≡ out
+  pub rest : drop (s .written) (s .out) ≡ drop (s .written) out
+  pub fits : s .written ≤ length out
+  pub same-length : length (s .out) ≡ length out
   pub enough : longest-sheet ≤ length out → s .number ≡ 41 → ⊥
 
 -- of every rule and every buffer
@@ -112,11 +120,16 @@ pub record RulePromised (rule out : List ℕ) (s : Spelling) : Type 0 where
   pub nothing-to-add : (r : Rule) (n : ℕ) → read-rule rule ≡ records r n → NoneOpen (stands-ruled r) (r .fields .held) → s .number ≡ 0
       → take (s .written) (s .out) ≡ rule
   pub unchanged : (s .number ≡ 0 → ⊥) → s .out ≡ out
+  pub rest : drop (s .written) (s .out) ≡ drop (s .written) out
+  pub fits : s .written ≤ length out
+  pub same-length : length (s .out) ≡ length out
   pub enough : longest-rule ≤ length out → s .number ≡ 41 → ⊥
 
 -- of every catalogue
 pub record CataloguePromised (catalogue : List ℕ) (c : CarriedOver) : Type 0 where
   pub carried : (l : List Present) → form catalogue ≡ rules l → c .number ≡ 0 → CarriedCatalogue l (c .catalogue)
+  -- where no two of the rules made the same label, no two make it now
+  pub still-apart : (l : List Present) → form catalogue ≡ rules l → ApartBefore l → c .number ≡ 0 → Apart (c .catalogue)
   pub same-length : length (c .catalogue) ≡ length catalogue
   pub unchanged : (c .number ≡ 0 → ⊥) → c .catalogue ≡ catalogue
   pub enough : longest-rules ≤ length catalogue → c .number ≡ 32 → ⊥

@@ -25,7 +25,7 @@ use Rattle.paper.specs.Sheet.{Fault, cut-short, wrong-mark, wrong-field, wrong-
 use Rattle.paper.specs.Sheet.{fault-number, Reading, refused, asked, read-sheet}
 use Rattle.paper.specs.Outcome.{Outcome, room-of, searched, standing, some-text-too-long, cleared, without-bytes, clash, answered, count-of, how-of, outcome-of}
 use Rattle.paper.specs.Demands.{texts-spelt}
-use Rattle.paper.proofs.base.Tests.{cond-by, true-false, not-is-false, false-not, leb-true, neq-eqb}
+use Rattle.paper.proofs.base.Tests.{cond-by, true-false, not-is-true, not-is-false, false-not, leb-true, leb-false, neq-eqb}
 use Rattle.paper.proofs.base.Lists.{length-only, mem-only, mem-cons-by, keep-mem, upto-mem}
 use Rattle.paper.proofs.sheets.Asked.{GoodQuestion, AsksGood, sheet-good, fields-known}
 use Rattle.paper.proofs.sheets.Hidden.{hidden-known, own-solves, with-spaces, hidden-solves}
@@ -98,13 +98,17 @@ module _ (q : Question) (good : GoodQuestion q) (room : ℕ) (at-most : room ≤
   apart-right : few-standings q ≡ true → IsRight q room (apart-search q)
   apart-right few = record { clash = λ e. absurd (true-false e refl); no-clash = λ _. apart-unsolved q good few room }
 
+  -- how the first search ends
+  abbrev own-end : Ended
+  own-end = how-of (searched (hidden q) room)
+
   -- How deciding ends, as a relation without a test.
   data Concludes : Conclusion → Type 0 where
     clashes : (k n : ℕ) (e : Entry (Situation PlaceSet) Move) → k < 4 → n ≤ 4 * room → Solving q e
         → Concludes (record { search = suc k; count = n; end = found e })
     clashes-not : (k n : ℕ) → k < 4 → n ≤ 4 * room → Unsolved q → Concludes (record { search = suc k; count = n; end = used-up })
-    no-room-undecided : (n : ℕ) → n ≤ 4 * room → Concludes (record { search = 0; count = n; end = no-room })
-    too-long-undecided : (n : ℕ) → n ≤ 4 * room → Concludes (record { search = 0; count = n; end = too-long })
+    no-room-undecided : (n : ℕ) → n ≤ 4 * room → own-end ≡ no-room → Concludes (record { search = 0; count = n; end = no-room })
+    too-long-undecided : (n : ℕ) → n ≤ 4 * room → own-end ≡ too-long → Concludes (record { search = 0; count = n; end = too-long })
 
   decided-by : (t : Attempt) → IsRight q room t → (x : Ended) → end-by t room ≡ x → decides t x ≡ true → (k n : ℕ) → k < 4 → n ≤ 4 * room
       → Concludes (record { search = suc k; count = n; end = x })
@@ -114,16 +118,17 @@ module _ (q : Question) (good : GoodQuestion q) (room : ℕ) (at-most : room ≤
   decided-by t r too-long h d k n i j = absurd (true-false d refl)
 
   -- "Otherwise not decided: 18 or 19 as the first search said it."
-  left-open : (x : Ended) → decides (own-search q) x ≡ false → (n : ℕ) → n ≤ 4 * room → Concludes (record { search = 0; count = n; end = x })
-  left-open (found e) d n j = absurd (true-false refl d)
-  left-open used-up d n j = absurd (true-false refl d)
-  left-open no-room d n j = no-room-undecided n j
-  left-open too-long d n j = too-long-undecided n j
+  left-open : (x : Ended) → own-end ≡ x → decides (own-search q) x ≡ false → (n : ℕ) → n ≤ 4 * room
+      → Concludes (record { search = 0; count = n; end = x })
+  left-open (found e) own d n j = absurd (true-false refl d)
+  left-open used-up own d n j = absurd (true-false refl d)
+  left-open no-room own d n j = no-room-undecided n j own
+  left-open too-long own d n j = too-long-undecided n j own
 
-  module _ (first : Ended) (undecided : decides (own-search q) first ≡ false) where
+  module _ (undecided : decides (own-search q) own-end ≡ false) where
     concludes-from : (k n : ℕ) (ts : List Attempt) → ((t : Attempt) → List·Memᴰ t ts → IsRight q room t)
-        → k + length ts ≤ 4 → n + length ts * room ≤ 4 * room → Concludes (concluded-from first room (suc k) n ts)
-    concludes-from k n [] right h i = left-open first undecided n (omega arith)
+        → k + length ts ≤ 4 → n + length ts * room ≤ 4 * room → Concludes (concluded-from own-end room (suc k) n ts)
+    concludes-from k n [] right h i = left-open own-end refl undecided n (omega arith)
     concludes-from k n (t ∷ ts) right h i =
         let st = searched-over (t .among) (t .asks) room in
         let within = count-over (t .among) (t .asks) room in
@@ -141,7 +146,7 @@ module _ (q : Question) (good : GoodQuestion q) (room : ℕ) (at-most : room ≤
       let three : length (alike-search q ∷ few-search q ∷ only (few-standings q) (apart-search q)) ≤ 3 = omega arith in
       cond-by Concludes (decides (own-search q) (how-of st))
       (λ d. decided-by (own-search q) own-right (how-of st) refl d 0 (0 + count-of st) (omega arith) (omega arith))
-      (λ d. concludes-from (how-of (searched (hidden q) room))
+      (λ d. concludes-from
       (subst (λ (x : State (Situation PlaceSet) Move). decides (own-search q) (how-of x) ≡ false) (searched-every (hidden q) room) d)
       1 (0 + count-of st) (alike-search q ∷ few-search q ∷ only (few-standings q) (apart-search q)) later-right (omega arith) (omega (arith, mul-le-mul-right room three)))
     where
@@ -173,7 +178,7 @@ module _ (q : Question) (good : GoodQuestion q) (work answer : List ℕ) where
           answer = found-records q e ++ drop (length (found-records q e)) answer;
           work = cleared work;
         })
-    dont-fit : Tells e n (without-bytes 20 n work answer)
+    dont-fit : length answer < length (found-records q e) → Tells e n (without-bytes 20 n work answer)
 
   tells : (e : Entry (Situation PlaceSet) Move) (n : ℕ) → Solving q e → Tells e n (clash (hidden q) n e work answer)
   unfolding clash
@@ -181,7 +186,7 @@ module _ (q : Question) (good : GoodQuestion q) (work answer : List ℕ) where
       let bytes = found-records q e in
       rw (x .none-long, records-hidden q e)
       (cond-by (Tells e n) (not (leb (length bytes) (length answer)))
-      (λ _. dont-fit)
+      (λ k. dont-fit (leb-false (length bytes) (length answer) (not-is-true k)))
       (λ k. fit (leb-true (length bytes) (length answer) (not-is-false k))))
 
   solution : (e : Entry (Situation PlaceSet) Move) → Solving q e → Solution q (texts-spelt (hidden q) e)
@@ -201,17 +206,31 @@ module _ (q : Question) (good : GoodQuestion q) (work answer : List ℕ) where
         each-field = λ f i. keep-mem (λ (k : ℕ). stands-in k (q .left ++ q .right)) (upto fields) (upto-mem fields (fields-known q good f i)) i;
         lengths = λ f _. x .short f;
         rest = drop-append-seam bytes rest;
+        fits = h;
         same-length = rw (length-append bytes rest, length-drop (length bytes) answer) (omega arith);
       }
-  clash-told e n o x dont-fit z = absurd (omega arith)
+  clash-told e n o x (dont-fit h) z = absurd (omega arith)
 
-  dont-fit-told : (e : Entry (Situation PlaceSet) Move) → Solving q e → TextsDontFit (asked q)
-  dont-fit-told e x = record { question = q; good = refl; texts = texts-spelt (hidden q) e; solution = solution e x }
+  dont-fit-told : (e : Entry (Situation PlaceSet) Move) (n : ℕ) (o : Outcome) → Solving q e → Tells e n o → o .number ≡ 20
+      → TextsDontFit (asked q) answer
+  unfolding standing
+  dont-fit-told e n o x (fit h) z = absurd (omega arith)
+  dont-fit-told e n o x (dont-fit h) z =
+      record { question = q; good = refl; texts = texts-spelt (hidden q) e; solution = solution e x; short = h }
 
-  tells-number : (e : Entry (Situation PlaceSet) Move) (n : ℕ) (o : Outcome) → Tells e n o
-      → (member (o .number) (0 ∷ 1 ∷ 18 ∷ 19 ∷ 20 ∷ []) ≡ true) × (member (o .number) (0 ∷ 1 ∷ 20 ∷ []) ≡ true) × (o .count ≡ n) × (o .number ≡ 1 → ⊥)
-  tells-number e n o (fit h) = (refl, refl, refl, λ z. omega arith)
-  tells-number e n o dont-fit = (refl, refl, refl, λ z. omega arith)
+  -- the numbers of an entry that is found
+  record FoundNumber (n : ℕ) (o : Outcome) : Type 0 where
+    good-number : member (o .number) (0 ∷ 1 ∷ 18 ∷ 19 ∷ 20 ∷ []) ≡ true
+    decides-it : member (o .number) (0 ∷ 1 ∷ 20 ∷ []) ≡ true
+    leaves-none-open : member (o .number) (18 ∷ 19 ∷ []) ≡ false
+    counted : o .count ≡ n
+    no-no-clash : o .number ≡ 1 → ⊥
+
+  tells-number : (e : Entry (Situation PlaceSet) Move) (n : ℕ) (o : Outcome) → Tells e n o → FoundNumber n o
+  tells-number e n o (fit h) =
+      record { good-number = refl; decides-it = refl; leaves-none-open = refl; counted = refl; no-no-clash = λ z. omega arith }
+  tells-number e n o (dont-fit h) =
+      record { good-number = refl; decides-it = refl; leaves-none-open = refl; counted = refl; no-no-clash = λ z. omega arith }
 
   some-number : (k : ℕ) → not (eqb (suc k) 0) ≡ true
   some-number k = false-not (neq-eqb (suc k) 0 (λ (e : suc k ≡ 0). omega arith))
@@ -222,21 +241,28 @@ module _ (q : Question) (good : GoodQuestion q) (work answer : List ℕ) where
   abbrev AsClash : Conclusion → Type 0
   AsClash c = member (outcome-of (asked q) work answer .number) (18 ∷ 19 ∷ []) ≡ false → decision-by c .outcome ≡ outcome-of (asked q) work answer
 
+  -- the number of the first search's end
+  own-number : (x : Ended) → how-of (searched (hidden q) (room-of work)) ≡ x
+      → outcome-of (asked q) work answer .number ≡ answered (hidden q) (count-of (searched (hidden q) (room-of work))) x work answer .number
+  own-number x own =
+      ap (λ (y : Ended). answered (hidden q) (count-of (searched (hidden q) (room-of work))) y work answer .number) own
+
   decided-of : (at-most : room-of work ≤ most-room) (c : Conclusion) → Concludes q good (room-of work) at-most c → AsClash c
       → Decided (asked q) work answer (decision-by c)
   decided-of at-most c (clashes k n e i j x) same =
       let t = tells e n x in
-      let (one, two, count, not-one) = tells-number e n (clash (hidden q) n e work answer) t in
+      let told = tells-number e n (clash (hidden q) n e work answer) t in
       record {
         demand1 = answered-met work answer q n (found e);
         clash = clash-told e n (clash (hidden q) n e work answer) x t;
-        no-clash = λ z. absurd (not-one z);
-        too-short = λ _. dont-fit-told e x;
-        good-number = λ _ _. one;
+        no-clash = λ z. absurd (told .no-no-clash z);
+        too-short = dont-fit-told e n (clash (hidden q) n e work answer) x t;
+        good-number = λ _ _. told .good-number;
         as-clash = same;
-        search-told = two ∙ sym (some-number k);
+        not-decided = λ z. absurd (true-false z (told .leaves-none-open));
+        search-told = told .decides-it ∙ sym (some-number k);
         search-number = omega arith;
-        count-within = omega (arith, count);
+        count-within = omega (arith, told .counted);
       }
   decided-of at-most c (clashes-not k n i j x) same =
       record {
@@ -246,11 +272,12 @@ module _ (q : Question) (good : GoodQuestion q) (work answer : List ℕ) where
         too-short = λ z. absurd (omega arith);
         good-number = λ _ _. refl;
         as-clash = same;
+        not-decided = λ z. absurd (true-false z refl);
         search-told = sym (some-number k);
         search-number = omega arith;
         count-within = j;
       }
-  decided-of at-most c (no-room-undecided n j) same =
+  decided-of at-most c (no-room-undecided n j own) same =
       record {
         demand1 = answered-met work answer q n no-room;
         clash = λ z. absurd (omega arith);
@@ -258,11 +285,12 @@ module _ (q : Question) (good : GoodQuestion q) (work answer : List ℕ) where
         too-short = λ z. absurd (omega arith);
         good-number = λ _ _. refl;
         as-clash = same;
+        not-decided = λ _. sym (own-number no-room own);
         search-told = refl;
         search-number = omega arith;
         count-within = j;
       }
-  decided-of at-most c (too-long-undecided n j) same =
+  decided-of at-most c (too-long-undecided n j own) same =
       record {
         demand1 = answered-met work answer q n too-long;
         clash = λ z. absurd (omega arith);
@@ -270,6 +298,7 @@ module _ (q : Question) (good : GoodQuestion q) (work answer : List ℕ) where
         too-short = λ z. absurd (omega arith);
         good-number = λ _ _. refl;
         as-clash = same;
+        not-decided = λ _. sym (own-number too-long own);
         search-told = refl;
         search-number = omega arith;
         count-within = j;
@@ -309,6 +338,7 @@ decided (refused x at) good work answer =
       too-short = λ z. absurd (omega arith);
       good-number = λ q g. let z : _≡_ {A = ℕ} 0 1 = cc in absurd (omega arith);
       as-clash = λ _. refl;
+      not-decided = λ _. refl;
       search-told = no-search x;
       search-number = omega arith;
       count-within = omega arith;

@@ -5,3 +5,4 @@ pub mod Apart
 pub mod Decided
 -- known questions and sheets: the checker computes them
 pub mod KnownDecisions
+pub mod KnownDecidedLines

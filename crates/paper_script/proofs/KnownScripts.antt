@@ -12,7 +12,7 @@ use Rattle.paper_script.specs.Language.{to-re, concat, union, star}
 use Rattle.paper_script.specs.Bytes.{bytes}
 use Rattle.paper_script.specs.Reader.{code-point, constant, set-logic, declare-const, in-re, equal, check-sat, no-script, commands, read-script}
 use Rattle.paper.specs.Sheet.{read-sheet, read-end, marked-side, side-record, next-is, marked}
-use Rattle.paper_script.specs.Script.{one-character, choice, field-lines, all-standing, equation, script}
+use Rattle.paper_script.specs.Script.{one-character, choice, field-lines, all-standing, equation, script, longest-script}
 use Rattle.paper_script.specs.Scripting.{scripting-told, scripting}
 
 -- `LT`x and x`4`, where x is 0, or Z or -, or ., any number of times
@@ -120,6 +120,11 @@ crowded-read : read-script crowded
 unfolding read-script
 crowded-read = refl
 
+-- A comment ends at a carriage return too.
+behind-a-return : read-script (bytes "; a comment\r(check-sat); another\r\n(check-sat)") ≡ commands (check-sat ∷ check-sat ∷ [])
+unfolding read-script
+behind-a-return = refl
+
 -- What is not read.
 abbrev garbled-scripts : List (List ℕ)
 garbled-scripts =
@@ -153,6 +158,10 @@ garbled-scripts =
 none-read : map read-script garbled-scripts ≡ replicate 20 no-script
 unfolding read-script
 none-read = refl
+
+-- 280,000 bytes are always enough.
+enough-bytes : longest-script ≡ 280000
+enough-bytes = refl
 
 -- the sheet of two empty sides, whose script has 351 bytes
 abbrev empty-sides : List ℕ

@@ -5,47 +5,36 @@
 --   equation-lexed : both sides and the check command
 --   script-lexed   : GoodQuestion q → lexemes between (script q) ≡ script-lexemes q
 -- Follows by induction on the fields that stand and on the tokens of the sides. A literal of several characters is one lexeme, so a side is first
--- taken apart into literals and constants (`pieces`). A digit ends no word, for a field's number is below 10.
+-- taken apart into literals and constants (`pieces`). A digit ends no word and no comment.
 use Prim.Native.Nat.{ℕ, _<_}
 use native.Mathlib.Omega.{arith}
 use mathlib.Core.Path.{_≡_, refl, ap, _∙_}
-use mathlib.Core.Bool.{Bool, true, false}
+use mathlib.Core.Bool.{Bool, true, false, not}
 use mathlib.Core.List.{List, [], _∷_, _++_, append-assoc, List·Memᴰ, List·Memᴰ·head, List·Memᴰ·tail}
-use lib.Dec.{eqb}
-use Rattle.paper.specs.Lists.{upto, each}
+use Rattle.paper.specs.Lists.{upto, all, each}
 use Rattle.paper.specs.Numbers.{hidden-left, hidden-right, set-fields}
 use Rattle.paper.specs.Pattern.{Held}
 use Rattle.paper.specs.Equation.{Token, chr, fld, Side, stands-in}
 use Rattle.paper.specs.Question.{Question, held-by, hidden}
 use Rattle.paper.specs.Printed.{sign, blank-sign}
-use Rattle.paper.proofs.base.Tests.{neq-eqb}
-use Rattle.paper.proofs.base.Lists.{cons-eq, mem-keep, mem-upto}
+use Rattle.paper.proofs.base.Tests.{not-is-true}
+use Rattle.paper.proofs.base.Lists.{all-true, cons-eq, mem-keep, mem-upto, upto-mem}
 use Rattle.paper.proofs.sheets.Asked.{GoodQuestion, left-39, right-39}
 use Rattle.paper.proofs.sheets.Hidden.{HasSet, in-range-has-set}
 use Rattle.paper_script.specs.Bytes.{bytes}
-use Rattle.paper_script.specs.Lexemes.{Lexeme, opening, closing, word, text, Within, between, in-word, in-text, ends-word, lexemes}
+use Rattle.paper_script.specs.Lexemes.{Lexeme, opening, closing, word, text, Within, between, in-word, in-text, ends-line, ends-word, lexemes}
 use Rattle.paper_script.specs.Script.{digit, name, expression-of, field-lines, arguments-of, side-term, heading, all-standing, equation, script}
 use Rattle.paper_script.proofs.Lexed.{no-quotation, no-escape, before-held, held-lexed}
 
--- A digit ends no word and no comment.
-digit-in-word : (f : ℕ) → f < set-fields → ends-word (digit f) ≡ false
-digit-in-word f h =
-    rw (
-      apart 32 (λ (e : digit f ≡ 32). omega arith),
-      apart 10 (λ (e : digit f ≡ 10). omega arith),
-      apart 9 (λ (e : digit f ≡ 9). omega arith),
-      apart 13 (λ (e : digit f ≡ 13). omega arith),
-      apart 40 (λ (e : digit f ≡ 40). omega arith),
-      apart 41 (λ (e : digit f ≡ 41). omega arith),
-      apart 59 (λ (e : digit f ≡ 59). omega arith),
-      apart 34 (λ (e : digit f ≡ 34). omega arith),
-    )
-  where
-    apart : (n : ℕ) → (digit f ≡ n → ⊥) → eqb (digit f) n ≡ false
-    apart n = neq-eqb (digit f) n
+-- A digit ends no word and no comment: they are looked through one by one.
+no-end : (ends : ℕ → Bool) → all (λ (f : ℕ). not (ends (digit f))) (upto set-fields) ≡ true → (f : ℕ) → f < set-fields → ends (digit f) ≡ false
+no-end ends h f k = not-is-true (all-true (λ (g : ℕ). not (ends (digit g))) (upto set-fields) h (upto-mem set-fields k))
 
-digit-in-comment : (f : ℕ) → eqb (digit f) 10 ≡ false
-digit-in-comment f = neq-eqb (digit f) 10 (λ (e : digit f ≡ 10). omega arith)
+digit-in-word : (f : ℕ) → f < set-fields → ends-word (digit f) ≡ false
+digit-in-word = no-end ends-word refl
+
+digit-in-comment : (f : ℕ) → f < set-fields → ends-line (digit f) ≡ false
+digit-in-comment = no-end ends-line refl
 
 -- A field's lines.
 abbrev declared : List ℕ → List Lexeme → List Lexeme
@@ -56,7 +45,7 @@ declared n rest =
 abbrev pub before-field : ℕ → Held → List Lexeme → List Lexeme
 before-field f h rest = declared (name f) (before-held h (closing ∷ closing ∷ rest))
 
-lines-lexed : (d : ℕ) (e s : List ℕ) → eqb d 10 ≡ false → ends-word d ≡ false
+lines-lexed : (d : ℕ) (e s : List ℕ) → ends-line d ≡ false → ends-word d ≡ false
     → lexemes between ((bytes "; field " ++ (d ∷ bytes "\n(declare-const f") ++ (d ∷ bytes " String)\n(assert (str.in_re f")
     ++ (d ∷ bytes " ") ++ e ++ bytes "))\n") ++ s)
     ≡ declared (bytes "f" ++ (d ∷ [])) (lexemes between ((e ++ bytes "))\n") ++ s))
@@ -66,7 +55,7 @@ pub field-lexed : (f : ℕ) (h : Held) (s : List ℕ) → f < set-fields
     → lexemes between (field-lines f h ++ s) ≡ before-field f h (lexemes between s)
 unfolding field-lines
 field-lexed f h s k =
-    lines-lexed (digit f) (expression-of h) s (digit-in-comment f) (digit-in-word f k)
+    lines-lexed (digit f) (expression-of h) s (digit-in-comment f k) (digit-in-word f k)
     ∙ ap (declared (name f)) (ap (lexemes between) (append-assoc (expression-of h) (bytes "))\n") s) ∙ held-lexed h (bytes "))\n" ++ s))
 
 -- A side with its hidden field: literals and constants one behind the other. The test says whether a literal is open, which has begun with w.

@@ -1,5 +1,5 @@
 -- What is promised of writing a sheet out as a script: of every sheet and every buffer.
---   promised : Promised sheet out (scripting sheet out)
+--   promised : ScriptPromised sheet out (scripting sheet out)
 -- Follows from `means`, `same-question` and `script-fits`, by what reading the sheet gives.
 use Prim.Native.Nat.{ℕ, _≤_}
 use native.Mathlib.Omega.{arith}
@@ -7,8 +7,8 @@ use mathlib.Core.Path.{_≡_, refl, sym, ap, _∙_, subst}
 use mathlib.Core.Logic.{_↔_}
 use mathlib.Core.List.{List, _++_}
 use lib.Dec.{leb}
-use lib.ListN.{length, take, drop}
-use lib.Seq.{take-append-seam}
+use lib.ListN.{length, take, drop, length-append, length-drop}
+use lib.Seq.{take-append-seam, drop-append-seam}
 use Rattle.paper.specs.Equation.{Texts}
 use Rattle.paper.specs.Question.{Question, Solution}
 use Rattle.paper.specs.Sheet.{Fault, cut-short, wrong-mark, wrong-field, wrong-length, not-one-pattern, too-many-leaves, wrong-token, fault-number}
@@ -41,10 +41,6 @@ no-0 not-one-pattern e = omega arith
 no-0 too-many-leaves e = omega arith
 no-0 wrong-token e = omega arith
 
--- what was written is the script
-written-script : (l out : List ℕ) → take (length l) (l ++ drop (length l) out) ≡ l
-written-script l out = take-append-seam l (drop (length l) out)
-
 abbrev question-of : Question → Reading → Question
 question-of p (refused x at) = p
 question-of p (asked q) = q
@@ -62,19 +58,35 @@ SameAnswer q l = ((texts : Texts) × Solution q texts) ↔ ((a : Assignment) × 
 
 promised-of : (sheet out : List ℕ) (r : Reading) → read-sheet sheet ≡ r → ScriptPromised sheet out (scripting-of r out)
 promised-of sheet out (refused x at) e =
-    record { means = λ q h z. absurd (no-0 x z); same-answer = λ q h z. absurd (no-0 x z); unchanged = λ n. refl; enough = λ h z. no-40 x z }
+    record {
+      means = λ q h z. absurd (no-0 x z);
+      same-answer = λ q h z. absurd (no-0 x z);
+      unchanged = λ n. refl;
+      rest = refl;
+      fits = omega arith;
+      same-length = refl;
+      enough = λ h z. no-40 x z;
+    }
 promised-of sheet out (asked q) e =
     cond-by (ScriptPromised sheet out) (leb (length (script q)) (length out))
     (λ t. record {
-      means = λ p h z. rw (written-script (script q) out) (by-question sheet q e (λ (x : Question) (l : List ℕ). Means x (read-script l)) means p h);
-      same-answer = λ p h z. rw (written-script (script q) out) (by-question sheet q e SameAnswer same-question p h);
+      means = λ p h z. rw (take-append-seam (script q) _) (by-question sheet q e (λ (x : Question) (l : List ℕ). Means x (read-script l)) means p h);
+      same-answer = λ p h z. rw (take-append-seam (script q) _) (by-question sheet q e SameAnswer same-question p h);
       unchanged = λ n. absurd (n refl);
+      rest = drop-append-seam (script q) (drop (length (script q)) out);
+      fits = leb-true (length (script q)) (length out) t;
+      same-length =
+          let room = leb-true (length (script q)) (length out) t in
+          omega (arith, length-append (script q) (drop (length (script q)) out), length-drop (length (script q)) out);
       enough = λ h (z : 0 ≡ 40). omega arith;
     })
     (λ t. record {
       means = λ p h (z : 40 ≡ 0). absurd (omega arith);
       same-answer = λ p h (z : 40 ≡ 0). absurd (omega arith);
       unchanged = λ n. refl;
+      rest = refl;
+      fits = omega arith;
+      same-length = refl;
       enough = λ (h : longest-script ≤ length out) z. let short = leb-false (length (script q)) (length out) t in omega (arith, script-fits sheet q e);
     })
 

@@ -42,9 +42,16 @@ semicolon = 59
 abbrev line-feed : ℕ
 line-feed = 10
 
+abbrev carriage-return : ℕ
+carriage-return = 13
+
+-- a line ends at a line feed or a carriage return, and a comment with it
+abbrev pub ends-line : ℕ → Bool
+ends-line b = eqb b line-feed || eqb b carriage-return
+
 -- tab, line feed, carriage return, space
 abbrev pub is-blank : ℕ → Bool
-is-blank b = eqb b 32 || eqb b line-feed || eqb b 9 || eqb b 13
+is-blank b = eqb b 32 || eqb b line-feed || eqb b 9 || eqb b carriage-return
 
 abbrev pub ends-word : ℕ → Bool
 ends-word b = is-blank b || eqb b 40 || eqb b 41 || eqb b semicolon || eqb b quotation-mark
@@ -63,7 +70,7 @@ behind l s = step (l ∷ s .whole) (s .stands)
 
 abbrev pub byte-read : Within → ℕ → Step
 byte-read between b = begun b
-byte-read in-comment b = cond (eqb b line-feed) (step [] between) (step [] in-comment)
+byte-read in-comment b = cond (ends-line b) (step [] between) (step [] in-comment)
 byte-read (in-word w) b = cond (ends-word b) (behind (word w) (begun b)) (step [] (in-word (w ++ (b ∷ []))))
 byte-read (in-text w) b =
     cond (eqb b quotation-mark) (step [] (behind-text w))

@@ -35,10 +35,13 @@ unfoldable pub scripting : List ℕ → List ℕ → Scripting
 scripting sheet out = scripting-of (read-sheet sheet) out
 
 -- What is promised: a script that was written means the sheet's question, so that some texts satisfy it exactly if some texts solve the question;
--- where none was written no byte is changed; a buffer of so many bytes is never too short.
+-- where none was written no byte is changed, and otherwise none behind it; a buffer of so many bytes is never too short.
 pub record ScriptPromised (sheet out : List ℕ) (s : Scripting) : Type 0 where
   pub means : (q : Question) → read-sheet sheet ≡ asked q → s .number ≡ 0 → Means q (read-script (take (s .written) (s .script)))
   pub same-answer : (q : Question) → read-sheet sheet ≡ asked q → s .number ≡ 0
       → ((texts : Texts) × Solution q texts) ↔ ((a : Assignment) × Satisfies a (read-script (take (s .written) (s .script))))
   pub unchanged : (s .number ≡ 0 → ⊥) → s .script ≡ out
+  pub rest : drop (s .written) (s .script) ≡ drop (s .written) out
+  pub fits : s .written ≤ length out
+  pub same-length : length (s .script) ≡ length out
   pub enough : longest-script ≤ length out → s .number ≡ 40 → ⊥

@@ -1,6 +1,7 @@
 -- Lines that the program `clash` prints (document 01, "The program"), as text. The checker computes them.
 --   decimals-known, lines-known : numbers in decimal; the lines of an outcome, from its numbers and the records in its answer buffer
 --   sheets-printed : the lines for whole sheets, with what the program reads and lends
+--   program-buffers : the bytes that the program reads and lends
 --   program-never-20 : the answer buffer that the program lends is always long enough
 use Prim.Native.Nat.{ℕ}
 use Prim.Native.Char.{code}
@@ -89,6 +90,10 @@ pub sheets-printed :
     [])
 unfolding set-after may-end judge enter offer take-next search trimmed strike put-before open-moves child-by children question search-from texts-of acceptor marked pattern-record side-record read-end marked-side next-is read-sheet outcome room-of searched standing value-record records some-text-too-long clash count-of how-of printed-of printed
 sheets-printed = refl
+
+-- "reads the first" 2,048 "bytes of standard input, lends 65,520 bytes of work and 4,096 of answer"
+pub program-buffers : program-input ∷ program-work ∷ program-answer ∷ [] ≡ 2048 ∷ 65520 ∷ 4096 ∷ []
+program-buffers = refl
 
 -- The answer buffer that the program lends is long enough, whatever is found in 356 situations.
 pub program-never-20 : (input : List ℕ)

@@ -1,19 +1,30 @@
 // What the programs share: reading, the numbers of a stream, the buffers that are lent, and what is printed.
 mod bytes;
+mod how;
 mod input;
 mod lent;
 mod output;
 
-pub use bytes::print_each;
-pub use bytes::print_lent;
+pub use bytes::changed;
+pub use bytes::print_answer;
+pub use bytes::print_buffer;
 pub use bytes::print_work;
+pub use how::How;
+pub use how::is_going;
 pub use input::Got;
+pub use input::Number;
+pub use input::least;
+pub use input::read_all;
 pub use input::read_first;
+pub use input::read_next;
+pub use input::read_number;
 pub use lent::WORK;
 pub use lent::WORK_FILL;
 pub use lent::fill;
 pub use lent::low_first;
 pub use output::print;
 pub use output::print_number;
+pub use output::print_numbers;
 pub use output::tell;
+pub use output::tell_end;
 pub use output::tell_number;

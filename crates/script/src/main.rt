@@ -4,8 +4,10 @@
 // The stored sheet: left `K`, field 0, `-4`, field 0, field 2; right `K7`, field 1, `.$`. Field 0 is `LT`, or a digit and any of the values 34 to 38
 // (`YZ-. `); field 2 is empty or `$`; field 1 is open. The pattern of field 4, which stands in neither side, is left out.
 use print_failures::refuse;
+use print_out::How;
 use print_out::read_first;
 use print_out::tell;
+use print_out::tell_end;
 use script_sheet::Scripted;
 
 // As `clash` does: it "reads the first" 2,048 "bytes of standard input".
@@ -21,7 +23,7 @@ fn main() {
     if got.read {
         write_out(&input[0..n]);
     } else {
-        tell(b"script: standard input can't be read\n");
+        tell_end(b"script", How::NotRead);
     }
 }
 
@@ -41,7 +43,5 @@ fn write_in(sheet: &[u8], out: &mut [u8]) {
 }
 
 fn print(script: &[u8]) {
-    if !print_out::print(script) {
-        tell(b"script: standard output can't be written\n");
-    }
+    tell_end(b"script", print_out::print(How::Going, script));
 }

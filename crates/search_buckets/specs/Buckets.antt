@@ -3,6 +3,7 @@ use Prim.Native.Nat.{ℕ, zero, suc, _+_, _*_, _/_, _%_, _≤_, _<_}
 use mathlib.Core.Path.{_≡_}
 use mathlib.Core.Bool.{Bool, true, false, cond}
 use mathlib.Core.List.{List}
+use lib.Bits.{bitXor}
 use lib.Dec.{eqb}
 use lib.ListN.{length, getD, take, drop}
 use Rattle.paper.specs.Lists.{any}
@@ -14,15 +15,12 @@ use Rattle.search_buckets.specs.declared.Seen.{Seen}
 use Rattle.search_buckets.specs.declared.Seen.the-variants.{At, Nowhere}
 
 -- There are as many buckets as the buffer has slots. A key's bucket is its hash modulo their number. The hash is over all bytes of the
--- key, in words of eight: each is added, and each half of the sum is multiplied by a factor of its own.
+-- key, in words of eight: each is put to it by exclusive or, and each half of what that gives is multiplied by a factor of its own.
 abbrev pub word-width : ℕ
 word-width = 8
 
 abbrev pub half : ℕ
 half = 4294967296
-
-abbrev pub word-limit : ℕ
-word-limit = 18446744073709551616
 
 abbrev pub low-factor : ℕ
 low-factor = 1640531551
@@ -34,7 +32,7 @@ abbrev pub spread : ℕ → ℕ
 spread x = (x % half) * low-factor + (x / half) * high-factor
 
 abbrev pub mixed : ℕ → ℕ → ℕ
-mixed h w = spread ((h + w) % word-limit)
+mixed h w = spread (bitXor h w)
 
 -- the hash gone on with by so many words
 abbrev pub hash-words : ℕ → ℕ → List ℕ → ℕ

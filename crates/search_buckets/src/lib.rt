@@ -6,7 +6,6 @@ use search_slots::SLOT;
 use search_slots::numbers::number;
 use search_slots::numbers::put_number;
 use search_slots::slots_in;
-use std::num::wrapping_add_u64;
 ghost use mathlib.Core.Path.{_≡_};
 ghost use mathlib.Core.List.{List, _∷_, [], _++_};
 ghost use Prim.Native.Nat.{_+_, _*_, _/_, _%_, _<_, _≤_};
@@ -53,7 +52,7 @@ fn spread(x: u64) -> u64
 fn mixed(h: u64, w: u64) -> u64
     ensures { λ r. ⌜ r ≡ mixed h w ⌝ }
 {
-    spread(wrapping_add_u64(h, w))
+    spread(h ^ w)
 }
 
 fn hash(key: &[u8]) -> u64

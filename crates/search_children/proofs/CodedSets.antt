@@ -27,8 +27,7 @@ use Rattle.base_places.proofs.Masks.{Masked, Few, mask-same, mask-empty, mask-m
 use Rattle.base_places.proofs.Filling.{getD-table}
 use Rattle.base_places.specs.Masks.{mask, follow-masks, taking-mask, taking-masks, last-mask, followers-of}
 use Rattle.base_codes.specs.Inner.{field-code, no-token, side-code, field-of, front}
-use Rattle.search_fronts.specs.Fronts.{row-at, front-from, set-by, takes-next}
-use Rattle.search_fronts.specs.declared.Front.{Front}
+use Rattle.search_fronts.specs.Fronts.{Front, row-number, front-from, set-by, takes-next}
 use Rattle.search_children.specs.Children.{may-end-at}
 use Rattle.search_children.specs.Coding.{situation-code, tables-of, taking-over, tables-over}
 use Rattle.search_children.proofs.CodedSides.{Known-side, char-not-field, field-is-field, field-of-code}
@@ -108,7 +107,7 @@ module _ (among : ℕ → Bool) (q : Question) (few : (f : ℕ) → Few (held-by
   -- the set after a character
   pub set-by-coded : (f c : ℕ) → f < set-fields → c < characters
       → set-by (front-at among q s (field-code + f)) c ≡ mask (acceptor-over among q .set-after f (the-set among q s f) c)
-  unfolding front-from row-at acceptor-over tables-over
+  unfolding front-from row-number acceptor-over tables-over
   set-by-coded f c h k =
       let follow = getD-map-upto (λ (g : ℕ). follow-masks (held-by q g)) [] set-fields f h in
       let taking = getD-map-upto (λ (g : ℕ). taking-over among (held-by q g)) [] set-fields f h in

@@ -19,8 +19,7 @@ use Rattle.search_children.specs.Children.{Settled, dropped, above, made
 use Rattle.search_trim.specs.Trimming.{alike-in-front, first-masks, question-coded}
 use Rattle.search_children.specs.Children.{judged-sides, settle, with-set, struck, put-child, may-end-at}
 use Rattle.search_children.specs.Laid.{child-of}
-use Rattle.search_fronts.specs.Fronts.{set-by, both-take}
-use Rattle.search_fronts.specs.declared.Front.{Front}
+use Rattle.search_fronts.specs.Fronts.{Front, set-by, both-take}
 use Rattle.base_codes.specs.declared.Situation.{Situation}
 use Rattle.search_children.specs.declared.Fate.the-variants.{Dropped, Above, Made}
 

@@ -12,8 +12,7 @@ use Rattle.paper.specs.Search.{Child, child, long}
 use Rattle.base_codes.specs.Inner.{field-code, left-struck, right-struck, is-char, is-field-code, field-of, front}
 use Rattle.base_codes.specs.Coded.{Coded, none}
 use Rattle.search_trim.specs.Trimming.{alike-in-front}
-use Rattle.search_fronts.specs.Fronts.{front-from, set-by, both-take}
-use Rattle.search_fronts.specs.declared.Front.{Front}
+use Rattle.search_fronts.specs.Fronts.{Front, front-from, set-by, both-take}
 
 -- what is worked out once of the fields: the follow sets, what each character lets through, which places may be last
 pub record Tables : Type 0 where

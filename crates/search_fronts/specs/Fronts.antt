@@ -8,11 +8,22 @@ use lib.ListN.{getD}
 use Rattle.paper.specs.Numbers.{set-fields}
 use Rattle.base_places.specs.Masks.{followers-of}
 use Rattle.base_codes.specs.Inner.{is-field-code, field-of}
-use Rattle.search_fronts.specs.declared.Front.{Front}
+use Rattle.search_fronts.specs.declared.FrontToken.{FrontToken}
 
--- what each character lets through in the field with the token b; that of field 0 where there is no such field
-unfoldable pub row-at : List (List ℕ) → ℕ → List ℕ
-row-at taking b = cond (ltb (field-of b) set-fields) (getD taking (field-of b) []) (getD taking 0 [])
+-- A token in front with what is worked out once of it for all characters: the places that may follow those of its field's set, and what each
+-- character lets through.
+pub record Front : Type 0 where
+  pub token : ℕ
+  pub followers : ℕ
+  pub row : List ℕ
+
+-- the number of the row of the field with the token b, in a table with one for each field; that of field 0 where there is no such field
+unfoldable pub row-number : ℕ → ℕ
+row-number b = cond (ltb (field-of b) set-fields) (field-of b) 0
+
+-- the front that a token with the number of its row is by such a table
+abbrev pub with-row : List (List ℕ) → FrontToken → Front
+with-row taking t = record { token = t .token; followers = t .followers; row = getD taking (t .row) [] }
 
 -- a front with what is worked out once of it for all characters
 unfoldable pub front-from : List (List ℕ) → List (List ℕ) → List ℕ → ℕ → Front
@@ -20,7 +31,7 @@ front-from follow taking sets b =
     record {
       token = b;
       followers = followers-of (getD follow (field-of b) []) (getD sets (field-of b) 0);
-      row = row-at taking b;
+      row = getD taking (row-number b) [];
     }
 
 -- the set of the front's field after c

@@ -3,23 +3,24 @@ use base_codes::FIELD_CODE;
 use base_codes::FIELDS;
 use base_codes::NO_TOKEN;
 use base_codes::field_of;
-use base_places::CHARACTERS;
 use base_places::PLACES;
 use base_places::PlaceSet;
 ghost use mathlib.Core.Bool.{_&&_};
-ghost use mathlib.Core.List.{[]};
+ghost use mathlib.Core.List.{List, []};
 ghost use mathlib.Core.Path.{_≡_};
+ghost use Prim.Native.Nat.{ℕ, _<_};
 ghost use lib.ListN.{getD};
+ghost use Rattle.paper.specs.Numbers.{set-fields};
 ghost use Rattle.base_places.specs.Masks.{followers-of};
 ghost use Rattle.base_codes.specs.Inner.{field-of};
-ghost use Rattle.search_fronts.specs.Fronts.{row-at, front-from, takes-next};
+ghost use Rattle.search_fronts.specs.Fronts.{row-number, front-from, with-row, takes-next};
 
-// A token in front with what is worked out once of it for all characters: the places that may follow those of its field's set, and what
-// each character lets through.
-pub struct Front {
+// A token in front with what is worked out once of it for all characters: the places that may follow those of its field's set, and the number of
+// the row, of a table with one for each field, that has what each character lets through.
+pub struct FrontToken {
     pub token: u8,
     pub followers: PlaceSet,
-    pub row: [PlaceSet; CHARACTERS],
+    pub row: usize,
 }
 
 // The places that may follow those of the set of the field with the token b.
@@ -28,18 +29,17 @@ fn gather(sets: [PlaceSet; FIELDS], b: u8, follow: &[[PlaceSet; PLACES]; FIELDS]
 {
     let f = field_of(b);
     if f < FIELDS {
-        let masks = follow[f];
-        return base_places::followers(masks, sets[f]);
+        return base_places::followers(&follow[f], sets[f]);
     }
     0
 }
 
-// What each character lets through in the field with the token b.
-fn row(b: u8, taking: &[[PlaceSet; CHARACTERS]; FIELDS]) -> [PlaceSet; CHARACTERS]
-    ensures { λ r. ⌜ r ≡ row-at (now (taking .entry)) b ⌝ }
+// The number of the row of the field with the token b.
+fn row(b: u8) -> usize
+    ensures { λ r. ⌜ r ≡ row-number b ⌝ }
 {
     let f = field_of(b);
-    if f < FIELDS { taking[f] } else { taking[0] }
+    if f < FIELDS { f } else { 0 }
 }
 
 // What is worked out once of a token in front.
@@ -47,13 +47,12 @@ pub fn front_with(
     token: u8,
     sets: [PlaceSet; FIELDS],
     follow: &[[PlaceSet; PLACES]; FIELDS],
-    taking: &[[PlaceSet; CHARACTERS]; FIELDS],
-) -> Front
-    ensures { λ r. ⌜ r ≡ front-from (now (follow .entry)) (now (taking .entry)) sets token ⌝ }
+) -> FrontToken
+    ensures { λ r. ⌜ (r .row < set-fields) × ((taking : List (List ℕ)) → with-row taking r ≡ front-from (now (follow .entry)) taking sets token) ⌝ }
 {
     let followers = gather(sets, token, follow);
-    let row = row(token, taking);
-    Front {
+    let row = row(token);
+    FrontToken {
         token,
         followers,
         row,

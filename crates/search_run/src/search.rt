@@ -9,15 +9,16 @@ use base_places::PlaceSet;
 use search_buckets::Seen;
 use search_children::Child;
 use search_children::Fate;
-use search_fronts::Front;
+use search_fronts::FrontToken;
 use search_slots::HELD;
 use search_slots::SLOT;
 ghost use mathlib.Core.Path.{_≡_};
 ghost use mathlib.Core.List.{List};
 ghost use Prim.Native.Nat.{_+_, _*_, _<_, _≤_};
 ghost use lib.ListN.{length};
-ghost use Rattle.paper.specs.Numbers.{situation-bytes, most-room};
+ghost use Rattle.paper.specs.Numbers.{situation-bytes, most-room, set-fields};
 ghost use Rattle.base_codes.specs.Coded.{Coded, as-struct};
+ghost use Rattle.search_fronts.specs.Fronts.{with-row};
 ghost use Rattle.search_children.specs.Children.{puts-of, children-coded};
 ghost use Rattle.search_run.specs.Lent.{Roomy, Starts-puts, Ends-puts, tables, Enters, Enters-with, Offers-made, Offers-child, Offers, Takes, Searches};
 ghost use Rattle.search_run.specs.Run.{is-going};
@@ -179,20 +180,24 @@ fn offer_puts(
     run: Run,
     parent: usize,
     s: Situation,
-    left: Front,
-    right: Front,
+    left: FrontToken,
+    right: FrontToken,
+    taking: &[[PlaceSet; CHARACTERS]; FIELDS],
 ) -> Run
     requires { ⌜ Roomy (now work) room (run .entered) parent ⌝ }
     requires { ⌜ 0 < run .entered ⌝ }
-    ensures { λ r. ⌜ Offers room parent s (now (work .entry)) run (now (work .exit)) r (λ (k : Coded). puts-of k left right) ⌝ }
+    requires { ⌜ (left .row < set-fields) × (right .row < set-fields) ⌝ }
+    ensures { λ r. ⌜ Offers room parent s (now (work .entry)) run (now (work .exit)) r (λ (k : Coded). puts-of k (with-row (now (taking .entry)) left) (with-row (now (taking .entry)) right)) ⌝ }
 {
     let mut now = run;
     let first = first_put(left.token, right.token);
     let end = first_not_put(left.token, right.token);
+    let l = left.row;
+    let r = right.row;
     let mut c = first;
     while c < end {
-        let m = left.followers & left.row[c];
-        let n = right.followers & right.row[c];
+        let m = left.followers & taking[l][c];
+        let n = right.followers & taking[r][c];
         if search_fronts::both_take(left.token, m, right.token, n, c as u8) {
             let child = search_children::put(s, c as u8, m, n);
             now = offer(work, room, now, parent, c as u8, child);
@@ -234,9 +239,9 @@ fn offer_children(
         RIGHT_STRUCK,
         search_children::strike_right(s, last),
     );
-    let left = search_fronts::front_with(s.left[0], sets, follow, taking);
-    let right = search_fronts::front_with(s.right[0], sets, follow, taking);
-    offer_puts(work, room, two, parent, s, left, right)
+    let left = search_fronts::front_with(s.left[0], sets, follow);
+    let right = search_fronts::front_with(s.right[0], sets, follow);
+    offer_puts(work, room, two, parent, s, left, right, taking)
 }
 
 // The situation in the slot with the number i.

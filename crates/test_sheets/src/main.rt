@@ -1,6 +1,7 @@
 // `test_sheets`: tries the library on many sheets. Standard input is a sequence of parts: a mark, the number of the cases, and so many cases. The
-// mark says what is done with each case and what is printed of it (part.rt); a case is a sheet and the lengths of its buffers (case.rt). The
-// program ends where the input does, and also before a part or a case that is cut short, has another mark or asks for more than is lent here.
+// mark says what is done with each case and what is printed of it (part.rt); a case is a sheet and the lengths of its buffers. The program ends
+// where the input does, and also before a part or a case that is cut short, has another mark or asks for more than is lent here. A read or a
+// write that fails is told on standard error.
 //
 // The stored parts are these seven; tools/part frames a part. The second program prints the same lines, but for those of the scripts, which it
 // reads. tools/compare tries fresh parts.
@@ -92,8 +93,6 @@
 // 7. `SP`: sheets and rules carried over
 //
 // What the second program's `sheets --spelt 6 1500` makes. `second --spelt` prints the same.
-mod bytes;
-mod case;
 mod part;
 mod script;
 mod spelt;
@@ -104,70 +103,103 @@ use part::Shown;
 use print_clash::FIRST_LINE;
 use print_clash::Filled;
 use print_clash::PRINTED;
+use print_out::How;
 use print_out::WORK;
+use print_out::WORK_FILL;
+use print_out::fill;
+use print_out::is_going;
 use print_out::print;
+use print_out::print_answer;
 use print_out::print_number;
+use print_out::print_numbers;
+use print_out::print_work;
+use print_out::read_all;
+use print_out::read_number;
+use print_out::tell_end;
+
+// the longest sheet that two bytes can tell
+const SHEET: usize = 65535;
 
 // "65,520 bytes of work" (356 situations) "and 4,096 of answer"
 const ANSWER: usize = 4096;
 
+// The byte with which the answer buffer is filled before each case.
+pub const ANSWER_FILL: u8 = 165;
+
 fn main() {
-    let mut sheet = [0u8; case::SHEET];
+    let mut sheet = [0u8; SHEET];
     let mut work = [0u8; WORK];
     let mut answer = [0u8; ANSWER];
-    answer_parts(&mut sheet, &mut work, &mut answer);
+    let ended = answer_each(&mut sheet, &mut work, &mut answer);
+    tell_end(b"test_sheets", ended);
 }
 
 // A proved loop has to end, and nothing says that the input does: the turns are counted down from a number that no run uses up.
-fn answer_parts(sheet: &mut [u8], work: &mut [u8], answer: &mut [u8]) {
+fn answer_each(sheet: &mut [u8], work: &mut [u8], answer: &mut [u8]) -> How {
+    let mut part = part::cases(How::Going, Shown::Bytes, 0);
     let mut turns = u64::MAX;
-    while turns > 0 && answer_part(sheet, work, answer) {
+    while turns > 0 && goes_on(part) {
+        part = answer_next(sheet, work, answer, part);
         turns -= 1;
     }
+    let how = part.how;
+    how
 }
 
-// Whether there was a part, with all its cases.
-fn answer_part(sheet: &mut [u8], work: &mut [u8], answer: &mut [u8]) -> bool {
-    let part = part::next();
-    match part {
-        Part::Cases { shown, number } => answer_each(sheet, work, answer, shown, number) == 0,
-        Part::None => false,
+fn goes_on(part: Part) -> bool {
+    let how = part.how;
+    is_going(how)
+}
+
+// The next case of the part or, behind its last, the next part.
+fn answer_next(sheet: &mut [u8], work: &mut [u8], answer: &mut [u8], part: Part) -> Part {
+    let left = part.left;
+    if left == 0 {
+        return part::next();
     }
+    let shown = part.shown;
+    let how = answer_one(sheet, work, answer, shown);
+    part::cases(how, shown, left - 1)
 }
 
-// How many of so many cases were not there.
-fn answer_each(
+// A case: the length of the working buffer and that of the answer buffer in four bytes each, the sheet's length in two, all low first, and the
+// sheet.
+fn answer_one(sheet: &mut [u8], work: &mut [u8], answer: &mut [u8], shown: Shown) -> How {
+    let first = read_number(How::Going, 4, work.len());
+    let w = first.number;
+    let one = first.how;
+    let second = read_number(one, 4, answer.len());
+    let a = second.number;
+    let two = second.how;
+    let third = read_number(two, 2, sheet.len());
+    let s = third.number;
+    let three = third.how;
+    answer_in(
+        three,
+        &mut sheet[0..s],
+        &mut work[0..w],
+        &mut answer[0..a],
+        shown,
+    )
+}
+
+fn answer_in(
+    headed: How,
     sheet: &mut [u8],
     work: &mut [u8],
     answer: &mut [u8],
     shown: Shown,
-    number: usize,
-) -> usize {
-    let mut left = number;
-    while left > 0 && answer_next(sheet, work, answer, shown) {
-        left -= 1;
+) -> How {
+    let how = read_all(headed, sheet);
+    if !is_going(how) {
+        return how;
     }
-    left
+    fill(work, WORK_FILL);
+    fill(answer, ANSWER_FILL);
+    answer_case(sheet, work, answer, shown)
 }
 
-// Whether there was a case.
-fn answer_next(sheet: &mut [u8], work: &mut [u8], answer: &mut [u8], shown: Shown) -> bool {
-    let case = case::next(sheet, work, answer);
-    let sheet_len = case.sheet;
-    let work_len = case.work;
-    let answer_len = case.answer;
-    if case.there {
-        answer_case(
-            &sheet[0..sheet_len],
-            &mut work[0..work_len],
-            &mut answer[0..answer_len],
-            shown,
-        );
-    }
-    case.there
-}
-
-fn answer_case(sheet: &[u8], work: &mut [u8], answer: &mut [u8], shown: Shown) {
+fn answer_case(sheet: &[u8], work: &mut [u8], answer: &mut [u8], shown: Shown) -> How {
     match shown {
         Shown::Bytes => show_bytes(sheet, work, answer),
         Shown::Decided => show_decided(sheet, work, answer),
@@ -177,54 +209,57 @@ fn answer_case(sheet: &[u8], work: &mut [u8], answer: &mut [u8], shown: Shown) {
     }
 }
 
-fn show_bytes(sheet: &[u8], work: &mut [u8], answer: &mut [u8]) {
+fn show_bytes(sheet: &[u8], work: &mut [u8], answer: &mut [u8]) -> How {
     let told = base_answers::in_numbers(search_clash::clash(sheet, work, answer));
-    print_answer(told);
-    bytes::print_bytes(work, answer, told.written);
-    print(b"\n");
+    print(print_answered(told, work, answer), b"\n")
 }
 
-fn show_decided(sheet: &[u8], work: &mut [u8], answer: &mut [u8]) {
+fn show_decided(sheet: &[u8], work: &mut [u8], answer: &mut [u8]) -> How {
     let made = decide_sheet::decide(sheet, work, answer);
     let given = made.answer;
     let told = base_answers::in_numbers(given);
-    print_answer(told);
-    bytes::print_bytes(work, answer, told.written);
-    print(b", search ");
-    print_number(made.search as usize);
-    print(b"\n");
+    let line = print(print_answered(told, work, answer), b", search ");
+    print(print_number(line, made.search as usize), b"\n")
+}
+
+// Number, count, place and written length, and every byte of the two buffers.
+fn print_answered(told: Numbers, work: &[u8], answer: &[u8]) -> How {
+    let line = print_numbers(
+        print_number(How::Going, told.number),
+        &[told.count, told.place, told.written],
+    );
+    print_work(print_answer(line, answer, told.written, ANSWER_FILL), work)
 }
 
 // The lines, with just the room that the longest need.
-fn show_lines(sheet: &[u8], work: &mut [u8], answer: &mut [u8]) {
+fn show_lines(sheet: &[u8], work: &mut [u8], answer: &mut [u8]) -> How {
     let mut out = [0u8; PRINTED];
     let room = FIRST_LINE + answer.len();
-    if room <= PRINTED {
-        print_lines(sheet, work, answer, &mut out[0..room]);
+    if PRINTED < room {
+        return How::Going;
     }
+    print_lines(sheet, work, answer, &mut out[0..room])
 }
 
-fn print_lines(sheet: &[u8], work: &mut [u8], answer: &mut [u8], out: &mut [u8]) {
+fn print_lines(sheet: &[u8], work: &mut [u8], answer: &mut [u8], out: &mut [u8]) -> How {
     let made = print_clash::lines(sheet, work, answer, out);
     match made {
-        Filled::Bytes(n) => {
-            if n <= out.len() {
-                print(&out[0..n]);
-            }
-        }
-        Filled::NoRoom => {
-            print(b"no room\n");
-        }
+        Filled::Bytes(n) => print_front(out, n),
+        Filled::NoRoom => print(How::Going, b"no room\n"),
     }
 }
 
-// Number, count, place and written length.
-fn print_answer(told: Numbers) {
-    print_number(told.number);
-    print(b" ");
-    print_number(told.count);
-    print(b" ");
-    print_number(told.place);
-    print(b" ");
-    print_number(told.written);
+fn print_front(out: &[u8], n: usize) -> How {
+    if out.len() < n {
+        return How::Going;
+    }
+    print(How::Going, &out[0..n])
+}
+
+// Number, place and written length.
+fn print_told(told: Numbers) -> How {
+    print_numbers(
+        print_number(How::Going, told.number),
+        &[told.place, told.written],
+    )
 }

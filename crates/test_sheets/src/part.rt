@@ -1,6 +1,8 @@
 // A part of the input: a mark of two letters, the number of its cases in four bytes, low first, and so many cases.
-use libc::STDIN_FILENO;
+use print_out::How;
+use print_out::is_going;
 use print_out::low_first;
+use print_out::read_next;
 
 // What is done with a case of a part, and what is printed of it.
 pub enum Shown {
@@ -17,11 +19,11 @@ pub enum Shown {
     Spelt,
 }
 
-pub enum Part {
-    // so many cases follow
-    Cases { shown: Shown, number: usize },
-    // the input ends, stops inside the part's head, or has another mark
-    None,
+// How far the program is, what is done with the cases of the part, and how many are left.
+pub struct Part {
+    pub how: How,
+    pub shown: Shown,
+    pub left: usize,
 }
 
 const HEAD: usize = 6;
@@ -40,8 +42,9 @@ const SPELT: usize = b'S' as usize + 256 * (b'P' as usize);
 // Reads the head of the next part.
 pub fn next() -> Part {
     let mut head = [0u8; HEAD];
-    if io::read_full(STDIN_FILENO, &mut head) < HEAD {
-        return Part::None;
+    let how = read_next(&mut head);
+    if !is_going(how) {
+        return cases(how, Shown::Bytes, 0);
     }
     let number = low_first(head[2], head[3], head[4], head[5]);
     part_of(low_first(head[0], head[1], 0, 0), number)
@@ -49,15 +52,15 @@ pub fn next() -> Part {
 
 fn part_of(mark: usize, number: usize) -> Part {
     match mark {
-        BYTES => cases(Shown::Bytes, number),
-        DECIDED => cases(Shown::Decided, number),
-        LINES => cases(Shown::Lines, number),
-        SCRIPTS => cases(Shown::Scripts, number),
-        SPELT => cases(Shown::Spelt, number),
-        _ => Part::None,
+        BYTES => cases(How::Going, Shown::Bytes, number),
+        DECIDED => cases(How::Going, Shown::Decided, number),
+        LINES => cases(How::Going, Shown::Lines, number),
+        SCRIPTS => cases(How::Going, Shown::Scripts, number),
+        SPELT => cases(How::Going, Shown::Spelt, number),
+        _ => cases(How::Stopped, Shown::Bytes, 0),
     }
 }
 
-fn cases(shown: Shown, number: usize) -> Part {
-    Part::Cases { shown, number }
+pub fn cases(how: How, shown: Shown, left: usize) -> Part {
+    Part { how, shown, left }
 }

@@ -1,20 +1,19 @@
 // A sheet carried over, or a rule: what begins with `RU` is one.
-use crate::bytes::print_answer_bytes;
+use crate::ANSWER_FILL;
+use crate::print_told;
 use base_answers::Numbers;
+use print_out::How;
 use print_out::print;
-use print_out::print_number;
+use print_out::print_answer;
 use read_side::Cursor;
 use read_side::Mark;
 
-pub fn show_spelt(sheet: &[u8], out: &mut [u8]) {
+pub fn show_spelt(sheet: &[u8], out: &mut [u8]) -> How {
     let told = answered(sheet, out);
-    print_number(told.number);
-    print(b" ");
-    print_number(told.place);
-    print(b" ");
-    print_number(told.written);
-    print_answer_bytes(out, told.written);
-    print(b"\n");
+    print(
+        print_answer(print_told(told), out, told.written, ANSWER_FILL),
+        b"\n",
+    )
 }
 
 fn answered(sheet: &[u8], out: &mut [u8]) -> Numbers {

@@ -25,7 +25,7 @@ SITUATION_BYTES = 184
 #: Room is counted in whole situations, and there are at most so many.
 MOST_SITUATIONS = 65_535
 #: Where no working buffer is lent, there is room for so many situations.
-DEFAULT_SITUATIONS = 455
+DEFAULT_SITUATIONS = 356
 #: A sheet has fields 0 to 7.
 FIELDS = 8
 #: A record of the answer buffer has so many bytes before its text.

@@ -38,7 +38,7 @@ fn generated_cases() {
 fn in_words() {
     // Field 0, any digits, is the left side; field 1, the digit 4, the right one.
     let sheet = b"PA\x00\x04\x44\x41\x00\x09PA\x01\x01\x04LE\x01\x40RI\x01\x41";
-    let (mut work, mut answer) = (vec![0; 455 * SITUATION_BYTES], vec![0; answer_bytes(455)]);
+    let (mut work, mut answer) = (vec![0; 356 * SITUATION_BYTES], vec![0; answer_bytes(356)]);
     let decision = decide(sheet, &mut work, &mut answer);
     assert_eq!((decision.clashes(), decision.search), (Some(true), 1));
     assert_eq!(decision.to_string(), "clash");

@@ -5,7 +5,7 @@ use bradovusc::{answer_bytes, Answer, MOST_SITUATIONS, SITUATION_BYTES};
 use crate::sides::{sheet, texts, Side, Text};
 
 /// Room that grows begins with so many situations.
-pub const FIRST_ROOM: usize = 455;
+pub const FIRST_ROOM: usize = 356;
 
 /// While nothing is decided, the room becomes so many times what it was.
 const GROWTH: usize = 4;
@@ -117,7 +117,7 @@ mod tests {
 
     #[test]
     fn the_room_grows_fourfold() {
-        assert!(Room::Growing.sizes().eq([455, 1_820, 7_280, 29_120, 65_535]));
+        assert!(Room::Growing.sizes().eq([356, 1_424, 5_696, 22_784, 65_535]));
         assert!(Room::Fixed(17).sizes().eq([17]));
         assert!(Room::Fixed(65_535).sizes().eq([65_535]));
     }

@@ -23,7 +23,7 @@ bradovusc: can two label rules make the same label?
 FILE is a file of rules, or - for standard input. Options:
 
     --json        prints one JSON object a line
-    --room N      room for N situations, 1 to 65,535; else it grows from 455 to 65,535
+    --room N      room for N situations, 1 to 65,535; else it grows from 356 to 65,535
     --threads N   so many threads; else as many as there are processors
     --new         add: the catalogue is begun; without it the file must be there
     --bytes N     the catalogue file has N bytes; else 26,016

@@ -6,17 +6,17 @@ use Rattle.catalogue.proofs.run_each.Statement.{statement}
 use Rattle.catalogue.proofs.run_each.Tie as tie
 
 abbrev Inv-loop : tie.InvT-loop
-Inv-loop rule₀ catalogue₀ work₀ list₀ state₀ turns₀ rule catalogue work list state turns =
-    (length rule ≡ length rule₀) × (length catalogue ≡ length catalogue₀) × (length work ≡ length work₀) × (length list ≡ length list₀)
+Inv-loop given₀ catalogue₀ work₀ state₀ turns₀ given catalogue work state turns =
+    (length given ≡ length given₀) × (length catalogue ≡ length catalogue₀) × (length work ≡ length work₀)
 
 abbrev μ-loop : tie.MeasureT-loop
-μ-loop rule₀ catalogue₀ work₀ list₀ state₀ turns₀ rule catalogue work list state turns = turns
+μ-loop given₀ catalogue₀ work₀ state₀ turns₀ given catalogue work state turns = turns
 
 loop-holds : tie.Need-loop-holds Inv-loop μ-loop
 loop-holds c = search needs
 
-is-going-requires : tie.Need-is-going-requires Inv-loop μ-loop
-is-going-requires c κs = search needs
+goes-on-requires : tie.Need-goes-on-requires Inv-loop μ-loop
+goes-on-requires c κs = search needs
 
 run-next-requires : tie.Need-run-next-requires Inv-loop μ-loop
 run-next-requires c κs = search needs
@@ -39,23 +39,17 @@ same-length-2 c = search needs
 same-length-3 : tie.Need-same-length-3 Inv-loop μ-loop
 same-length-3 c = search needs
 
-same-length-4 : tie.Need-same-length-4 Inv-loop μ-loop
-same-length-4 c = search needs
-
 returns : tie.Need-returns Inv-loop μ-loop
 returns c = search needs
+
+same-length-4 : tie.Need-same-length-4 Inv-loop μ-loop
+same-length-4 c = search needs
 
 same-length-5 : tie.Need-same-length-5 Inv-loop μ-loop
 same-length-5 c = search needs
 
 same-length-6 : tie.Need-same-length-6 Inv-loop μ-loop
 same-length-6 c = search needs
-
-same-length-7 : tie.Need-same-length-7 Inv-loop μ-loop
-same-length-7 c = search needs
-
-same-length-8 : tie.Need-same-length-8 Inv-loop μ-loop
-same-length-8 c = search needs
 
 returns-2 : tie.Need-returns-2 Inv-loop μ-loop
 returns-2 c = search needs
@@ -67,7 +61,7 @@ run-each-spec =
     Inv-loop
     μ-loop
     loop-holds
-    is-going-requires
+    goes-on-requires
     run-next-requires
     sub-turns
     loop-less
@@ -75,10 +69,8 @@ run-each-spec =
     same-length
     same-length-2
     same-length-3
-    same-length-4
     returns
+    same-length-4
     same-length-5
     same-length-6
-    same-length-7
-    same-length-8
     returns-2)

@@ -13,14 +13,14 @@ use Rattle.search_fronts.proofs.gather.Tie as tie
 field-of-requires : tie.Need-field-of-requires
 field-of-requires c κs = search needs
 
-mul-masks : tie.Need-mul-masks
-mul-masks c = search needs
-
-element-copy-out-masks : tie.Need-element-copy-out-masks
-element-copy-out-masks c = search needs
-
 mul-followers : tie.Need-mul-followers
 mul-followers c = search needs
+
+index-1-followers : tie.Need-index-1-followers
+index-1-followers c = search needs
+
+mul-followers-2 : tie.Need-mul-followers-2
+mul-followers-2 c = search needs
 
 array-read-followers : tie.Need-array-read-followers
 array-read-followers c = search needs
@@ -42,9 +42,9 @@ gather-spec =
     tie.close
     (tie.spec
     field-of-requires
-    mul-masks
-    element-copy-out-masks
     mul-followers
+    index-1-followers
+    mul-followers-2
     array-read-followers
     followers-requires
     returns

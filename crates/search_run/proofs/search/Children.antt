@@ -5,8 +5,7 @@ use mathlib.Core.Path.{_≡_, refl, sym, ap, _∙_}
 use mathlib.Core.List.{List, [], _∷_, _++_}
 use lib.ListN.{getD}
 use Rattle.base_codes.specs.Inner.{left-struck, right-struck, front, padded}
-use Rattle.search_fronts.specs.Fronts.{front-from}
-use Rattle.search_fronts.specs.declared.Front.{Front}
+use Rattle.search_fronts.specs.Fronts.{Front, front-from}
 use Rattle.base_codes.specs.Coded.{Coded, denoted, as-struct, Short}
 use Rattle.search_children.specs.Children.{Tables, left-strike, right-strike, as-child, puts-of, children-coded}
 use Rattle.base_codes.specs.declared.Situation.{Situation}

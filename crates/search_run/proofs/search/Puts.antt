@@ -12,8 +12,7 @@ use Rattle.paper.proofs.base.Tests.{neq-eqb, lt-leb}
 use Rattle.paper.proofs.base.Listed.{upto-snoc}
 use Rattle.base_codes.specs.Inner.{field-code}
 use Rattle.base_codes.specs.Coded.{Coded}
-use Rattle.search_fronts.specs.Fronts.{takes-next, set-by, both-take}
-use Rattle.search_fronts.specs.declared.Front.{Front}
+use Rattle.search_fronts.specs.Fronts.{Front, takes-next, set-by, both-take}
 use Rattle.search_children.specs.Children.{put-of, as-child}
 use Rattle.search_children.proofs.Short.{put-not-taken}
 use Rattle.search_run.specs.Lent.{Not-put, Starts-puts, Ends-puts}

@@ -1,4 +1,4 @@
--- `answer_each` is safe and ends: the slices keep their lengths. The measure is the number of cases that are left.
+-- `answer_each` is safe and ends: the slices keep their lengths. The measure is the number of turns that are left.
 use mathlib.Core.Path.{_≡_}
 use borrow.Author.Needs.{needs}
 use lib.ListN.{length}
@@ -6,20 +6,26 @@ use Rattle.test_sheets.proofs.answer_each.Statement.{statement}
 use Rattle.test_sheets.proofs.answer_each.Tie as tie
 
 abbrev Inv-loop : tie.InvT-loop
-Inv-loop sheet₀ work₀ answer₀ shown number left₀ sheet work answer left =
+Inv-loop sheet₀ work₀ answer₀ part₀ turns₀ sheet work answer part turns =
     (length sheet ≡ length sheet₀) × (length work ≡ length work₀) × (length answer ≡ length answer₀)
 
 abbrev μ-loop : tie.MeasureT-loop
-μ-loop sheet₀ work₀ answer₀ shown number left₀ sheet work answer left = left
+μ-loop sheet₀ work₀ answer₀ part₀ turns₀ sheet work answer part turns = turns
+
+cases-requires : tie.Need-cases-requires Inv-loop μ-loop
+cases-requires c κs = search needs
 
 loop-holds : tie.Need-loop-holds Inv-loop μ-loop
 loop-holds c = search needs
 
+goes-on-requires : tie.Need-goes-on-requires Inv-loop μ-loop
+goes-on-requires c κs = search needs
+
 answer-next-requires : tie.Need-answer-next-requires Inv-loop μ-loop
 answer-next-requires c κs = search needs
 
-sub-left : tie.Need-sub-left Inv-loop μ-loop
-sub-left c = search needs
+sub-turns : tie.Need-sub-turns Inv-loop μ-loop
+sub-turns c = search needs
 
 loop-less : tie.Need-loop-less Inv-loop μ-loop
 loop-less c = search needs
@@ -57,9 +63,11 @@ answer-each-spec =
     (tie.spec
     Inv-loop
     μ-loop
+    cases-requires
     loop-holds
+    goes-on-requires
     answer-next-requires
-    sub-left
+    sub-turns
     loop-less
     loop-again
     same-length

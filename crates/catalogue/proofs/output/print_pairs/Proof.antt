@@ -6,10 +6,10 @@ use Rattle.catalogue.proofs.output.print_pairs.Statement.{statement}
 use Rattle.catalogue.proofs.output.print_pairs.Tie as tie
 
 abbrev Inv-loop : tie.InvT-loop
-Inv-loop list written end at₀ at = (at ≤ end) × (end ≤ length list)
+Inv-loop list written end now₀ at₀ now at = (at ≤ end) × (end ≤ length list)
 
 abbrev μ-loop : tie.MeasureT-loop
-μ-loop list written end at₀ at = end - at
+μ-loop list written end now₀ at₀ now at = end - at
 
 least-requires : tie.Need-least-requires Inv-loop μ-loop
 least-requires c κs = search needs

@@ -6,10 +6,10 @@ use Rattle.print_out.proofs.bytes.print_each.Statement.{statement}
 use Rattle.print_out.proofs.bytes.print_each.Tie as tie
 
 abbrev Inv-loop : tie.InvT-loop
-Inv-loop bytes i₀ t3 i = i ≤ length bytes
+Inv-loop bytes now₀ i₀ t5 now i = i ≤ length bytes
 
 abbrev μ-loop : tie.MeasureT-loop
-μ-loop bytes i₀ t3 i = length bytes - i
+μ-loop bytes now₀ i₀ t5 now i = length bytes - i
 
 loop-holds : tie.Need-loop-holds Inv-loop μ-loop
 loop-holds c = search needs

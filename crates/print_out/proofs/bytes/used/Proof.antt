@@ -2,8 +2,8 @@
 use borrow.Author.Needs.{needs}
 use Prim.Native.Nat.{_≤_}
 use lib.ListN.{length}
-use Rattle.catalogue.proofs.output.used.Statement.{statement}
-use Rattle.catalogue.proofs.output.used.Tie as tie
+use Rattle.print_out.proofs.bytes.used.Statement.{statement}
+use Rattle.print_out.proofs.bytes.used.Tie as tie
 
 abbrev Inv-loop : tie.InvT-loop
 Inv-loop buffer n₀ n = n ≤ length buffer

@@ -2,23 +2,23 @@
 use Prim.Native.Nat.{_≤_, _-_}
 use lib.ListN.{length}
 use borrow.Author.Needs.{needs}
-use Rattle.test_sheets.proofs.script.changed.Statement.{statement}
-use Rattle.test_sheets.proofs.script.changed.Tie as tie
+use Rattle.print_out.proofs.bytes.changed.Statement.{statement}
+use Rattle.print_out.proofs.bytes.changed.Tie as tie
 
 abbrev Inv-loop : tie.InvT-loop
-Inv-loop out n₀ i₀ n i = (i ≤ length out) × (n ≤ i)
+Inv-loop buffer byte n₀ i₀ n i = (i ≤ length buffer) × (n ≤ i)
 
 abbrev μ-loop : tie.MeasureT-loop
-μ-loop out n₀ i₀ n i = length out - i
+μ-loop buffer byte n₀ i₀ n i = length buffer - i
 
 loop-holds : tie.Need-loop-holds Inv-loop μ-loop
 loop-holds c = search needs
 
-shared-slice-read-one-if-changed : tie.Need-shared-slice-read-one-if-changed Inv-loop μ-loop
-shared-slice-read-one-if-changed c = search needs
+shared-slice-read-one-if-other : tie.Need-shared-slice-read-one-if-other Inv-loop μ-loop
+shared-slice-read-one-if-other c = search needs
 
-one-if-changed-requires : tie.Need-one-if-changed-requires Inv-loop μ-loop
-one-if-changed-requires c κs = search needs
+one-if-other-requires : tie.Need-one-if-other-requires Inv-loop μ-loop
+one-if-other-requires c κs = search needs
 
 add-n : tie.Need-add-n Inv-loop μ-loop
 add-n c = search needs
@@ -42,8 +42,8 @@ changed-spec =
     Inv-loop
     μ-loop
     loop-holds
-    shared-slice-read-one-if-changed
-    one-if-changed-requires
+    shared-slice-read-one-if-other
+    one-if-other-requires
     add-n
     add-i
     loop-less
