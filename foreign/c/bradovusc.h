@@ -6,23 +6,24 @@
  * rules stand on a question sheet; the answer is a number, and after a clash a text for each field. One search answers it, or up to
  * four, which decide more.
  * A catalogue has up to 32 rules in one buffer. A rule is added only if it clashes with none that is there; it can be withdrawn. One
- * that was kept can be checked again, pair by pair.
+ * that was kept can be checked again, pair by pair. A pair is asked by one search, or by up to four, which enter more rules.
  * A sheet can be written out as a script for string solvers, in SMT-LIB 2.6.
  * Up to version 0.5 a field without a pattern could be empty. Since 0.6 it holds one character or more. Sheets, rules and catalogues
  * from before can be carried over: they then mean what they meant.
  * Up to version 0.6 a pattern had at most 96 bytes and 31 leaves. Since 0.7 it may have 192 bytes and 63 leaves, and a situation
  * takes 184 bytes where it took 144. What was good before is good and means the same.
  *
- * The static library libexported.a, for x86-64 Linux, defines nine functions: bradovusc_clash, bradovusc_decide, bradovusc_script,
- * bradovusc_add, bradovusc_withdraw, bradovusc_recheck, bradovusc_spell_open, bradovusc_spell_open_rule and
- * bradovusc_spell_open_catalogue. They keep nothing from one call to the next, ask for no memory, and touch nothing but what they are
- * lent, so calls in several threads don't meet. bradovusc_decide takes at most about 125 KiB of stack, bradovusc_spell_open_catalogue
- * about 90, the others about 80; 118, 85 and 76 were measured. So a thread with 96 KiB is enough for all but bradovusc_decide, and
- * one with 128 KiB for that. All else is in this header: bradovusc_ask, bradovusc_settle,
- * bradovusc_write_script, bradovusc_enter, bradovusc_remove, bradovusc_check_again, bradovusc_carry_sheet, bradovusc_carry_rule and
- * bradovusc_carry_catalogue call them with any buffers, bradovusc_text and bradovusc_catalogue_text say a number in words,
- * bradovusc_next walks the texts of a clash, bradovusc_next_pair the pairs that were listed, bradovusc_sign and bradovusc_value go
- * between values and signs.
+ * The static library libexported.a, for x86-64 Linux, defines eleven functions: bradovusc_clash, bradovusc_decide, bradovusc_script,
+ * bradovusc_add, bradovusc_add_decided, bradovusc_withdraw, bradovusc_recheck, bradovusc_recheck_decided, bradovusc_spell_open,
+ * bradovusc_spell_open_rule and bradovusc_spell_open_catalogue. They keep nothing from one call to the next, ask for no memory, and
+ * touch nothing but what they are lent, so calls in several threads don't meet. bradovusc_decide takes at most about 165 KiB of stack,
+ * bradovusc_spell_open_catalogue about 120, the others about 110; 156, 115 and 106 were measured. bradovusc_add_decided and
+ * bradovusc_recheck_decided decide, and take what that takes. So a thread with 128 KiB is enough for all but these three, and one with
+ * 192 KiB for them. All else is in this header: bradovusc_ask, bradovusc_settle, bradovusc_write_script, bradovusc_enter,
+ * bradovusc_enter_decided, bradovusc_remove, bradovusc_check_again, bradovusc_check_again_decided, bradovusc_carry_sheet,
+ * bradovusc_carry_rule and bradovusc_carry_catalogue call them with any buffers, bradovusc_text and bradovusc_catalogue_text say a
+ * number in words, bradovusc_next walks the texts of a clash, bradovusc_next_pair the pairs that were listed, bradovusc_sign and
+ * bradovusc_value go between values and signs.
  *
  * The header is C99 and C++11. The rules in full: docs/RULES.md.
  */
@@ -446,10 +447,11 @@ static inline struct bradovusc_scripted bradovusc_write_script(const uint8_t *sh
  * the first byte on, at most 32 of them, and all bytes behind the last one are zero. A rule's number is its place in that order,
  * from 0. All bytes zero, or no byte at all, is the empty catalogue. Between calls the buffer may be stored and moved.
  *
- * A catalogue that began empty and was changed by bradovusc_add and bradovusc_withdraw alone has no two rules that make the same
- * label. Of a buffer filled otherwise these two look only at the form, and not whether its rules clash. Nor do they in one that was
- * kept since an older version: up to 0.3 a space at the end made another label. bradovusc_recheck looks at all of its pairs. Up to
- * 0.5 a field without a pattern could be empty: carry such a catalogue over first, as below.
+ * A catalogue that began empty and was changed by bradovusc_add, bradovusc_add_decided and bradovusc_withdraw alone has no two rules
+ * that make the same label. Of a buffer filled otherwise these look only at the form, and not whether its rules clash. Nor do they in
+ * one that was kept since an older version: up to 0.3 a space at the end made another label. bradovusc_recheck and
+ * bradovusc_recheck_decided look at all of its pairs. Up to 0.5 a field without a pattern could be empty: carry such a catalogue over
+ * first, as below.
  *
  * A record has at most 813 bytes, so a buffer of that many for each rule is always long enough.
  */
@@ -459,11 +461,11 @@ static inline struct bradovusc_scripted bradovusc_write_script(const uint8_t *sh
 #define BRADOVUSC_CATALOGUE_BYTES(rules) ((size_t)BRADOVUSC_RULE_BYTES * (size_t)(rules))
 
 /*
- * What bradovusc_add tells beside the number, by its index in `told`; each is 0 where nothing is said of it. Fewer elements than
- * these are filled as far as there are any; elements behind them are left as they are.
+ * What bradovusc_add tells beside the number, and bradovusc_add_decided with one more, by its index in `told`; each is 0 where nothing
+ * is said of it. Fewer elements than these are filled as far as there are any; elements behind them are left as they are.
  */
 enum bradovusc_told_added {
-    /* after 30 the situations entered for the pair that was not apart */
+    /* after 30 the situations entered for the pair that was not apart, by all the searches made for it */
     BRADOVUSC_ADDED_COUNT = 0,
     /* after 11 to 17 the offset of the byte at fault, from RU, as above; 31 has none */
     BRADOVUSC_ADDED_PLACE = 1,
@@ -471,7 +473,12 @@ enum bradovusc_told_added {
     BRADOVUSC_ADDED_RULE = 2,
     /* .. and the answer of their pair: BRADOVUSC_CLASH, BRADOVUSC_NO_ROOM or BRADOVUSC_SIDE_TOO_LONG */
     BRADOVUSC_ADDED_PAIR = 3,
-    BRADOVUSC_ADDED_TOLD = 4
+    /* so many by bradovusc_add */
+    BRADOVUSC_ADDED_TOLD = 4,
+    /* by bradovusc_add_decided, after 30, the search that found the clash, 1 to 3 (the fourth finds none); 0 where none decided the
+     * pair */
+    BRADOVUSC_ADDED_SEARCH = 4,
+    BRADOVUSC_ADDED_DECIDED_TOLD = 5
 };
 
 /*
@@ -491,6 +498,14 @@ uint32_t bradovusc_add(uint8_t *catalogue, size_t catalogue_length, const uint8_
                        size_t work_length, uint64_t *told, size_t told_length);
 
 /*
+ * The same, but each pair is asked as bradovusc_decide asks: by up to four searches in the same working buffer, until one decides. So
+ * it enters each rule that bradovusc_add enters, with the same bytes, and more. A pair that no search decides has the answer of the
+ * first one, 18 or 19. What is at fault, what comes before what, and what the buffers hold afterwards are as for bradovusc_add.
+ */
+uint32_t bradovusc_add_decided(uint8_t *catalogue, size_t catalogue_length, const uint8_t *rule, size_t rule_length, uint8_t *work,
+                               size_t work_length, uint64_t *told, size_t told_length);
+
+/*
  * Withdraws the rule with this number: its record goes, those behind it move up, and the bytes freed at the end are zero. 34 comes
  * before 33; after either the catalogue is unchanged. The pointer must not be null, also where the length is 0.
  */
@@ -508,13 +523,24 @@ uint32_t bradovusc_withdraw(uint8_t *catalogue, size_t catalogue_length, size_t 
 #define BRADOVUSC_LIST_BYTES(rules) (BRADOVUSC_PAIR_BYTES * ((size_t)(rules) * ((size_t)(rules) - 1) / 2))
 
 /*
- * What bradovusc_recheck tells beside the number, by its index in `told`; both are 0 after 34 and 35. Fewer elements than these are
- * filled as far as there are any; elements behind them are left as they are.
+ * Where pairs are decided, there are seven bytes for each, since up to four searches count:
+ *
+ *   the lower number of the two rules, the higher one, the answer of the pair, its count in three bytes (low first), the search
+ *
+ * The search is the one that found the clash, 1 to 3 (the fourth finds none), or 0 where none decided the pair. So many bytes are
+ * always enough for this number of rules; for 32 rules that is 3,472.
+ */
+#define BRADOVUSC_DECIDED_PAIR_BYTES 7
+#define BRADOVUSC_DECIDED_LIST_BYTES(rules) (BRADOVUSC_DECIDED_PAIR_BYTES * ((size_t)(rules) * ((size_t)(rules) - 1) / 2))
+
+/*
+ * What bradovusc_recheck and bradovusc_recheck_decided tell beside the number, by its index in `told`; both are 0 after 34 and 35.
+ * Fewer elements than these are filled as far as there are any; elements behind them are left as they are.
  */
 enum bradovusc_told_rechecked {
     /* the pairs that are listed */
     BRADOVUSC_RECHECKED_PAIRS = 0,
-    /* bytes written to the list buffer: five for each of them */
+    /* bytes written to the list buffer: five for each of them, or seven where they are decided */
     BRADOVUSC_RECHECKED_WRITTEN = 1,
     BRADOVUSC_RECHECKED_TOLD = 2
 };
@@ -536,11 +562,19 @@ enum bradovusc_told_rechecked {
 uint32_t bradovusc_recheck(const uint8_t *catalogue, size_t catalogue_length, uint8_t *work, size_t work_length, uint8_t *list,
                            size_t list_length, uint64_t *told, size_t told_length);
 
-/* An addition's answer: the number, and what is told beside it. */
+/*
+ * The same, but each pair is asked as bradovusc_decide asks, and takes seven bytes of the list. So it lists no pair that
+ * bradovusc_recheck doesn't list, and fewer that are not decided. What the buffers hold afterwards is as for bradovusc_recheck.
+ */
+uint32_t bradovusc_recheck_decided(const uint8_t *catalogue, size_t catalogue_length, uint8_t *work, size_t work_length,
+                                   uint8_t *list, size_t list_length, uint64_t *told, size_t told_length);
+
+/* An addition's answer: the number, and what is told beside it. bradovusc_enter has no search to tell: it is 0. */
 struct bradovusc_added {
     uint32_t number;
     uint64_t count, place, rule;
     uint32_t pair;
+    uint64_t search;
 };
 
 /* bradovusc_add with all five numbers at once, and each pointer may be null where its length is 0. This is the one to call. */
@@ -556,6 +590,25 @@ static inline struct bradovusc_added bradovusc_enter(uint8_t *catalogue, size_t 
     added.place = told[BRADOVUSC_ADDED_PLACE];
     added.rule = told[BRADOVUSC_ADDED_RULE];
     added.pair = (uint32_t)told[BRADOVUSC_ADDED_PAIR];
+    added.search = 0;
+    return added;
+}
+
+/* bradovusc_add_decided with all six numbers at once, and each pointer may be null where its length is 0. This is the one to call. */
+static inline struct bradovusc_added bradovusc_enter_decided(uint8_t *catalogue, size_t catalogue_length, const uint8_t *rule,
+                                                             size_t rule_length, uint8_t *work, size_t work_length) {
+    uint8_t no_catalogue = 0, no_rule = 0, no_work = 0;
+    uint64_t told[BRADOVUSC_ADDED_DECIDED_TOLD] = {0, 0, 0, 0, 0};
+    struct bradovusc_added added;
+    added.number = bradovusc_add_decided(catalogue == NULL && catalogue_length == 0 ? &no_catalogue : catalogue, catalogue_length,
+                                         rule == NULL && rule_length == 0 ? &no_rule : rule, rule_length,
+                                         work == NULL && work_length == 0 ? &no_work : work, work_length, told,
+                                         BRADOVUSC_ADDED_DECIDED_TOLD);
+    added.count = told[BRADOVUSC_ADDED_COUNT];
+    added.place = told[BRADOVUSC_ADDED_PLACE];
+    added.rule = told[BRADOVUSC_ADDED_RULE];
+    added.pair = (uint32_t)told[BRADOVUSC_ADDED_PAIR];
+    added.search = told[BRADOVUSC_ADDED_SEARCH];
     return added;
 }
 
@@ -586,12 +639,29 @@ static inline struct bradovusc_rechecked bradovusc_check_again(const uint8_t *ca
     return rechecked;
 }
 
+/* bradovusc_recheck_decided likewise. This is the one to call. */
+static inline struct bradovusc_rechecked bradovusc_check_again_decided(const uint8_t *catalogue, size_t catalogue_length,
+                                                                       uint8_t *work, size_t work_length, uint8_t *list,
+                                                                       size_t list_length) {
+    uint8_t no_catalogue = 0, no_work = 0, no_list = 0;
+    uint64_t told[BRADOVUSC_RECHECKED_TOLD] = {0, 0};
+    struct bradovusc_rechecked rechecked;
+    rechecked.number = bradovusc_recheck_decided(catalogue == NULL && catalogue_length == 0 ? &no_catalogue : catalogue,
+                                                 catalogue_length, work == NULL && work_length == 0 ? &no_work : work, work_length,
+                                                 list == NULL && list_length == 0 ? &no_list : list, list_length, told,
+                                                 BRADOVUSC_RECHECKED_TOLD);
+    rechecked.pairs = told[BRADOVUSC_RECHECKED_PAIRS];
+    rechecked.written = told[BRADOVUSC_RECHECKED_WRITTEN];
+    return rechecked;
+}
+
 /*
- * A walk over the pairs of a list.
+ * A walk over the pairs of a list. For a list of bradovusc_check_again_decided it begins with bradovusc_decided_pairs_in instead, and
+ * is otherwise the same.
  *
  *   struct bradovusc_pairs pairs = bradovusc_pairs_in(list, written);
  *   while (bradovusc_next_pair(&pairs)) {
- *       .. pairs.lower, pairs.higher, pairs.answer, pairs.count ..
+ *       .. pairs.lower, pairs.higher, pairs.answer, pairs.count, pairs.search ..
  *   }
  */
 struct bradovusc_pairs {
@@ -599,35 +669,50 @@ struct bradovusc_pairs {
     uint64_t lower, higher;
     uint32_t answer;
     uint64_t count;
-    /* what is still to be walked */
+    /* the search that found a clash; 0 where none decided, and where pairs have five bytes, which don't tell it */
+    uint64_t search;
+    /* what is still to be walked, and the bytes of a pair */
     const uint8_t *rest;
-    size_t rest_length;
+    size_t rest_length, pair_bytes;
 };
 
-/* From the first pair on. `written` is what checking again has told; with 0 the pointer may be null. */
+/* From the first pair on. `written` is what bradovusc_check_again has told; with 0 the pointer may be null. */
 static inline struct bradovusc_pairs bradovusc_pairs_in(const uint8_t *list, size_t written) {
     struct bradovusc_pairs pairs;
     pairs.lower = 0;
     pairs.higher = 0;
     pairs.answer = 0;
     pairs.count = 0;
+    pairs.search = 0;
     pairs.rest = list;
     pairs.rest_length = written;
+    pairs.pair_bytes = BRADOVUSC_PAIR_BYTES;
+    return pairs;
+}
+
+/* The same for what bradovusc_check_again_decided has listed. */
+static inline struct bradovusc_pairs bradovusc_decided_pairs_in(const uint8_t *list, size_t written) {
+    struct bradovusc_pairs pairs = bradovusc_pairs_in(list, written);
+    pairs.pair_bytes = BRADOVUSC_DECIDED_PAIR_BYTES;
     return pairs;
 }
 
 /* 1 and the next pair, or 0: none is left, or fewer bytes are than a pair has. No byte behind the `written` ones is read. */
 static inline int bradovusc_next_pair(struct bradovusc_pairs *pairs) {
     const uint8_t *bytes = pairs->rest;
-    if (pairs->rest_length < BRADOVUSC_PAIR_BYTES) {
+    if (pairs->rest_length < pairs->pair_bytes) {
         return 0;
     }
     pairs->lower = bytes[0];
     pairs->higher = bytes[1];
     pairs->answer = bytes[2];
     pairs->count = bytes[3] + (uint64_t)256 * bytes[4];
-    pairs->rest = bytes + BRADOVUSC_PAIR_BYTES;
-    pairs->rest_length -= BRADOVUSC_PAIR_BYTES;
+    if (pairs->pair_bytes == BRADOVUSC_DECIDED_PAIR_BYTES) {
+        pairs->count += (uint64_t)65536 * bytes[5];
+        pairs->search = bytes[6];
+    }
+    pairs->rest = bytes + pairs->pair_bytes;
+    pairs->rest_length -= pairs->pair_bytes;
     return 1;
 }
 

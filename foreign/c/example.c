@@ -2,14 +2,15 @@
  * Two rules: one makes labels of any digits, the other the label 4. Do they clash? Then the same as a script, for a string solver.
  * Then the sheet with a wrong byte. Then a catalogue of rules is kept. Then one that was kept since a space at the end made another
  * label is checked again. Then a sheet and a catalogue are carried over, from the time when a field without a pattern could be empty.
- * Then a keypad maker's 40 finish codes stand in one pattern. Last two rules in which fields stand twice: one search gives up, deciding
- * does not.
+ * Then a keypad maker's 40 finish codes stand in one pattern. Then two rules in which fields stand twice: one search gives up, deciding
+ * does not. Last a catalogue of such rules: one search can't enter the second, deciding can, and finds the clash of the third.
  *
  * The first line of a sheet is number, count and place, and the number in words. After a clash follows a line for each field, its
  * number and its text, and after a fault a line with the byte at its place. The script has a line with its number before it. Then
  * comes a line for each call of a catalogue, and one for each pair that is listed, then the lines of what is carried over. Of the
  * finish codes there is a line for each pattern, with its bytes and the number in words, and after a clash the texts. Of the last sheet
- * there is a line for each function, number, count and the number in words, and of deciding the search.
+ * there is a line for each function, number, count and the number in words, and of deciding the search. The lines of the last catalogue
+ * say the search too.
  */
 #include <inttypes.h>
 #include <stdio.h>
@@ -75,6 +76,11 @@ static const uint8_t twice[] = {
     'R', 'I', 5, 20, 25, 65, 36, 65                /* right side: K, P, field 1, -, field 1 */
 };
 
+/* Such rules in a catalogue: KP, a number, - and the number again; the same with / for -; the first again, but its number ends in 0. */
+static const uint8_t dashed[] = {'R', 'U', 'P', 'A', 0, 8, 66, 65, 0, 9, 68, 65, 0, 9, 'L', 'E', 5, 20, 25, 64, 36, 64};
+static const uint8_t slashed[] = {'R', 'U', 'P', 'A', 0, 8, 66, 65, 0, 9, 68, 65, 0, 9, 'L', 'E', 5, 20, 25, 64, 40, 64};
+static const uint8_t ends_in_0[] = {'R', 'U', 'P', 'A', 0, 6, 66, 68, 65, 0, 9, 0, 'L', 'E', 5, 20, 25, 64, 36, 64};
+
 static uint8_t work[BRADOVUSC_WORK_BYTES(356)];
 static uint8_t answer[BRADOVUSC_ANSWER_BYTES(356)];
 static uint8_t script[BRADOVUSC_SCRIPT_BYTES];
@@ -82,6 +88,8 @@ static uint8_t catalogue[BRADOVUSC_CATALOGUE_BYTES(BRADOVUSC_RULES)]; /* all zer
 static uint8_t list[BRADOVUSC_LIST_BYTES(BRADOVUSC_RULES)];
 static uint8_t new_sheet[BRADOVUSC_SHEET_BYTES];
 static uint8_t old_catalogue[BRADOVUSC_CATALOGUE_BYTES(BRADOVUSC_RULES)];
+static uint8_t serial_catalogue[BRADOVUSC_CATALOGUE_BYTES(BRADOVUSC_RULES)];
+static uint8_t decided_list[BRADOVUSC_DECIDED_LIST_BYTES(BRADOVUSC_RULES)];
 static uint8_t keypad_sheet[BRADOVUSC_SHEET_BYTES];
 
 static void print_texts(uint64_t written) {
@@ -227,6 +235,28 @@ static void decide(void) {
     print_texts(decided.written);
 }
 
+static void add_decided(const char *name, const uint8_t *rule, size_t rule_length) {
+    struct bradovusc_added added =
+        bradovusc_enter_decided(serial_catalogue, sizeof serial_catalogue, rule, rule_length, work, sizeof work);
+    printf("add the %s, decided: %" PRIu32 ", %s", name, added.number, bradovusc_catalogue_text(added.number));
+    if (added.number == BRADOVUSC_NOT_APART) {
+        printf(": rule %" PRIu64 ", %s, by search %" PRIu64, added.rule, bradovusc_text(added.pair), added.search);
+    }
+    putchar('\n');
+}
+
+static void check_again_decided(void) {
+    struct bradovusc_rechecked rechecked = bradovusc_check_again_decided(serial_catalogue, sizeof serial_catalogue, work, sizeof work,
+                                                                         decided_list, sizeof decided_list);
+    struct bradovusc_pairs pairs = bradovusc_decided_pairs_in(decided_list, (size_t)rechecked.written);
+    printf("check again, decided: %" PRIu32 ", %s: %" PRIu64 " listed\n", rechecked.number,
+           bradovusc_catalogue_text(rechecked.number), rechecked.pairs);
+    while (bradovusc_next_pair(&pairs)) {
+        printf("rule %" PRIu64 " and rule %" PRIu64 ": %s, by search %" PRIu64 "\n", pairs.lower, pairs.higher,
+               bradovusc_text(pairs.answer), pairs.search);
+    }
+}
+
 int main(void) {
     sheet[CHARACTER_OF_FIELD_1] = (uint8_t)bradovusc_value('4');
     ask();
@@ -250,5 +280,14 @@ int main(void) {
     ask_keypads("by their first letters", put_by_first_letter);
 
     decide();
+
+    add_decided("dashed one", dashed, sizeof dashed);
+    add_to(serial_catalogue, "slashed one", slashed, sizeof slashed);
+    add_decided("slashed one", slashed, sizeof slashed);
+    add_decided("one that ends in 0", ends_in_0, sizeof ends_in_0);
+    check_again_decided();
+    /* put there by hand: adding would refuse it */
+    memcpy(serial_catalogue + sizeof dashed + sizeof slashed, ends_in_0, sizeof ends_in_0);
+    check_again_decided();
     return 0;
 }

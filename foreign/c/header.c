@@ -1,7 +1,7 @@
 /*
  * Tries what bradovusc.h itself defines: the texts of the numbers, the signs, the walks over records and over listed pairs, null
- * pointers of length 0, deciding, the script of a sheet, the calls of a catalogue, what is carried over, the version, the lengths of buffers; and
- * the places of faults, as it lists them.
+ * pointers of length 0, deciding, the script of a sheet, the calls of a catalogue, with one search and decided, what is carried over,
+ * the version, the lengths of buffers; and the places of faults, as it lists them.
  * C99, and C++11 too. Prints what does not hold, and how many checks there were; the exit status is 0 if all hold.
  */
 #include <stdio.h>
@@ -15,6 +15,8 @@
 #define bradovusc_add watched_add
 #define bradovusc_withdraw watched_withdraw
 #define bradovusc_recheck watched_recheck
+#define bradovusc_add_decided watched_add_decided
+#define bradovusc_recheck_decided watched_recheck_decided
 #define bradovusc_spell_open watched_spell_open
 #define bradovusc_spell_open_rule watched_spell_open_rule
 #define bradovusc_spell_open_catalogue watched_spell_open_catalogue
@@ -25,6 +27,8 @@
 #undef bradovusc_add
 #undef bradovusc_withdraw
 #undef bradovusc_recheck
+#undef bradovusc_add_decided
+#undef bradovusc_recheck_decided
 #undef bradovusc_spell_open
 #undef bradovusc_spell_open_rule
 #undef bradovusc_spell_open_catalogue
@@ -43,6 +47,10 @@ uint32_t bradovusc_add(uint8_t *catalogue, size_t catalogue_length, const uint8_
 uint32_t bradovusc_withdraw(uint8_t *catalogue, size_t catalogue_length, size_t number);
 uint32_t bradovusc_recheck(const uint8_t *catalogue, size_t catalogue_length, uint8_t *work, size_t work_length, uint8_t *list,
                            size_t list_length, uint64_t *told, size_t told_length);
+uint32_t bradovusc_add_decided(uint8_t *catalogue, size_t catalogue_length, const uint8_t *rule, size_t rule_length, uint8_t *work,
+                               size_t work_length, uint64_t *told, size_t told_length);
+uint32_t bradovusc_recheck_decided(const uint8_t *catalogue, size_t catalogue_length, uint8_t *work, size_t work_length,
+                                   uint8_t *list, size_t list_length, uint64_t *told, size_t told_length);
 uint32_t bradovusc_spell_open(const uint8_t *sheet, size_t sheet_length, uint8_t *out, size_t out_length, uint64_t *told,
                               size_t told_length);
 uint32_t bradovusc_spell_open_rule(const uint8_t *rule, size_t rule_length, uint8_t *out, size_t out_length, uint64_t *told,
@@ -109,6 +117,24 @@ uint32_t watched_recheck(const uint8_t *catalogue, size_t catalogue_length, uint
     check(list != NULL, "the list buffer's pointer is not null", (long)list_length);
     check(told != NULL, "the pointer of what is told is not null", (long)told_length);
     return bradovusc_recheck(catalogue, catalogue_length, work, work_length, list, list_length, told, told_length);
+}
+
+uint32_t watched_add_decided(uint8_t *catalogue, size_t catalogue_length, const uint8_t *rule, size_t rule_length, uint8_t *work,
+                             size_t work_length, uint64_t *told, size_t told_length) {
+    check(catalogue != NULL, "the catalogue's pointer is not null", (long)catalogue_length);
+    check(rule != NULL, "the rule's pointer is not null", (long)rule_length);
+    check(work != NULL, "the working buffer's pointer is not null", (long)work_length);
+    check(told != NULL, "the pointer of what is told is not null", (long)told_length);
+    return bradovusc_add_decided(catalogue, catalogue_length, rule, rule_length, work, work_length, told, told_length);
+}
+
+uint32_t watched_recheck_decided(const uint8_t *catalogue, size_t catalogue_length, uint8_t *work, size_t work_length, uint8_t *list,
+                                 size_t list_length, uint64_t *told, size_t told_length) {
+    check(catalogue != NULL, "the catalogue's pointer is not null", (long)catalogue_length);
+    check(work != NULL, "the working buffer's pointer is not null", (long)work_length);
+    check(list != NULL, "the list buffer's pointer is not null", (long)list_length);
+    check(told != NULL, "the pointer of what is told is not null", (long)told_length);
+    return bradovusc_recheck_decided(catalogue, catalogue_length, work, work_length, list, list_length, told, told_length);
 }
 
 uint32_t watched_spell_open(const uint8_t *sheet, size_t sheet_length, uint8_t *out, size_t out_length, uint64_t *told,
@@ -262,7 +288,7 @@ static void try_records(void) {
 /* ---- the walk over listed pairs */
 
 /* How many pairs there are in the first `written` of these bytes, which stand in memory that ends behind them. */
-static int pairs_in(const uint8_t *bytes, size_t written) {
+static int pairs_in(const uint8_t *bytes, size_t written, int decided) {
     uint8_t *exact = (uint8_t *)malloc(written > 0 ? written : 1);
     struct bradovusc_pairs pairs;
     int found = 0;
@@ -271,10 +297,11 @@ static int pairs_in(const uint8_t *bytes, size_t written) {
         exit(EXIT_FAILURE);
     }
     memcpy(exact, bytes, written);
-    pairs = bradovusc_pairs_in(exact, written);
+    pairs = decided ? bradovusc_decided_pairs_in(exact, written) : bradovusc_pairs_in(exact, written);
     while (bradovusc_next_pair(&pairs)) {
         found++;
-        check(pairs.rest_length == written - 5 * (size_t)found, "the walk goes on behind the pair", (long)written);
+        check(pairs.rest_length == written - (decided ? 7 : 5) * (size_t)found, "the walk goes on behind the pair", (long)written);
+        check(decided || pairs.search == 0, "five bytes tell no search", (long)written);
     }
     check(!bradovusc_next_pair(&pairs), "a walk that is over stays so", (long)written);
     free(exact);
@@ -294,9 +321,28 @@ static void try_pairs(void) {
     check(pairs.answer == BRADOVUSC_SIDE_TOO_LONG && pairs.count == 65535, "its answer", 2);
     check(!bradovusc_next_pair(&pairs), "the end", 0);
     for (written = 0; written <= sizeof bytes; written++) {
-        check(pairs_in(bytes, written) == (int)(written / 5), "the whole pairs of those cut short", (long)written);
+        check(pairs_in(bytes, written, 0) == (int)(written / 5), "the whole pairs of those cut short", (long)written);
     }
     pairs = bradovusc_pairs_in(NULL, 0);
+    check(!bradovusc_next_pair(&pairs), "no pair in nothing", 0);
+}
+
+static void try_decided_pairs(void) {
+    static const uint8_t bytes[] = {0, 1, 0, 157, 1, 0, 2, 2, 31, 18, 253, 255, 2, 0, 30, 31, 19, 255, 255, 255, 0};
+    struct bradovusc_pairs pairs = bradovusc_decided_pairs_in(bytes, sizeof bytes);
+    size_t written;
+
+    check(bradovusc_next_pair(&pairs) && pairs.lower == 0 && pairs.higher == 1, "the first pair", 0);
+    check(pairs.answer == BRADOVUSC_CLASH && pairs.count == 413 && pairs.search == 2, "its answer", 0);
+    check(bradovusc_next_pair(&pairs) && pairs.lower == 2 && pairs.higher == 31, "the second pair", 1);
+    check(pairs.answer == BRADOVUSC_NO_ROOM && pairs.count == 196605 && pairs.search == 0, "its answer", 1);
+    check(bradovusc_next_pair(&pairs) && pairs.lower == 30 && pairs.higher == 31, "the third pair", 2);
+    check(pairs.answer == BRADOVUSC_SIDE_TOO_LONG && pairs.count == 16777215 && pairs.search == 0, "its answer", 2);
+    check(!bradovusc_next_pair(&pairs), "the end", 0);
+    for (written = 0; written <= sizeof bytes; written++) {
+        check(pairs_in(bytes, written, 1) == (int)(written / 7), "the whole pairs of those cut short", (long)written);
+    }
+    pairs = bradovusc_decided_pairs_in(NULL, 0);
     check(!bradovusc_next_pair(&pairs), "no pair in nothing", 0);
 }
 
@@ -522,7 +568,8 @@ static void try_longest_script(void) {
 /* ---- the catalogue */
 
 static int is_added(struct bradovusc_added added, uint32_t number, uint64_t count, uint64_t place, uint64_t rule, uint32_t pair) {
-    return added.number == number && added.count == count && added.place == place && added.rule == rule && added.pair == pair;
+    return added.number == number && added.count == count && added.place == place && added.rule == rule && added.pair == pair &&
+           added.search == 0;
 }
 
 static int all_zero(const uint8_t *bytes, size_t length) {
@@ -696,6 +743,140 @@ static void try_longest_rules(void) {
     check(bradovusc_enter(catalogue, sizeof catalogue, rule, sizeof rule, work, sizeof work).number == 0, "its room used again", 31);
 }
 
+/* ---- the catalogue that decides */
+
+/* a number twice, with - between; the same with /; the first again, but the number ends in 0 */
+static const uint8_t dashed[] = {'R', 'U', 'P', 'A', 0, 8, 66, 65, 0, 9, 68, 65, 0, 9, 'L', 'E', 3, 64, 36, 64};
+static const uint8_t slashed[] = {'R', 'U', 'P', 'A', 0, 8, 66, 65, 0, 9, 68, 65, 0, 9, 'L', 'E', 3, 64, 40, 64};
+static const uint8_t ends_in_0[] = {'R', 'U', 'P', 'A', 0, 6, 66, 68, 65, 0, 9, 0, 'L', 'E', 3, 64, 36, 64};
+static uint8_t much[BRADOVUSC_WORK_BYTES(356)];
+
+static int is_told(struct bradovusc_added added, uint32_t number, uint64_t place, uint64_t rule, uint32_t pair, uint64_t search) {
+    return added.number == number && added.place == place && added.rule == rule && added.pair == pair && added.search == search;
+}
+
+static void try_add_decided(void) {
+    static const uint8_t one_more[] = {'R', 'U', 'L', 'E', 1, 10, 0}, field_4[] = {'R', 'U', 'L', 'E', 1, 68};
+    static uint8_t catalogue[sizeof dashed + sizeof slashed + sizeof ends_in_0 + 1];
+    size_t length = sizeof catalogue;
+    struct bradovusc_added added;
+    memset(much, 7, sizeof much);
+
+    check(is_told(bradovusc_enter_decided(catalogue, length, dashed, sizeof dashed, much, sizeof much), 0, 0, 0, 0, 0), "no pair", 0);
+    check(memcmp(catalogue, dashed, sizeof dashed) == 0 && catalogue[sizeof dashed] == 0, "its bytes", 0);
+    check(much[0] == 7 && much[sizeof much - 1] == 7, "nothing was searched", 0);
+    added = bradovusc_enter(catalogue, length, slashed, sizeof slashed, much, sizeof much);
+    check(is_added(added, 30, 356, 0, 0, 18), "one search has no room", 18);
+    memset(much, 7, sizeof much);
+    check(is_told(bradovusc_enter_decided(catalogue, length, slashed, sizeof slashed, much, sizeof much), 0, 0, 0, 0, 0), "decided", 0);
+    check(memcmp(catalogue + sizeof dashed, slashed, sizeof slashed) == 0, "the other's bytes", 1);
+    check(all_zero(much, sizeof much), "the working buffer is all zero", 1);
+    memset(much, 7, sizeof much);
+    added = bradovusc_enter_decided(catalogue, length, ends_in_0, sizeof ends_in_0, much, sizeof much);
+    check(is_told(added, 30, 0, 0, 0, 2) && added.count > 356, "a clash, by search 2", (long)added.count);
+    check(all_zero(much, sizeof much), "the working buffer is all zero", 30);
+    check(all_zero(catalogue + sizeof dashed + sizeof slashed, sizeof ends_in_0 + 1), "no byte changed", 30);
+    added = bradovusc_enter_decided(catalogue, length, rule_x, 6, much, BRADOVUSC_WORK_BYTES(1));
+    check(is_told(added, 30, 0, 0, 18, 0), "room for one", 18);
+    check(is_told(bradovusc_enter_decided(catalogue, length, one_more, 7, NULL, 0), 12, 6, 0, 0, 0), "a byte too many", 12);
+    check(is_told(bradovusc_enter_decided(catalogue, length, field_4, 6, NULL, 0), 31, 0, 0, 0, 0), "field 4", 31);
+    check(is_told(bradovusc_enter_decided(catalogue, length, rule_a, 6, NULL, 0), 30, 0, 0, 18, 0), "no working buffer", 18);
+    check(is_told(bradovusc_enter_decided(NULL, 0, rule_a, 6, NULL, 0), 32, 0, 0, 0, 0), "no catalogue's byte", 32);
+    check(is_told(bradovusc_enter_decided(NULL, 0, NULL, 0, NULL, 0), 11, 0, 0, 0, 0), "nothing at all", 11);
+    catalogue[length - 1] = 1;
+    check(is_told(bradovusc_enter_decided(catalogue, length, rule_a, 6, much, sizeof much), 34, 0, 0, 0, 0), "no catalogue", 34);
+}
+
+/* 30 told in so many elements */
+static void try_decided_told(void) {
+    uint8_t catalogue[18];
+    size_t length, i;
+    memset(catalogue, 0, sizeof catalogue);
+    memcpy(catalogue, rule_b, 6);
+    memcpy(catalogue + 6, rule_x, 6);
+    for (length = 0; length <= 6; length++) {
+        uint64_t told[] = {7, 7, 7, 7, 7, 7};
+        static const uint64_t expected[] = {10, 0, 1, 0, 1, 7};
+        check(bradovusc_add_decided(catalogue, 18, rule_a, 6, much, sizeof much, told, length) == 30, "not apart", (long)length);
+        for (i = 0; i < 6; i++) {
+            check(told[i] == (i < length ? expected[i] : 7), "an element of what is told", (long)i);
+        }
+    }
+}
+
+static void try_recheck_decided(void) {
+    static const uint8_t clashes[] = {0, 3, 0, 6, 0, 0, 1, 1, 2, 0, 6, 0, 0, 1}, one_more[] = {'R', 'U', 'L', 'E', 1, 10, 0, 1};
+    uint8_t list[15];
+    size_t length, i;
+    memset(work, 7, sizeof work);
+    memset(list, 7, sizeof list);
+
+    check(is_rechecked(bradovusc_check_again_decided(kept, 6, work, sizeof work, list, 15), 0, 0, 0), "one rule", 0);
+    check(is_rechecked(bradovusc_check_again_decided(one_more, 8, work, sizeof work, list, 15), 34, 0, 0), "no catalogue", 34);
+    check(work[0] == 7 && work[sizeof work - 1] == 7, "nothing was searched", 0);
+    check(is_rechecked(bradovusc_check_again_decided(kept, sizeof kept, work, sizeof work, list, 13), 35, 0, 0), "too few", 35);
+    check(list[0] == 7 && list[12] == 7, "nothing is listed", 35);
+    check(all_zero(work, sizeof work), "the working buffer is all zero", 35);
+    memset(work, 7, sizeof work);
+    check(is_rechecked(bradovusc_check_again_decided(kept, sizeof kept, work, sizeof work, list, 15), 0, 2, 14), "two pairs", 0);
+    check(memcmp(list, clashes, sizeof clashes) == 0 && list[14] == 7, "their bytes, and no more", 0);
+    check(all_zero(work, sizeof work), "the working buffer is all zero", 0);
+    check(is_rechecked(bradovusc_check_again_decided(kept, 12, work, sizeof work, NULL, 0), 0, 0, 0), "A and B, no list", 0);
+    check(is_rechecked(bradovusc_check_again_decided(kept, 12, NULL, 0, list, 15), 0, 1, 7), "A and B, no working buffer", 18);
+    check(list[1] == 1 && list[2] == 18 && list[3] == 0 && list[6] == 0, "not decided", 18);
+    check(is_rechecked(bradovusc_check_again_decided(NULL, 0, NULL, 0, NULL, 0), 0, 0, 0), "nothing at all", 0);
+    for (length = 0; length <= 3; length++) {
+        uint64_t told[] = {7, 7, 7};
+        static const uint64_t expected[] = {2, 14, 7};
+        check(bradovusc_recheck_decided(kept, sizeof kept, work, sizeof work, list, 14, told, length) == 0, "listed", (long)length);
+        for (i = 0; i < 3; i++) {
+            check(told[i] == (i < length ? expected[i] : 7), "an element of what is told", (long)i);
+        }
+    }
+}
+
+/* what one search does not decide is decided, or told with the search that found the clash */
+static void try_recheck_serials(void) {
+    static uint8_t catalogue[sizeof dashed + sizeof slashed + sizeof ends_in_0];
+    uint8_t list[BRADOVUSC_LIST_BYTES(3)], decided[BRADOVUSC_DECIDED_LIST_BYTES(3)];
+    struct bradovusc_rechecked rechecked;
+    struct bradovusc_pairs pairs;
+    memcpy(catalogue, dashed, sizeof dashed);
+    memcpy(catalogue + sizeof dashed, slashed, sizeof slashed);
+    memcpy(catalogue + sizeof dashed + sizeof slashed, ends_in_0, sizeof ends_in_0);
+    rechecked = bradovusc_check_again(catalogue, sizeof catalogue, much, sizeof much, list, sizeof list);
+    check(is_rechecked(rechecked, 0, 3, 15), "one search decides none", 3);
+    rechecked = bradovusc_check_again_decided(catalogue, sizeof catalogue, much, sizeof much, decided, sizeof decided);
+    check(is_rechecked(rechecked, 0, 1, 7), "all decide each", 1);
+    pairs = bradovusc_decided_pairs_in(decided, (size_t)rechecked.written);
+    check(bradovusc_next_pair(&pairs) && pairs.lower == 0 && pairs.higher == 2, "the two that clash", 2);
+    check(pairs.answer == BRADOVUSC_CLASH && pairs.search == 2 && pairs.count > 356, "by search 2", (long)pairs.count);
+}
+
+/* every pair of 32 rules listed, in just enough bytes */
+static void try_longest_decided_list(void) {
+    static uint8_t catalogue[BRADOVUSC_RULES * 5], list[BRADOVUSC_DECIDED_LIST_BYTES(BRADOVUSC_RULES)];
+    static const uint8_t rule[] = {'R', 'U', 'L', 'E', 0};
+    struct bradovusc_pairs pairs = bradovusc_decided_pairs_in(list, sizeof list);
+    struct bradovusc_rechecked rechecked;
+    unsigned lower, higher;
+    size_t i;
+    for (i = 0; i < BRADOVUSC_RULES; i++) {
+        memcpy(catalogue + 5 * i, rule, 5);
+    }
+    rechecked = bradovusc_check_again_decided(catalogue, sizeof catalogue, work, sizeof work, list, sizeof list - 1);
+    check(is_rechecked(rechecked, 35, 0, 0), "a byte too few", 35);
+    rechecked = bradovusc_check_again_decided(catalogue, sizeof catalogue, work, sizeof work, list, sizeof list);
+    check(is_rechecked(rechecked, 0, 496, 3472), "every pair", 496);
+    for (lower = 0; lower < BRADOVUSC_RULES; lower++) {
+        for (higher = lower + 1; higher < BRADOVUSC_RULES; higher++) {
+            check(bradovusc_next_pair(&pairs) && pairs.lower == lower && pairs.higher == higher, "the order", (long)lower);
+            check(pairs.answer == BRADOVUSC_CLASH && pairs.count == 5 && pairs.search == 1, "a clash", (long)higher);
+        }
+    }
+    check(!bradovusc_next_pair(&pairs), "the end", 496);
+}
+
 /* ---- carrying over */
 
 static int is_carried(struct bradovusc_carried carried, uint32_t number, uint64_t place, uint64_t written) {
@@ -819,11 +1000,13 @@ int main(void) {
     check(BRADOVUSC_SCRIPT_BYTES == 280000, "a script", 280000);
     check(BRADOVUSC_SHEET_BYTES == BRADOVUSC_FIELDS * (4 + 192) + 2 * (3 + 24), "a sheet", 1622);
     check(BRADOVUSC_RULE_BYTES == 2 + BRADOVUSC_RULE_FIELDS * (4 + 192) + (3 + 24), "a rule", 813);
+    check(BRADOVUSC_DECIDED_LIST_BYTES(32) == 3472 && BRADOVUSC_DECIDED_LIST_BYTES(2) == 7, "a list of decided pairs", 32);
     check(BRADOVUSC_LIST_BYTES(2) == 5 && BRADOVUSC_LIST_BYTES(1) == 0 && BRADOVUSC_LIST_BYTES(0) == 0, "of fewer rules", 2);
     try_texts();
     try_signs();
     try_records();
     try_pairs();
+    try_decided_pairs();
     try_null();
     try_decide();
     try_places();
@@ -836,6 +1019,11 @@ int main(void) {
     try_rechecked_told();
     try_longest_list();
     try_longest_rules();
+    try_add_decided();
+    try_decided_told();
+    try_recheck_decided();
+    try_recheck_serials();
+    try_longest_decided_list();
     try_carry_sheet();
     try_carry_rule();
     try_carried_told();

@@ -7,13 +7,16 @@
 //! | `AD` | length n in two bytes, n bytes | add this rule |
 //! | `WI` | one byte | withdraw the rule with this number |
 //! | `CA` | length b in two bytes, length n in two bytes, n bytes | from now on the catalogue is a buffer of b bytes that begins with these n, the rest zeros |
-//! | `WO` | length in four bytes | from now on so many bytes of work are lent to each `AD` and `RE` |
+//! | `WO` | length in four bytes | from now on so many bytes of work are lent to each `AD`, `AE`, `RE` and `RD` |
 //! | `RE` | length in two bytes | check the pairs again, with a list buffer of so many bytes |
+//! | `AE` | length n in two bytes, n bytes | add this rule, each pair decided |
+//! | `RD` | length in two bytes | check the pairs again, each decided, with a list buffer of so many bytes |
 //! | `SO` | | carry the catalogue over: the old meaning of fields without a pattern is written out |
 
 use crate::cases::{push_each, push_work, WORK_FILL};
-use crate::catalogue::{add, recheck, withdraw};
-use crate::catalogue::{Added, Pair, Rechecked, Searcher, DONE, PAIR_BYTES};
+use crate::catalogue::{add, add_decided, recheck, recheck_decided, withdraw};
+use crate::catalogue::{Added, AddedDecided, DecidedPair, Pair, Rechecked, Searcher};
+use crate::catalogue::{DECIDED_PAIR_BYTES, DONE, PAIR_BYTES};
 use crate::spell_open;
 
 /// The catalogue's length at the start, and the greatest.
@@ -25,6 +28,8 @@ pub const MOST_WORK: usize = 65_687;
 /// The greatest length of a list buffer: more than enough for the 496 pairs of
 /// 32 rules.
 pub const MOST_LIST: usize = 2_560;
+/// The same where pairs are decided: 3,472 bytes are always enough.
+pub const MOST_DECIDED_LIST: usize = 3_584;
 /// Each byte of a list buffer before the call.
 pub const LIST_FILL: u8 = 165;
 
@@ -36,6 +41,8 @@ pub enum Operation {
     Work(usize),
     Recheck(usize),
     Carry,
+    AddDecided(Vec<u8>),
+    RecheckDecided(usize),
 }
 
 impl Operation {
@@ -46,9 +53,12 @@ impl Operation {
         let (mark, rest) = stream.split_at_checked(2)?;
         match mark {
             b"AD" => {
-                let (length, rest) = number(rest, 2)?;
-                let (rule, rest) = rest.split_at_checked(length)?;
-                Some((Operation::Add(rule.to_vec()), rest))
+                let (rule, rest) = bytes(rest)?;
+                Some((Operation::Add(rule), rest))
+            }
+            b"AE" => {
+                let (rule, rest) = bytes(rest)?;
+                Some((Operation::AddDecided(rule), rest))
             }
             b"WI" => {
                 let (&number, rest) = rest.split_first()?;
@@ -71,6 +81,11 @@ impl Operation {
                 let (length, rest) = number(rest, 2)?;
                 (length <= MOST_LIST).then_some((Operation::Recheck(length), rest))
             }
+            b"RD" => {
+                let (length, rest) = number(rest, 2)?;
+                let allowed = length <= MOST_DECIDED_LIST;
+                allowed.then_some((Operation::RecheckDecided(length), rest))
+            }
             b"SO" => Some((Operation::Carry, rest)),
             _ => None,
         }
@@ -79,8 +94,9 @@ impl Operation {
     /// Writes the operation behind the stream.
     pub fn write(&self, stream: &mut Vec<u8>) {
         match self {
-            Operation::Add(rule) => {
-                stream.extend_from_slice(b"AD");
+            Operation::Add(rule) | Operation::AddDecided(rule) => {
+                let decided = matches!(self, Operation::AddDecided(_));
+                stream.extend_from_slice(if decided { b"AE" } else { b"AD" });
                 stream.extend_from_slice(&(rule.len() as u16).to_le_bytes());
                 stream.extend_from_slice(rule);
             }
@@ -98,8 +114,9 @@ impl Operation {
                 stream.extend_from_slice(b"WO");
                 stream.extend_from_slice(&(*length as u32).to_le_bytes());
             }
-            Operation::Recheck(length) => {
-                stream.extend_from_slice(b"RE");
+            Operation::Recheck(length) | Operation::RecheckDecided(length) => {
+                let decided = matches!(self, Operation::RecheckDecided(_));
+                stream.extend_from_slice(if decided { b"RD" } else { b"RE" });
                 stream.extend_from_slice(&(*length as u16).to_le_bytes());
             }
             Operation::Carry => stream.extend_from_slice(b"SO"),
@@ -111,6 +128,13 @@ impl Operation {
 fn number(stream: &[u8], bytes: usize) -> Option<(usize, &[u8])> {
     let (number, rest) = stream.split_at_checked(bytes)?;
     Some((number.iter().rev().fold(0, |high, &byte| 256 * high + usize::from(byte)), rest))
+}
+
+/// A length in two bytes and so many bytes, and the rest of the stream.
+fn bytes(stream: &[u8]) -> Option<(Vec<u8>, &[u8])> {
+    let (length, rest) = number(stream, 2)?;
+    let (bytes, rest) = rest.split_at_checked(length)?;
+    Some((bytes.to_vec(), rest))
 }
 
 /// The catalogue and the bytes of work that are lent.
@@ -133,6 +157,8 @@ pub enum Call {
     Withdraw { number: u8 },
     Recheck { told: Rechecked, list: Vec<u8>, work: Vec<u8> },
     Carry { number: u8 },
+    AddDecided { told: AddedDecided, work: Vec<u8> },
+    RecheckDecided { told: Rechecked, list: Vec<u8>, work: Vec<u8> },
 }
 
 impl Calls {
@@ -170,6 +196,17 @@ impl Calls {
                 Call::Recheck { told, list, work }
             }
             Operation::Carry => Call::Carry { number: spell_open::catalogue(&mut self.catalogue) },
+            Operation::AddDecided(rule) => {
+                let mut work = vec![WORK_FILL; self.work];
+                let told = add_decided(&mut self.catalogue, rule, &mut work, self.search);
+                Call::AddDecided { told, work }
+            }
+            Operation::RecheckDecided(length) => {
+                let mut list = vec![LIST_FILL; *length];
+                let mut work = vec![WORK_FILL; self.work];
+                let told = recheck_decided(&self.catalogue, &mut work, &mut list, self.search);
+                Call::RecheckDecided { told, list, work }
+            }
         };
         Some(After { call, catalogue: self.catalogue.clone() })
     }
@@ -180,14 +217,25 @@ impl After {
     /// for each pair listed.
     pub fn numbers(&self) -> String {
         let mut lines = self.told();
-        if let Call::Recheck { told: Rechecked { number: DONE, written, .. }, list, .. } =
-            &self.call
-        {
-            let (pairs, _) = list[..*written].as_chunks::<PAIR_BYTES>();
-            for &pair in pairs {
-                let Pair { lower, higher, answer, count } = Pair::of_bytes(pair);
-                lines += &format!("\npair {lower} {higher} {answer} {count}");
+        match &self.call {
+            Call::Recheck { told: Rechecked { number: DONE, written, .. }, list, .. } => {
+                let (pairs, _) = list[..*written].as_chunks::<PAIR_BYTES>();
+                for &pair in pairs {
+                    let Pair { lower, higher, answer, count } = Pair::of_bytes(pair);
+                    lines += &format!("\npair {lower} {higher} {answer} {count}");
+                }
             }
+            Call::RecheckDecided {
+                told: Rechecked { number: DONE, written, .. }, list, ..
+            } => {
+                let (pairs, _) = list[..*written].as_chunks::<DECIDED_PAIR_BYTES>();
+                for &pair in pairs {
+                    let DecidedPair { lower, higher, answer, count, search } =
+                        DecidedPair::of_bytes(pair);
+                    lines += &format!("\npair {lower} {higher} {answer} {count} {search}");
+                }
+            }
+            _ => {}
         }
         lines
     }
@@ -203,6 +251,13 @@ impl After {
                 format!("recheck {number} {pairs} {written}")
             }
             Call::Carry { number } => format!("carry {number}"),
+            Call::AddDecided { told: AddedDecided { added, search }, .. } => {
+                let Added { number, count, place, rule, pair } = added;
+                format!("add_decided {number} {count} {place} {rule} {pair} {search}")
+            }
+            Call::RecheckDecided { told: Rechecked { number, pairs, written }, .. } => {
+                format!("recheck_decided {number} {pairs} {written}")
+            }
         }
     }
 
@@ -210,12 +265,15 @@ impl After {
     /// buffers too.
     pub fn line(&self) -> String {
         let mut line = self.told();
-        if let Call::Recheck { list, .. } = &self.call {
+        if let Call::Recheck { list, .. } | Call::RecheckDecided { list, .. } = &self.call {
             push_buffer(&mut line, "list", list);
         }
         push_buffer(&mut line, "catalogue", &self.catalogue);
         match &self.call {
-            Call::Add { work, .. } | Call::Recheck { work, .. } => push_work(&mut line, work),
+            Call::Add { work, .. }
+            | Call::Recheck { work, .. }
+            | Call::AddDecided { work, .. }
+            | Call::RecheckDecided { work, .. } => push_work(&mut line, work),
             Call::Withdraw { .. } | Call::Carry { .. } => {}
         }
         line

@@ -6,7 +6,7 @@ use std::ops::Range;
 use crate::fault::Fault;
 use crate::pattern::Allowed;
 use crate::sheet::{Cursor, Question, Token, FIELDS, LEFT};
-use crate::{scan, NO_CLASH};
+use crate::{decide, scan, NO_CLASH};
 
 /// A rule is entered or withdrawn, or the pairs are listed.
 pub const DONE: u8 = 0;
@@ -80,7 +80,7 @@ impl Rule {
 /// "In a pair the present rule is the left side, the new one the right, with
 /// its fields as 4 to 7." Both rules' own fields are 0 to 3; the hidden ones
 /// stand as in a sheet.
-fn question(present: &Rule, new: &Rule) -> Question {
+pub fn question(present: &Rule, new: &Rule) -> Question {
     let renumbered = |token: &Token| match *token {
         Token::Field(field) => Token::Field(field + RULE_FIELDS as u8),
         character => character,
@@ -146,31 +146,82 @@ pub type Searcher = fn(&Question, &mut [u8]) -> (u8, usize);
 pub const HASHING: Searcher = crate::searched;
 pub const SCANNING: Searcher = scan::searched;
 
+/// What is said of a pair.
+#[derive(Clone, Copy, Debug, PartialEq, Eq)]
+pub struct Asked {
+    /// 0, 1, 18 or 19.
+    pub answer: u8,
+    /// The situations entered, in all searches that were made.
+    pub count: usize,
+    /// The search that gave the answer, where the pair is decided; 0 where none
+    /// did, and where the pair is searched once.
+    pub search: u8,
+}
+
+/// A pair is searched once, or decided.
+type Ask = fn(&Question, &mut [u8], Searcher) -> Asked;
+
+fn once(question: &Question, work: &mut [u8], search: Searcher) -> Asked {
+    let (answer, count) = search(question, work);
+    Asked { answer, count, search: 0 }
+}
+
 /// Enters a rule behind the last one.
 pub fn add(catalogue: &mut [u8], rule: &[u8], work: &mut [u8], search: Searcher) -> Added {
+    add_by(catalogue, rule, work, search, once).added
+}
+
+/// What `add_decided` tells: as `add`, and with 30 the search that gave the
+/// pair's answer, 1, 2 or 3 where that is a clash, 0 where none decided.
+#[derive(Clone, Copy, Debug, Default, PartialEq, Eq)]
+pub struct AddedDecided {
+    pub added: Added,
+    pub search: u8,
+}
+
+/// As `add`, but each pair is decided.
+pub fn add_decided(
+    catalogue: &mut [u8],
+    rule: &[u8],
+    work: &mut [u8],
+    search: Searcher,
+) -> AddedDecided {
+    add_by(catalogue, rule, work, search, decide::pair)
+}
+
+fn add_by(
+    catalogue: &mut [u8],
+    rule: &[u8],
+    work: &mut [u8],
+    search: Searcher,
+    ask: Ask,
+) -> AddedDecided {
+    let told = |added| AddedDecided { added, search: 0 };
     // "34 for a buffer not of this form, ..."
     let Some(present) = read(catalogue) else {
-        return Added::of(NOT_OF_THIS_FORM);
+        return told(Added::of(NOT_OF_THIS_FORM));
     };
     // "... then the rule's own 11 to 17, then 31 for a field above 3, ..."
     let new = match Rule::read_own(rule) {
         Ok(new) => new,
-        Err(Fault { number, place }) => return Added { place, ..Added::of(number) },
+        Err(Fault { number, place }) => return told(Added { place, ..Added::of(number) }),
     };
     // "... then 32 if 32 rules stand or the record's bytes don't fit, ..."
     let place = present.last().map_or(0, |last| last.bytes.end);
     if present.len() == MOST_RULES || rule.len() > catalogue.len() - place {
-        return Added::of(DOES_NOT_FIT);
+        return told(Added::of(DOES_NOT_FIT));
     }
     // "... then 30 for a pair not answered 1"
     for (number, present) in present.iter().enumerate() {
-        let (answer, count) = search(&question(&present.rule, &new), work);
-        if answer != NO_CLASH {
-            return Added { count, rule: number, pair: answer, ..Added::of(PAIR_NOT_1) };
+        let asked = ask(&question(&present.rule, &new), work, search);
+        if asked.answer != NO_CLASH {
+            let (count, pair) = (asked.count, asked.answer);
+            let added = Added { count, rule: number, pair, ..Added::of(PAIR_NOT_1) };
+            return AddedDecided { added, search: asked.search };
         }
     }
     catalogue[place..][..rule.len()].copy_from_slice(rule);
-    Added::of(DONE)
+    told(Added::of(DONE))
 }
 
 /// Takes the rule with this number out; "withdrawing closes the gap".
@@ -200,8 +251,9 @@ pub struct Rechecked {
     pub written: usize,
 }
 
-/// The bytes of a listed pair.
+/// The bytes of a listed pair, searched once or decided.
 pub const PAIR_BYTES: usize = 5;
+pub const DECIDED_PAIR_BYTES: usize = 7;
 
 /// A pair not answered 1.
 #[derive(Clone, Copy, Debug, PartialEq, Eq)]
@@ -225,25 +277,79 @@ impl Pair {
     }
 }
 
+/// A pair that is not decided with 1.
+#[derive(Clone, Copy, Debug, PartialEq, Eq)]
+pub struct DecidedPair {
+    pub lower: u8,
+    pub higher: u8,
+    pub answer: u8,
+    /// Of up to four searches, so that two bytes don't hold it.
+    pub count: u32,
+    /// 1, 2 or 3 with a clash, else 0.
+    pub search: u8,
+}
+
+impl DecidedPair {
+    /// Lower number, higher number, answer, the count in three bytes with the
+    /// low one first, and the search.
+    pub fn bytes(&self) -> [u8; DECIDED_PAIR_BYTES] {
+        let [low, middle, high, _] = self.count.to_le_bytes();
+        [self.lower, self.higher, self.answer, low, middle, high, self.search]
+    }
+
+    pub fn of_bytes(bytes: [u8; DECIDED_PAIR_BYTES]) -> DecidedPair {
+        let [lower, higher, answer, low, middle, high, search] = bytes;
+        let count = u32::from_le_bytes([low, middle, high, 0]);
+        DecidedPair { lower, higher, answer, count, search }
+    }
+}
+
 /// "a kept catalogue's pairs are all checked again and those not answered 1
 /// listed, by lower, then higher number." The rule with the lower number is the
 /// left side.
 pub fn recheck(catalogue: &[u8], work: &mut [u8], list: &mut [u8], search: Searcher) -> Rechecked {
+    // At most 65,535 situations.
+    recheck_by(catalogue, work, list, search, once, |lower, higher, Asked { answer, count, .. }| {
+        Pair { lower, higher, answer, count: count as u16 }.bytes()
+    })
+}
+
+/// As `recheck`, but each pair is decided.
+pub fn recheck_decided(
+    catalogue: &[u8],
+    work: &mut [u8],
+    list: &mut [u8],
+    search: Searcher,
+) -> Rechecked {
+    // At most four times 65,535.
+    let listed = |lower, higher, Asked { answer, count, search }| {
+        DecidedPair { lower, higher, answer, count: count as u32, search }.bytes()
+    };
+    recheck_by(catalogue, work, list, search, decide::pair, listed)
+}
+
+fn recheck_by<const BYTES: usize>(
+    catalogue: &[u8],
+    work: &mut [u8],
+    list: &mut [u8],
+    search: Searcher,
+    ask: Ask,
+    listed: impl Fn(u8, u8, Asked) -> [u8; BYTES],
+) -> Rechecked {
     let Some(present) = read(catalogue) else {
         return Rechecked { number: NOT_OF_THIS_FORM, ..Rechecked::default() };
     };
     let mut pairs = Vec::new();
     for (lower, left) in present.iter().enumerate() {
         for (higher, right) in present.iter().enumerate().skip(lower + 1) {
-            let (answer, count) = search(&question(&left.rule, &right.rule), work);
-            if answer != NO_CLASH {
-                // At most 32 rules, and at most 65,535 situations.
-                let (lower, higher, count) = (lower as u8, higher as u8, count as u16);
-                pairs.push(Pair { lower, higher, answer, count });
+            let asked = ask(&question(&left.rule, &right.rule), work, search);
+            if asked.answer != NO_CLASH {
+                // At most 32 rules.
+                pairs.push(listed(lower as u8, higher as u8, asked));
             }
         }
     }
-    let bytes: Vec<u8> = pairs.iter().flat_map(Pair::bytes).collect();
+    let bytes = pairs.concat();
     let Some(front) = list.get_mut(..bytes.len()) else {
         return Rechecked { number: LIST_TOO_SHORT, ..Rechecked::default() };
     };

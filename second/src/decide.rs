@@ -15,6 +15,7 @@
 //! The hidden fields stand and have their leaf; "fixed characters are those of
 //! the sheet's (untrimmed) sides"; the room is the same for every search.
 
+use crate::catalogue::{Asked, Searcher};
 use crate::pattern::{characters, Allowed, CharacterSet, CHARACTERS};
 use crate::sheet::{self, Question, Token, ALL_FIELDS, FIELDS};
 use crate::{scan, Outcome, NO_CLASH, NO_ROOM, SIDE_TOO_LONG};
@@ -102,6 +103,23 @@ pub fn decide(sheet: &[u8], work: &mut [u8], answer: &mut [u8], by: By) -> Decid
     }
     let number = given_up.unwrap_or(NO_ROOM);
     Decided { outcome: Outcome::of_search(number, spent.iter().sum(), 0), search: 0, spent }
+}
+
+/// Decides a pair's question. "A pair's texts are not written", so a clash is 0
+/// whatever its texts: no 20 and no 21.
+pub fn pair(question: &Question, work: &mut [u8], search: Searcher) -> Asked {
+    let mut count = 0;
+    let mut given_up = None;
+    for (number, question) in (1u8..).zip(questions(question)) {
+        let Some(question) = question else { continue };
+        let (answer, entered) = search(&question, work);
+        count += entered;
+        if decides(number.into(), answer) {
+            return Asked { answer, count, search: number };
+        }
+        given_up.get_or_insert(answer);
+    }
+    Asked { answer: given_up.unwrap_or(NO_ROOM), count, search: 0 }
 }
 
 /// The question where no place takes another character.

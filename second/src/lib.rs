@@ -20,6 +20,7 @@
 //! `catalogue::add` and `catalogue::withdraw` keep a catalogue of rules of which
 //! no two can make the same label, and `catalogue::recheck` lists the pairs of a
 //! kept one that may; they search by `searched` or by `scan::searched`.
+//! `catalogue::add_decided` and `catalogue::recheck_decided` decide each pair.
 //!
 //! `smt` reads scripts for other solvers and compares them with their sheets.
 //!
@@ -37,6 +38,7 @@ pub mod pattern;
 pub mod printed;
 pub mod scan;
 pub mod search;
+pub mod share;
 pub mod sheet;
 pub mod shown;
 pub mod situation;

@@ -22,7 +22,9 @@
 //!
 //! A label is the same with spaces at its end: scanners drop them.
 //!
-//! And a full catalogue of 32 rules, to measure what a pair costs.
+//! And a full catalogue of 32 rules, to measure what a pair costs; and one of
+//! keypads with a serial number that stands twice, `KP123456-123456`, which is
+//! filled by deciding alone.
 
 use crate::calls::{Operation, WORK};
 use crate::cases::Case;
@@ -384,6 +386,52 @@ fn pair_sheet((patterns, left): &Made, (new_patterns, right): &Made) -> Vec<u8> 
     sheet(&patterns, &tokens(left), &tokens(&right.replace('a', "e").replace('b', "f")))
 }
 
+// ---------------------------------------------------------- serial numbers
+
+/// What stands between the two standings of a serial number: twenty signs and
+/// letters, of which no two are the same.
+const BETWEEN: [&str; 20] = [
+    "-", "/", ".", "+", "$", "%", "A", "B", "C", "D", "E", "F", "G", "H", "J", "K", "L", "M", "N",
+    "P",
+];
+
+/// `KP`, a serial number of six digits, a sign, the same number again.
+fn serial(sign: &str) -> Vec<u8> {
+    rule(&[(A, digits(6))], &tokens(&format!("KPa{sign}a")))
+}
+
+/// Twenty rules of which no two can make the same label. For no pair of them is
+/// there room in one search: the digits are too many. The second search takes
+/// one digit for all ten, and decides each.
+pub fn serial_rows() -> Vec<Row> {
+    let (first, others) = BETWEEN.split_first().expect("twenty");
+    let mut rows = vec![add_decided("no pair: rule 0", serial(first), "add_decided 0 0 0 0 0 0")];
+    for sign in others {
+        let new = serial(sign);
+        rows.push(add("18: the digits are too many", new.clone(), "add 30 356 0 0 18"));
+        rows.push(add_decided("no clash with any", new, "add_decided 0 0 0 0 0 0"));
+    }
+    let ends_in_0 = row(vec![digits(5), vec![0]]);
+    let ends_in_0 = rule(&[(A, ends_in_0)], &tokens("KPa/a"));
+    rows.extend([
+        recheck("for none of the 190 pairs is there room", 949, "recheck 35 0 0"),
+        recheck_decided("and each is decided", 0, "recheck_decided 0 0 0"),
+        add("18: for the pair with rule 0", ends_in_0.clone(), "add 30 356 0 0 18"),
+        add_decided("`KP000000/000000` is of rule 1", ends_in_0, CLASH_OF_RULE_1),
+        work("no room", 0),
+        add_decided("18: no search has room", serial("X"), "add_decided 30 0 0 0 18 0"),
+        work("356 situations again", WORK),
+    ]);
+    rows
+}
+
+/// 356 situations of the first search and those of the second.
+const CLASH_OF_RULE_1: &str = "add_decided 30 520 0 1 0 2";
+
+pub fn serial_stream() -> Vec<u8> {
+    written(serial_rows().into_iter().map(|row| row.operation))
+}
+
 // ---------------------------------------------------------------- writing
 
 fn add(what: &'static str, rule: Vec<u8>, line: &'static str) -> Row {
@@ -396,6 +444,14 @@ fn withdraw(what: &'static str, number: u8, line: &'static str) -> Row {
 
 fn recheck(what: &'static str, length: usize, lines: &'static str) -> Row {
     Row { what, operation: Operation::Recheck(length), line: Some(lines) }
+}
+
+fn add_decided(what: &'static str, rule: Vec<u8>, line: &'static str) -> Row {
+    Row { what, operation: Operation::AddDecided(rule), line: Some(line) }
+}
+
+fn recheck_decided(what: &'static str, length: usize, lines: &'static str) -> Row {
+    Row { what, operation: Operation::RecheckDecided(length), line: Some(lines) }
 }
 
 fn carry(what: &'static str, line: &'static str) -> Row {

@@ -5,7 +5,6 @@ use mathlib.Core.Path.{_≡_, ap, _∙_, refl}
 use mathlib.Core.List.{List, [], _∷_}
 use native.Mathlib.Omega.{arith}
 use lib.Dec.{lit<}
-use lib.ListN.{set}
 use Rattle.paper_catalogue.specs.Catalogue as Catalogue
 use Rattle.paper_catalogue.specs.Recheck as Recheck
 use Rattle.base_answers.specs.Faults.{fault-of}
@@ -20,8 +19,7 @@ use Rattle.catalogue_recheck.specs.declared.Rechecked.the-variants as Rechecked
 use Rattle.catalogue_numbers.specs.CatalogueNumbers.{numbers-of-added, number-of-withdrawn, as-totals}
 use Rattle.catalogue_numbers.specs.declared.Numbers.{Numbers}
 use Rattle.catalogue_numbers.specs.declared.Totals.{Totals}
-use Rattle.c_tell.specs.ToldNumbers.{with-numbers}
-use Rattle.c_catalogue.specs.Catalogued.{telling-added, telling-rechecked}
+use Rattle.c_catalogue.specs.Catalogued.{telling-numbers, telling-added, telling-totals, telling-rechecked}
 use Rattle.base_answers.proofs.FaultNumbers.{fault-below}
 
 -- 34 is the last of request K1's numbers
@@ -83,17 +81,16 @@ rechecked-totals Rechecked-as.NoCatalogue list work = refl
 
 -- an answer that tells the addition, with its numbers named and written
 pub added-promised :
-    (a : Added) (numbers : Numbers) {catalogue work : List ℕ} {o : Catalogue.Added} (before : List ℕ) {three four : List ℕ}
+    (a : Added) (numbers : Numbers) {catalogue work : List ℕ} {o : Catalogue.Added} (before : List ℕ) {four : List ℕ}
     → told-added a catalogue work ≡ o
     → numbers ≡ numbers-of-added a
-    → three ≡ with-numbers before (numbers .count) (numbers .place) (numbers .rule)
-    → four ≡ set three 3 (numbers .answer)
+    → four ≡ telling-numbers before numbers
     → (numbers .number ≡ o .number) × ((four ≡ telling-added before o) × ((catalogue ≡ o .catalogue) × (work ≡ o .work)))
-added-promised a numbers {catalogue = catalogue} {work = work} before whole named third fourth =
+added-promised a numbers {catalogue = catalogue} {work = work} before whole named fourth =
     let same = ap (λ (n : Numbers). in-numbers n catalogue work) named ∙ added-numbers a catalogue work ∙ whole in (
       ap (λ (o : Catalogue.Added). o .number) same,
       (
-        fourth ∙ ap (λ (l : List ℕ). set l 3 (numbers .answer)) third ∙ ap (telling-added before) same,
+        fourth ∙ ap (telling-added before) same,
         (ap (λ (o : Catalogue.Added). o .catalogue) same, ap (λ (o : Catalogue.Added). o .work) same),
       ),
     )
@@ -109,17 +106,16 @@ withdrawn-promised w n {catalogue = catalogue} whole named =
 
 -- an answer that tells the list, with its totals named and written
 pub rechecked-promised :
-    (r : Rechecked) (totals : Totals) {list work : List ℕ} {o : Recheck.Rechecked} (before : List ℕ) {one two : List ℕ}
+    (r : Rechecked) (totals : Totals) {list work : List ℕ} {o : Recheck.Rechecked} (before : List ℕ) {two : List ℕ}
     → told-rechecked r list work ≡ o
     → totals ≡ as-totals r
-    → one ≡ set before 0 (totals .pairs)
-    → two ≡ set one 1 (totals .written)
+    → two ≡ telling-totals before totals
     → (totals .number ≡ o .number) × ((two ≡ telling-rechecked before o) × ((list ≡ o .list) × (work ≡ o .work)))
-rechecked-promised r totals {list = list} {work = work} before whole named first second =
+rechecked-promised r totals {list = list} {work = work} before whole named second =
     let same = ap (λ (t : Totals). in-totals t list work) named ∙ rechecked-totals r list work ∙ whole in (
       ap (λ (o : Recheck.Rechecked). o .number) same,
       (
-        second ∙ ap (λ (l : List ℕ). set l 1 (totals .written)) first ∙ ap (telling-rechecked before) same,
+        second ∙ ap (telling-rechecked before) same,
         (ap (λ (o : Recheck.Rechecked). o .list) same, ap (λ (o : Recheck.Rechecked). o .work) same),
       ),
     )

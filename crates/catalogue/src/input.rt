@@ -19,6 +19,10 @@ const RECHECK: usize = b'R' as usize + 256 * (b'E' as usize);
 
 const CARRY: usize = b'S' as usize + 256 * (b'O' as usize);
 
+const ADD_DECIDED: usize = b'A' as usize + 256 * (b'E' as usize);
+
+const RECHECK_DECIDED: usize = b'R' as usize + 256 * (b'D' as usize);
+
 // The mark of the next operation.
 pub enum Mark {
     // `AD`
@@ -35,6 +39,10 @@ pub enum Mark {
     Recheck,
     // `SO`
     Carry,
+    // `AE`
+    AddDecided,
+    // `RD`
+    RecheckDecided,
     // none of these
     None(How),
 }
@@ -57,6 +65,8 @@ fn mark_of(letters: usize) -> Mark {
         SHOW => Mark::Show,
         RECHECK => Mark::Recheck,
         CARRY => Mark::Carry,
+        ADD_DECIDED => Mark::AddDecided,
+        RECHECK_DECIDED => Mark::RecheckDecided,
         _ => Mark::None(How::Stopped),
     }
 }

@@ -103,15 +103,25 @@
 //     CA  parcels with another mark
 // 98  SO  34: no catalogue to carry over
 //
-//     SH  every byte from here on
 //     CA  8,192 zero bytes, as at the start
 //     WO  356 situations
 //
-// Then come those that the second program's `calls 1 4000` makes: 4,000 additions, withdrawals, checks and carryings over, among them each number
-// and, with 30, each answer of a pair. Its `second --calls` prints the same lines. tools/compare tries fresh ones.
+// Then come those of the second program's `calls --serial`: twenty rules with a serial number that stands twice. The first is added by deciding;
+// each of the others is refused by `AD`, with 18, and entered by `AE`. `RE` has no room for the 190 pairs that it would list, and `RD` lists none.
+// Of three more, none is entered: `AD` leaves one open, `AE` finds the clash by its second search, and without room it decides nothing.
+//
+//     SH  every byte from here on
+//     CA  8,192 zero bytes
+//     WO  356 situations
+//
+// Then those that `calls --decided 1 1000` makes, but for an operation cut short at its end: 1,000 additions and checks of either kind,
+// withdrawals and carryings over. With `CA` and `WO` as before follow those that `calls 1 4000` makes: 4,000 additions, withdrawals, checks and
+// carryings over, among them each number and, with 30, each answer of a pair. `second --calls` prints the same lines. tools/compare tries fresh ones.
 mod input;
 mod output;
 
+use catalogue_add::Added;
+use catalogue_recheck::Rechecked;
 use input::Mark;
 use input::read_mark;
 use output::print_added;
@@ -138,6 +148,9 @@ const FIRST_WORK: usize = 65520;
 
 // more than the 496 pairs of 32 rules
 const LIST: usize = 2560;
+
+// more than these pairs have by deciding
+const DECIDED_LIST: usize = 3584;
 
 // each byte of the list before a call
 const LIST_FILL: u8 = 165;
@@ -263,25 +276,28 @@ fn call_by(
     bytes: bool,
 ) -> How {
     match mark {
-        Mark::Add => add(given, catalogue, work, bytes),
+        Mark::Add => add(false, given, catalogue, work, bytes),
+        Mark::AddDecided => add(true, given, catalogue, work, bytes),
         Mark::Withdraw => withdraw(catalogue, bytes),
-        Mark::Recheck => check_again(catalogue, work, given, bytes),
+        Mark::Recheck => check_again(false, LIST, catalogue, work, given, bytes),
+        Mark::RecheckDecided => check_again(true, DECIDED_LIST, catalogue, work, given, bytes),
         Mark::Carry => carry(catalogue, bytes),
         Mark::None(how) => how,
         _ => How::Stopped,
     }
 }
 
-// `AD`: a length in two bytes, so many bytes.
-fn add(rule: &mut [u8], catalogue: &mut [u8], work: &mut [u8], bytes: bool) -> How {
+// `AD`, and `AE` by deciding: a length in two bytes, so many bytes.
+fn add(decide: bool, rule: &mut [u8], catalogue: &mut [u8], work: &mut [u8], bytes: bool) -> How {
     let length = read_number(How::Going, 2, rule.len());
     let n = length.number;
     let so_far = length.how;
-    add_rule(so_far, &mut rule[0..n], catalogue, work, bytes)
+    add_rule(so_far, decide, &mut rule[0..n], catalogue, work, bytes)
 }
 
 fn add_rule(
     so_far: How,
+    decide: bool,
     rule: &mut [u8],
     catalogue: &mut [u8],
     work: &mut [u8],
@@ -292,8 +308,15 @@ fn add_rule(
         return how;
     }
     fill(work, WORK_FILL);
-    let told = catalogue_numbers::added(catalogue_add::add(catalogue, rule, work));
-    print_added(told, catalogue, work, bytes)
+    let told = catalogue_numbers::added(added(decide, catalogue, rule, work));
+    print_added(decide, told, catalogue, work, bytes)
+}
+
+fn added(decide: bool, catalogue: &mut [u8], rule: &[u8], work: &mut [u8]) -> Added {
+    if decide {
+        return catalogue_add::add_decided(catalogue, rule, work);
+    }
+    catalogue_add::add(catalogue, rule, work)
 }
 
 // `WI`: a rule's number in one byte.
@@ -307,22 +330,42 @@ fn withdraw(catalogue: &mut [u8], bytes: bool) -> How {
     print_changed(b"withdraw", told, catalogue, bytes)
 }
 
-// `RE`: the list's length in two bytes.
-fn check_again(catalogue: &[u8], work: &mut [u8], list: &mut [u8], bytes: bool) -> How {
-    let length = read_number(How::Going, 2, least(LIST, list.len()));
+// `RE`, and `RD` by deciding: the list's length in two bytes.
+fn check_again(
+    decide: bool,
+    most: usize,
+    catalogue: &[u8],
+    work: &mut [u8],
+    list: &mut [u8],
+    bytes: bool,
+) -> How {
+    let length = read_number(How::Going, 2, least(most, list.len()));
     let n = length.number;
     let how = length.how;
     if !is_going(how) {
         return how;
     }
-    list_pairs(catalogue, work, &mut list[0..n], bytes)
+    list_pairs(decide, catalogue, work, &mut list[0..n], bytes)
 }
 
-fn list_pairs(catalogue: &[u8], work: &mut [u8], list: &mut [u8], bytes: bool) -> How {
+fn list_pairs(
+    decide: bool,
+    catalogue: &[u8],
+    work: &mut [u8],
+    list: &mut [u8],
+    bytes: bool,
+) -> How {
     fill(work, WORK_FILL);
     fill(list, LIST_FILL);
-    let told = catalogue_numbers::rechecked(catalogue_recheck::recheck(catalogue, work, list));
-    print_rechecked(told, list, catalogue, work, bytes)
+    let told = catalogue_numbers::rechecked(rechecked(decide, catalogue, work, list));
+    print_rechecked(decide, told, list, catalogue, work, bytes)
+}
+
+fn rechecked(decide: bool, catalogue: &[u8], work: &mut [u8], list: &mut [u8]) -> Rechecked {
+    if decide {
+        return catalogue_recheck::recheck_decided(catalogue, work, list);
+    }
+    catalogue_recheck::recheck(catalogue, work, list)
 }
 
 // `SO`

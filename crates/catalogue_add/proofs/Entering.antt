@@ -1,4 +1,4 @@
--- What adding and withdrawing come to, by what was read and asked on the way. Follows from the definitions of `adding` and `withdrawing` by the
+-- What adding and withdrawing come to, by what was read and asked on the way. Follows from the definitions of `adding-by` and `withdrawing` by the
 -- tests that they make.
 use Prim.Native.Nat.{ℕ, zero, suc, _+_, _-_, _≤_, _<_}
 use native.Mathlib.Omega.{arith}
@@ -8,7 +8,8 @@ use mathlib.Core.List.{List, [], _∷_}
 use lib.ListN.{length}
 use Rattle.paper.specs.Sheet.{Fault, fault-number, faulty, records}
 use Rattle.paper.specs.Rule.{Rule, read-rule, foreign-field}
-use Rattle.paper_catalogue.specs.Catalogue.{Present, no-catalogue, rules, form, used, is-full, not-entered, adding, withdrawing, withdrawn-from}
+use Rattle.paper_catalogue.specs.PairAsking.{PairAsking}
+use Rattle.paper_catalogue.specs.Catalogue.{Present, no-catalogue, rules, form, used, is-full, not-asked, adding-by, withdrawing, withdrawn-from}
 use Rattle.paper_catalogue.specs.Catalogue as Catalogue
 use Rattle.paper_catalogue.specs.Calls.{present-at}
 use Rattle.paper_catalogue.proofs.Form.{offset-of, rule-fits, record-inside}
@@ -18,7 +19,7 @@ use Rattle.catalogue_form.specs.declared.Kept.{Kept}
 use Rattle.catalogue_form.proofs.RulesStanding.{begin-in, begins-are, next-begin}
 use Rattle.catalogue_bytes.specs.Moving.{put-at, closed-at}
 use Rattle.catalogue_bytes.proofs.Within.{is-put, is-closed}
-use Rattle.catalogue_pair.specs.declared.Pair.{Pair}
+use Rattle.catalogue_question.specs.declared.Pair.{Pair}
 use Rattle.read_rule.specs.declared.Rule as Code
 use Rattle.catalogue_add.specs.declared.Asked.the-variants.{Apart, NotApart}
 use Rattle.catalogue_add.specs.Addition.{full-of, Pairs-asked, Ready}
@@ -30,40 +31,40 @@ pub full-is : (k : Kept) (l : List Present) (c bytes : List ℕ) (b : Bool) → 
     → b ≡ full-of k (length bytes) (length c) → is-full l bytes c ≡ b
 full-is k l c bytes b e f h = sym (h ∙ rw (e, f))
 
-module _ (c bytes work : List ℕ) where
-  pub adds-to-none : form c ≡ no-catalogue → not-entered 34 0 c work ≡ adding c bytes work
-  unfolding adding
-  adds-to-none e = rw e
+module _ (a : PairAsking) (c bytes work : List ℕ) where
+  pub adds-to-none : form c ≡ no-catalogue → not-asked 34 0 c work ≡ adding-by a c bytes work
+  unfolding adding-by
+  adds-to-none e = rw (adding-by, e)
 
   module _ (l : List Present) (e : form c ≡ rules l) where
-    pub adds-fault : (x : Fault) (at : ℕ) → read-rule bytes ≡ faulty x at → not-entered (fault-number x) at c work ≡ adding c bytes work
-    unfolding adding
-    adds-fault x at f = rw (e, f)
+    pub adds-fault : (x : Fault) (at : ℕ) → read-rule bytes ≡ faulty x at → not-asked (fault-number x) at c work ≡ adding-by a c bytes work
+    unfolding adding-by
+    adds-fault x at f = rw (adding-by, e, f)
 
     module _ (r : Rule) (n : ℕ) (f : read-rule bytes ≡ records r n) where
-      pub adds-foreign : foreign-field r ≡ true → not-entered 31 0 c work ≡ adding c bytes work
-      unfolding adding
-      adds-foreign h = rw (e, f, h)
+      pub adds-foreign : foreign-field r ≡ true → not-asked 31 0 c work ≡ adding-by a c bytes work
+      unfolding adding-by
+      adds-foreign h = rw (adding-by, e, f, h)
 
-      pub adds-full : foreign-field r ≡ false → is-full l bytes c ≡ true → not-entered 32 0 c work ≡ adding c bytes work
-      unfolding adding
-      adds-full h k = rw (e, f, h, k)
+      pub adds-full : foreign-field r ≡ false → is-full l bytes c ≡ true → not-asked 32 0 c work ≡ adding-by a c bytes work
+      unfolding adding-by
+      adds-full h k = rw (adding-by, e, f, h, k)
 
-module _ {c bytes : List ℕ} {kept : Kept} {new : Code.Rule} (x : Ready c bytes kept new) (work after : List ℕ) where
+module _ {c bytes : List ℕ} {kept : Kept} {new : Code.Rule} (x : Ready c bytes kept new) (a : PairAsking) (work after : List ℕ) where
   is-read : read-rule bytes ≡ records (x .asks .rule) (x .asks .its-bytes)
   is-read = rw (← x .same-bytes) (x .asks .is-read)
 
-  pub adds-rule : Pairs-asked (x .asks .standing .rules-present) (x .asks .rule) work after Apart → (catalogue : List ℕ) → catalogue ≡ put-at (kept .used) bytes c
-      → Told.told-added Added.Entered catalogue after ≡ adding c bytes work
-  unfolding adding
-  adds-rule a catalogue e =
+  pub adds-rule : Pairs-asked a (x .asks .standing .rules-present) (x .asks .rule) work after Apart → (catalogue : List ℕ) → catalogue ≡ put-at (kept .used) bytes c
+      → Told.told-added-by Added.Entered catalogue after ≡ adding-by a c bytes work
+  unfolding adding-by
+  adds-rule p catalogue e =
       let put = is-put (used (x .asks .standing .rules-present)) bytes c (rule-fits c (x .asks .standing .of-form) bytes (x .room)) in
-      rw (e, x .asks .standing .its-used, put, x .asks .standing .of-form, is-read, x .asks .own, x .room, ← a .pairs, a .after-work)
+      rw (e, x .asks .standing .its-used, put, adding-by, x .asks .standing .of-form, is-read, x .asks .own, x .room, ← p .pairs, p .after-work)
 
-  pub adds-not : (i : ℕ) (p : Pair) → Pairs-asked (x .asks .standing .rules-present) (x .asks .rule) work after (NotApart i p)
-      → Told.told-added (Added.NotApart i p) c after ≡ adding c bytes work
-  unfolding adding
-  adds-not i p a = rw (x .asks .standing .of-form, is-read, x .asks .own, x .room, ← a .pairs, a .after-work)
+  pub adds-not : (i : ℕ) (p : Pair) → Pairs-asked a (x .asks .standing .rules-present) (x .asks .rule) work after (NotApart i p)
+      → Told.told-added-by (Added.NotApart i p) c after ≡ adding-by a c bytes work
+  unfolding adding-by
+  adds-not i p k = rw (adding-by, x .asks .standing .of-form, is-read, x .asks .own, x .room, ← k .pairs, k .after-work)
 
 -- Withdrawing.
 module _ (c : List ℕ) (i : ℕ) where

@@ -1,5 +1,5 @@
--- How far the pairs of a new rule are asked: those before number i are all answered 1. One more, the first that is not answered 1, the end.
--- Follows from the definition of `pairs-from`; what a pair is answered follows from where the rules stand (`RulesStanding`) and from `told-in-room`.
+-- How far the pairs of a new rule are asked, by any way to ask: those before number i are all answered 1. One more, the first that is not answered 1, the end.
+-- Follows from the definition of `pairs-by`; what a pair is answered follows from where the rules stand (`RulesStanding`) and from `told-in-room`.
 use Prim.Native.Nat.{ℕ, suc, _+_, _≤_, _<_}
 use native.Mathlib.Numerals.{add-one}
 use native.Mathlib.Omega.{arith}
@@ -9,7 +9,8 @@ use lib.ListN.{length, take, drop, replicate, length-replicate, drop-of-length-l
 use lib.Seq.{take-all}
 use Rattle.paper.specs.Rule.{Rule}
 use Rattle.paper.specs.Outcome.{room-of, cleared}
-use Rattle.paper_catalogue.specs.Catalogue.{Present, pairs-from, work-behind}
+use Rattle.paper_catalogue.specs.PairAsking.{PairAsking}
+use Rattle.paper_catalogue.specs.Catalogue.{Present, pairs-by, work-behind}
 use Rattle.paper_catalogue.specs.Calls.{rule-at}
 use Rattle.paper.proofs.base.Tests.{eq-eqb, neq-eqb}
 use Rattle.paper_catalogue.proofs.GoodRule.{new-good}
@@ -18,16 +19,18 @@ use Rattle.read_rule.specs.declared.Rule as Code
 use Rattle.catalogue_form.specs.Kept.{rule-there}
 use Rattle.catalogue_form.specs.declared.Kept.{Kept}
 use Rattle.catalogue_form.proofs.RulesStanding.{in-front, begin-in, standing-good, standing-side, standing-fields}
-use Rattle.catalogue_pair.specs.Ask.{pair-of, pair-ended}
-use Rattle.catalogue_pair.specs.declared.Pair.{Pair}
-use Rattle.catalogue_pair.proofs.Asking.{Pair-told}
+use Rattle.catalogue_question.specs.PairCoded.{pair-question}
+use Rattle.catalogue_question.specs.AskedBy.{asking-coded, told-pair}
+use Rattle.catalogue_question.specs.declared.Asking.{Asking}
+use Rattle.catalogue_question.specs.declared.Pair.{Pair}
+use Rattle.catalogue_pair.specs.Ask.{pair-by}
 use Rattle.catalogue_pair.proofs.InRoom.{told-in-room}
 use Rattle.catalogue_add.specs.declared.Asked.the-variants.{Apart, NotApart}
 use Rattle.catalogue_add.specs.Addition.{Ready-to-ask, Pairs-asked}
 
-pub record Going (l : List Present) (new : Rule) (lent work : List ℕ) (i : ℕ) : Type 0 where
+pub record Going (a : PairAsking) (l : List Present) (new : Rule) (lent work : List ℕ) (i : ℕ) : Type 0 where
   pub below : i ≤ length l
-  pub pairs : pairs-from 0 l new (room-of lent) ≡ pairs-from i (drop i l) new (room-of lent)
+  pub pairs : pairs-by a 0 l new (room-of lent) ≡ pairs-by a i (drop i l) new (room-of lent)
   pub behind : work ≡ work-behind (take i l) lent
 
 -- the working buffer keeps its length
@@ -45,15 +48,15 @@ all-behind [] i lent h = absurd (omega arith)
 all-behind (r ∷ l) i lent h = refl
 
 -- The walk, whatever the answers are.
-module _ {l : List Present} {new : Rule} where
-  pub going-start : (lent : List ℕ) → Going l new lent lent 0
+module _ {a : PairAsking} {l : List Present} {new : Rule} where
+  pub going-start : (lent : List ℕ) → Going a l new lent lent 0
   going-start lent = record { below = omega arith; pairs = refl; behind = refl }
 
-  module _ {lent work : List ℕ} {i : ℕ} (g : Going l new lent work i) where
+  module _ {lent work : List ℕ} {i : ℕ} (g : Going a l new lent work i) where
     same-length : length work ≡ length lent
     same-length = ap length (g .behind) ∙ behind-length (take i l) lent
 
-    pub going-ends : length l ≤ i → Pairs-asked l new lent work Apart
+    pub going-ends : length l ≤ i → Pairs-asked a l new lent work Apart
     going-ends h =
         record {
           pairs = sym (g .pairs ∙ rw (drop-of-length-le l {i = i} h));
@@ -61,34 +64,34 @@ module _ {l : List Present} {new : Rule} where
         }
 
     -- the pair of one more rule with the new one, told
-    module _ (h : i < length l) {pair : Pair} (told : Pair-told (rule-at l i) new (room-of lent) pair) {after : List ℕ} (w : after ≡ replicate (length work) 0) where
+    module _ (h : i < length l) {pair : Pair} (told : told-pair pair ≡ a .asks (rule-at l i) new (room-of lent)) {after : List ℕ} (w : after ≡ replicate (length work) 0) where
       cleared-lent : after ≡ cleared lent
       cleared-lent = w ∙ rw same-length
 
-      pub going-more : pair .answer ≡ 1 → Going l new lent after (i + 1)
+      pub going-more : pair .answer ≡ 1 → Going a l new lent after (i + 1)
       going-more e =
           record {
             below = omega arith;
-            pairs = g .pairs ∙ rw (in-front l i h, ← told .answer, eq-eqb (pair .answer) 1 e, add-one i);
+            pairs = g .pairs ∙ rw (in-front l i h, ← told, eq-eqb (pair .answer) 1 e, add-one i);
             behind = cleared-lent ∙ sym (rw (add-one i) (some-behind l i lent h));
           }
 
-      pub going-stops : (pair .answer ≡ 1 → ⊥) → Pairs-asked l new lent after (NotApart i pair)
+      pub going-stops : (pair .answer ≡ 1 → ⊥) → Pairs-asked a l new lent after (NotApart i pair)
       going-stops d =
           record {
-            pairs = sym (g .pairs ∙ rw (in-front l i h, ← told .answer, ← told .count, neq-eqb (pair .answer) 1 d));
+            pairs = sym (g .pairs ∙ rw (in-front l i h, ← told, neq-eqb (pair .answer) 1 d));
             after-work = cleared-lent ∙ sym (all-behind l i lent h);
           }
 
 -- What asking the pair of a rule that stands with the new one tells.
-pub asked-told : {catalogue : List ℕ} {kept : Kept} {side : List ℕ} {fields : List PlaceTables} (x : Ready-to-ask catalogue kept side fields)
+pub asked-told : (how : Asking) {catalogue : List ℕ} {kept : Kept} {side : List ℕ} {fields : List PlaceTables} (x : Ready-to-ask catalogue kept side fields)
     (i : ℕ) → i < length (x .standing .rules-present) → (present : Code.Rule) → present ≡ rule-there (drop (begin-in kept i) catalogue)
     → (work lent : List ℕ) → length work ≡ length lent
-    → (pair : Pair) → pair ≡ pair-of (pair-ended (present .side) side (present .fields) fields (length work))
-    → Pair-told (rule-at (x .standing .rules-present) i) (x .rule) (room-of lent) pair
-asked-told x i h present p work lent same pair a =
+    → (pair : Pair) → pair ≡ pair-by how (pair-question (present .side) side (present .fields) fields) (length work)
+    → told-pair pair ≡ asking-coded how .asks (rule-at (x .standing .rules-present) i) (x .rule) (room-of lent)
+asked-told how x i h present p work lent same pair a =
     let s = x .standing in
-    told-in-room
+    told-in-room how
     (record { good = standing-good s i h; side-is = standing-side s i h present p; fields-are = standing-fields s i h present p })
     (record { good = new-good (x .bytes) (x .is-read) (x .own); side-is = x .side-is; fields-are = x .fields-are })
     work lent same pair a

@@ -5,21 +5,24 @@ use mathlib.Core.Path.{_≡_, refl, sym, ap, _∙_}
 use mathlib.Core.Bool.{cond}
 use mathlib.Core.List.{List}
 use lib.Dec.{eqb}
-use Rattle.paper_catalogue.specs.Catalogue.{adding, withdrawing}
+use Rattle.paper_catalogue.specs.PairAsking.{by-search}
+use Rattle.paper_catalogue.specs.Catalogue.{AddedBy, adding, adding-by, withdrawing}
 use Rattle.paper_catalogue.specs.Catalogue as Catalogue
+use Rattle.paper_catalogue_decide.specs.DecidedPairs.{adding-decided}
 use Rattle.base_answers.specs.declared.Fault.the-variants.{CutShort, WrongMark, WrongField, WrongLength, NotOnePattern, TooManyLeaves, WrongToken}
 use Rattle.base_answers.proofs.Same.{fault-from}
-use Rattle.catalogue_add.specs.Addition.{told-added, told-withdrawn}
+use Rattle.catalogue_add.specs.Addition.{told-added, search-of, told-added-by, told-withdrawn}
 use Rattle.catalogue_add.specs.declared.Added.{Added}
 use Rattle.catalogue_add.specs.declared.Added.the-variants as Added-as
 use Rattle.catalogue_add.specs.declared.Withdrawn.{Withdrawn}
 use Rattle.catalogue_add.specs.declared.Withdrawn.the-variants as Withdrawn-as
 
 -- the answers with these numbers
-added-from : Catalogue.Added → Added
-added-from t =
+added-from : AddedBy → Added
+added-from o =
+    let t = o .added in
     cond (eqb (t .number) 0) Added-as.Entered
-    (cond (eqb (t .number) 30) (Added-as.NotApart (t .rule) (record { answer = t .answer; count = t .count }))
+    (cond (eqb (t .number) 30) (Added-as.NotApart (t .rule) (record { answer = t .answer; count = t .count; search = o .search }))
     (cond (eqb (t .number) 31) Added-as.ForeignField
     (cond (eqb (t .number) 32) Added-as.Full
     (cond (eqb (t .number) 34) Added-as.NoCatalogue
@@ -30,7 +33,7 @@ withdrawn-from t =
     cond (eqb (t .number) 0) Withdrawn-as.Gone (cond (eqb (t .number) 33) Withdrawn-as.NoRule Withdrawn-as.NoCatalogue)
 
 added-back : (r : Added) (catalogue work : List ℕ) →
-    let t = told-added r catalogue work in (added-from t ≡ r) × (t .catalogue ≡ catalogue) × (t .work ≡ work)
+    let o = told-added-by r catalogue work in (added-from o ≡ r) × (o .added .catalogue ≡ catalogue) × (o .added .work ≡ work)
 unfolding added-from fault-from
 added-back Added-as.Entered catalogue work = (refl, refl, refl)
 added-back (Added-as.Refused CutShort at) catalogue work = (refl, refl, refl)
@@ -52,17 +55,27 @@ withdrawn-back Withdrawn-as.Gone catalogue = (refl, refl)
 withdrawn-back Withdrawn-as.NoRule catalogue = (refl, refl)
 withdrawn-back Withdrawn-as.NoCatalogue catalogue = (refl, refl)
 
-pub one-addition : (catalogue bytes work : List ℕ) (r r′ : Added) (c c′ w w′ : List ℕ)
-    → told-added r c w ≡ adding catalogue bytes work → told-added r′ c′ w′ ≡ adding catalogue bytes work
+one-added : {o : AddedBy} (r r′ : Added) (c c′ w w′ : List ℕ) → told-added-by r c w ≡ o → told-added-by r′ c′ w′ ≡ o
     → (r ≡ r′) × (c ≡ c′) × (w ≡ w′)
-one-addition catalogue bytes work r r′ c c′ w w′ e e′ =
+one-added r r′ c c′ w w′ e e′ =
     let same = e ∙ sym e′ in
     let one = added-back r c w in
     let other = added-back r′ c′ w′ in (
       sym (one .0) ∙ ap added-from same ∙ other .0,
-      sym (one .1) ∙ ap (λ (t : Catalogue.Added). t .catalogue) same ∙ other .1,
-      sym (one .2) ∙ ap (λ (t : Catalogue.Added). t .work) same ∙ other .2,
+      sym (one .1) ∙ ap (λ (o : AddedBy). o .added .catalogue) same ∙ other .1,
+      sym (one .2) ∙ ap (λ (o : AddedBy). o .added .work) same ∙ other .2,
     )
+
+module _ (catalogue bytes work : List ℕ) (r r′ : Added) (c c′ w w′ : List ℕ) where
+  pub one-addition : (told-added r c w ≡ adding catalogue bytes work) × (search-of r ≡ adding-by by-search catalogue bytes work .search)
+      → (told-added r′ c′ w′ ≡ adding catalogue bytes work) × (search-of r′ ≡ adding-by by-search catalogue bytes work .search)
+      → (r ≡ r′) × (c ≡ c′) × (w ≡ w′)
+  one-addition e e′ =
+      one-added r r′ c c′ w w′ (λ i. record { added = e .0 i; search = e .1 i }) (λ i. record { added = e′ .0 i; search = e′ .1 i })
+
+  pub one-decided-addition : told-added-by r c w ≡ adding-decided catalogue bytes work → told-added-by r′ c′ w′ ≡ adding-decided catalogue bytes work
+      → (r ≡ r′) × (c ≡ c′) × (w ≡ w′)
+  one-decided-addition = one-added r r′ c c′ w w′
 
 pub one-withdrawal : (catalogue : List ℕ) (number : ℕ) (r r′ : Withdrawn) (c c′ : List ℕ)
     → told-withdrawn r c ≡ withdrawing catalogue number → told-withdrawn r′ c′ ≡ withdrawing catalogue number

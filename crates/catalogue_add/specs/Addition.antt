@@ -8,7 +8,8 @@ use Rattle.paper.specs.Numbers.{catalogue-rules}
 use Rattle.paper.specs.Sheet.{fault-number, records}
 use Rattle.paper.specs.Rule.{Rule, read-rule, foreign-field}
 use Rattle.paper.specs.Outcome.{room-of}
-use Rattle.paper_catalogue.specs.Catalogue.{Present, Pairs, all-answered-1, not-answered-1, pairs-from, work-behind, is-full}
+use Rattle.paper_catalogue.specs.PairAsking.{PairAsking}
+use Rattle.paper_catalogue.specs.Catalogue.{Present, Pairs, all-answered-1, not-answered-1, pairs-by, AddedBy, work-behind, is-full}
 use Rattle.paper_catalogue.specs.Catalogue as Catalogue
 use Rattle.base_codes.specs.Inner.{side-code, padded}
 use Rattle.base_places.specs.WorkedOut.{worked-out}
@@ -17,6 +18,7 @@ use Rattle.base_answers.specs.Faults.{fault-of}
 use Rattle.read_rule.specs.declared.Rule as Code
 use Rattle.catalogue_form.specs.Kept.{Of-form}
 use Rattle.catalogue_form.specs.declared.Kept.{Kept}
+use Rattle.catalogue_question.specs.AskedBy.{told-pair}
 use Rattle.catalogue_add.specs.declared.Added.{Added}
 use Rattle.catalogue_add.specs.declared.Added.the-variants as Added-as
 use Rattle.catalogue_add.specs.declared.Asked.{Asked}
@@ -38,6 +40,19 @@ told-added Added-as.Full catalogue work =
     record { number = 32; count = 0; place = 0; rule = 0; answer = 0; catalogue = catalogue; work = work }
 told-added Added-as.NoCatalogue catalogue work =
     record { number = 34; count = 0; place = 0; rule = 0; answer = 0; catalogue = catalogue; work = work }
+
+-- the search that gave the pair's answer; 0 where no pair is told
+abbrev pub search-of : Added → ℕ
+search-of Added-as.Entered = 0
+search-of (Added-as.Refused x at) = 0
+search-of (Added-as.NotApart i p) = p .search
+search-of Added-as.ForeignField = 0
+search-of Added-as.Full = 0
+search-of Added-as.NoCatalogue = 0
+
+-- what adding tells, with that search
+abbrev pub told-added-by : Added → List ℕ → List ℕ → AddedBy
+told-added-by a catalogue work = record { added = told-added a catalogue work; search = search-of a }
 
 -- what withdrawing tells
 abbrev pub told-withdrawn : Withdrawn → List ℕ → Catalogue.Withdrawn
@@ -63,10 +78,10 @@ pub record Ready-to-ask (catalogue : List ℕ) (kept : Kept) (side : List ℕ) (
 -- what asking them gives
 abbrev pub pairs-of : Asked → Pairs
 pairs-of Asked-as.Apart = all-answered-1
-pairs-of (Asked-as.NotApart i p) = not-answered-1 i (p .answer) (p .count)
+pairs-of (Asked-as.NotApart i p) = not-answered-1 i (told-pair p)
 
-pub record Pairs-asked (rules-present : List Present) (rule : Rule) (work after : List ℕ) (r : Asked) : Type 0 where
-  pub pairs : pairs-of r ≡ pairs-from 0 rules-present rule (room-of work)
+pub record Pairs-asked (a : PairAsking) (rules-present : List Present) (rule : Rule) (work after : List ℕ) (r : Asked) : Type 0 where
+  pub pairs : pairs-of r ≡ pairs-by a 0 rules-present rule (room-of work)
   pub after-work : after ≡ work-behind rules-present work
 
 -- what is known where a rule is entered or not

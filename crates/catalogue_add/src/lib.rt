@@ -3,13 +3,17 @@ use base_answers::Fault;
 use base_answers::Found;
 use catalogue_form::CATALOGUE_RULES;
 use catalogue_form::Kept;
-use catalogue_pair::Pair;
+use catalogue_question::Asking;
+use catalogue_question::Pair;
 use read_rule::Rule;
 ghost use mathlib.Core.Path.{_≡_};
-ghost use Rattle.paper_catalogue.specs.Catalogue.{adding, withdrawing};
-ghost use Rattle.catalogue_add.specs.Addition.{told-added, told-withdrawn, full-of, Ready-to-ask, Ready, Pairs-asked};
+ghost use Rattle.paper_catalogue.specs.PairAsking.{by-search};
+ghost use Rattle.paper_catalogue.specs.Catalogue.{adding, adding-by, withdrawing};
+ghost use Rattle.paper_catalogue_decide.specs.DecidedPairs.{adding-decided};
+ghost use Rattle.catalogue_question.specs.AskedBy.{asking-coded};
+ghost use Rattle.catalogue_add.specs.Addition.{told-added, search-of, told-added-by, told-withdrawn, full-of, Ready-to-ask, Ready, Pairs-asked};
 
-// The answer to a new rule. specs/Told.antt gives each its number, count, place, rule's number and pair's answer.
+// The answer to a new rule. specs/Addition.antt gives each its number, count, place, rule's number, pair's answer and search.
 pub enum Added {
     // 0: its record stands behind the last one
     Entered,
@@ -37,7 +41,21 @@ pub enum Withdrawn {
 
 // Enters a rule behind the last one if its pair with every rule present is answered 1.
 pub fn add(catalogue: &mut [u8], bytes: &[u8], work: &mut [u8]) -> Added
-    ensures { λ r. ⌜ told-added r (now (catalogue .exit)) (now (work .exit)) ≡ adding (now (catalogue .entry)) (now (bytes .entry)) (now (work .entry)) ⌝ }
+    ensures added { λ r. ⌜ told-added r (now (catalogue .exit)) (now (work .exit)) ≡ adding (now (catalogue .entry)) (now (bytes .entry)) (now (work .entry)) ⌝ }
+    ensures search { λ r. ⌜ search-of r ≡ adding-by by-search (now (catalogue .entry)) (now (bytes .entry)) (now (work .entry)) .search ⌝ }
+{
+    add_by(Asking::Search, catalogue, bytes, work)
+}
+
+// As `add`, "but a pair is asked as `decide` asks".
+pub fn add_decided(catalogue: &mut [u8], bytes: &[u8], work: &mut [u8]) -> Added
+    ensures { λ r. ⌜ told-added-by r (now (catalogue .exit)) (now (work .exit)) ≡ adding-decided (now (catalogue .entry)) (now (bytes .entry)) (now (work .entry)) ⌝ }
+{
+    add_by(Asking::Decide, catalogue, bytes, work)
+}
+
+fn add_by(how: Asking, catalogue: &mut [u8], bytes: &[u8], work: &mut [u8]) -> Added
+    ensures { λ r. ⌜ told-added-by r (now (catalogue .exit)) (now (work .exit)) ≡ adding-by (asking-coded how) (now (catalogue .entry)) (now (bytes .entry)) (now (work .entry)) ⌝ }
 {
     let kept = catalogue_form::find(catalogue);
     if !kept.good {
@@ -57,7 +75,7 @@ pub fn add(catalogue: &mut [u8], bytes: &[u8], work: &mut [u8]) -> Added
     if is_full(kept, bytes.len(), catalogue.len()) {
         return Added::Full;
     }
-    enter(catalogue, kept, bytes, new, work)
+    enter(how, catalogue, kept, bytes, new, work)
 }
 
 // "32 if 32 rules stand or the record's bytes don't fit"
@@ -74,11 +92,18 @@ fn is_full(kept: Kept, bytes: usize, room: usize) -> bool
 }
 
 // "A new rule is entered exactly if its pair with every rule present gives answer 1."
-fn enter(catalogue: &mut [u8], kept: Kept, bytes: &[u8], new: Rule, work: &mut [u8]) -> Added
+fn enter(
+    how: Asking,
+    catalogue: &mut [u8],
+    kept: Kept,
+    bytes: &[u8],
+    new: Rule,
+    work: &mut [u8],
+) -> Added
     requires { ⌜ Ready (now catalogue) (now bytes) kept new ⌝ }
-    ensures { λ r. ⌜ told-added r (now (catalogue .exit)) (now (work .exit)) ≡ adding (now (catalogue .entry)) (now (bytes .entry)) (now (work .entry)) ⌝ }
+    ensures { λ r. ⌜ told-added-by r (now (catalogue .exit)) (now (work .exit)) ≡ adding-by (asking-coded how) (now (catalogue .entry)) (now (bytes .entry)) (now (work .entry)) ⌝ }
 {
-    let asked = ask_all(catalogue, kept, new, work);
+    let asked = ask_all(how, catalogue, kept, new, work);
     match asked {
         Asked::NotApart { rule, pair } => Added::NotApart { rule, pair },
         Asked::Apart => {
@@ -95,9 +120,9 @@ pub enum Asked {
 }
 
 // Asks the pairs of the rules present with a new one, by rising number, up to the first that is not answered 1.
-fn ask_all(catalogue: &[u8], kept: Kept, new: Rule, work: &mut [u8]) -> Asked
+fn ask_all(how: Asking, catalogue: &[u8], kept: Kept, new: Rule, work: &mut [u8]) -> Asked
     requires { ⌜ Ready-to-ask (now catalogue) kept (new .side) (new .fields) ⌝ }
-    ensures { λ r. ⌜ ((x : Ready-to-ask (now (catalogue .entry)) kept (new .side) (new .fields)) → Pairs-asked (x .standing .rules-present) (x .rule) (now (work .entry)) (now (work .exit)) r) ⌝ }
+    ensures { λ r. ⌜ ((x : Ready-to-ask (now (catalogue .entry)) kept (new .side) (new .fields)) → Pairs-asked (asking-coded how) (x .standing .rules-present) (x .rule) (now (work .entry)) (now (work .exit)) r) ⌝ }
 {
     let right = new.side;
     let second = new.fields;
@@ -107,7 +132,7 @@ fn ask_all(catalogue: &[u8], kept: Kept, new: Rule, work: &mut [u8]) -> Asked
         let present = catalogue_form::rule_at(catalogue, at);
         let left = present.side;
         let first = present.fields;
-        let pair = catalogue_pair::ask(left, right, first, second, work);
+        let pair = catalogue_pair::ask(how, left, right, first, second, work);
         if pair.answer != 1 {
             return Asked::NotApart { rule: i, pair };
         }

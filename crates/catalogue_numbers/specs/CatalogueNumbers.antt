@@ -1,7 +1,7 @@
--- What the answers of a catalogue tell, as numbers. `Told` says what each is.
+-- What the answers of a catalogue tell, as numbers. `Addition` and `PairList` say what each is.
 use Prim.Native.Nat.{ℕ}
 use mathlib.Core.List.{[]}
-use Rattle.catalogue_add.specs.Addition.{told-added, told-withdrawn}
+use Rattle.catalogue_add.specs.Addition.{told-added-by, told-withdrawn}
 use Rattle.catalogue_add.specs.declared.Added.{Added}
 use Rattle.catalogue_add.specs.declared.Withdrawn.{Withdrawn}
 use Rattle.catalogue_recheck.specs.PairList.{told-rechecked}
@@ -11,8 +11,9 @@ use Rattle.catalogue_numbers.specs.declared.Totals.{Totals}
 
 abbrev pub numbers-of-added : Added → Numbers
 numbers-of-added a =
-    let t = told-added a [] [] in
-    record { number = t .number; count = t .count; place = t .place; rule = t .rule; answer = t .answer }
+    let o = told-added-by a [] [] in
+    let t = o .added in
+    record { number = t .number; count = t .count; place = t .place; rule = t .rule; answer = t .answer; search = o .search }
 
 abbrev pub number-of-withdrawn : Withdrawn → ℕ
 number-of-withdrawn w = told-withdrawn w [] .number

@@ -1,4 +1,4 @@
-// The answers of a catalogue in the numbers of requests K1 and K3.
+// The answers of a catalogue in the numbers of requests K1 and K3; those of a catalogue that decides are the same.
 use base_answers::CATALOGUE_FULL;
 use base_answers::FOREIGN_FIELD;
 use base_answers::LIST_TOO_SHORT;
@@ -19,6 +19,8 @@ pub struct Numbers {
     // the number of the rule whose pair is not answered 1, and that pair's answer
     pub rule: usize,
     pub answer: usize,
+    // the search that gave it
+    pub search: usize,
 }
 
 pub fn added(a: Added) -> Numbers
@@ -33,6 +35,7 @@ pub fn added(a: Added) -> Numbers
             place: 0,
             rule,
             answer: pair.answer,
+            search: pair.search as usize,
         },
         Added::ForeignField => refusal(FOREIGN_FIELD, 0),
         Added::Full => refusal(CATALOGUE_FULL, 0),
@@ -41,7 +44,7 @@ pub fn added(a: Added) -> Numbers
 }
 
 fn refusal(number: usize, place: usize) -> Numbers
-    ensures { λ r. ⌜ r ≡ record { number = number; count = 0; place = place; rule = 0; answer = 0 } ⌝ }
+    ensures { λ r. ⌜ r ≡ record { number = number; count = 0; place = place; rule = 0; answer = 0; search = 0 } ⌝ }
 {
     Numbers {
         number,
@@ -49,6 +52,7 @@ fn refusal(number: usize, place: usize) -> Numbers
         place,
         rule: 0,
         answer: 0,
+        search: 0,
     }
 }
 

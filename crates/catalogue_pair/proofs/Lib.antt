@@ -1,3 +1,2 @@
-pub mod Filled
-pub mod Asking
+pub mod PairTold
 pub mod InRoom

@@ -1,10 +1,12 @@
--- The entry's promises, from the whole: what reading a refused sheet tells, that a good one asks, and what is promised of every decision. Follows
--- from the definition of the decision and from `sheet-decided`.
+-- The entry's promises, from the whole: what reading a refused sheet tells, what is settled of a good one's question, and what is promised of every
+-- decision. Follows from the definition of the decision, from `settled-told` and from `sheet-decided`.
 use Prim.Native.Nat.{ℕ}
-use mathlib.Core.Path.{_≡_, sym, subst}
+use mathlib.Core.Path.{_≡_, sym, ap, _∙_, subst}
 use mathlib.Core.List.{List}
-use Rattle.paper.specs.Sheet.{read-sheet}
-use Rattle.paper_decide.specs.Deciding.{Decision, concluded, decision}
+use lib.ListN.{length, replicate}
+use Rattle.paper.specs.Sheet.{Reading, read-sheet}
+use Rattle.paper.proofs.sheets.Asked.{sheet-good}
+use Rattle.paper_decide.specs.Deciding.{Decision, decision-of, decision}
 use Rattle.paper_decide.specs.DecidePromised.{Decided}
 use Rattle.paper_decide.proofs.Decided.{sheet-decided}
 use Rattle.read_sheet.specs.SheetRead.{bodies-of, sheet-of}
@@ -13,7 +15,10 @@ use Rattle.read_sheet.proofs.SheetStruct.{sheet-asks, sheet-refused}
 use Rattle.base_answers.specs.declared.Fault as Code
 use Rattle.base_answers.specs.declared.Found.the-variants.{NoFault, Refused}
 use Rattle.base_answers.specs.declared.Answer.the-variants as Answer
-use Rattle.decide_sheet.specs.Decision.{told-decision, decided-from, Asks}
+use Rattle.decide_question.specs.Settling.{settled-coded, settled-buffer, told-settled}
+use Rattle.decide_question.specs.declared.Settled.{Settled}
+use Rattle.decide_question.proofs.SettledTold.{settled-told}
+use Rattle.decide_sheet.specs.Decision.{told-decision}
 use Rattle.decide_sheet.specs.declared.Decision as Made
 
 module _ (sheet : List ℕ) (s : Sheet) (e : s ≡ sheet-of (bodies-of sheet) (read-sheet sheet)) where
@@ -23,20 +28,19 @@ module _ (sheet : List ℕ) (s : Sheet) (e : s ≡ sheet-of (bodies-of sheet) (r
   unfolding decision
   refused-told x work answer h r m = rw (m, sheet-refused sheet s e x h)
 
-  -- a sheet that is found good asks a question
-  pub good-asks : s .found ≡ NoFault → Asks (s .question)
-  good-asks h =
-      let a = sheet-asks sheet s e h in
-      record { sheet = sheet; question = a .question; good = a .good; bodies = bodies-of sheet; is = a .is }
-
-  -- the whole is what is decided from its first search on
-  pub asked-told : s .found ≡ NoFault → (work answer after worked : List ℕ) (r : Made.Decision)
-      → ((a : Asks (s .question)) → told-decision r after worked ≡ decided-from (a .question) 0 0 work answer)
+  -- what is settled of the question of a good sheet is the whole
+  pub asked-told : s .found ≡ NoFault → (work answer after worked : List ℕ) (u : Settled)
+      → (u ≡ settled-coded (s .question) (length work) answer)
+      × ((after ≡ settled-buffer (s .question) (length work) answer) × (worked ≡ replicate (length work) 0))
+      → (r : Made.Decision) → r ≡ record { answer = Answer.Searched (u .ended); search = u .search }
       → told-decision r after worked ≡ decision sheet work answer
-  unfolding decision concluded
-  asked-told h work answer after worked r f =
+  unfolding decision
+  asked-told h work answer after worked u p r m =
       let a = sheet-asks sheet s e h in
-      rw (a .good) (f (record { sheet = sheet; question = a .question; good = a .good; bodies = bodies-of sheet; is = a .is }))
+      ap (λ (d : Made.Decision). told-decision d after worked) m
+      ∙ (λ i. told-settled (p .0 i) (p .1 .0 i) (p .1 .1 i))
+      ∙ settled-told (a .question) (sheet-good sheet (a .question) (a .good)) (bodies-of sheet) (s .question) (a .is) work answer
+      ∙ sym (ap (λ (x : Reading). decision-of x work answer) (a .good))
 
 pub promised : (sheet work answer : List ℕ) (d : Decision) → d ≡ decision sheet work answer
     → (d ≡ decision sheet work answer) × Decided (read-sheet sheet) work answer d

@@ -1,4 +1,2 @@
-pub mod DecisionConcluding
-pub mod DecisionSteps
 pub mod DecisionPromised
 pub mod OneDecision

@@ -3,6 +3,7 @@ ghost use mathlib.Core.Path.{_≡_};
 ghost use Rattle.paper.specs.Outcome.{outcome};
 ghost use Rattle.paper_catalogue.specs.Catalogue.{adding, withdrawing};
 ghost use Rattle.paper_catalogue.specs.Recheck.{rechecking};
+ghost use Rattle.paper_catalogue_decide.specs.DecidedPairs.{adding-decided, rechecking-decided};
 ghost use Rattle.paper_script.specs.Scripting.{scripting};
 ghost use Rattle.paper_carry.specs.Spelling.{spelling, rule-spelling, carrying-over};
 ghost use Rattle.paper_decide.specs.Deciding.{decision};
@@ -11,6 +12,7 @@ ghost use Rattle.c_decide.specs.Decided.{telling-decided};
 ghost use Rattle.c_carry.specs.Carried.{telling-spelt};
 ghost use Rattle.c_script.specs.Scripted.{telling-scripted};
 ghost use Rattle.c_catalogue.specs.Catalogued.{telling-added, telling-rechecked};
+ghost use Rattle.c_catalogue_decide.specs.CatalogueDecided.{telling-added-by};
 
 // Can the two rules of the sheet make the same label? Returns document 01's number; count, place and written length go into the first three
 // elements of `told`, as many as there is room for.
@@ -88,6 +90,39 @@ pub extern "C" fn bradovusc_recheck(
     ensures work { λ _. ⌜ now (work .exit) ≡ rechecking (now (catalogue .entry)) (now (work .entry)) (now (list .entry)) .work ⌝ }
 {
     c_catalogue::recheck(catalogue, work, list, told)
+}
+
+// As `bradovusc_add`, but a pair is asked as `bradovusc_decide` asks. The search that gave the pair's answer goes into the fifth element of `told`.
+#[no_mangle]
+pub extern "C" fn bradovusc_add_decided(
+    catalogue: &mut [u8],
+    rule: &[u8],
+    work: &mut [u8],
+    told: &mut [u64],
+) -> u32
+    ensures number { λ r. ⌜ r ≡ adding-decided (now (catalogue .entry)) (now (rule .entry)) (now (work .entry)) .added .number ⌝ }
+    ensures told { λ _. ⌜ now (told .exit) ≡ telling-added-by (now (told .entry)) (adding-decided (now (catalogue .entry)) (now (rule .entry)) (now (work .entry))) ⌝ }
+    ensures catalogue { λ _. ⌜ now (catalogue .exit) ≡ adding-decided (now (catalogue .entry)) (now (rule .entry)) (now (work .entry)) .added .catalogue ⌝ }
+    ensures work { λ _. ⌜ now (work .exit) ≡ adding-decided (now (catalogue .entry)) (now (rule .entry)) (now (work .entry)) .added .work ⌝ }
+{
+    c_catalogue_decide::add_decided(catalogue, rule, work, told)
+}
+
+// As `bradovusc_recheck`, but a pair is asked as `bradovusc_decide` asks, and has seven bytes: lower, higher, answer, count in three bytes (low byte
+// first), and the search that gave the answer.
+#[no_mangle]
+pub extern "C" fn bradovusc_recheck_decided(
+    catalogue: &[u8],
+    work: &mut [u8],
+    list: &mut [u8],
+    told: &mut [u64],
+) -> u32
+    ensures number { λ r. ⌜ r ≡ rechecking-decided (now (catalogue .entry)) (now (work .entry)) (now (list .entry)) .number ⌝ }
+    ensures told { λ _. ⌜ now (told .exit) ≡ telling-rechecked (now (told .entry)) (rechecking-decided (now (catalogue .entry)) (now (work .entry)) (now (list .entry))) ⌝ }
+    ensures list { λ _. ⌜ now (list .exit) ≡ rechecking-decided (now (catalogue .entry)) (now (work .entry)) (now (list .entry)) .list ⌝ }
+    ensures work { λ _. ⌜ now (work .exit) ≡ rechecking-decided (now (catalogue .entry)) (now (work .entry)) (now (list .entry)) .work ⌝ }
+{
+    c_catalogue_decide::recheck_decided(catalogue, work, list, told)
 }
 
 // Writes the sheet out as a script for string solvers. Returns request K4's number; count (which is 0), place and written length go into the first

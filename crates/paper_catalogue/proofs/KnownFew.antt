@@ -15,7 +15,8 @@ use Rattle.paper.specs.Sheet.{marked, pattern-record, side-record, marked-side,
 use Rattle.paper.specs.Outcome.{room-of, searched, count-of, how-of}
 use Rattle.paper.specs.Rule.{rule-front, foreign-field, pair}
 use Rattle.paper.proofs.known.KnownSheet.{LE}
-use Rattle.paper_catalogue.specs.Catalogue.{form, pair-answer, pair-count}
+use Rattle.paper_catalogue.specs.PairAsking.{pair-answer, pair-count}
+use Rattle.paper_catalogue.specs.Catalogue.{form}
 use Rattle.paper_catalogue.specs.Recheck.{rechecking}
 
 abbrev pub RU : List ℕ → List ℕ

@@ -5,6 +5,7 @@ pub mod GoodRule
 -- pairs
 pub mod OwnSheet
 pub mod Pair
+pub mod RightAsking
 -- the calls
 pub mod Adding
 pub mod Withdrawing

@@ -16,7 +16,7 @@ use Rattle.paper.specs.Outcome.{outcome-of, outcome}
 use Rattle.paper.specs.Buffers.{Demand1}
 use Rattle.paper.specs.Demands.{demanded-number, end-of, Demand2, Demand3}
 use Rattle.paper.specs.Rule.{Rule, pair}
-use Rattle.paper_catalogue.specs.Catalogue.{pair-number, pair-answer, pair-count}
+use Rattle.paper_catalogue.specs.PairAsking.{pair-number, pair-answer, pair-count}
 use Rattle.paper.specs.Saying.{sheet-saying}
 use Rattle.paper_catalogue.specs.Calls.{without-20, OwnSheet}
 use Rattle.paper.proofs.base.Tests.{cond-by}

@@ -1,8 +1,9 @@
 -- Two good rules as a question.
---   pair-apart    : where it is answered 1, no two labels that are the same are made, one by each
---   pair-together : where it is answered 0, some are
+--   unsolved-apart  : where nothing solves it, no two labels that are the same are made, one by each
+--   solved-together : where something does, some are
+--   pair-apart, pair-together : so where 01's search answers 1, and where it answers 0
 -- The texts of two rules for labels that are the same are one assignment that solves their question: the first's below `rule-fields`, then the second's. So
--- it follows from the search of a question that is used up, and back from one that has found.
+-- it follows, for 01's search, from one of a question that is used up, and back from one that has found.
 use Prim.Native.Nat.{ℕ, _+_, _-_, _<_}
 use native.Mathlib.Omega.{arith}
 use mathlib.Core.Path.{_≡_, refl, sym, ap, _∙_, subst}
@@ -21,7 +22,7 @@ use Rattle.paper.specs.Situation.{Situation, Move}
 use Rattle.paper.specs.Question.{held-by, Solution, hidden}
 use Rattle.paper.specs.Rule.{Rule, rule-holds, Makes, moved-up, pair}
 use Rattle.paper.specs.Outcome.{searched, how-of}
-use Rattle.paper_catalogue.specs.Catalogue.{pair-number, pair-answer}
+use Rattle.paper_catalogue.specs.PairAsking.{pair-number, pair-answer}
 use Rattle.paper.proofs.base.Tests.{true-false, or-is-true, left-true, right-true, lt-ltb, le-ltb, eqb-true, eqb-same, eq-eqb}
 use Rattle.paper.proofs.base.Lists.{cons-eq, any-true, mem-any, any-append, mem-map, map-mem}
 use Rattle.paper.proofs.equations.Labels.{label-same}
@@ -138,14 +139,17 @@ module _ (r s : Rule) (g : GoodRule r) (h : GoodRule s) where
   good-pair : GoodQuestion (pair r s)
   good-pair = pair-sayable r s g h .good
 
-  -- Answered 1, they make no labels that are the same.
+  -- Where nothing solves it, they make no labels that are the same.
+  pub unsolved-apart : ((texts : Texts) → Solution (pair r s) texts → ⊥) → (l n : List ℕ) → Same space l n → Makes r l → Makes s n → ⊥
+  unsolved-apart none l n same m k = none (joined (m .texts) (k .texts)) (both-solve l n same m k)
+
+  -- Answered 1, they make none.
   pub pair-apart : (room : ℕ) → pair-answer r s room ≡ 1 → (l n : List ℕ) → Same space l n → Makes r l → Makes s n → ⊥
   unfolding pair-answer
-  pair-apart room e l n same m k =
-      let texts = joined (m .texts) (k .texts) in
-      let solution = both-solve l n same m k in
+  pair-apart room e =
+      unsolved-apart (λ texts solution.
       used-up-unsolved (hidden (pair r s)) room (hidden-known (pair r s) good-pair) (answered-1 (how-of (searched (hidden (pair r s)) room)) e)
-      (with-spaces (pair r s) good-pair texts solution) (hidden-solves (pair r s) good-pair texts solution)
+      (with-spaces (pair r s) good-pair texts solution) (hidden-solves (pair r s) good-pair texts solution))
 
   -- Texts that solve the question make, of each rule, labels that are the same.
   solve-both : (texts : Texts) → Solution (pair r s) texts → Makes r (label texts (r .side)) × Makes s (label texts (map moved-up (s .side)))
@@ -171,11 +175,13 @@ module _ (r s : Rule) (g : GoodRule r) (h : GoodRule s) where
         },
       )
 
+  pub solved-together : (texts : Texts) → Solution (pair r s) texts → (l : List ℕ) × (n : List ℕ) × Same space l n × Makes r l × Makes s n
+  unfolding pair
+  solved-together texts x = let (m, k) = solve-both texts x in (_, _, x .same-label, m, k)
+
   -- Answered 0, they make labels that are the same.
   pub pair-together : (room : ℕ) → pair-answer r s room ≡ 0 → (l : List ℕ) × (n : List ℕ) × Same space l n × Makes r l × Makes s n
-  unfolding pair-answer pair
+  unfolding pair-answer
   pair-together room e =
       let (entry, f) = answered-0 (how-of (searched (hidden (pair r s)) room)) e in
-      let x = own-solves (pair r s) good-pair _ (found-solves (hidden (pair r s)) room entry f) in
-      let (m, k) = solve-both _ x in
-      (_, _, x .same-label, m, k)
+      solved-together _ (own-solves (pair r s) good-pair _ (found-solves (hidden (pair r s)) room entry f))

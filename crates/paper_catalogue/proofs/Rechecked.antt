@@ -1,15 +1,18 @@
--- A kept catalogue checked again.
---   rechecked-apart : where nothing is listed, no label can be made by two of its rules, whatever was done to the catalogue before
---   rechecks        : with 0, the records written are exactly those of the pairs not answered 1, and `pairs` is how many there are
---   list-short      : the list of a catalogue has at most `most-listed` bytes, those of 496 pairs
---   count-in-bytes  : a pair's count has two bytes
--- Follows from the definition by induction on the rules, from `pair-apart`, and from every rule that stands being good.
+-- A kept catalogue checked again, by any right way to ask a pair.
+--   rechecked-apart  : where nothing is listed, no label can be made by two of its rules, whatever was done to the catalogue before
+--   rechecks         : with 0, the records written are exactly those of the pairs not answered 1, and `pairs` is how many there are
+--   list-at-most     : the list of a catalogue has at most the bytes of 496 pairs
+--   listed-likewise  : a way to ask that answers 1 wherever another does lists no pair that the other doesn't list
+--   count-in-bytes   : by 01's search a pair's count has two bytes
+-- Follows from the definition by induction on the rules, from `AsksRight`, and from every rule that stands being good.
 use Prim.Native.Nat.{ℕ, zero, suc, _+_, _*_, _/_, _≤_, _<_}
-use native.Mathlib.Nat.{add-zero, add-suc, suc-add, min-le-right}
+use native.Mathlib.Nat.{add-zero, add-suc, suc-add, add-comm, mul-zero, mul-suc, mul-le-mul-left, div-eq-of-lt, add-div-left, min-le-right}
+use native.Mathlib.Numerals.{add-one}
 use native.Mathlib.Omega.{arith}
-use mathlib.Core.Path.{_≡_, refl, sym}
+use mathlib.Core.Path.{_≡_, refl, sym, ap, ap₂, _∙_, subst}
 use mathlib.Core.Logic.{⊎-elim}
-use mathlib.Core.List.{List, [], _∷_, _++_, append-assoc}
+use mathlib.Core.Bool.{cond}
+use mathlib.Core.List.{List, [], _∷_, _++_, append-assoc, append-nil}
 use mathlib.Core.List.{List·Memᴰ, List·Memᴰ·head, List·Memᴰ·tail, List·Memᴰ·not-nil, List·Memᴰ·append-cases, Memᴰ·append-left, Memᴰ·append-right}
 use lib.Dec.{ltb, eqb}
 use lib.ListN.{length, take, drop, length-append}
@@ -18,14 +21,16 @@ use Rattle.paper.specs.Numbers.{situation-bytes, most-room, catalogue-rules}
 use Rattle.paper.specs.Question.{hidden}
 use Rattle.paper.specs.Rule.{Rule, pair}
 use Rattle.paper.specs.Outcome.{room-of}
-use Rattle.paper_catalogue.specs.Catalogue.{Present, Form, no-catalogue, rules, form, pair-answer, pair-count}
+use Rattle.paper_catalogue.specs.PairAsking.{PairAsking, record-by, pair-count, by-search}
+use Rattle.paper_catalogue.specs.Catalogue.{Present, Form, no-catalogue, rules, form}
 use Rattle.paper_catalogue.specs.Calls.{rule-at, Apart}
-use Rattle.paper_catalogue.specs.Recheck.{pair-bytes, pair-record, listed, listed-with, listed-from, Rechecked, rechecked-of, rechecking}
-use Rattle.paper.proofs.base.Tests.{cond-by, eqb-true, eqb-false, neq-eqb}
+use Rattle.paper_catalogue.specs.Recheck.{pair-listed-by, listed-with-by, listed-from-by, Rechecked, rechecked-of, rechecking-by}
+use Rattle.paper_catalogue.specs.Recheck.{pair-bytes, listed-from}
+use Rattle.paper.proofs.base.Tests.{cond-by, by-bool, eqb-true, eqb-false, neq-eqb}
 use Rattle.paper.proofs.sheets.QuestionSearched.{count-in-room}
 use Rattle.paper_catalogue.proofs.Form.{rules-at-most}
 use Rattle.paper_catalogue.proofs.GoodRule.{GoodRule, present-good}
-use Rattle.paper_catalogue.proofs.Pair.{pair-apart}
+use Rattle.paper_catalogue.proofs.RightAsking.{AsksRight, search-right}
 use Rattle.paper_catalogue.proofs.Apart.{TwoApart, Every, EachApart, each-apart}
 
 -- no byte in two lists together, none in either
@@ -35,91 +40,92 @@ none-left a b e = omega (arith, length-append a b, e)
 none-right : (a b : List ℕ) → length (a ++ b) ≡ 0 → length b ≡ 0
 none-right a b e = omega (arith, length-append a b, e)
 
-module _ (room : ℕ) where
+module _ (a : PairAsking) (right : AsksRight a) (work : List ℕ) where
   -- a pair that is not listed is answered 1
-  not-listed-1 : (i : ℕ) (r : Rule) (j : ℕ) (s : Rule) → length (listed i r j s room) ≡ 0 → pair-answer r s room ≡ 1
+  not-listed-1 : (i : ℕ) (r : Rule) (j : ℕ) (s : Rule) → length (pair-listed-by a i r j s (room-of work)) ≡ 0
+      → a .asks r s (room-of work) .answer ≡ 1
   not-listed-1 i r j s =
-      cond-by (λ (bytes : List ℕ). length bytes ≡ 0 → pair-answer r s room ≡ 1) (eqb (pair-answer r s room) 1)
-      (λ h _. eqb-true (pair-answer r s room) 1 h)
-      (λ h (e : 5 ≡ 0). absurd (omega (arith, e)))
+      cond-by (λ (bytes : List ℕ). length bytes ≡ 0 → a .asks r s (room-of work) .answer ≡ 1) (eqb (a .asks r s (room-of work) .answer) 1)
+      (λ h _. eqb-true (a .asks r s (room-of work) .answer) 1 h)
+      (λ h (e : length (record-by a i j (a .asks r s (room-of work))) ≡ 0). absurd (omega (arith, e)))
 
   none-with : (i : ℕ) (r : Present) (j : ℕ) (l : List Present) → GoodRule (r .rule) → ((t : Present) → List·Memᴰ t l → GoodRule (t .rule))
-      → length (listed-with i (r .rule) j l room) ≡ 0 → Every (TwoApart r) l
+      → length (listed-with-by a i (r .rule) j l (room-of work)) ≡ 0 → Every (TwoApart r) l
   none-with i r j [] g h e = tt
   none-with i r j (s ∷ l) g h e =
-      let one = listed i (r .rule) j (s .rule) room in
-      let others = listed-with i (r .rule) (suc j) l room in (
-        pair-apart (r .rule) (s .rule) g (h s (List·Memᴰ·head refl)) room (not-listed-1 i (r .rule) j (s .rule) (none-left one others e)),
+      let one = pair-listed-by a i (r .rule) j (s .rule) (room-of work) in
+      let others = listed-with-by a i (r .rule) (suc j) l (room-of work) in (
+        right .apart (r .rule) (s .rule) g (h s (List·Memᴰ·head refl)) work (not-listed-1 i (r .rule) j (s .rule) (none-left one others e)),
         none-with i r (suc j) l g (λ t d. h t (List·Memᴰ·tail d)) (none-right one others e),
       )
 
-  none-from : (i : ℕ) (l : List Present) → ((t : Present) → List·Memᴰ t l → GoodRule (t .rule)) → length (listed-from i l room) ≡ 0 → EachApart l
+  none-from : (i : ℕ) (l : List Present) → ((t : Present) → List·Memᴰ t l → GoodRule (t .rule))
+      → length (listed-from-by a i l (room-of work)) ≡ 0 → EachApart l
   none-from i [] h e = tt
   none-from i (r ∷ l) h e =
-      let its = listed-with i (r .rule) (suc i) l room in
-      let others = listed-from (suc i) l room in (
+      let its = listed-with-by a i (r .rule) (suc i) l (room-of work) in
+      let others = listed-from-by a (suc i) l (room-of work) in (
         none-with i r (suc i) l (h r (List·Memᴰ·head refl)) (λ t d. h t (List·Memᴰ·tail d)) (none-left its others e),
         none-from (suc i) l (λ t d. h t (List·Memᴰ·tail d)) (none-right its others e),
       )
 
-module _ (catalogue work list : List ℕ) where
-  none-of : (f : Form) → form catalogue ≡ f → rechecked-of f work list .number ≡ 0 → rechecked-of f work list .written ≡ 0 → Apart catalogue
-  none-of no-catalogue e = λ n w. absurd (omega (arith, n))
-  none-of (rules l) e =
-      let bytes = listed-from 0 l (room-of work) in
-      cond-by (λ (o : Rechecked). o .number ≡ 0 → o .written ≡ 0 → Apart catalogue) (ltb (length list) (length bytes))
-      (λ h (n : 35 ≡ 0) w. absurd (omega (arith, n)))
-      (λ h n w. each-apart catalogue l e (none-from (room-of work) 0 l (present-good catalogue e) w))
+  module _ (catalogue list : List ℕ) where
+    none-of : (f : Form) → form catalogue ≡ f → rechecked-of a f work list .number ≡ 0 → rechecked-of a f work list .written ≡ 0 → Apart catalogue
+    none-of no-catalogue e = λ n w. absurd (omega (arith, n))
+    none-of (rules l) e =
+        let bytes = listed-from-by a 0 l (room-of work) in
+        cond-by (λ (o : Rechecked). o .number ≡ 0 → o .written ≡ 0 → Apart catalogue) (ltb (length list) (length bytes))
+        (λ h (n : 35 ≡ 0) w. absurd (omega (arith, n)))
+        (λ h n w. each-apart catalogue l e (none-from 0 l (present-good catalogue e) w))
 
-  -- "a kept catalogue's pairs are all checked again"
-  pub rechecked-apart : rechecking catalogue work list .number ≡ 0 → rechecking catalogue work list .written ≡ 0 → Apart catalogue
-  unfolding rechecking
-  rechecked-apart = none-of (form catalogue) refl
+    -- "a kept catalogue's pairs are all checked again"
+    pub rechecked-apart : rechecking-by a catalogue work list .number ≡ 0 → rechecking-by a catalogue work list .written ≡ 0 → Apart catalogue
+    unfolding rechecking-by
+    rechecked-apart = none-of (form catalogue) refl
 
--- The records in the bytes of a list, five bytes each.
-abbrev pub records-in : List ℕ → List (List ℕ)
-records-in [] = []
-records-in (a ∷ []) = []
-records-in (a ∷ b ∷ []) = []
-records-in (a ∷ b ∷ c ∷ []) = []
-records-in (a ∷ b ∷ c ∷ d ∷ []) = []
-records-in (a ∷ b ∷ c ∷ d ∷ e ∷ bytes) = (a ∷ b ∷ c ∷ d ∷ e ∷ []) ∷ records-in bytes
+-- The records in the bytes of a list, n bytes each.
+abbrev pub records-within : ℕ → ℕ → List ℕ → List (List ℕ)
+records-within n zero bytes = []
+records-within n (suc k) bytes = take n bytes ∷ records-within n k (drop n bytes)
 
-length-records : (bytes : List ℕ) → length (records-in bytes) ≡ length bytes / pair-bytes
-length-records [] = refl
-length-records (a ∷ []) = refl
-length-records (a ∷ b ∷ []) = refl
-length-records (a ∷ b ∷ c ∷ []) = refl
-length-records (a ∷ b ∷ c ∷ d ∷ []) = refl
-length-records (a ∷ b ∷ c ∷ d ∷ e ∷ bytes) = let h = length-records bytes in omega arith
+abbrev pub records-in : ℕ → List ℕ → List (List ℕ)
+records-in n bytes = records-within n (length bytes / n) bytes
 
--- bytes that are records from their start to their end
-abbrev Whole : List ℕ → Type 0
-Whole bytes = (rest : List ℕ) → records-in (bytes ++ rest) ≡ records-in bytes ++ records-in rest
+-- one behind the other
+abbrev together : List (List ℕ) → List ℕ
+together [] = []
+together (x ∷ l) = x ++ together l
 
-whole-append : (a b : List ℕ) → Whole a → Whole b → Whole (a ++ b)
-whole-append a b g h rest =
-    rw (append-assoc a b rest, g (b ++ rest), h rest, g b) (sym (append-assoc (records-in a) (records-in b) (records-in rest)))
+together-append : (k l : List (List ℕ)) → together (k ++ l) ≡ together k ++ together l
+together-append [] l = refl
+together-append (x ∷ k) l = ap (λ (b : List ℕ). x ++ b) (together-append k l) ∙ sym (append-assoc x (together k) (together l))
 
--- the record of a pair
-abbrev pub record-for : ℕ → ℕ → Rule → ℕ → Rule → List ℕ
-record-for room i r j s = pair-record i j (pair-answer r s room) (pair-count r s room)
+module _ (n : ℕ) where
+  -- each has n bytes
+  abbrev Sized : List (List ℕ) → Type 0
+  Sized [] = Unit {0}
+  Sized (x ∷ l) = (length x ≡ n) × Sized l
 
--- a record that stands for a pair that is not answered 1: a lower and a higher number of two rules of the list, whose first has the number `from`
-pub record NotAnswered1 (room from : ℕ) (l : List Present) (x : List ℕ) : Type 0 where
-  pub lower : ℕ
-  pub higher : ℕ
-  pub below : lower < higher
-  pub there : higher < length l
-  pub not-1 : pair-answer (rule-at l lower) (rule-at l higher) room ≡ 1 → ⊥
-  pub its-record : x ≡ record-for room (from + lower) (rule-at l lower) (from + higher) (rule-at l higher)
+  sized-append : (k l : List (List ℕ)) → Sized k → Sized l → Sized (k ++ l)
+  sized-append [] l g h = h
+  sized-append (x ∷ k) l (e, g) h = (e, sized-append k l g h)
 
--- the same of one lower rule with others, whose first has the number `from`
-record With (room i : ℕ) (r : Rule) (from : ℕ) (l : List Present) (x : List ℕ) : Type 0 where
-  higher : ℕ
-  there : higher < length l
-  not-1 : pair-answer r (rule-at l higher) room ≡ 1 → ⊥
-  its-record : x ≡ record-for room i r (from + higher) (rule-at l higher)
+  length-together : (l : List (List ℕ)) → Sized l → length (together l) ≡ n * length l
+  length-together [] h = sym (mul-zero n)
+  length-together (x ∷ l) (e, h) =
+      omega (arith, e, length-append x (together l), length-together l h, mul-suc n (length l))
+
+  within-together : (l : List (List ℕ)) → Sized l → records-within n (length l) (together l) ≡ l
+  within-together [] h = refl
+  within-together (x ∷ l) (e, h) = rw (← e, take-append-seam x (together l), drop-append-seam x (together l), e, within-together l h)
+
+  many-over : (m : ℕ) → 0 < n → n * m / n ≡ m
+  many-over zero h = rw (mul-zero n) (div-eq-of-lt h)
+  many-over (suc m) h =
+      ap (λ (k : ℕ). k / n) (mul-suc n m ∙ add-comm (n * m) n) ∙ add-div-left (n * m) h ∙ rw (many-over m h) (add-one m)
+
+  records-together : (l : List (List ℕ)) → 0 < n → Sized l → records-in n (together l) ≡ l
+  records-together l h g = rw (length-together l g, many-over (length l) h) (within-together l g)
 
 -- how many pairs so many rules have
 abbrev pairs-among : ℕ → ℕ
@@ -131,66 +137,115 @@ among-most zero m h = omega arith
 among-most (suc n) zero h = absurd (omega arith)
 among-most (suc n) (suc m) h = let k = among-most n m (omega arith) in omega arith
 
--- the bytes of all pairs of 32 rules
-abbrev pub most-listed : ℕ
-most-listed = pair-bytes * 496
+-- a record that stands for a pair that is not answered 1: a lower and a higher number of two rules of the list, whose first has the number `from`
+pub record NotAnswered1 (a : PairAsking) (room from : ℕ) (l : List Present) (x : List ℕ) : Type 0 where
+  pub lower : ℕ
+  pub higher : ℕ
+  pub below : lower < higher
+  pub there : higher < length l
+  pub not-1 : a .asks (rule-at l lower) (rule-at l higher) room .answer ≡ 1 → ⊥
+  pub its-record : x ≡ record-by a (from + lower) (from + higher) (a .asks (rule-at l lower) (rule-at l higher) room)
 
-module _ (room : ℕ) where
-  whole-listed : (i : ℕ) (r : Rule) (j : ℕ) (s : Rule) → Whole (listed i r j s room)
-  whole-listed i r j s = cond-by Whole (eqb (pair-answer r s room) 1) (λ _ rest. refl) (λ _ rest. refl)
+module _ (a : PairAsking) (room : ℕ) where
+  -- the records of a list
+  abbrev record-for : ℕ → Rule → ℕ → Rule → List ℕ
+  record-for i r j s = record-by a i j (a .asks r s room)
 
-  whole-with : (i : ℕ) (r : Rule) (j : ℕ) (l : List Present) → Whole (listed-with i r j l room)
-  whole-with i r j [] = λ rest. refl
-  whole-with i r j (s ∷ l) =
-      whole-append (listed i r j (s .rule) room) (listed-with i r (suc j) l room) (whole-listed i r j (s .rule)) (whole-with i r (suc j) l)
+  abbrev record-of : ℕ → Rule → ℕ → Rule → List (List ℕ)
+  record-of i r j s = cond (eqb (a .asks r s room .answer) 1) [] (record-for i r j s ∷ [])
 
-  mem-listed : (i : ℕ) (r : Rule) (j : ℕ) (s : Rule) (x : List ℕ) → List·Memᴰ x (records-in (listed i r j s room))
-      → (pair-answer r s room ≡ 1 → ⊥) × (x ≡ record-for room i r j s)
-  mem-listed i r j s x =
-      cond-by (λ (bytes : List ℕ). List·Memᴰ x (records-in bytes) → (pair-answer r s room ≡ 1 → ⊥) × (x ≡ record-for room i r j s))
-      (eqb (pair-answer r s room) 1)
+  abbrev records-with : ℕ → Rule → ℕ → List Present → List (List ℕ)
+  records-with i r j [] = []
+  records-with i r j (s ∷ l) = record-of i r j (s .rule) ++ records-with i r (suc j) l
+
+  abbrev records-from : ℕ → List Present → List (List ℕ)
+  records-from i [] = []
+  records-from i (r ∷ l) = records-with i (r .rule) (suc i) l ++ records-from (suc i) l
+
+  one-listed : (i : ℕ) (r : Rule) (j : ℕ) (s : Rule) → pair-listed-by a i r j s room ≡ together (record-of i r j s)
+  one-listed i r j s =
+      by-bool (eqb (a .asks r s room .answer) 1) (λ h. rw h) (λ h. rw (h, append-nil (record-for i r j s)))
+
+  with-listed : (i : ℕ) (r : Rule) (j : ℕ) (l : List Present) → listed-with-by a i r j l room ≡ together (records-with i r j l)
+  with-listed i r j [] = refl
+  with-listed i r j (s ∷ l) =
+      ap₂ _++_ (one-listed i r j (s .rule)) (with-listed i r (suc j) l)
+      ∙ sym (together-append (record-of i r j (s .rule)) (records-with i r (suc j) l))
+
+  from-listed : (i : ℕ) (l : List Present) → listed-from-by a i l room ≡ together (records-from i l)
+  from-listed i [] = refl
+  from-listed i (r ∷ l) =
+      ap₂ _++_ (with-listed i (r .rule) (suc i) l) (from-listed (suc i) l)
+      ∙ sym (together-append (records-with i (r .rule) (suc i) l) (records-from (suc i) l))
+
+  -- How many there can be: one for each pair.
+  few-one : (i : ℕ) (r : Rule) (j : ℕ) (s : Rule) → length (record-of i r j s) ≤ 1
+  few-one i r j s =
+      cond-by (λ (l : List (List ℕ)). length l ≤ 1) (eqb (a .asks r s room .answer) 1) (λ _. omega arith) (λ _. omega arith)
+
+  few-with : (i : ℕ) (r : Rule) (j : ℕ) (l : List Present) → length (records-with i r j l) ≤ length l
+  few-with i r j [] = omega arith
+  few-with i r j (s ∷ l) =
+      omega (arith, few-one i r j (s .rule), few-with i r (suc j) l, length-append (record-of i r j (s .rule)) (records-with i r (suc j) l))
+
+  few-from : (i : ℕ) (l : List Present) → length (records-from i l) ≤ pairs-among (length l)
+  few-from i [] = omega arith
+  few-from i (r ∷ l) =
+      omega
+      (arith, few-with i (r .rule) (suc i) l, few-from (suc i) l, length-append (records-with i (r .rule) (suc i) l) (records-from (suc i) l))
+
+  -- Which they are.
+  mem-one : (i : ℕ) (r : Rule) (j : ℕ) (s : Rule) (x : List ℕ) → List·Memᴰ x (record-of i r j s)
+      → (a .asks r s room .answer ≡ 1 → ⊥) × (x ≡ record-for i r j s)
+  mem-one i r j s x =
+      cond-by (λ (l : List (List ℕ)). List·Memᴰ x l → (a .asks r s room .answer ≡ 1 → ⊥) × (x ≡ record-for i r j s))
+      (eqb (a .asks r s room .answer) 1)
       (λ h d. absurd (List·Memᴰ·not-nil d))
-      (λ h d. (eqb-false (pair-answer r s room) 1 h, mem-one d))
+      (λ h d. (eqb-false (a .asks r s room .answer) 1 h, the-one d))
     where
-      mem-one : {y : List ℕ} → List·Memᴰ x (y ∷ []) → x ≡ y
-      mem-one (List·Memᴰ·head e) = e
-      mem-one (List·Memᴰ·tail d) = absurd (List·Memᴰ·not-nil d)
+      the-one : {y : List ℕ} → List·Memᴰ x (y ∷ []) → x ≡ y
+      the-one (List·Memᴰ·head e) = e
+      the-one (List·Memᴰ·tail d) = absurd (List·Memᴰ·not-nil d)
 
-  listed-mem : (i : ℕ) (r : Rule) (j : ℕ) (s : Rule) → (pair-answer r s room ≡ 1 → ⊥)
-      → List·Memᴰ (record-for room i r j s) (records-in (listed i r j s room))
-  listed-mem i r j s n = rw (neq-eqb (pair-answer r s room) 1 n) (List·Memᴰ·head refl)
+  one-mem : (i : ℕ) (r : Rule) (j : ℕ) (s : Rule) → (a .asks r s room .answer ≡ 1 → ⊥) → List·Memᴰ (record-for i r j s) (record-of i r j s)
+  one-mem i r j s n = rw (neq-eqb (a .asks r s room .answer) 1 n) (List·Memᴰ·head refl)
 
-  mem-with : (i : ℕ) (r : Rule) (j : ℕ) (l : List Present) (x : List ℕ) → List·Memᴰ x (records-in (listed-with i r j l room)) → With room i r j l x
+  -- of one lower rule with others, whose first has the number `from`
+  record With (i : ℕ) (r : Rule) (from : ℕ) (l : List Present) (x : List ℕ) : Type 0 where
+    higher : ℕ
+    there : higher < length l
+    not-1 : a .asks r (rule-at l higher) room .answer ≡ 1 → ⊥
+    its-record : x ≡ record-for i r (from + higher) (rule-at l higher)
+
+  mem-with : (i : ℕ) (r : Rule) (j : ℕ) (l : List Present) (x : List ℕ) → List·Memᴰ x (records-with i r j l) → With i r j l x
   mem-with i r j [] x d = absurd (List·Memᴰ·not-nil d)
   mem-with i r j (s ∷ l) x d =
-      let one = listed i r j (s .rule) room in
-      let others = listed-with i r (suc j) l room in
+      let first = record-of i r j (s .rule) in
+      let others = records-with i r (suc j) l in
       ⊎-elim
-      (λ (k : List·Memᴰ x (records-in one)).
-      let (n, e) = mem-listed i r j (s .rule) x k in
+      (λ (k : List·Memᴰ x first).
+      let (n, e) = mem-one i r j (s .rule) x k in
       record { higher = 0; there = omega arith; not-1 = n; its-record = rw (add-zero j) e })
-      (λ (k : List·Memᴰ x (records-in others)).
+      (λ (k : List·Memᴰ x others).
       let w = mem-with i r (suc j) l x k in
       record { higher = suc (w .higher); there = omega (arith, w .there); not-1 = w .not-1; its-record = rw (add-suc j (w .higher), ← (suc-add j (w .higher))) (w .its-record) })
-      (List·Memᴰ·append-cases (records-in one) (rw (whole-listed i r j (s .rule) others) at d))
+      (List·Memᴰ·append-cases first d)
 
-  with-mem : (i : ℕ) (r : Rule) (j : ℕ) (l : List Present) (k n : ℕ) → k < length l → n ≡ j + k → (pair-answer r (rule-at l k) room ≡ 1 → ⊥)
-      → List·Memᴰ (record-for room i r n (rule-at l k)) (records-in (listed-with i r j l room))
+  with-mem : (i : ℕ) (r : Rule) (j : ℕ) (l : List Present) (k n : ℕ) → k < length l → n ≡ j + k
+      → (a .asks r (rule-at l k) room .answer ≡ 1 → ⊥) → List·Memᴰ (record-for i r n (rule-at l k)) (records-with i r j l)
   with-mem i r j [] k n h e not = absurd (omega arith)
   with-mem i r j (s ∷ l) zero n h e not =
-      let others = listed-with i r (suc j) l room in
-      rw (whole-listed i r j (s .rule) others, e, add-zero j) (Memᴰ·append-left (records-in others) (listed-mem i r j (s .rule) not))
+      rw (e, add-zero j) (Memᴰ·append-left (records-with i r (suc j) l) (one-mem i r j (s .rule) not))
   with-mem i r j (s ∷ l) (suc k) n h e not =
-      rw (whole-listed i r j (s .rule) (listed-with i r (suc j) l room))
-      (Memᴰ·append-right (records-in (listed i r j (s .rule) room)) (with-mem i r (suc j) l k n (omega arith) (omega arith) not))
+      Memᴰ·append-right (record-of i r j (s .rule)) (with-mem i r (suc j) l k n (omega arith) (omega arith) not)
 
-  mem-from : (i : ℕ) (l : List Present) (x : List ℕ) → List·Memᴰ x (records-in (listed-from i l room)) → NotAnswered1 room i l x
+  mem-from : (i : ℕ) (l : List Present) (x : List ℕ) → List·Memᴰ x (records-from i l) → NotAnswered1 a room i l x
   mem-from i [] x d = absurd (List·Memᴰ·not-nil d)
   mem-from i (r ∷ l) x d =
-      let its = listed-with i (r .rule) (suc i) l room in
-      let others = listed-from (suc i) l room in
+      let its = records-with i (r .rule) (suc i) l in
+      let others = records-from (suc i) l in
       ⊎-elim
-      (λ (k : List·Memᴰ x (records-in its)).
+      (λ (k : List·Memᴰ x its).
       let w = mem-with i (r .rule) (suc i) l x k in
       record {
         lower = 0;
@@ -200,7 +255,7 @@ module _ (room : ℕ) where
         not-1 = w .not-1;
         its-record = rw (add-zero i, add-suc i (w .higher), ← (suc-add i (w .higher))) (w .its-record);
       })
-      (λ (k : List·Memᴰ x (records-in others)).
+      (λ (k : List·Memᴰ x others).
       let w = mem-from (suc i) l x k in
       record {
         lower = suc (w .lower);
@@ -210,78 +265,127 @@ module _ (room : ℕ) where
         not-1 = w .not-1;
         its-record = rw (add-suc i (w .lower), add-suc i (w .higher), ← (suc-add i (w .lower)), ← (suc-add i (w .higher))) (w .its-record);
       })
-      (List·Memᴰ·append-cases (records-in its) (rw (whole-with i (r .rule) (suc i) l others) at d))
+      (List·Memᴰ·append-cases its d)
 
-  from-mem : (i : ℕ) (l : List Present) (a b n m : ℕ) → a < b → b < length l → n ≡ i + a → m ≡ i + b
-      → (pair-answer (rule-at l a) (rule-at l b) room ≡ 1 → ⊥)
-      → List·Memᴰ (record-for room n (rule-at l a) m (rule-at l b)) (records-in (listed-from i l room))
-  from-mem i [] a b n m less h e f not = absurd (omega arith)
-  from-mem i (r ∷ l) a zero n m less h e f not = absurd (omega arith)
-  from-mem i (r ∷ l) zero (suc b) n m less h e f not =
-      let others = listed-from (suc i) l room in
-      rw (whole-with i (r .rule) (suc i) l others, e, add-zero i)
-      (Memᴰ·append-left (records-in others) (with-mem i (r .rule) (suc i) l b m (omega arith) (omega arith) not))
-  from-mem i (r ∷ l) (suc a) (suc b) n m less h e f not =
-      rw (whole-with i (r .rule) (suc i) l (listed-from (suc i) l room))
-      (Memᴰ·append-right (records-in (listed-with i (r .rule) (suc i) l room))
-      (from-mem (suc i) l a b n m (omega arith) (omega arith) (omega arith) (omega arith) not))
+  from-mem : (i : ℕ) (l : List Present) (low high n m : ℕ) → low < high → high < length l → n ≡ i + low → m ≡ i + high
+      → (a .asks (rule-at l low) (rule-at l high) room .answer ≡ 1 → ⊥)
+      → List·Memᴰ (record-for n (rule-at l low) m (rule-at l high)) (records-from i l)
+  from-mem i [] low high n m less h e f not = absurd (omega arith)
+  from-mem i (r ∷ l) low zero n m less h e f not = absurd (omega arith)
+  from-mem i (r ∷ l) zero (suc high) n m less h e f not =
+      rw (e, add-zero i)
+      (Memᴰ·append-left (records-from (suc i) l) (with-mem i (r .rule) (suc i) l high m (omega arith) (omega arith) not))
+  from-mem i (r ∷ l) (suc low) (suc high) n m less h e f not =
+      Memᴰ·append-right (records-with i (r .rule) (suc i) l)
+      (from-mem (suc i) l low high n m (omega arith) (omega arith) (omega arith) (omega arith) not)
 
-  -- How long a list can be: five bytes for each pair.
-  with-short : (i : ℕ) (r : Rule) (j : ℕ) (l : List Present) → length (listed-with i r j l room) ≤ pair-bytes * length l
-  with-short i r j [] = omega arith
-  with-short i r j (s ∷ l) =
-      let one = listed i r j (s .rule) room in
-      let short : length one ≤ pair-bytes =
-      cond-by (λ (bytes : List ℕ). length bytes ≤ pair-bytes) (eqb (pair-answer r (s .rule) room) 1) (λ _. omega arith) (λ _. omega arith) in
-      omega (arith, short, with-short i r (suc j) l, length-append one (listed-with i r (suc j) l room))
+  -- Each has the bytes of a pair.
+  module _ (right : AsksRight a) where
+    sized-one : (i : ℕ) (r : Rule) (j : ℕ) (s : Rule) → Sized (a .pair-bytes) (record-of i r j s)
+    sized-one i r j s =
+        cond-by (Sized (a .pair-bytes)) (eqb (a .asks r s room .answer) 1) (λ _. tt) (λ _. (right .one-length i j (a .asks r s room), tt))
 
-  from-short : (i : ℕ) (l : List Present) → length (listed-from i l room) ≤ pair-bytes * pairs-among (length l)
-  from-short i [] = omega arith
-  from-short i (r ∷ l) =
-      let its = listed-with i (r .rule) (suc i) l room in
-      omega (arith, with-short i (r .rule) (suc i) l, from-short (suc i) l, length-append its (listed-from (suc i) l room))
+    sized-with : (i : ℕ) (r : Rule) (j : ℕ) (l : List Present) → Sized (a .pair-bytes) (records-with i r j l)
+    sized-with i r j [] = tt
+    sized-with i r j (s ∷ l) =
+        sized-append (a .pair-bytes) (record-of i r j (s .rule)) (records-with i r (suc j) l) (sized-one i r j (s .rule)) (sized-with i r (suc j) l)
 
-  -- "a catalogue of up to 32 rules"
-  pub list-short : (catalogue : List ℕ) {l : List Present} → form catalogue ≡ rules l → length (listed-from 0 l room) ≤ most-listed
-  list-short catalogue {l} e =
-      omega (arith, from-short 0 l, among-most (length l) catalogue-rules (rules-at-most catalogue e))
+    sized-from : (i : ℕ) (l : List Present) → Sized (a .pair-bytes) (records-from i l)
+    sized-from i [] = tt
+    sized-from i (r ∷ l) =
+        sized-append (a .pair-bytes) (records-with i (r .rule) (suc i) l) (records-from (suc i) l) (sized-with i (r .rule) (suc i) l) (sized-from (suc i) l)
+
+    some-bytes : 0 < a .pair-bytes
+    some-bytes = omega (arith, right .one-length 0 0 (record { answer = 0; count = 0; search = 0 }))
+
+    records-are : (l : List Present) → records-in (a .pair-bytes) (listed-from-by a 0 l room) ≡ records-from 0 l
+    records-are l = rw (from-listed 0 l) (records-together (a .pair-bytes) (records-from 0 l) some-bytes (sized-from 0 l))
+
+    -- "a catalogue of up to 32 rules": the 496 pairs of them
+    pub list-at-most : (catalogue : List ℕ) {l : List Present} → form catalogue ≡ rules l → length (listed-from-by a 0 l room) ≤ a .pair-bytes * 496
+    list-at-most catalogue {l} e =
+        let few : length (records-from 0 l) ≤ 496 = omega (arith, few-from 0 l, among-most (length l) catalogue-rules (rules-at-most catalogue e)) in
+        omega
+        (arith, ap length (from-listed 0 l), length-together (a .pair-bytes) (records-from 0 l) (sized-from 0 l), mul-le-mul-left (a .pair-bytes) few)
+
+-- by request K3's records
+pub list-short : (room : ℕ) (catalogue : List ℕ) {l : List Present} → form catalogue ≡ rules l → length (listed-from 0 l room) ≤ pair-bytes * 496
+list-short room catalogue {l} e = list-at-most by-search room search-right catalogue e
 
 -- "a count is at most the room", and so at most 65,535
 pub count-in-bytes : (r s : Rule) (work : List ℕ) → pair-count r s (room-of work) ≤ most-room
 unfolding pair-count room-of
 count-in-bytes r s work = omega (arith, count-in-room (hidden (pair r s)) work, min-le-right (length work / situation-bytes) most-room)
 
+-- the records of a list that was written
+abbrev pub records-written : PairAsking → Rechecked → List (List ℕ)
+records-written a o = records-in (a .pair-bytes) (take (o .written) (o .list))
+
 -- What 0 says of the list.
-pub record Rechecks (catalogue work list : List ℕ) (o : Rechecked) : Type 0 where
+pub record Rechecks (a : PairAsking) (catalogue work list : List ℕ) (o : Rechecked) : Type 0 where
   pub rules-present : List Present
   pub of-form : form catalogue ≡ rules rules-present
-  pub listed-only : (x : List ℕ) → List·Memᴰ x (records-in (take (o .written) (o .list))) → NotAnswered1 (room-of work) 0 rules-present x
-  pub all-listed : (x : List ℕ) → NotAnswered1 (room-of work) 0 rules-present x → List·Memᴰ x (records-in (take (o .written) (o .list)))
-  pub pairs : o .pairs ≡ length (records-in (take (o .written) (o .list)))
-  pub short : o .written ≤ most-listed
+  pub listed-only : (x : List ℕ) → List·Memᴰ x (records-written a o) → NotAnswered1 a (room-of work) 0 rules-present x
+  pub all-listed : (x : List ℕ) → NotAnswered1 a (room-of work) 0 rules-present x → List·Memᴰ x (records-written a o)
+  pub pairs : o .pairs ≡ length (records-written a o)
+  pub short : o .written ≤ a .pair-bytes * 496
   pub rest : drop (o .written) (o .list) ≡ drop (o .written) list
 
-module _ (catalogue work list : List ℕ) where
-  rechecks-of : (f : Form) → form catalogue ≡ f → rechecked-of f work list .number ≡ 0 → Rechecks catalogue work list (rechecked-of f work list)
+length-within : (n k : ℕ) (bytes : List ℕ) → length (records-within n k bytes) ≡ k
+length-within n zero bytes = refl
+length-within n (suc k) bytes = let h = length-within n k (drop n bytes) in omega arith
+
+module _ (a : PairAsking) (right : AsksRight a) (catalogue work list : List ℕ) where
+  rechecks-of : (f : Form) → form catalogue ≡ f → rechecked-of a f work list .number ≡ 0
+      → Rechecks a catalogue work list (rechecked-of a f work list)
   rechecks-of no-catalogue e = λ n. absurd (omega (arith, n))
   rechecks-of (rules l) e =
-      let bytes = listed-from 0 l (room-of work) in
+      let bytes = listed-from-by a 0 l (room-of work) in
       let behind = drop (length bytes) list in
       let front = take-append-seam bytes behind in
-      cond-by (λ (o : Rechecked). o .number ≡ 0 → Rechecks catalogue work list o) (ltb (length list) (length bytes))
+      let are = records-are a (room-of work) right l in
+      cond-by (λ (o : Rechecked). o .number ≡ 0 → Rechecks a catalogue work list o) (ltb (length list) (length bytes))
       (λ h n. absurd (omega (arith, n)))
       (λ h n. record {
         rules-present = l;
         of-form = e;
-        listed-only = λ x d. mem-from (room-of work) 0 l x (rw front at d);
-        all-listed = λ x a.
-            rw (front, a .its-record)
-            (from-mem (room-of work) 0 l (a .lower) (a .higher) (0 + a .lower) (0 + a .higher) (a .below) (a .there) refl refl (a .not-1));
-        pairs = rw front (sym (length-records bytes));
-        short = list-short (room-of work) catalogue e;
+        listed-only = λ x d. mem-from a (room-of work) 0 l x (rw (front, are) at d);
+        all-listed = λ x w.
+            rw (front, are, w .its-record)
+            (from-mem a (room-of work) 0 l (w .lower) (w .higher) (0 + w .lower) (0 + w .higher) (w .below) (w .there) refl refl (w .not-1));
+        pairs = rw front (sym (length-within (a .pair-bytes) (length bytes / a .pair-bytes) bytes));
+        short = list-at-most a (room-of work) right catalogue e;
         rest = drop-append-seam bytes behind;
       })
 
-  pub rechecks : rechecking catalogue work list .number ≡ 0 → Rechecks catalogue work list (rechecking catalogue work list)
-  unfolding rechecking
+  pub rechecks : rechecking-by a catalogue work list .number ≡ 0 → Rechecks a catalogue work list (rechecking-by a catalogue work list)
+  unfolding rechecking-by
   rechecks = rechecks-of (form catalogue) refl
+
+-- A way to ask that answers 1 wherever another does lists no pair that the other doesn't list: the two numbers in front are those of a pair of its.
+module _ (a b : PairAsking) (likewise : (r s : Rule) (room : ℕ) → a .asks r s room .answer ≡ 1 → b .asks r s room .answer ≡ 1) where
+  not-likewise : (room from : ℕ) (l : List Present) (x : List ℕ) → NotAnswered1 b room from l x
+      → (y : List ℕ) × NotAnswered1 a room from l y × (take 2 y ≡ take 2 x)
+  not-likewise room from l x n = (
+    record-by a (from + n .lower) (from + n .higher) (a .asks (rule-at l (n .lower)) (rule-at l (n .higher)) room),
+    record {
+      lower = n .lower;
+      higher = n .higher;
+      below = n .below;
+      there = n .there;
+      not-1 = λ e. n .not-1 (likewise (rule-at l (n .lower)) (rule-at l (n .higher)) room e);
+      its-record = refl;
+    },
+    sym (ap (take 2) (n .its-record)),
+  )
+
+  pub listed-likewise : AsksRight a → AsksRight b → (catalogue work list other : List ℕ)
+      → rechecking-by a catalogue work list .number ≡ 0 → rechecking-by b catalogue work other .number ≡ 0
+      → (x : List ℕ) → List·Memᴰ x (records-written b (rechecking-by b catalogue work other))
+      → (y : List ℕ) × List·Memᴰ y (records-written a (rechecking-by a catalogue work list)) × (take 2 y ≡ take 2 x)
+  listed-likewise right-a right-b catalogue work list other z w x d =
+      let one = rechecks a right-a catalogue work list z in
+      let two = rechecks b right-b catalogue work other w in
+      let same : two .rules-present ≡ one .rules-present = cc (one .of-form, two .of-form) in
+      let (y, n, e) = not-likewise (room-of work) 0 (two .rules-present) x (two .listed-only x d) in
+      (y, one .all-listed y (subst (λ (l : List Present). NotAnswered1 a (room-of work) 0 l y) same n), e)

@@ -18,7 +18,8 @@ use lib.ListN.{length, take, drop, replicate, length-append, length-take, length
 use lib.Seq.{take-all, take-at, drop-at, drop-drop, take-add, take-append-seam, getD-append-seam, getD-take, drop-append-add, length-take-le}
 use Rattle.paper.specs.Numbers.{catalogue-rules}
 use Rattle.paper.specs.Outcome.{room-of}
-use Rattle.paper_catalogue.specs.Catalogue.{Present, Form, no-catalogue, rules, all-zero, form, used, pair-answer, with-record, is-full, adding}
+use Rattle.paper_catalogue.specs.PairAsking.{PairAsking}
+use Rattle.paper_catalogue.specs.Catalogue.{Present, Form, no-catalogue, rules, all-zero, form, used, with-record, is-full, adding-by}
 use Rattle.paper_catalogue.specs.Catalogue.{Withdrawn, without-record, withdrawn-from, withdrawn-of, withdrawing}
 use Rattle.paper_catalogue.specs.Calls.{behind-last, present-at, rule-at}
 use Rattle.paper.proofs.base.Tests.{by-bool, both-true, both-false, ltb-true, ltb-false, le-ltb, lt-leb}
@@ -161,27 +162,27 @@ taken-put at n c z h =
     (take-append-drop (at + n) c)
 
 -- Entered and withdrawn again: the catalogue is as it was, byte for byte. The number of the new rule is that of the rules before it.
-pub added-withdrawn : (c bytes work : List ℕ) (x : Enters c bytes work)
-    → withdrawing (adding c bytes work .catalogue) (length (x .rules-present)) ≡ record { number = 0; catalogue = c }
-added-withdrawn c bytes work x =
+pub added-withdrawn : (a : PairAsking) (c bytes work : List ℕ) (x : Enters a c bytes work)
+    → withdrawing (adding-by a c bytes work .added .catalogue) (length (x .rules-present)) ≡ record { number = 0; catalogue = c }
+added-withdrawn a c bytes work x =
     let l = x .rules-present in
     let new : Present = record { rule = x .rule; bytes = x .own-bytes } in
-    let d = adding c bytes work .catalogue in
+    let d = adding-by a c bytes work .added .catalogue in
     let all : x .own-bytes ≡ length bytes = rule-whole bytes (x .is-read) .1 in
     let last : Leaves d (length l) =
-    record { rules-present = l ++ (new ∷ []); of-form = added-form c bytes work x; there = rw (length-append l (new ∷ [])) (omega arith) } in
+    record { rules-present = l ++ (new ∷ []); of-form = added-form a c bytes work x; there = rw (length-append l (new ∷ [])) (omega arith) } in
     leaves d (length l) last
     ∙ rw (
       take-append-seam l (new ∷ []),
       getD-append-seam l new [],
       all,
-      enters c bytes work x,
+      enters a c bytes work x,
       put-taken (used l) bytes c (rw (rest-zero c (x .of-form)) (zero-bytes (length c - used l))) (rule-fits c (x .of-form) bytes (x .room)),
     )
 
 -- The last rule withdrawn and its bytes entered again, in a room in which each pair is answered 1: the catalogue is as it was.
-module _ (c work : List ℕ) {l : List Present} (e : form c ≡ rules l) (i : ℕ) (last : suc i ≡ length l)
-    (answered : (k : ℕ) → k < i → pair-answer (rule-at l k) (rule-at l i) (room-of work) ≡ 1) where
+module _ (a : PairAsking) (c work : List ℕ) {l : List Present} (e : form c ≡ rules l) (i : ℕ) (last : suc i ≡ length l)
+    (answered : (k : ℕ) → k < i → a .asks (rule-at l k) (rule-at l i) (room-of work) .answer ≡ 1) where
   abbrev its-bytes : List ℕ
   its-bytes = take (present-at l i .bytes) (drop (offset-of l i) c)
 
@@ -197,7 +198,7 @@ module _ (c work : List ℕ) {l : List Present} (e : form c ≡ rules l) (i : �
   its-size : length its-bytes ≡ present-at l i .bytes
   its-size = length-take-le (present-at l i .bytes) (drop (offset-of l i) c) (rule-bounds (drop (offset-of l i) c) (read-at c e i there) .1)
 
-  abbrev enters-again : Enters (withdrawing c i .catalogue) its-bytes work
+  abbrev enters-again : Enters a (withdrawing c i .catalogue) its-bytes work
   enters-again =
       record {
         rules-present = take i l;
@@ -214,12 +215,12 @@ module _ (c work : List ℕ) {l : List Present} (e : form c ≡ rules l) (i : �
       }
 
   pub withdrawn-added :
-      (adding (withdrawing c i .catalogue) its-bytes work .number ≡ 0)
-      × (adding (withdrawing c i .catalogue) its-bytes work .catalogue ≡ c)
+      (adding-by a (withdrawing c i .catalogue) its-bytes work .added .number ≡ 0)
+      × (adding-by a (withdrawing c i .catalogue) its-bytes work .added .catalogue ≡ c)
   withdrawn-added =
       let all : offset-of l i + present-at l i .bytes ≡ used l =
       sym (offset-next l i there) ∙ ap used (take-all (suc i) l (omega arith)) in
-      rw (enters (withdrawing c i .catalogue) its-bytes work enters-again, leaves c i one-left) (
+      rw (enters a (withdrawing c i .catalogue) its-bytes work enters-again, leaves c i one-left) (
         refl,
         taken-put (offset-of l i) (present-at l i .bytes) c
             (rw (all, rest-zero c e) (zero-bytes (length c - used l))) (record-inside c e i there),

@@ -11,21 +11,23 @@ use Rattle.paper.specs.Sheet.{open-fields, asked, read-sheet}
 use Rattle.paper.specs.Outcome.{room-of, outcome}
 use Rattle.paper.specs.Rule.{Rule, Makes, pair}
 use Rattle.paper.specs.Saying.{sheet-saying}
-use Rattle.paper_catalogue.specs.Catalogue.{Present, rules, form, pair-answer, pair-count, adding, withdrawing}
+use Rattle.paper_catalogue.specs.PairAsking.{PairAsking, pair-answer, pair-count}
+use Rattle.paper_catalogue.specs.Catalogue.{Present, rules, form, adding-by, withdrawing}
 
--- a call: a rule's bytes to add, with a working buffer, or a number to withdraw; any bytes, any numbers
-pub data Call : Type 0 where
-  add : List ℕ → List ℕ → Call
-  withdraw : ℕ → Call
+-- a call: a rule's bytes to add, with a working buffer, by one of the kinds of adding; or a number to withdraw. Any bytes, any numbers.
+pub data Call (Kind : Type 0) : Type 0 where
+  add : Kind → List ℕ → List ℕ → Call Kind
+  withdraw : ℕ → Call Kind
 
--- the catalogue after a call, and after one call behind the other
-abbrev pub after-call : List ℕ → Call → List ℕ
-after-call catalogue (add bytes work) = adding catalogue bytes work .catalogue
-after-call catalogue (withdraw i) = withdrawing catalogue i .catalogue
+-- the catalogue after a call, and after one call behind the other; each kind is a way to ask a pair
+module _ {Kind : Type 0} (asking : Kind → PairAsking) where
+  abbrev pub after-call : List ℕ → Call Kind → List ℕ
+  after-call catalogue (add k bytes work) = adding-by (asking k) catalogue bytes work .added .catalogue
+  after-call catalogue (withdraw i) = withdrawing catalogue i .catalogue
 
-abbrev pub after-calls : List ℕ → List Call → List ℕ
-after-calls catalogue [] = catalogue
-after-calls catalogue (c ∷ calls) = after-calls (after-call catalogue c) calls
+  abbrev pub after-calls : List ℕ → List (Call Kind) → List ℕ
+  after-calls catalogue [] = catalogue
+  after-calls catalogue (c ∷ calls) = after-calls (after-call catalogue c) calls
 
 -- "an empty catalogue" of n bytes
 abbrev pub empty-catalogue : ℕ → List ℕ

@@ -1,4 +1,5 @@
--- The whole catalogue (request K1): its form in a lent buffer, adding a rule and withdrawing one, each for all lists of bytes.
+-- The whole catalogue (request K1): its form in a lent buffer, adding a rule and withdrawing one, each for all lists of bytes. Adding is by any way to
+-- ask a pair.
 use Prim.Native.Nat.{ℕ, zero, suc, _+_}
 use mathlib.Core.Bool.{Bool, cond, _||_}
 use mathlib.Core.List.{List, [], _∷_, _++_}
@@ -6,13 +7,10 @@ use lib.Dec.{leb, ltb, eqb}
 use lib.ListN.{length, take, drop, replicate}
 use Rattle.paper.specs.Lists.{all}
 use Rattle.paper.specs.Numbers.{catalogue-rules}
-use Rattle.paper.specs.Places.{PlaceSet}
-use Rattle.paper.specs.Search.{End, found, used-up, no-room, too-long}
-use Rattle.paper.specs.Situation.{Situation, Move}
-use Rattle.paper.specs.Question.{hidden}
 use Rattle.paper.specs.Sheet.{fault-number, Records, faulty, records}
-use Rattle.paper.specs.Rule.{Rule, rule-front, read-rule, foreign-field, pair}
-use Rattle.paper.specs.Outcome.{room-of, searched, cleared, count-of, how-of}
+use Rattle.paper.specs.Rule.{Rule, rule-front, read-rule, foreign-field}
+use Rattle.paper.specs.Outcome.{room-of, cleared}
+use Rattle.paper_catalogue.specs.PairAsking.{PairAnswered, PairAsking, by-search}
 
 -- a rule that stands in the catalogue, and how many bytes its record has
 pub record Present : Type 0 where
@@ -53,32 +51,22 @@ abbrev pub used : List Present → ℕ
 used [] = 0
 used (r ∷ l) = r .bytes + used l
 
--- The answer of a pair: "a pair's texts are not written, so it can't give 20".
-abbrev pub pair-number : End (Situation PlaceSet) Move → ℕ
-pair-number (found e) = 0
-pair-number used-up = 1
-pair-number no-room = 18
-pair-number too-long = 19
-
--- what the pairs with the rules present give: each is answered 1, or the number of the first rule that gave something else, its pair's
--- answer and its pair's count
+-- what the pairs with the rules present give: each is answered 1, or the number of the first rule that gave something else, and what its pair was
+-- answered
 pub data Pairs : Type 0 where
   all-answered-1 : Pairs
-  not-answered-1 : ℕ → ℕ → ℕ → Pairs
-
--- the pair of a present rule and a new one, searched in a room
-unfoldable pub pair-answer : Rule → Rule → ℕ → ℕ
-pair-answer present new room = pair-number (how-of (searched (hidden (pair present new)) room))
-
-unfoldable pub pair-count : Rule → Rule → ℕ → ℕ
-pair-count present new room = count-of (searched (hidden (pair present new)) room)
+  not-answered-1 : ℕ → PairAnswered → Pairs
 
 -- the rules from number i on
+abbrev pub pairs-by : PairAsking → ℕ → List Present → Rule → ℕ → Pairs
+pairs-by a i [] new room = all-answered-1
+pairs-by a i (r ∷ l) new room =
+    cond (eqb (a .asks (r .rule) new room .answer) 1) (pairs-by a (suc i) l new room)
+    (not-answered-1 i (a .asks (r .rule) new room))
+
+-- request K1's
 abbrev pub pairs-from : ℕ → List Present → Rule → ℕ → Pairs
-pairs-from i [] new room = all-answered-1
-pairs-from i (r ∷ l) new room =
-    cond (eqb (pair-answer (r .rule) new room) 1) (pairs-from (suc i) l new room)
-    (not-answered-1 i (pair-answer (r .rule) new room) (pair-count (r .rule) new room))
+pairs-from i l new room = pairs-by by-search i l new room
 
 -- what adding tells and leaves: "the number of the first rule that gave something else is reported with that answer", and its count
 pub record Added : Type 0 where
@@ -90,12 +78,20 @@ pub record Added : Type 0 where
   pub catalogue : List ℕ
   pub work : List ℕ
 
--- a refusal before any pair is searched: no byte of either buffer changes
+-- and which search gave the pair's answer; 0 where no pair is told
+pub record AddedBy : Type 0 where
+  pub added : Added
+  pub search : ℕ
+
+-- a refusal before any pair is asked: no byte of either buffer changes
 abbrev pub not-entered : ℕ → ℕ → List ℕ → List ℕ → Added
 not-entered number place catalogue work =
     record { number = number; count = 0; place = place; rule = 0; answer = 0; catalogue = catalogue; work = work }
 
--- the working buffer behind the pairs: all zero once one was searched
+abbrev pub not-asked : ℕ → ℕ → List ℕ → List ℕ → AddedBy
+not-asked number place catalogue work = record { added = not-entered number place catalogue work; search = 0 }
+
+-- the working buffer behind the pairs: all zero once one was asked
 abbrev pub work-behind : List Present → List ℕ → List ℕ
 work-behind [] work = work
 work-behind (r ∷ l) work = cleared work
@@ -105,26 +101,32 @@ abbrev pub with-record : ℕ → List ℕ → List ℕ → List ℕ
 with-record at bytes catalogue = take at catalogue ++ bytes ++ drop (at + length bytes) catalogue
 
 -- "A new rule is entered exactly if its pair with every rule present gives answer 1"; "30 for a pair not answered 1"
-abbrev pub entered-if : Pairs → List Present → List ℕ → List ℕ → List ℕ → Added
+abbrev pub entered-if : Pairs → List Present → List ℕ → List ℕ → List ℕ → AddedBy
 entered-if all-answered-1 l bytes catalogue work =
     record {
-      number = 0;
-      count = 0;
-      place = 0;
-      rule = 0;
-      answer = 0;
-      catalogue = with-record (used l) bytes catalogue;
-      work = work-behind l work;
+      added = record {
+        number = 0;
+        count = 0;
+        place = 0;
+        rule = 0;
+        answer = 0;
+        catalogue = with-record (used l) bytes catalogue;
+        work = work-behind l work;
+      };
+      search = 0;
     }
-entered-if (not-answered-1 i answer count) l bytes catalogue work =
+entered-if (not-answered-1 i p) l bytes catalogue work =
     record {
-      number = 30;
-      count = count;
-      place = 0;
-      rule = i;
-      answer = answer;
-      catalogue = catalogue;
-      work = work-behind l work;
+      added = record {
+        number = 30;
+        count = p .count;
+        place = 0;
+        rule = i;
+        answer = p .answer;
+        catalogue = catalogue;
+        work = work-behind l work;
+      };
+      search = p .search;
     }
 
 -- "32 if 32 rules stand or the record's bytes don't fit"
@@ -132,20 +134,25 @@ abbrev pub is-full : List Present → List ℕ → List ℕ → Bool
 is-full l bytes catalogue = leb catalogue-rules (length l) || ltb (length catalogue) (used l + length bytes)
 
 -- "then the rule's own 11 to 17, then 31 for a field above 3, then 32 .., then 30"
-abbrev pub added-rule : Records Rule → List Present → List ℕ → List ℕ → List ℕ → Added
-added-rule (faulty x at) l bytes catalogue work = not-entered (fault-number x) at catalogue work
-added-rule (records r next) l bytes catalogue work =
-    cond (foreign-field r) (not-entered 31 0 catalogue work)
-    (cond (is-full l bytes catalogue) (not-entered 32 0 catalogue work)
-    (entered-if (pairs-from 0 l r (room-of work)) l bytes catalogue work))
+abbrev pub added-rule : PairAsking → Records Rule → List Present → List ℕ → List ℕ → List ℕ → AddedBy
+added-rule a (faulty x at) l bytes catalogue work = not-asked (fault-number x) at catalogue work
+added-rule a (records r next) l bytes catalogue work =
+    cond (foreign-field r) (not-asked 31 0 catalogue work)
+    (cond (is-full l bytes catalogue) (not-asked 32 0 catalogue work)
+    (entered-if (pairs-by a 0 l r (room-of work)) l bytes catalogue work))
 
 -- "34 for a buffer not of this form"
-abbrev pub added-to : Form → List ℕ → List ℕ → List ℕ → Added
-added-to no-catalogue bytes catalogue work = not-entered 34 0 catalogue work
-added-to (rules l) bytes catalogue work = added-rule (read-rule bytes) l bytes catalogue work
+abbrev pub added-to : PairAsking → Form → List ℕ → List ℕ → List ℕ → AddedBy
+added-to a no-catalogue bytes catalogue work = not-asked 34 0 catalogue work
+added-to a (rules l) bytes catalogue work = added-rule a (read-rule bytes) l bytes catalogue work
 
+unfoldable pub adding-by : PairAsking → List ℕ → List ℕ → List ℕ → AddedBy
+adding-by a catalogue bytes work = added-to a (form catalogue) bytes catalogue work
+
+-- request K1's
 unfoldable pub adding : List ℕ → List ℕ → List ℕ → Added
-adding catalogue bytes work = added-to (form catalogue) bytes catalogue work
+unfolding adding-by
+adding catalogue bytes work = adding-by by-search catalogue bytes work .added
 
 -- what withdrawing tells and leaves
 pub record Withdrawn : Type 0 where

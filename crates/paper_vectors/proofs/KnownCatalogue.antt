@@ -18,7 +18,8 @@ use Rattle.paper.specs.Question.{acceptor}
 use Rattle.paper.specs.Sheet.{marked, pattern-record, side-record, marked-side, next-is}
 use Rattle.paper.specs.Outcome.{room-of, searched, count-of, how-of}
 use Rattle.paper.specs.Rule.{rule-front, read-rule, foreign-field, pair}
-use Rattle.paper_catalogue.specs.Catalogue.{form, pair-answer, pair-count, Added, adding, Withdrawn, withdrawing}
+use Rattle.paper_catalogue.specs.PairAsking.{pair-answer, pair-count}
+use Rattle.paper_catalogue.specs.Catalogue.{form, Added, adding, Withdrawn, withdrawing}
 use Rattle.paper.proofs.known.KnownSheet.{PA, LE, RI}
 use Rattle.paper_catalogue.proofs.KnownFew.{RU, zeros, rule-A, rule-B, A-spaces}
 

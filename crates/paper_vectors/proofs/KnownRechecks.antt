@@ -19,7 +19,8 @@ use Rattle.paper.specs.Question.{acceptor}
 use Rattle.paper.specs.Sheet.{marked, pattern-record, side-record, marked-side, next-is}
 use Rattle.paper.specs.Outcome.{room-of, searched, count-of, how-of}
 use Rattle.paper.specs.Rule.{rule-front, foreign-field, pair}
-use Rattle.paper_catalogue.specs.Catalogue.{form, pair-answer, pair-count}
+use Rattle.paper_catalogue.specs.PairAsking.{pair-answer, pair-count}
+use Rattle.paper_catalogue.specs.Catalogue.{form}
 use Rattle.paper_catalogue.specs.Recheck.{pair-record, Rechecked, rechecking}
 use Rattle.paper.proofs.known.KnownSheet.{PA, LE}
 use Rattle.paper_catalogue.proofs.KnownFew.{RU, zeros, rule-A, rule-B, A-spaces, kept-rules, two-and-two}

@@ -336,6 +336,53 @@ class Listed(Told):
     _words = "done"
 
 
+@dataclass(frozen=True)
+class AddedDecided(Told):
+    """The answer to a rule that is to be added, and which search gave it. As a string it is the answer's words."""
+
+    #: As :func:`add` gives it; the count of a pair is that of all the searches made for it.
+    added: Added
+    #: After :class:`NotApart` the search that found the clash, 1 to 3 (the fourth finds none), or 0 where none decided; otherwise 0.
+    search: int
+
+    @property
+    def number(self) -> int:  # type: ignore[override]
+        """The answer's number."""
+        return self.added.number
+
+    def __str__(self) -> str:
+        return str(self.added)
+
+
+@dataclass(frozen=True)
+class DecidedPair:
+    """Two rules of a catalogue that can make the same label, or of which no search decides that."""
+
+    #: The lower number of the two; this rule was the left side.
+    lower: int
+    higher: int
+    #: :class:`Clash`, of which no texts are told, or what the first search gave, :class:`NoRoom` or :class:`SideTooLong`. Its count is that
+    #: of all the searches made.
+    answer: Answer
+    #: The search that found the clash, 1 to 3 (the fourth finds none), or 0 where none decided.
+    search: int
+
+    def __str__(self) -> str:
+        return f"rule {self.lower} and rule {self.higher}: {self.answer}"
+
+
+@dataclass(frozen=True)
+class ListedDecided(Told):
+    """0: these pairs are not answered 1, by the lower number, then the higher one.
+
+    Where there are none, no two rules of the catalogue make the same label.
+    """
+
+    pairs: Tuple[DecidedPair, ...]
+    number = 0
+    _words = "done"
+
+
 #: The answer to a sheet that is to be written out.
 Scripted = Union[Written, Refused, ScriptTooShort]
 #: The answer to a rule that is to be added.
@@ -344,6 +391,8 @@ Added = Union[Done, Refused, NotApart, ForeignField, Full, NoCatalogue]
 Withdrawn = Union[Done, NoRule, NoCatalogue]
 #: What checking a catalogue again answers.
 Rechecked = Union[Listed, NoCatalogue, ListTooShort]
+#: The same where pairs are decided.
+RecheckedDecided = Union[ListedDecided, NoCatalogue, ListTooShort]
 #: The answer to a sheet or a rule that is to be carried over.
 SpeltOpen = Union[Written, Refused, ForeignField, OutputTooShort]
 #: The answer to a catalogue that is to be carried over.

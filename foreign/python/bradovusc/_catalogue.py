@@ -6,17 +6,21 @@ from typing import Optional
 
 from ._answers import (
     Added,
+    AddedDecided,
     CarriedOver,
+    DecidedPair,
     Done,
     ForeignField,
     Full,
     Listed,
+    ListedDecided,
     ListTooShort,
     NoCatalogue,
     NoRule,
     NotApart,
     Pair,
     Rechecked,
+    RecheckedDecided,
     Withdrawn,
     answer,
     refused,
@@ -30,6 +34,8 @@ MOST_RULES = 32
 RULE_FIELDS = 4
 #: A listed pair takes so many bytes of the list buffer.
 PAIR_BYTES = 5
+#: A pair that was decided takes so many.
+DECIDED_PAIR_BYTES = 7
 # numbers of rules are C's size_t
 _NUMBERS = 2**64
 
@@ -44,17 +50,13 @@ def list_bytes(rules: int = MOST_RULES) -> int:
     return PAIR_BYTES * (rules * max(rules - 1, 0) // 2)
 
 
-def add(catalogue: Writable, rule: Readable, work: Optional[Writable] = None) -> Added:
-    """Adds a rule behind the last one, if it clashes with none that is there.
+def decided_list_bytes(rules: int = MOST_RULES) -> int:
+    """A list buffer of so many bytes is always long enough for the decided pairs of so many rules."""
+    return DECIDED_PAIR_BYTES * (rules * max(rules - 1, 0) // 2)
 
-    The rules that are there are tried by rising number, each pair in the whole working buffer, by one search; where one is not decided,
-    the rule is not added. Only :class:`Done` changes the catalogue, and only the bytes where the rule then stands.
 
-    A catalogue is rules one behind the other from the first byte on, and zeros behind them. One that began as zeros,
-    ``bytearray(catalogue_bytes())``, and was changed by :func:`add` and :func:`withdraw` alone has no two rules that make the same label.
-    Of one that was filled otherwise :func:`recheck` says which rules do.
-    """
-    number, (count, place, other, pair) = call("bradovusc_add", Lent(catalogue), bytes(rule), lent_work(work), told=4)
+def _added(number: int, count: int, place: int, other: int, pair: int) -> Added:
+    """The answer to an addition, from what was told."""
     if number == Done.number:
         return Done()
     if number == NotApart.number:
@@ -66,6 +68,31 @@ def add(catalogue: Writable, rule: Readable, work: Optional[Writable] = None) ->
     if number == NoCatalogue.number:
         return NoCatalogue()
     return refused(number, place)
+
+
+def add(catalogue: Writable, rule: Readable, work: Optional[Writable] = None) -> Added:
+    """Adds a rule behind the last one, if it clashes with none that is there.
+
+    The rules that are there are tried by rising number, each pair in the whole working buffer, by one search; where one is not decided,
+    the rule is not added. Only :class:`Done` changes the catalogue, and only the bytes where the rule then stands.
+
+    A catalogue is rules one behind the other from the first byte on, and zeros behind them. One that began as zeros,
+    ``bytearray(catalogue_bytes())``, and was changed by :func:`add`, :func:`add_decided` and :func:`withdraw` alone has no two rules that
+    make the same label. Of one that was filled otherwise :func:`recheck` says which rules do.
+    """
+    number, told = call("bradovusc_add", Lent(catalogue), bytes(rule), lent_work(work), told=4)
+    return _added(number, *told)
+
+
+def add_decided(catalogue: Writable, rule: Readable, work: Optional[Writable] = None) -> AddedDecided:
+    """Adds a rule behind the last one, if it clashes with none that is there. As :func:`add`, but each pair is asked as :func:`decide`
+    asks: by up to four searches in the same working buffer, until one decides.
+
+    So each rule that ``add`` enters is entered, with the same bytes, and some that it leaves open. A pair that no search decides is told
+    as the first one gave it, :class:`NoRoom` or :class:`SideTooLong`. All else is as for ``add``.
+    """
+    number, told = call("bradovusc_add_decided", Lent(catalogue), bytes(rule), lent_work(work), told=5)
+    return AddedDecided(_added(number, *told[:4]), told[4])
 
 
 def withdraw(catalogue: Writable, number: int) -> Withdrawn:
@@ -99,6 +126,26 @@ def _pair(record: bytes) -> Pair:
     """A pair from its bytes in the list."""
     lower, higher, number = record[:3]
     return Pair(lower, higher, answer(number, int.from_bytes(record[3:], "little"), 0))
+
+
+def recheck_decided(catalogue: Readable, work: Optional[Writable] = None, list: Optional[Writable] = None) -> RecheckedDecided:
+    """Checks every pair of the catalogue's rules again. As :func:`recheck`, but each pair is asked as :func:`decide` asks.
+
+    So no pair is listed that ``recheck`` doesn't list, and fewer that are not decided. A pair takes :data:`DECIDED_PAIR_BYTES` of the list
+    buffer; :func:`decided_list_bytes` are always enough.
+    """
+    lent = Lent(bytearray(decided_list_bytes()) if list is None else list)
+    number, (pairs, written) = call("bradovusc_recheck_decided", bytes(catalogue), lent_work(work), lent, told=2)
+    if number == ListedDecided.number:
+        listed, width = lent.front(written), DECIDED_PAIR_BYTES
+        return ListedDecided(tuple(_decided_pair(listed[width * index : width * (index + 1)]) for index in range(pairs)))
+    return ListTooShort() if number == ListTooShort.number else _no_catalogue(number)
+
+
+def _decided_pair(record: bytes) -> DecidedPair:
+    """A decided pair from its bytes in the list."""
+    lower, higher, number = record[:3]
+    return DecidedPair(lower, higher, answer(number, int.from_bytes(record[3:6], "little"), 0), record[6])
 
 
 def spell_open_catalogue(catalogue: Writable) -> CarriedOver:

@@ -34,6 +34,8 @@ _FUNCTIONS = {
     "bradovusc_add": _LENT + _READ + _LENT + _TOLD,
     "bradovusc_withdraw": _LENT + (ctypes.c_size_t,),
     "bradovusc_recheck": _READ + _LENT + _LENT + _TOLD,
+    "bradovusc_add_decided": _LENT + _READ + _LENT + _TOLD,
+    "bradovusc_recheck_decided": _READ + _LENT + _LENT + _TOLD,
     "bradovusc_spell_open": _READ + _LENT + _TOLD,
     "bradovusc_spell_open_rule": _READ + _LENT + _TOLD,
     "bradovusc_spell_open_catalogue": _LENT,

@@ -12,14 +12,17 @@ import unittest
 import bradovusc
 from bradovusc import (
     ANY,
+    AddedDecided,
     AnswerTooShort,
     Clash,
+    DecidedPair,
     Decision,
     Done,
     Fault,
     ForeignField,
     Full,
     Listed,
+    ListedDecided,
     ListTooShort,
     NoCatalogue,
     NoClash,
@@ -201,6 +204,68 @@ class Catalogues(unittest.TestCase):
         self.assertEqual(bradovusc.spell_open_catalogue(bytearray()), Done())
         self.assertEqual(bradovusc.withdraw(bytearray(), 0), NoRule())
         self.assertEqual(bradovusc.add(bytearray(), rule("A")), Full())
+
+
+def serial(sign, digits=6):
+    """A number of so many digits, a sign, the number again."""
+    return rule(f"KP{{0}}{sign}{{0}}", {0: bradovusc.row(*[bradovusc.between("0", "9")] * digits)})
+
+
+class DecidedCatalogues(unittest.TestCase):
+    def test_a_number_that_stands_twice(self):
+        digits = bradovusc.row(bradovusc.between("0", "9"), DIGITS)
+        dashed, slashed = rule("KP{0}-{0}", {0: digits}), rule("KP{0}/{0}", {0: digits})
+        ends_in_0 = rule("KP{0}-{0}", {0: bradovusc.row(DIGITS, bradovusc.word("0"))})
+        catalogue = bytearray(bradovusc.catalogue_bytes())
+        self.assertEqual(bradovusc.add_decided(catalogue, dashed), AddedDecided(Done(), 0))
+        self.assertEqual(bradovusc.add(catalogue, slashed), NotApart(0, NoRoom(356)))
+        self.assertEqual(bradovusc.add_decided(catalogue, slashed), AddedDecided(Done(), 0))
+        refused = bradovusc.add_decided(catalogue, ends_in_0)
+        self.assertEqual(refused, AddedDecided(NotApart(0, Clash(413)), 2))
+        self.assertEqual((refused.number, str(refused)), (30, "not apart from a rule of the catalogue: rule 0, clash"))
+        with self.assertRaises(TypeError):
+            bool(refused)
+        self.assertEqual(bytes(catalogue).rstrip(b"\0"), dashed + slashed)
+        kept = dashed + slashed + ends_in_0
+        pair = DecidedPair(0, 2, Clash(413), 2)
+        self.assertEqual(len(bradovusc.recheck(kept).pairs), 3)
+        self.assertEqual(bradovusc.recheck_decided(kept), ListedDecided((pair,)))
+        self.assertEqual(str(pair), "rule 0 and rule 2: clash")
+        self.assertEqual(bradovusc.recheck_decided(kept, list=bytearray(7)), ListedDecided((pair,)))
+        self.assertEqual(bradovusc.recheck_decided(kept, list=bytearray(6)), ListTooShort())
+
+    def test_twenty_rules(self):
+        catalogue, work = bytearray(bradovusc.catalogue_bytes()), bytearray(work_bytes(356))
+        for number, sign in enumerate("-/.+$%ABCDEFGHJKLMNP"):
+            if number:
+                self.assertEqual(bradovusc.add(catalogue, serial(sign), work), NotApart(0, NoRoom(356)))
+            self.assertEqual(bradovusc.add_decided(catalogue, serial(sign), work), AddedDecided(Done(), 0))
+        self.assertEqual(bradovusc.recheck_decided(catalogue, work), ListedDecided(()))
+        self.assertEqual(len(bradovusc.recheck(catalogue, work).pairs), 190)
+
+    def test_not_decided(self):
+        catalogue = bytearray(rule("AA") + bytes(20))
+        work = bytearray(work_bytes(3))
+        self.assertEqual(bradovusc.add_decided(catalogue, rule("{0}"), work), AddedDecided(NotApart(0, NoRoom(10)), 0))
+        undecided = ListedDecided((DecidedPair(0, 1, NoRoom(10), 0),))
+        self.assertEqual(bradovusc.recheck_decided(rule("AA") + rule("{0}"), work), undecided)
+        # three searches in room for 30,000 count more than two bytes hold
+        (pair,) = bradovusc.recheck_decided(rule("BX{0}{0}{0}{0}{0}L") + rule("BX{0}{0}{0}{0}R"), bytearray(work_bytes(30_000))).pairs
+        self.assertIsInstance(pair.answer, NoRoom)
+        self.assertGreater(pair.answer.count, 65_535)
+
+    def test_refused(self):
+        catalogue = bytearray(rule("A") + bytes(20))
+        for wrong, answer in (
+            (b"RULE\1", Refused(Fault.CUT_SHORT, 5)),
+            (rule("{4}"), ForeignField()),
+            (rule("A" * 24), Full()),
+        ):
+            self.assertEqual(bradovusc.add_decided(catalogue, wrong), AddedDecided(answer, 0))
+        for wrong in (bytearray(b"X"), bytearray(b"RULE\1\x0aX")):
+            self.assertEqual(bradovusc.add_decided(wrong, rule("A")), AddedDecided(NoCatalogue(), 0))
+            self.assertEqual(bradovusc.recheck_decided(wrong), NoCatalogue())
+        self.assertEqual(bradovusc.recheck_decided(b""), ListedDecided(()))
 
 
 class Examples(unittest.TestCase):

@@ -3,7 +3,7 @@
 import unittest
 
 import bradovusc
-from bradovusc import Clash, Decision, Listed, NotApart, Refused
+from bradovusc import AddedDecided, Clash, Decision, Listed, ListedDecided, NotApart, Refused
 from rules_page import carried_over, in_bytes, lent, quoted, rows
 
 FILL = 0xA5
@@ -21,7 +21,12 @@ def told(name, answer):
     if isinstance(answer, Listed):
         pairs = [f"pair {pair.lower} {pair.higher} {pair.answer.number} {pair.answer.count}" for pair in answer.pairs]
         return [f"{name} 0 {len(pairs)} {len(pairs) * bradovusc.PAIR_BYTES}", *pairs]
-    if name == "recheck":
+    if isinstance(answer, ListedDecided):
+        pairs = [f"pair {pair.lower} {pair.higher} {pair.answer.number} {pair.answer.count} {pair.search}" for pair in answer.pairs]
+        return [f"{name} 0 {len(pairs)} {len(pairs) * bradovusc.DECIDED_PAIR_BYTES}", *pairs]
+    if isinstance(answer, AddedDecided):
+        return [f"{line} {answer.search}" for line in told(name, answer.added)]
+    if name in ("recheck", "recheck_decided"):
         return [f"{name} {answer.number} 0 0"]
     if name == "withdraw":
         return [f"{name} {answer.number}"]
@@ -86,13 +91,16 @@ class Known(unittest.TestCase):
             with self.subTest(line=number):
                 catalogue = bytearray(in_bytes(row["Catalogue"]) + bytes(int(row["Zeros"])))
                 before = bytes(catalogue)
+                # the first word is the name of the function
+                name = quoted(row["Tells"])[0].split()[0]
+                call = getattr(bradovusc, name)
                 if "Number" in row:
-                    said = told("withdraw", bradovusc.withdraw(catalogue, int(row["Number"])))
+                    said = told(name, call(catalogue, int(row["Number"])))
                 elif "List" in row:
                     pairs = bytearray([FILL]) * int(row["List"])
-                    said = told("recheck", bradovusc.recheck(catalogue, bytearray(int(row["Work"])), pairs))
+                    said = told(name, call(catalogue, bytearray(int(row["Work"])), pairs))
                 else:
-                    said = told("add", bradovusc.add(catalogue, in_bytes(row["Rule"]), bytearray(int(row["Work"]))))
+                    said = told(name, call(catalogue, in_bytes(row["Rule"]), bytearray(int(row["Work"]))))
                 self.assertEqual(said, quoted(row["Tells"]))
                 after = in_bytes(row["Afterwards"]) + bytes(int(row["Zeros then"])) if "Afterwards" in row else before
                 self.assertEqual(bytes(catalogue), after)

@@ -37,7 +37,7 @@ class Words(unittest.TestCase):
                 upper = re.sub(r"(?<=[a-z])(?=[A-Z])", "_", name).upper()
                 number = NUMBERS.get(upper, 0)
                 self.assertEqual(kind.number, number, name)
-                if name not in ("NotApart", "Written", "Listed", "Done"):
+                if name not in ("NotApart", "Written", "Listed", "ListedDecided", "Done"):
                     self.assertEqual(kind._words, WORDS[upper], name)
                 seen.add(kind.number)
         self.assertEqual(seen | set(range(11, 18)), set(NUMBERS[name] for name in WORDS))
@@ -58,6 +58,7 @@ class Words(unittest.TestCase):
             "RULE_FIELDS": bradovusc.RULE_FIELDS,
             "RULE_BYTES": bradovusc.RULE_BYTES,
             "PAIR_BYTES": bradovusc.PAIR_BYTES,
+            "DECIDED_PAIR_BYTES": bradovusc.DECIDED_PAIR_BYTES,
         }
         self.assertEqual({name: int(defined(name)) for name in plain}, plain)
 
@@ -66,6 +67,8 @@ class Words(unittest.TestCase):
         self.assertEqual([bradovusc.catalogue_bytes(), bradovusc.catalogue_bytes(2)], [26_016, 1_626])
         self.assertEqual([bradovusc.list_bytes(rules) for rules in (0, 1, 2, 3, 32)], [0, 0, 5, 15, 2_480])
         self.assertEqual(bradovusc.list_bytes(), 2_480)
+        self.assertEqual([bradovusc.decided_list_bytes(rules) for rules in (0, 1, 2, 3, 32)], [0, 0, 7, 21, 3_472])
+        self.assertEqual(bradovusc.decided_list_bytes(), 3_472)
 
     def test_signs(self):
         self.assertEqual(re.search(r'bradovusc_signs\[.*\] = "(.*)";', HEADER)[1], bradovusc.SIGNS)

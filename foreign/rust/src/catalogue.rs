@@ -49,6 +49,18 @@ pub enum Added {
 }
 
 impl Added {
+    /// The answer with this number, and what is told beside it.
+    pub(crate) fn numbered(number: u32, [count, place, rule, pair]: [usize; 4]) -> Added {
+        match number {
+            0 => Added::Entered,
+            30 => Added::NotApart { rule, pair: Answer::numbered(pair as u32, count, 0, 0) },
+            31 => Added::ForeignField,
+            32 => Added::Full,
+            34 => Added::NoCatalogue,
+            _ => Added::Refused { fault: Fault::numbered(number), place },
+        }
+    }
+
     /// Its number, as in the table of the rules.
     pub fn number(self) -> u32 {
         match self {
@@ -195,18 +207,19 @@ impl FusedIterator for Pairs<'_> {}
 
 /// Adds a rule behind the last one, if it clashes with none that is there.
 ///
-/// The rules that are there are tried by rising number, each pair in the whole working buffer;
-/// where one is not decided, the rule is not added. Only [`Added::Entered`] changes the catalogue,
+/// The rules that are there are tried by rising number, each pair in the whole working buffer, by
+/// one search; where one is not decided, the rule is not added. Only [`Added::Entered`] changes the catalogue,
 /// and only the bytes where the rule then stands. The working buffer is all zero after
 /// [`Added::NotApart`], and after [`Added::Entered`] unless the catalogue was empty; otherwise it
 /// is unchanged.
 ///
 /// A catalogue is rules one behind the other from the first byte on, and zeros behind them. One
-/// that began as zeros and was changed by [`add`] and [`withdraw`] alone has no two rules that make
-/// the same label. Of one that was filled otherwise, or kept since a version before 0.4, for which a
-/// space at the end made another label, [`recheck`] says which rules do. One that was kept since a
-/// version before 0.6, for which a field without a pattern could be empty, should first be carried
-/// over by [`spell_open_catalogue`](crate::spell_open_catalogue).
+/// that began as zeros and was changed by [`add`], [`add_decided`](crate::add_decided) and
+/// [`withdraw`] alone has no two rules that make the same label. Of one that was filled otherwise,
+/// or kept since a version before 0.4, for which a space at the end made another label, [`recheck`]
+/// says which rules do. One that was kept since a version before 0.6, for which a field without a
+/// pattern could be empty, should first be carried over by
+/// [`spell_open_catalogue`](crate::spell_open_catalogue).
 pub fn add(catalogue: &mut [u8], rule: &[u8], work: &mut [u8]) -> Added {
     let mut told = [0; 4];
     // SAFETY: each pointer and length are those of one slice. No two of the slices overlap, since
@@ -224,15 +237,7 @@ pub fn add(catalogue: &mut [u8], rule: &[u8], work: &mut [u8]) -> Added {
         )
     };
     // These are an offset in a slice, the number of situations that one holds, and small numbers.
-    let [count, place, rule, pair] = told.map(|number| number as usize);
-    match number {
-        0 => Added::Entered,
-        30 => Added::NotApart { rule, pair: Answer::numbered(pair as u32, count, 0, 0) },
-        31 => Added::ForeignField,
-        32 => Added::Full,
-        34 => Added::NoCatalogue,
-        _ => Added::Refused { fault: Fault::numbered(number), place },
-    }
+    Added::numbered(number, told.map(|number| number as usize))
 }
 
 /// Withdraws the rule with this number.
@@ -251,8 +256,8 @@ pub fn withdraw(catalogue: &mut [u8], number: usize) -> Withdrawn {
 
 /// Checks every pair of the catalogue's rules again.
 ///
-/// Each pair is tried in the whole working buffer, the rule with the lower number as the left side.
-/// Those that clash and those that are not decided are listed, in five bytes of the list buffer
+/// Each pair is tried in the whole working buffer, by one search, the rule with the lower number as
+/// the left side. Those that clash and those that are not decided are listed, in five bytes of the list buffer
 /// each; [`list_bytes`] are always enough, 2,480 for [`MOST_RULES`]. Only [`Rechecked::Listed`]
 /// changes the list buffer, and only the bytes of the pairs. The working buffer is all zero
 /// afterwards, but a buffer that is no catalogue, or has fewer than two rules, leaves it unchanged.

@@ -108,6 +108,26 @@
 //! assert_eq!(pairs[0].to_string(), "rule 0 and rule 1: clash");
 //! ```
 //!
+//! [`add_decided`] and [`recheck_decided`] do the same with each pair decided, by up to four
+//! searches: they enter rules of which one search leaves it open whether they clash.
+//!
+//! ```
+//! use bradovusc::{add, add_decided, catalogue_bytes, Added, SITUATION_BYTES};
+//!
+//! let mut catalogue = [0; catalogue_bytes(32)];
+//! let mut work = [0; 356 * SITUATION_BYTES];
+//! // KP, a number, - and the number again; / for -; the first with a number that ends in 0.
+//! let dashed = b"RUPA\x00\x08\x42\x41\x00\x09\x44\x41\x00\x09LE\x05\x14\x19\x40\x24\x40";
+//! let slashed = b"RUPA\x00\x08\x42\x41\x00\x09\x44\x41\x00\x09LE\x05\x14\x19\x40\x28\x40";
+//! let ends_in_0 = b"RUPA\x00\x06\x42\x44\x41\x00\x09\x00LE\x05\x14\x19\x40\x24\x40";
+//! assert_eq!(add_decided(&mut catalogue, dashed, &mut work).added, Added::Entered);
+//! assert_eq!(add(&mut catalogue, slashed, &mut work).number(), 30);
+//! assert_eq!(add_decided(&mut catalogue, slashed, &mut work).added, Added::Entered);
+//! let refused = add_decided(&mut catalogue, ends_in_0, &mut work);
+//! assert_eq!(refused.to_string(), "not apart from a rule of the catalogue: rule 0, clash");
+//! assert_eq!(refused.search, 2);
+//! ```
+//!
 //! Up to version 0.5 a field without a pattern could be empty too. [`spell_open`] carries a sheet
 //! from before 0.6 over, [`spell_open_rule`] a rule and [`spell_open_catalogue`] a whole catalogue:
 //! they then mean what they meant.
@@ -130,6 +150,7 @@
 
 mod carrying;
 mod catalogue;
+mod catalogue_decided;
 mod deciding;
 mod scripts;
 
@@ -139,6 +160,10 @@ pub use carrying::{
 pub use catalogue::{
     add, catalogue_bytes, list_bytes, recheck, withdraw, Added, Pair, Pairs, Rechecked, Withdrawn,
     MOST_RULES, PAIR_BYTES, RULE_BYTES, RULE_FIELDS,
+};
+pub use catalogue_decided::{
+    add_decided, decided_list_bytes, recheck_decided, AddedDecided, DecidedPair, DecidedPairs,
+    RecheckedDecided, DECIDED_PAIR_BYTES,
 };
 pub use deciding::{decide, Decision};
 pub use scripts::{script, Scripted, SCRIPT_BYTES};

@@ -3,11 +3,14 @@
 
 use std::collections::BTreeSet;
 
-use bradovusc::{add, recheck, spell_open_catalogue, withdraw, Added, Pair, Rechecked, PAIR_BYTES};
+use bradovusc::{
+    add, add_decided, recheck, recheck_decided, spell_open_catalogue, withdraw, Added, DecidedPair,
+    Pair, Rechecked, RecheckedDecided, DECIDED_PAIR_BYTES, PAIR_BYTES,
+};
 use second::calls::{After, Call, Calls, Operation, LIST_FILL, MOST_CATALOGUE, WORK};
 use second::cases::WORK_FILL;
 use second::catalogue::HASHING;
-use second::make::calls::operations;
+use second::make::calls::{decided_operations, operations};
 use second::make::Dice;
 use second::storeroom;
 
@@ -49,6 +52,20 @@ impl Library {
                 assert_eq!(list[..told.written], pairs, "the pairs, read from their bytes");
                 Call::Recheck { told, list, work }
             }
+            Operation::AddDecided(rule) => {
+                let mut work = vec![WORK_FILL; self.work];
+                let decided = add_decided(&mut self.catalogue, rule, &mut work);
+                let (added, search) = (told(decided.added), decided.search);
+                Call::AddDecided { told: second::catalogue::AddedDecided { added, search }, work }
+            }
+            Operation::RecheckDecided(length) => {
+                let mut list = vec![LIST_FILL; *length];
+                let mut work = vec![WORK_FILL; self.work];
+                let rechecked = recheck_decided(&self.catalogue, &mut work, &mut list);
+                let (told, pairs) = listed_decided(rechecked);
+                assert_eq!(list[..told.written], pairs, "the pairs, read from their bytes");
+                Call::RecheckDecided { told, list, work }
+            }
             Operation::Carry => {
                 let carried = spell_open_catalogue(&mut self.catalogue);
                 Call::Carry { number: carried.number() as u8 }
@@ -89,6 +106,24 @@ fn pair_bytes(pair: &Pair) -> [u8; PAIR_BYTES] {
     second::catalogue::Pair { lower, higher, answer, count }.bytes()
 }
 
+/// The same of decided pairs.
+fn listed_decided(rechecked: RecheckedDecided) -> (second::catalogue::Rechecked, Vec<u8>) {
+    let number = rechecked.number() as u8;
+    let pairs: Vec<DecidedPair> = match rechecked {
+        RecheckedDecided::Listed(pairs) => pairs.collect(),
+        RecheckedDecided::NoCatalogue | RecheckedDecided::ListTooShort => Vec::new(),
+    };
+    let bytes: Vec<u8> = pairs.iter().flat_map(decided_pair_bytes).collect();
+    let (pairs, written) = (pairs.len(), pairs.len() * DECIDED_PAIR_BYTES);
+    (second::catalogue::Rechecked { number, pairs, written }, bytes)
+}
+
+fn decided_pair_bytes(pair: &DecidedPair) -> [u8; DECIDED_PAIR_BYTES] {
+    let (lower, higher) = (pair.lower as u8, pair.higher as u8);
+    let (answer, count) = (pair.answer.number() as u8, pair.answer.count() as u32);
+    second::catalogue::DecidedPair { lower, higher, answer, count, search: pair.search }.bytes()
+}
+
 /// Both do these operations; hands back what each call was answered.
 fn agreed(operations: &[Operation]) -> Vec<Call> {
     let mut library = Library::new();
@@ -115,6 +150,9 @@ fn generated_calls() {
                 ("recheck", told.number, 0)
             }
             Call::Carry { number } => ("carry", number, 0),
+            Call::AddDecided { .. } | Call::RecheckDecided { .. } => {
+                panic!("none of these is decided")
+            }
         };
         seen.insert(answered);
     }
@@ -133,5 +171,37 @@ fn generated_calls() {
 fn a_storeroom() {
     let operations: Vec<Operation> =
         storeroom::rows().into_iter().map(|row| row.operation).collect();
+    assert!(agreed(&operations).len() > 40);
+}
+
+#[test]
+fn decided_calls() {
+    let mut seen = BTreeSet::new();
+    for call in agreed(&decided_operations(&mut Dice::new(39), 2000)) {
+        match call {
+            Call::AddDecided { told, .. } => {
+                seen.insert(("add", told.added.number, told.added.pair, told.search));
+            }
+            Call::RecheckDecided { told, list, .. } => {
+                let pairs = list[..told.written].chunks(DECIDED_PAIR_BYTES);
+                seen.extend(pairs.map(|pair| ("listed", 0, pair[2], pair[6])));
+                seen.insert(("recheck", told.number, 0, 0));
+            }
+            _ => (),
+        }
+    }
+    let alone = [0, 11, 12, 13, 14, 15, 16, 17, 31, 32, 34].map(|number| ("add", number, 0, 0));
+    let answers = [(0, 1), (0, 2), (0, 3), (18, 0), (19, 0)];
+    let pairs = answers.map(|(answer, search)| ("add", 30, answer, search));
+    let listed = answers.map(|(answer, search)| ("listed", 0, answer, search));
+    let rechecks = [0, 34, 35].map(|number| ("recheck", number, 0, 0));
+    let expected = alone.into_iter().chain(pairs).chain(listed).chain(rechecks);
+    assert_eq!(seen, expected.collect());
+}
+
+#[test]
+fn serial_numbers() {
+    let operations: Vec<Operation> =
+        storeroom::serial_rows().into_iter().map(|row| row.operation).collect();
     assert!(agreed(&operations).len() > 40);
 }

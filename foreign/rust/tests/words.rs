@@ -1,9 +1,10 @@
 //! Numbers in words, signs, texts of records cut short, the version: as the C header has them.
 
 use bradovusc::{
-    catalogue_bytes, list_bytes, recheck, sign, texts, value, Added, Answer, CarriedOver, Fault,
-    Pair, Rechecked, Scripted, SpeltOpen, Text, Withdrawn, MOST_RULES, PAIR_BYTES, RULE_BYTES,
-    RULE_FIELDS, SCRIPT_BYTES, SHEET_BYTES, SIGNS, VERSION,
+    catalogue_bytes, decided_list_bytes, list_bytes, recheck, recheck_decided, sign, texts, value,
+    Added, AddedDecided, Answer, CarriedOver, DecidedPair, Fault, Pair, Rechecked,
+    RecheckedDecided, Scripted, SpeltOpen, Text, Withdrawn, DECIDED_PAIR_BYTES, MOST_RULES,
+    PAIR_BYTES, RULE_BYTES, RULE_FIELDS, SCRIPT_BYTES, SHEET_BYTES, SIGNS, VERSION,
 };
 
 const HEADER: &str = include_str!("../../c/bradovusc.h");
@@ -96,6 +97,29 @@ fn calls_of_a_catalogue_in_words() {
     assert_eq!(pair.to_string(), words);
 }
 
+/// Those of a catalogue that decides are the same.
+#[test]
+fn decided_calls_in_words() {
+    let refused = FAULTS.map(|fault| Added::Refused { fault, place: 13 });
+    let others = [Added::Entered, NOT_APART, Added::ForeignField, Added::Full, Added::NoCatalogue];
+    for added in refused.into_iter().chain(others) {
+        let decided = AddedDecided { added, search: 0 };
+        assert_eq!((decided.number(), decided.to_string()), (added.number(), added.to_string()));
+    }
+    let (one, all) = (Rechecked::NoCatalogue, RecheckedDecided::NoCatalogue);
+    assert_eq!((all.number(), all.to_string()), (one.number(), one.to_string()));
+    let (one, all) = (Rechecked::ListTooShort, RecheckedDecided::ListTooShort);
+    assert_eq!((all.number(), all.to_string()), (one.number(), one.to_string()));
+    let one = recheck(&[], &mut [], &mut []);
+    let (mut work, mut list) = ([], []);
+    let all = recheck_decided(&[], &mut work, &mut list);
+    assert_eq!((all.number(), all.to_string()), (one.number(), one.to_string()));
+    let (lower, higher, answer) = (3, 31, Answer::Clash { count: 7, written: 0 });
+    let (one, all) =
+        (Pair { lower, higher, answer }, DecidedPair { lower, higher, answer, search: 2 });
+    assert_eq!(all.to_string(), one.to_string());
+}
+
 #[test]
 fn scripts_in_words() {
     for fault in FAULTS {
@@ -181,10 +205,12 @@ fn lengths_of_buffers() {
     defined("RULE_FIELDS", RULE_FIELDS);
     defined("RULE_BYTES", RULE_BYTES);
     defined("PAIR_BYTES", PAIR_BYTES);
+    defined("DECIDED_PAIR_BYTES", DECIDED_PAIR_BYTES);
     defined("SCRIPT_BYTES", SCRIPT_BYTES);
     defined("SHEET_BYTES", SHEET_BYTES);
     assert_eq!(catalogue_bytes(MOST_RULES), 26_016);
     assert_eq!([0, 1, 2, 3, MOST_RULES].map(list_bytes), [0, 0, 5, 15, 2_480]);
+    assert_eq!([0, 1, 2, 3, MOST_RULES].map(decided_list_bytes), [0, 0, 7, 21, 3_472]);
 }
 
 #[test]

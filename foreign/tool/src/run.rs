@@ -5,7 +5,9 @@ use std::fs::File;
 use std::io::{self, Read, Write};
 use std::path::Path;
 
-use bradovusc::{Added, Answer, Rechecked, Scripted, Withdrawn, MOST_RULES, SCRIPT_BYTES};
+use bradovusc::{
+    Added, AddedDecided, Answer, RecheckedDecided, Scripted, Withdrawn, MOST_RULES, SCRIPT_BYTES,
+};
 
 use crate::ask::{Asked, Buffers};
 use crate::catalogue::{Catalogue, BYTES};
@@ -290,10 +292,11 @@ impl Run<'_> {
         let entries = &catalogue.entries;
         let all = Pairs { rules: entries.len() }.count();
         let room = self.options.room.sizes().next().unwrap_or_default();
-        let mut list = vec![0; bradovusc::list_bytes(MOST_RULES)];
+        let mut list = vec![0; bradovusc::decided_list_bytes(MOST_RULES)];
         let mut buffers = Buffers::new();
-        let pairs = match bradovusc::recheck(&catalogue.bytes, buffers.work(room), &mut list) {
-            Rechecked::Listed(pairs) => {
+        let work = buffers.work(room);
+        let pairs = match bradovusc::recheck_decided(&catalogue.bytes, work, &mut list) {
+            RecheckedDecided::Listed(pairs) => {
                 pairs.map(|pair| (pair.lower, pair.higher)).collect::<Vec<_>>()
             }
             other => return Err(Problem::Fault(format!("{}: {other}", path.display()))),
@@ -326,9 +329,9 @@ impl Run<'_> {
             true => Catalogue::empty(path, self.bytes())?,
             false => Catalogue::read_to_replace(path, self.bytes())?,
         };
-        let (added, room, bytes) = self.try_to_add(&catalogue.bytes, &side)?;
+        let (decided, room, bytes) = self.try_to_add(&catalogue.bytes, &side)?;
         let name = path.display();
-        match added {
+        match decided.added {
             Added::Entered => {
                 let number = catalogue.entries.len();
                 catalogue.replace(&bytes)?;
@@ -337,8 +340,11 @@ impl Run<'_> {
                 self.say(&format!("{rule} is added: rule {number}\n"), object)
             }
             Added::NotApart { rule: number, pair } => match catalogue.entries.get(number) {
-                Some(entry) => self.not_added(&entry.side, &side, pair, room),
-                None => Err(Problem::Fault(format!("the library says: {added}"))),
+                Some(entry) => {
+                    let asked = Asked { answer: pair, search: decided.search, room, shared: None };
+                    self.not_added(&entry.side, &side, asked)
+                }
+                None => Err(Problem::Fault(format!("the library says: {decided}"))),
             },
             Added::Full => Err(Problem::Fault(format!(
                 "{name} has no room for {rule}: it has {} of at most {MOST_RULES} (32)",
@@ -353,20 +359,24 @@ impl Run<'_> {
         &mut self,
         before: &[u8],
         side: &Side,
-    ) -> Result<(Added, usize, Vec<u8>), Problem> {
+    ) -> Result<(AddedDecided, usize, Vec<u8>), Problem> {
         let room = self.options.room;
         let work = |buffers: &mut Buffers, _: usize| {
             let (mut bytes, record) = (before.to_vec(), side.record());
-            let (mut added, mut last) = (Added::NoCatalogue, 0);
+            let (mut decided, mut last) =
+                (AddedDecided { added: Added::NoCatalogue, search: 0 }, 0);
             for room in room.sizes() {
-                added = bradovusc::add(&mut bytes, &record, buffers.work(room));
+                decided = bradovusc::add_decided(&mut bytes, &record, buffers.work(room));
                 last = room;
-                let pair = if let Added::NotApart { pair, .. } = added { Some(pair) } else { None };
+                let pair = match decided.added {
+                    Added::NotApart { pair, .. } => Some(pair),
+                    _ => None,
+                };
                 if pair.is_none_or(|pair| pair.clashes().is_some()) {
                     break;
                 }
             }
-            (added, last, bytes)
+            (decided, last, bytes)
         };
         let Streams { errors, terminal, .. } = &mut self.streams;
         let mut progress = Progress::new(*terminal);
@@ -382,20 +392,14 @@ impl Run<'_> {
         result.ok_or_else(|| Problem::Failure("the search was not made".to_string()))
     }
 
-    /// A rule that is not added, for its pair with a rule that is there.
-    fn not_added(&mut self, there: &Side, new: &Side, pair: Answer, room: usize) -> Outcome {
-        // the library's catalogue goes by the first search alone, and writes no texts
-        let by_all = self.ask_one(there, new)?;
-        let own = Asked { answer: pair, search: 0, room, shared: None };
-        let known = by_all.answer.clashes();
-        let asked = if known == Some(true) { &by_all } else { &own };
-        let mut words = format!("{} is not added\n{}", new.title, pair_words(there, new, asked));
-        let mut object = pair_in(Object::new().truth("added", false), there, new, asked);
-        if known == Some(false) {
-            words += "  a catalogue goes by the first search alone; by all of them these two don't clash\n";
-            object = object.text("by_all_searches", "no clash");
+    /// A rule that is not added, for what was said of it and a rule that is there.
+    fn not_added(&mut self, there: &Side, new: &Side, mut asked: Asked) -> Outcome {
+        // a catalogue writes no texts, so of a clash they are asked for
+        if asked.answer.clashes() == Some(true) {
+            asked = self.ask_one(there, new)?;
         }
-        self.say(&words, || object)?;
+        let words = format!("{} is not added\n{}", new.title, pair_words(there, new, &asked));
+        self.say(&words, || pair_in(Object::new().truth("added", false), there, new, &asked))?;
         Ok(status_of(asked.answer))
     }
 }

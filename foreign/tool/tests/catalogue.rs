@@ -181,6 +181,35 @@ fn a_full_disk() {
     }
 }
 
+/// Twenty rules with a serial number that stands twice, of which no two clash. One search decides of
+/// no two of them, in whatever room; the tool adds them all, in the first.
+#[test]
+fn serial_numbers() {
+    let folder = Folder::new("serial");
+    let signs = "-/.+$%ABCDEFGHJKLMNP".chars().enumerate();
+    let rule = |(number, sign)| format!("r{number} = KP{{n}}{sign}{{n}}\n  n = [0-9]{{6}}\n");
+    let rules: String = signs.map(rule).collect();
+    let ends_in_0 = "ends_in_0 = KP{n}/{n}\n  n = [0-9]{5}0\n";
+    fs::write(folder.0.join("serial.rules"), rules + ends_in_0).unwrap();
+    let (path, rules) = (folder.path("serial.cat"), folder.path("serial.rules"));
+    assert_eq!(call(&["add", "--new", &path, &rules, "r0"]).status, 0);
+    for number in 1..20 {
+        let said = call(&["add", "--room", "356", &path, &rules, &format!("r{number}")]);
+        assert_eq!(said.text(), format!("r{number} is added: rule {number}\n"));
+    }
+    let listed = call(&["list", &path]).text();
+    assert!(listed.ends_with("\n# 20 rules of 32, 740 bytes of 26,016\n"), "{listed}");
+    let rechecked = call(&["recheck", "--room", "356", &path]).text();
+    assert_eq!(rechecked, "20 rules, 190 pairs: 0 clashes, 0 not decided, 190 without a clash\n");
+    let said = call(&["add", "--json", &path, &rules, "ends_in_0"]);
+    assert_eq!(said.status, 1);
+    let object = "{\"added\":false,\"left\":1,\"right\":\"ends_in_0\",\"answer\":\"clash\",\
+                  \"number\":0,\"search\":2,\"situations\":520,\"room\":356,\
+                  \"label\":\"KP000000/000000\",\"left_fields\":{\"a\":\"000000\"},\
+                  \"right_fields\":{\"n\":\"000000\"}}\n";
+    assert_eq!(said.text(), object);
+}
+
 /// Standard input as a file of rules.
 #[test]
 fn rules_from_standard_input() {

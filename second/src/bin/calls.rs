@@ -2,13 +2,19 @@
 //!
 //! - `calls SEED NUMBER`: so many `AD`, `WI`, `RE` and `SO` together, made from
 //!   the seed
+//! - `calls --decided SEED NUMBER`: the same, with `AE` and `RD` among them
 //! - `calls --storeroom`: a catalogue of latches and keypads
 //! - `calls --full`: 32 rules added, none of which clash
+//! - `calls --serial`: twenty rules with a serial number that stands twice, each
+//!   refused by `AD` and entered by `AE`
+//! - `calls --share SEED NUMBER`: no stream; of so many rules as storerooms write
+//!   them, how many are refused though they clash with none, by `AD` and by `AE`
 
 use std::io::{self, Write};
 use std::process::ExitCode;
 
-use second::make::{calls, Dice};
+use second::make::{calls, pairs, Dice};
+use second::share::share;
 use second::storeroom;
 
 fn main() -> ExitCode {
@@ -17,9 +23,18 @@ fn main() -> ExitCode {
     let stream = match arguments[..] {
         ["--storeroom"] => storeroom::stream(),
         ["--full"] => storeroom::full_stream(),
-        [seed, number] => match (seed.parse(), number.parse()) {
-            (Ok(seed), Ok(number)) => calls::stream(&mut Dice::new(seed), number),
-            _ => return usage(),
+        ["--serial"] => storeroom::serial_stream(),
+        ["--decided", seed, number] => match parsed(seed, number) {
+            Some((mut dice, number)) => calls::decided_stream(&mut dice, number),
+            None => return usage(),
+        },
+        ["--share", seed, number] => match parsed(seed, number) {
+            Some((dice, number)) => shares(dice, number).into_bytes(),
+            None => return usage(),
+        },
+        [seed, number] => match parsed(seed, number) {
+            Some((mut dice, number)) => calls::stream(&mut dice, number),
+            None => return usage(),
         },
         _ => return usage(),
     };
@@ -32,7 +47,27 @@ fn main() -> ExitCode {
     }
 }
 
+/// A seed and a number.
+fn parsed(seed: &str, number: &str) -> Option<(Dice, usize)> {
+    Some((Dice::new(seed.parse().ok()?), number.parse().ok()?))
+}
+
+/// The shares of the two ways to add, of the rules in any order, and with the two
+/// of a pair behind each other.
+fn shares(mut dice: Dice, number: usize) -> String {
+    let in_pairs = pairs::rules(&mut dice, number);
+    let any_order = pairs::shuffled(&mut dice, in_pairs.clone());
+    let mut lines = "order by tried entered clash no-clash not-known percent\n".to_string();
+    for (order, rules) in [("any", any_order), ("pairs", in_pairs)] {
+        for (by, decided) in [("add", false), ("add_decided", true)] {
+            lines += &format!("{order} {by} {}\n", share(&rules, decided).line());
+        }
+    }
+    lines
+}
+
 fn usage() -> ExitCode {
-    eprintln!("usage: calls SEED NUMBER | calls --storeroom | calls --full");
+    eprintln!("usage: calls [--decided] SEED NUMBER | calls --storeroom | calls --full");
+    eprintln!("       calls --serial | calls --share SEED NUMBER");
     ExitCode::from(2)
 }

@@ -2,10 +2,15 @@
 //! do not, damaged rules, catalogues that are full, short or damaged or hold
 //! rules that clash, rooms of all sizes, list buffers near their bounds,
 //! catalogues that still fit once they are carried over and those that do not.
+//! Where they are asked for, `AE` and `RD` too: half of the additions and checks,
+//! and pairs with just the room in which a later search decides.
 
+use super::decided;
 use super::{alphabet, damaged, patterns, random_bytes, sides, some_fields, spaces, write_out};
 use super::{big_pattern, Dice, Record, Sides, MOST_SIDE};
+use crate::calls::MOST_DECIDED_LIST;
 use crate::calls::{After, Call, Calls, Operation, MOST_CATALOGUE, MOST_LIST, MOST_WORK};
+use crate::catalogue::DECIDED_PAIR_BYTES;
 use crate::catalogue::{read, HASHING, MOST_RULES, PAIR_BYTES, RULE, RULE_FIELDS};
 use crate::pattern::{CHARACTERS, SPACE};
 use crate::sheet::{FIELDS, LEFT, PATTERN};
@@ -15,11 +20,24 @@ use crate::write::{self, choice, many, row, tokens};
 
 /// A stream of so many `AD`, `WI`, `RE` and `SO` together, and an end.
 pub fn stream(dice: &mut Dice, number: usize) -> Vec<u8> {
+    let mut stream = written(&operations(dice, number));
+    stream.extend_from_slice(dice.pick(&ENDS));
+    stream
+}
+
+/// A stream of so many `AD`, `AE`, `WI`, `RE`, `RD` and `SO` together, and an
+/// end.
+pub fn decided_stream(dice: &mut Dice, number: usize) -> Vec<u8> {
+    let mut stream = written(&decided_operations(dice, number));
+    stream.extend_from_slice(dice.pick(&DECIDED_ENDS));
+    stream
+}
+
+fn written(operations: &[Operation]) -> Vec<u8> {
     let mut stream = Vec::new();
-    for operation in operations(dice, number) {
+    for operation in operations {
         operation.write(&mut stream);
     }
-    stream.extend_from_slice(dice.pick(&ENDS));
     stream
 }
 
@@ -46,10 +64,30 @@ const ENDS: [&[u8]; 18] = [
     b"OSWI\x00",
 ];
 
+/// The same for `AE` and `RD`.
+const DECIDED_ENDS: [&[u8]; 7] = [
+    b"",
+    b"AE",
+    b"AE\x05\x00RULE",
+    b"RD\x00",
+    b"RD\x01\x0eWI\x00",
+    b"RD\xff\xffWI\x00",
+    b"AFWI\x00",
+];
+
 /// So many `AD`, `WI`, `RE` and `SO` together, with the `CA` and `WO` between
 /// them.
 pub fn operations(dice: &mut Dice, number: usize) -> Vec<Operation> {
-    let mut maker = Maker::new(dice);
+    made(dice, number, false)
+}
+
+/// The same, with `AE` and `RD` among them.
+pub fn decided_operations(dice: &mut Dice, number: usize) -> Vec<Operation> {
+    made(dice, number, true)
+}
+
+fn made(dice: &mut Dice, number: usize, decided: bool) -> Vec<Operation> {
+    let mut maker = Maker::new(dice, decided);
     while maker.told < number {
         maker.next();
     }
@@ -72,8 +110,10 @@ enum Style {
 /// The operations made, and the catalogue as they leave it.
 struct Maker<'a> {
     dice: &'a mut Dice,
+    /// `AE` and `RD` are made too.
+    decided: bool,
     made: Vec<Operation>,
-    /// How many of them are `AD`, `WI`, `RE` or `SO`.
+    /// How many of them are none of `CA` and `WO`.
     told: usize,
     calls: Calls,
     style: Style,
@@ -90,26 +130,29 @@ struct Maker<'a> {
 impl Maker<'_> {
     /// Begins with the catalogue and the bytes of work that are there at the
     /// start.
-    fn new(dice: &mut Dice) -> Maker<'_> {
+    fn new(dice: &mut Dice, decided: bool) -> Maker<'_> {
         let calls = Calls::new(HASHING);
         let style = Style::Storeroom(PREFIXES.to_vec());
         let (made, soon) = (Vec::new(), Vec::new());
         let (recheck, carry) = (false, false);
-        Maker { dice, made, told: 0, calls, style, left: 12, soon, recheck, carry }
+        Maker { dice, decided, made, told: 0, calls, style, left: 12, soon, recheck, carry }
     }
 
     fn make(&mut self, operation: Operation) {
         // A recheck changes nothing, and needs no run to be made.
         let is_told = match operation {
-            Operation::Recheck(_) => true,
+            Operation::Recheck(_) | Operation::RecheckDecided(_) => true,
             _ => self.calls.run(&operation).is_some(),
         };
         self.told += usize::from(is_told);
         self.made.push(operation);
     }
 
-    /// One `AD`, `WI`, `RE` or `SO`, and what is lent to it.
+    /// One that is neither `CA` nor `WO`, and what is lent to it.
     fn next(&mut self) {
+        if self.decided && self.dice.one_in(4) {
+            return self.decided_later();
+        }
         if self.left == 0 {
             self.other_catalogue();
         }
@@ -126,27 +169,93 @@ impl Maker<'_> {
             6 if self.dice.one_in(4) => self.carry(),
             _ => Operation::Add(self.any_rule()),
         };
+        let operation = match operation {
+            Operation::Add(rule) if self.decided && self.dice.one_in(2) => {
+                Operation::AddDecided(rule)
+            }
+            other => other,
+        };
         self.make(operation);
+    }
+
+    /// Two rules, one with a field that stands so often that a side grows too long,
+    /// and any room.
+    fn side_above_48(&mut self) -> ([Vec<u8>; 2], usize) {
+        let alphabet = alphabet(self.dice);
+        let (left, right, texts) = strip(self.dice, &alphabet);
+        let mut rules = [left, right].map(|side| {
+            let mut records = patterns(self.dice, &alphabet, 0..RULE_FIELDS as u8, &side, &texts);
+            records.push(Record::side(LEFT, side));
+            rule_of(&records)
+        });
+        self.dice.shuffle(&mut rules);
+        (rules, self.dice.pick(&[4, 20, 60, 200, 356]))
     }
 
     /// The pairs checked again, with a list buffer that is just long enough, or
     /// too short by a byte or more, or of any other length.
     fn recheck(&mut self) -> Operation {
         self.recheck = false;
+        if self.decided && self.dice.one_in(2) {
+            return self.recheck_decided();
+        }
         let needed = match self.calls.run(&Operation::Recheck(MOST_LIST)) {
             Some(After { call: Call::Recheck { told, .. }, .. }) => told.written,
             _ => 0,
         };
+        Operation::Recheck(self.list_length(needed, PAIR_BYTES, MOST_LIST))
+    }
+
+    fn recheck_decided(&mut self) -> Operation {
+        let needed = match self.calls.run(&Operation::RecheckDecided(MOST_DECIDED_LIST)) {
+            Some(After { call: Call::RecheckDecided { told, .. }, .. }) => told.written,
+            _ => 0,
+        };
+        let length = self.list_length(needed, DECIDED_PAIR_BYTES, MOST_DECIDED_LIST);
+        Operation::RecheckDecided(length)
+    }
+
+    fn list_length(&mut self, needed: usize, pair: usize, most: usize) -> usize {
         let length = match self.dice.below(12) {
             0..=3 => needed,
             4 | 5 => needed.saturating_sub(1),
-            6 => needed.saturating_sub(self.dice.between(2, PAIR_BYTES)),
+            6 => needed.saturating_sub(self.dice.between(2, pair)),
             7 => self.dice.below(needed + 1),
             8 => 0,
-            9 | 10 => needed + self.dice.between(1, 2 * PAIR_BYTES),
-            _ => self.dice.pick(&[3, 100, 1_000, MOST_LIST - 1, MOST_LIST]),
+            9 | 10 => needed + self.dice.between(1, 2 * pair),
+            _ => self.dice.pick(&[3, 100, 1_000, most - 1, most]),
         };
-        Operation::Recheck(length.min(MOST_LIST))
+        length.min(most)
+    }
+
+    /// A pair and the room in which a certain search decides it, or one less: the
+    /// second rule added to the first one, or both checked again.
+    fn decided_later(&mut self) {
+        let (rules, room) =
+            if self.dice.one_in(8) { self.side_above_48() } else { decided::two_rules(self.dice) };
+        let mut rules = rules.to_vec();
+        // Now and then another rule has a number before them, or between.
+        if self.dice.one_in(3) {
+            let first = self.dice.between(39, 42);
+            let at = self.dice.below(2);
+            rules.insert(at, write::rule(&[], &label(self.dice, first)));
+        }
+        let length = super::work_length(self.dice, room) as usize;
+        self.make(Operation::Work(length.min(MOST_WORK)));
+        let all = rules.concat();
+        let operation = if self.dice.one_in(3) {
+            let with_zeros = self.with_zeros(all);
+            self.make(with_zeros);
+            self.recheck_decided()
+        } else {
+            let new = rules.pop().expect("two rules at least");
+            let length = all.len() + self.dice.pick(&[0, 0, 1, 40]);
+            self.make(Operation::Catalogue { length, front: rules.concat() });
+            self.soon = vec![new.clone()];
+            Operation::AddDecided(new)
+        };
+        self.make(operation);
+        self.left = self.dice.below(3);
     }
 
     /// The catalogue carried over, now and then twice, and often checked again.

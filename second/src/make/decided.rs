@@ -46,6 +46,26 @@ fn decided_later(dice: &mut Dice) -> Case {
     }
 }
 
+/// The two rules of a pair, and a room in which one of the searches decides it,
+/// or just doesn't.
+pub(super) fn two_rules(dice: &mut Dice) -> ([Vec<u8>; 2], usize) {
+    let wanted = dice.pick(&[1, 2, 2, 3, 3, 4]);
+    loop {
+        let sheet =
+            if dice.one_in(2) { pairs::pair(dice) } else { pairs::with_a_field_twice(dice) };
+        let Some(rules) = pairs::rules_of(&sheet) else { continue };
+        if let Some((from, to)) = rooms(&sheet)[wanted - 1] {
+            let room = match dice.below(6) {
+                0..=2 => from,
+                3 => from - 1,
+                4 => to,
+                _ => dice.between(from, to),
+            };
+            return (rules, room);
+        }
+    }
+}
+
 /// Buffers for a good sheet: the answer buffer often exactly as long as the
 /// records, or one less.
 fn with_room(dice: &mut Dice, sheet: Vec<u8>, room: usize) -> Case {

@@ -10,9 +10,9 @@
 use super::Dice;
 use crate::cases::Case;
 use crate::pattern::{Allowed, Pattern, Places};
-use crate::sheet::{read, Question, Token, FIELDS};
+use crate::sheet::{read, Question, Token, FIELDS, PATTERN};
 use crate::storeroom::{by_first_letter, FINISHES};
-use crate::write::{choice, many, row, sheet, text, values};
+use crate::write::{self, choice, many, row, sheet, text, values};
 use crate::SITUATION_BYTES;
 
 /// A rule has "fields, numbered 0 to 3".
@@ -123,6 +123,53 @@ fn written(left: &Rule, right: &Rule, in_common: bool) -> Option<Vec<u8>> {
         sides.push(side);
     }
     Some(sheet(&patterns, &sides[0], &sides[1]))
+}
+
+/// The two rules of a pair's sheet; none where they have a field in common.
+pub(super) fn rules_of(sheet: &[u8]) -> Option<[Vec<u8>; 2]> {
+    let mut patterns: [Vec<(u8, Vec<u8>)>; 2] = Default::default();
+    let mut rest = sheet;
+    while rest.starts_with(PATTERN) {
+        let (record, behind) = rest.split_at(4 + usize::from(rest[3]));
+        let (rule, field) = own(record[2]);
+        patterns[rule].push((field, record[4..].to_vec()));
+        rest = behind;
+    }
+    let (left, behind) = rest[3..].split_at(usize::from(rest[2]));
+    let mut sides = [left.to_vec(), behind[3..].to_vec()];
+    for (number, side) in sides.iter_mut().enumerate() {
+        for token in side.iter_mut().filter(|token| **token >= write::field(0)) {
+            let (rule, field) = own(*token - write::field(0));
+            if rule != number {
+                return None;
+            }
+            *token = write::field(field);
+        }
+    }
+    let [left, right] = [0, 1].map(|rule| write::rule(&patterns[rule], &sides[rule]));
+    Some([left, right])
+}
+
+/// A pair's field as a field of its rule: which rule, and the number there.
+fn own(field: u8) -> (usize, u8) {
+    (usize::from(field) / MOST_FIELDS, field % MOST_FIELDS as u8)
+}
+
+/// So many rules, the two of a pair behind each other.
+pub fn rules(dice: &mut Dice, number: usize) -> Vec<Vec<u8>> {
+    let mut rules = Vec::new();
+    while rules.len() < number {
+        let pair = pair(dice);
+        rules.extend(rules_of(&pair).into_iter().flatten());
+    }
+    rules.truncate(number);
+    rules
+}
+
+/// The rules in any order.
+pub fn shuffled(dice: &mut Dice, mut rules: Vec<Vec<u8>>) -> Vec<Vec<u8>> {
+    dice.shuffle(&mut rules);
+    rules
 }
 
 // -------------------------------------------------------------- the rules

@@ -13,15 +13,12 @@ add-requires c κs = search needs
 added-requires : tie.Need-added-requires
 added-requires c κs = search needs
 
-tell-requires : tie.Need-tell-requires
-tell-requires c κs = search needs
-
-put-requires : tie.Need-put-requires
-put-requires c κs = search needs
+tell-added-requires : tie.Need-tell-added-requires
+tell-added-requires c κs = search needs
 
 cast-result : tie.Need-cast-result
 cast-result c =
-    let at-numbers = c .before .before .before .before .before .before .before .before .before in
+    let at-numbers = c .before .before .before .before .before in
     let added = at-numbers .before .before .before .before .before .add .result in
     record { fits = omega (arith, added-below added, ap (λ (n : Numbers). n .number) (at-numbers .added .ensures)) }
 
@@ -36,15 +33,13 @@ same-length-3 c = search needs
 
 returns : tie.Need-returns
 returns c =
-    let at-put = c .before .before .before in
-    let at-tell = at-put .before .before .before .before in
+    let at-tell = c .before .before .before in
     let at-numbers = at-tell .before .before in
     let at-add = at-numbers .before .before .before .before .before in
     let at-start = at-add .before .before .before .before .before .before .before in
-    added-promised (at-add .add .result) (at-numbers .added .result) (at-start .args .told .now) (at-add .add .ensures)
+    added-promised (at-add .add .result) (at-numbers .added .result) (at-start .args .told .now) (at-add .add .ensures .0)
     (at-numbers .added .ensures)
-    (at-tell .tell .ensures)
-    (at-put .put .ensures)
+    (at-tell .tell-added .ensures)
 
 pub add-spec : {M : Type 1} → statement M
 add-spec =
@@ -52,8 +47,7 @@ add-spec =
     (tie.spec
     add-requires
     added-requires
-    tell-requires
-    put-requires
+    tell-added-requires
     cast-result
     same-length
     same-length-2

@@ -13,15 +13,12 @@ recheck-requires c κs = search needs
 rechecked-requires : tie.Need-rechecked-requires
 rechecked-requires c κs = search needs
 
-put-requires : tie.Need-put-requires
-put-requires c κs = search needs
-
-put-requires-2 : tie.Need-put-requires-2
-put-requires-2 c κs = search needs
+tell-rechecked-requires : tie.Need-tell-rechecked-requires
+tell-rechecked-requires c κs = search needs
 
 cast-result : tie.Need-cast-result
 cast-result c =
-    let at-totals = c .before .before .before .before .before .before .before .before .before in
+    let at-totals = c .before .before .before .before .before in
     let rechecked = at-totals .before .before .before .before .before .recheck .result in
     record { fits = omega (arith, rechecked-below rechecked, ap (λ (t : Totals). t .number) (at-totals .rechecked .ensures)) }
 
@@ -36,15 +33,13 @@ same-length-3 c = search needs
 
 returns : tie.Need-returns
 returns c =
-    let at-second = c .before .before .before in
-    let at-first = at-second .before .before .before .before in
-    let at-totals = at-first .before .before in
+    let at-tell = c .before .before .before in
+    let at-totals = at-tell .before .before in
     let at-recheck = at-totals .before .before .before .before .before in
     let at-start = at-recheck .before .before .before .before .before .before .before in
     rechecked-promised (at-recheck .recheck .result) (at-totals .rechecked .result) (at-start .args .told .now) (at-recheck .recheck .ensures)
     (at-totals .rechecked .ensures)
-    (at-first .put .ensures)
-    (at-second .put2 .ensures)
+    (at-tell .tell-rechecked .ensures)
 
 pub recheck-spec : {M : Type 1} → statement M
 recheck-spec =
@@ -52,8 +47,7 @@ recheck-spec =
     (tie.spec
     recheck-requires
     rechecked-requires
-    put-requires
-    put-requires-2
+    tell-rechecked-requires
     cast-result
     same-length
     same-length-2

@@ -8,19 +8,19 @@ use lib.ListN.{length, length-replicate}
 use Rattle.paper.specs.Outcome.{room-of}
 use Rattle.paper_catalogue.specs.Calls.{rule-at}
 use Rattle.catalogue_form.proofs.RulesStanding.{rules-few}
-use Rattle.catalogue_pair.proofs.Asking.{Pair-told}
+use Rattle.catalogue_question.specs.AskedBy.{asking-coded, told-pair}
 use Rattle.catalogue_add.specs.Addition.{Ready-to-ask}
 use Rattle.catalogue_add.proofs.Going.{Going, going-start, going-more, going-stops, going-ends, asked-told}
 use Rattle.catalogue_add.proofs.ask_all.Statement.{statement}
 use Rattle.catalogue_add.proofs.ask_all.Tie as tie
 
 abbrev Inv-loop : tie.InvT-loop
-Inv-loop catalogue work₀ kept right second i₀ work i =
+Inv-loop how catalogue work₀ kept right second i₀ work i =
     (length work ≡ length work₀)
-    × ((x : Ready-to-ask catalogue kept right second) → Going (x .standing .rules-present) (x .rule) work₀ work i)
+    × ((x : Ready-to-ask catalogue kept right second) → Going (asking-coded how) (x .standing .rules-present) (x .rule) work₀ work i)
 
 abbrev μ-loop : tie.MeasureT-loop
-μ-loop catalogue work₀ kept right second i₀ work i = kept .rules - i
+μ-loop how catalogue work₀ kept right second i₀ work i = kept .rules - i
 
 loop-holds : tie.Need-loop-holds Inv-loop μ-loop
 loop-holds c = (refl, λ x. going-start _)
@@ -49,13 +49,13 @@ in-loop k = k .before .before .before .before .before .before
 told : (k : tie.After-ask Inv-loop μ-loop) →
     let l = in-loop k .before in
     let a = start l .args in
-    (x : Ready-to-ask (now (a .catalogue)) (a .t2) (a .new .side) (a .new .fields))
-    → Pair-told (rule-at (x .standing .rules-present) (l .loop .i)) (x .rule) (room-of (now (a .work))) (k .ask .result)
+    (x : Ready-to-ask (now (a .catalogue)) (a .t3) (a .new .side) (a .new .fields))
+    → told-pair (k .ask .result) ≡ asking-coded (a .how) .asks (rule-at (x .standing .rules-present) (l .loop .i)) (x .rule) (room-of (now (a .work)))
 told k =
     let l = in-loop k .before in
     let f = k .before .before .before .before in
     λ x.
-    asked-told x (l .loop .i) (omega (arith, x .standing .counted, in-loop k .loop-test .taken)) (f .rule-at .result) (f .rule-at .ensures) (l .loop .work) _ (l .loop .inv .0)
+    asked-told (start l .args .how) x (l .loop .i) (omega (arith, x .standing .counted, in-loop k .loop-test .taken)) (f .rule-at .result) (f .rule-at .ensures) (l .loop .work) _ (l .loop .inv .0)
     (k .ask .result) (k .ask .ensures .0)
 
 same-length : tie.Need-same-length Inv-loop μ-loop
@@ -71,7 +71,9 @@ returns c =
     going-stops (l .loop .inv .1 x) (omega (arith, x .standing .counted, in-loop k .loop-test .taken)) (told k x) (k .ask .ensures .1) (c .if1 .taken)
 
 add-i : tie.Need-add-i Inv-loop μ-loop
-add-i c = search needs
+add-i c =
+    let l = in-loop (c .before .before .before .before) in
+    omega (arith, l .loop-test .taken, rules-few (start (l .before) .pre .standing))
 
 loop-less : tie.Need-loop-less Inv-loop μ-loop
 loop-less c = search needs

@@ -1,4 +1,4 @@
--- `storeroom::enter` meets its contract, from what the pairs gave (`Entering`). Assumes nothing.
+-- `enter` meets its contract, from what the pairs gave (`Entering`). Assumes nothing.
 use mathlib.Core.Path.{subst}
 use borrow.Author.Needs.{needs}
 use Rattle.catalogue_add.specs.Addition.{Pairs-asked}
@@ -28,7 +28,7 @@ returns : tie.Need-returns
 returns c =
     let k = c .before .before .before .before .before in
     let x = k .before .before .before .before .before .before .pre in
-    adds-not x _ _ _ _ (subst (Pairs-asked (x .asks .standing .rules-present) (x .asks .rule) _ _) (c .before .asked .given .1) (k .ask-all .ensures (x .asks)))
+    adds-not x _ _ _ _ _ (subst (Pairs-asked _ (x .asks .standing .rules-present) (x .asks .rule) _ _) (c .before .asked .given .1) (k .ask-all .ensures (x .asks)))
 
 same-length-3 : tie.Need-same-length-3
 same-length-3 c = search needs
@@ -41,7 +41,7 @@ returns-2 c =
     let e = c .before .before .before .before in
     let k = e .before .before .before .before in
     let x = k .before .before .before .before .before .before .pre in
-    adds-rule x _ _ (subst (Pairs-asked (x .asks .standing .rules-present) (x .asks .rule) _ _) (e .enum-told .given .1) (k .ask-all .ensures (x .asks))) _ (c .before .before .put .ensures)
+    adds-rule x _ _ _ (subst (Pairs-asked _ (x .asks .standing .rules-present) (x .asks .rule) _ _) (e .enum-told .given .1) (k .ask-all .ensures (x .asks))) _ (c .before .before .put .ensures)
 
 pub enter-spec : {M : Type 1} → statement M
 enter-spec =

@@ -1,4 +1,4 @@
--- `storeroom::is_full` meets its contract. Assumes nothing.
+-- `is_full` meets its contract. Assumes nothing.
 use Prim.Native.Nat.{ℕ, _+_, _-_, _≤_}
 use native.Mathlib.Omega.{arith}
 use mathlib.Core.Path.{_≡_}

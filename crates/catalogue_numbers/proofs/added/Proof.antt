@@ -1,4 +1,4 @@
--- `numbered::added` meets its contract: each arm gives the numbers of its variant. Assumes nothing.
+-- `added` meets its contract: each arm gives the numbers of its variant. Assumes nothing.
 use Prim.Native.Nat.{ℕ}
 use mathlib.Core.Path.{sym, ap, _∙_}
 use Rattle.catalogue_numbers.specs.CatalogueNumbers.{numbers-of-added}
@@ -28,6 +28,9 @@ refusal-requires-2 c κs = search needs
 enum-known-a-2 : tie.Need-enum-known-a-2
 enum-known-a-2 c = search needs
 
+cast-search : tie.Need-cast-t9
+cast-search c = search needs
+
 enum-told-2 : tie.Need-enum-told-2
 enum-told-2 c = search needs
 
@@ -47,7 +50,7 @@ refusal-requires-5 : tie.Need-refusal-requires-5
 refusal-requires-5 c κs = search needs
 
 abbrev refused : ℕ → ℕ → Numbers
-refused number place = record { number = number; count = 0; place = place; rule = 0; answer = 0 }
+refused number place = record { number = number; count = 0; place = place; rule = 0; answer = 0; search = 0 }
 
 returns : tie.Need-returns
 returns c = c .refusal .ensures ∙ ap numbers-of-added (sym (c .before .enum-told .given .1))
@@ -59,7 +62,7 @@ returns-2 c =
     ∙ ap numbers-of-added (sym (c .before .before .before .a .given .1))
 
 returns-3 : tie.Need-returns-3
-returns-3 c = ap numbers-of-added (sym (c .before .a2 .given .1))
+returns-3 c = ap numbers-of-added (sym (c .before .before .a2 .given .1))
 
 returns-4 : tie.Need-returns-4
 returns-4 c = c .refusal3 .ensures ∙ ap numbers-of-added (sym (c .before .enum-told2 .given .1))
@@ -81,6 +84,7 @@ added-spec =
     cast-refusal
     refusal-requires-2
     enum-known-a-2
+    cast-search
     enum-told-2
     refusal-requires-3
     enum-told-3

@@ -1,51 +1,51 @@
--- `ask` meets its contract: what the pair asks is searched. Follows from `asked-pair`.
+-- `ask` meets its contract: the pair's question is asked, one way or the other.
 use borrow.Author.Needs.{needs}
-use Rattle.catalogue_pair.proofs.Asking.{asked-pair}
 use Rattle.catalogue_pair.proofs.ask.Statement.{statement}
 use Rattle.catalogue_pair.proofs.ask.Tie as tie
 
 asked-requires : tie.Need-asked-requires
 asked-requires c κs = search needs
 
-every-requires : tie.Need-every-requires
-every-requires c κs = search needs
-
-sub-search : tie.Need-sub-search
-sub-search c = search needs
-
-part-none-start : tie.Need-part-none-start
-part-none-start c = search needs
-
-part-none-end : tie.Need-part-none-end
-part-none-end c = search needs
+enum-told : tie.Need-enum-told
+enum-told c = search needs
 
 search-requires : tie.Need-search-requires
 search-requires c κs = search needs
 
-answer-of-requires : tie.Need-answer-of-requires
-answer-of-requires c κs = search needs
+enum-told-2 : tie.Need-enum-told-2
+enum-told-2 c = search needs
+
+decide-requires : tie.Need-decide-requires
+decide-requires c κs = search needs
 
 same-length : tie.Need-same-length
 same-length c = search needs
 
 returns : tie.Need-returns
 returns c =
-    let s = c .before .before .before .before in
-    let every = s .before .before .before in (
-      asked-pair _ _ _ _ _ _ _ _ _ (every .before .asked .ensures) (every .every .ensures) (s .search .ensures .0) (c .answer-of .ensures),
-      s .search .ensures .1 .1,
-    )
+    let s = c .before .before in
+    let t = s .before .before in
+    (rw (t .enum-told .given .1, ← t .before .before .asked .ensures) (s .search .ensures .0), s .search .ensures .1)
+
+same-length-2 : tie.Need-same-length-2
+same-length-2 c = search needs
+
+returns-2 : tie.Need-returns-2
+returns-2 c =
+    let s = c .before .before in
+    let t = s .before .before in
+    (rw (t .enum-told2 .given .1, ← t .before .before .asked .ensures) (s .decide .ensures .0), s .decide .ensures .1)
 
 pub ask-spec : {M : Type 1} → statement M
 ask-spec =
     tie.close
     (tie.spec
     asked-requires
-    every-requires
-    sub-search
-    part-none-start
-    part-none-end
+    enum-told
     search-requires
-    answer-of-requires
+    enum-told-2
+    decide-requires
     same-length
-    returns)
+    returns
+    same-length-2
+    returns-2)

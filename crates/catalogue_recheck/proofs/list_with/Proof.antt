@@ -7,19 +7,20 @@ use denote.Ref.{now}
 use borrow.Author.Needs.{needs}
 use lib.ListN.{length, length-replicate}
 use Rattle.catalogue_form.proofs.RulesStanding.{rules-few}
+use Rattle.catalogue_question.specs.AskedBy.{asking-coded}
 use Rattle.catalogue_recheck.specs.PairList.{list-with, Ready-to-list}
 use Rattle.catalogue_recheck.proofs.PairListing.{Listing-with, with-start, with-room, with-more, with-ends, asked-told, asked-fits}
 use Rattle.catalogue_recheck.proofs.list_with.Statement.{statement}
 use Rattle.catalogue_recheck.proofs.list_with.Tie as tie
 
 abbrev Inv-loop : tie.InvT-loop
-Inv-loop catalogue lower work₀ bytes₀ n kept left first j₀ end₀ work bytes j end =
+Inv-loop how catalogue lower work₀ bytes₀ n kept left first j₀ end₀ work bytes j end =
     (length work ≡ length work₀) × (length bytes ≡ length bytes₀)
-    × ((x : Ready-to-list catalogue kept lower left first work₀ bytes₀ n)
-    → Listing-with (x .standing .rules-present) lower work₀ work bytes₀ bytes n j end)
+    × ((x : Ready-to-list (asking-coded how) catalogue kept lower left first work₀ bytes₀ n)
+    → Listing-with (asking-coded how) (x .standing .rules-present) lower work₀ work bytes₀ bytes n j end)
 
 abbrev μ-loop : tie.MeasureT-loop
-μ-loop catalogue lower work₀ bytes₀ n kept left first j₀ end₀ work bytes j end = kept .rules - j
+μ-loop how catalogue lower work₀ bytes₀ n kept left first j₀ end₀ work bytes j end = kept .rules - j
 
 add-j : tie.Need-add-j Inv-loop μ-loop
 add-j c =
@@ -60,10 +61,10 @@ put-pair-requires c κs =
     let f = k .before .before .before .before in
     let l = in-loop k .before in
     let x = start l .pre in
-    let told = asked-told x (l .loop .j) (there k) (f .rule-at .result) (f .rule-at .ensures) (l .loop .work) (l .loop .inv .0) (k .ask .result) (k .ask .ensures .0) in
-    let room : start l .args .n + length (list-with (x .standing .rules-present) (start l .args .lower) (now (start l .args .work))) ≤ length (l .loop .bytes) =
+    let told = asked-told (start l .args .how) x (l .loop .j) (there k) (f .rule-at .result) (f .rule-at .ensures) (l .loop .work) (l .loop .inv .0) (k .ask .result) (k .ask .ensures .0) in
+    let room : start l .args .n + length (list-with (asking-coded (start l .args .how)) (x .standing .rules-present) (start l .args .lower) (now (start l .args .work))) ≤ length (l .loop .bytes) =
     omega (arith, x .room, l .loop .inv .1) in
-    asked-fits x (l .loop .j) (there k) (f .rule-at .result) (f .rule-at .ensures) (l .loop .work) (l .loop .inv .0) (k .ask .result) (k .ask .ensures .0) _ _
+    asked-fits (start l .args .how) x (l .loop .j) (there k) (f .rule-at .result) (f .rule-at .ensures) (l .loop .work) (l .loop .inv .0) (k .ask .result) (k .ask .ensures .0) _ _
     (with-room (l .loop .inv .2 x) (there k) told room)
 
 add-j-2 : tie.Need-add-j-2 Inv-loop μ-loop
@@ -81,10 +82,10 @@ loop-again c =
     let f = k .before .before .before .before in
     let l = in-loop k .before in (
       ap length (k .ask .ensures .1) ∙ length-replicate _ 0 ∙ l .loop .inv .0,
-      q .put-pair .kept .0 ∙ l .loop .inv .1,
+      q .put-pair .kept .1 .0 ∙ l .loop .inv .1,
       λ x.
           let h : l .loop .j < length (x .standing .rules-present) = omega (arith, x .standing .counted, in-loop k .loop-test .taken) in
-          let told = asked-told x (l .loop .j) h (f .rule-at .result) (f .rule-at .ensures) (l .loop .work) (l .loop .inv .0) (k .ask .result) (k .ask .ensures .0) in
+          let told = asked-told (start l .args .how) x (l .loop .j) h (f .rule-at .result) (f .rule-at .ensures) (l .loop .work) (l .loop .inv .0) (k .ask .result) (k .ask .ensures .0) in
           with-more (l .loop .inv .2 x) h told (k .ask .ensures .1) (q .put-pair .ensures),
     )
 

@@ -1,29 +1,35 @@
--- `recheck::put_pair` meets its contract: no byte, or five one behind the other (`PairBytes`). Assumes nothing.
+-- `put_pair` meets its contract: no byte, or five or seven one behind the other (`PairBytes`). Assumes nothing.
 use Prim.Native.Nat.{_+_, _≤_}
 use native.Mathlib.Omega.{arith}
 use mathlib.Core.Path.{ap}
 use denote.Ref.{now}
 use borrow.Author.Needs.{needs}
 use lib.ListN.{length, length-set}
-use Rattle.catalogue_recheck.proofs.PairBytes.{five-bytes, puts-no-bytes, puts-five-bytes}
+use Rattle.catalogue_question.specs.AskedBy.{asking-coded}
+use Rattle.catalogue_question.specs.declared.Asking.{Asking}
+use Rattle.catalogue_recheck.specs.PairList.{above-count}
+use Rattle.catalogue_recheck.proofs.PairBytes.{its-length, five-at-least, puts-no-bytes, puts-five-bytes, puts-seven-bytes}
 use Rattle.catalogue_recheck.proofs.put_pair.Statement.{statement}
 use Rattle.catalogue_recheck.proofs.put_pair.Tie as tie
 
 returns : tie.Need-returns
 returns c =
     let a = c .before .args in
-    puts-no-bytes (a .lower) (a .higher) (a .pair) (now (a .bytes)) (a .n) (c .if1 .taken)
+    puts-no-bytes (a .lower) (a .higher) (a .pair) (asking-coded (a .how)) (now (a .bytes)) (a .n) (c .if1 .taken)
 
 cast-bytes : tie.Need-cast-bytes
 cast-bytes c = search needs
 
--- five bytes fit
+-- its bytes fit
+its-fit : (c : tie.Else1) →
+    let a = c .before .args in a .n + asking-coded (a .how) .pair-bytes ≤ length (now (a .bytes))
+its-fit c =
+    let s = c .before in
+    omega (arith, s .pre .room, its-length (s .args .lower) (s .args .higher) (s .args .pair) (s .args .how) (c .if1 .left))
+
 five-fit : (c : tie.Else1) →
     let a = c .before .args in a .n + 5 ≤ length (now (a .bytes))
-five-fit c =
-    let s = c .before in
-    let five = five-bytes (s .args .lower) (s .args .higher) (s .args .pair) (c .if1 .left) in
-    omega (arith, s .pre .room, ap length five)
+five-fit c = omega (arith, its-fit c, five-at-least (c .before .args .how))
 
 slice-write-bytes : tie.Need-slice-write-bytes
 slice-write-bytes c = omega (arith, five-fit c)
@@ -55,25 +61,72 @@ add-bytes-3 c = search needs
 slice-write-bytes-4 : tie.Need-slice-write-bytes-4
 slice-write-bytes-4 c = simp length-set (omega (arith, five-fit c))
 
+-- By 01's search.
+enum-told : tie.Need-enum-told
+enum-told c = search needs
+
 cast-bytes-5 : tie.Need-cast-bytes-5
-cast-bytes-5 c = search needs
+cast-bytes-5 c = omega (arith, c .before .before .before .pre .count-bytes, ap above-count (c .enum-told .given .1))
 
 add-bytes-4 : tie.Need-add-bytes-4
 add-bytes-4 c = search needs
 
 slice-write-bytes-5 : tie.Need-slice-write-bytes-5
-slice-write-bytes-5 c = simp length-set (omega (arith, five-fit c))
+slice-write-bytes-5 c = simp length-set (omega (arith, five-fit (c .before .before)))
 
 add-result : tie.Need-add-result
 add-result c = search needs
+
+-- By deciding.
+enum-told-2 : tie.Need-enum-told-2
+enum-told-2 c = search needs
+
+cast-bytes-6 : tie.Need-cast-bytes-6
+cast-bytes-6 c = search needs
+
+seven-fit : (c : tie.After-enum-told2) →
+    let a = c .before .before .before .args in a .n + 7 ≤ length (now (a .bytes))
+seven-fit c = omega (arith, its-fit (c .before .before), ap (λ (h : Asking). asking-coded h .pair-bytes) (c .enum-told2 .given .1))
+
+add-bytes-5 : tie.Need-add-bytes-5
+add-bytes-5 c = search needs
+
+slice-write-bytes-6 : tie.Need-slice-write-bytes-6
+slice-write-bytes-6 c = simp length-set (omega (arith, seven-fit c))
+
+cast-bytes-7 : tie.Need-cast-bytes-7
+cast-bytes-7 c = omega (arith, c .before .before .before .pre .count-bytes, ap above-count (c .enum-told2 .given .1))
+
+add-bytes-6 : tie.Need-add-bytes-6
+add-bytes-6 c = search needs
+
+slice-write-bytes-7 : tie.Need-slice-write-bytes-7
+slice-write-bytes-7 c = simp length-set (omega (arith, seven-fit c))
+
+add-bytes-7 : tie.Need-add-bytes-7
+add-bytes-7 c = search needs
+
+slice-write-bytes-8 : tie.Need-slice-write-bytes-8
+slice-write-bytes-8 c = simp length-set (omega (arith, seven-fit c))
+
+add-result-2 : tie.Need-add-result-2
+add-result-2 c = search needs
 
 same-length : tie.Need-same-length
 same-length c = search needs
 
 returns-2 : tie.Need-returns-2
 returns-2 c =
-    let a = c .before .args in
-    puts-five-bytes (a .lower) (a .higher) (a .pair) (now (a .bytes)) (a .n) (c .if1 .left)
+    let a = c .before .before .before .args in
+    rw (c .enum-told .given .1) (puts-five-bytes (a .lower) (a .higher) (a .pair) (now (a .bytes)) (a .n) (c .before .before .if1 .left))
+
+same-length-2 : tie.Need-same-length-2
+same-length-2 c = simp length-set
+
+returns-3 : tie.Need-returns-3
+returns-3 c =
+    let a = c .before .before .before .args in
+    rw (c .enum-told2 .given .1) (puts-seven-bytes (a .lower) (a .higher) (a .pair) (now (a .bytes)) (a .n) (c .before .before .if1 .left))
 
 pub put-pair-spec : {M : Type 1} → statement M
 put-pair-spec =
@@ -91,9 +144,22 @@ put-pair-spec =
     cast-bytes-4
     add-bytes-3
     slice-write-bytes-4
+    enum-told
     cast-bytes-5
     add-bytes-4
     slice-write-bytes-5
     add-result
+    enum-told-2
+    cast-bytes-6
+    add-bytes-5
+    slice-write-bytes-6
+    cast-bytes-7
+    add-bytes-6
+    slice-write-bytes-7
+    add-bytes-7
+    slice-write-bytes-8
+    add-result-2
     same-length
-    returns-2)
+    returns-2
+    same-length-2
+    returns-3)

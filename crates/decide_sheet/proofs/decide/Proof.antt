@@ -1,6 +1,7 @@
--- `decide`, the library's second entry, meets its contract: the whole decision, and what is promised of it. Follows from `sheet-decided`.
+-- `decide`, the library's second entry, meets its contract: the whole decision, and what is promised of it. Follows from `settled-told` and
+-- `sheet-decided`.
 use denote.Ref.{now}
-use Rattle.decide_sheet.proofs.DecisionPromised.{refused-told, good-asks, asked-told, promised}
+use Rattle.decide_sheet.proofs.DecisionPromised.{refused-told, asked-told, promised}
 use borrow.Author.Needs.{needs}
 use Rattle.decide_sheet.proofs.decide.Statement.{statement}
 use Rattle.decide_sheet.proofs.decide.Tie as tie
@@ -17,10 +18,11 @@ refused-requires c κs = search needs
 enum-told : tie.Need-enum-told
 enum-told c = search needs
 
-own-search-requires : tie.Need-own-search-requires
-own-search-requires c κs =
-    let t = c .before .before .before in
-    good-asks _ _ (t .before .before .read .ensures) (t .enum-told .given .1)
+decide-requires : tie.Need-decide-requires
+decide-requires c κs = search needs
+
+told-requires : tie.Need-told-requires
+told-requires c κs = search needs
 
 returns : tie.Need-returns
 returns c =
@@ -35,11 +37,11 @@ same-length-2 c = search needs
 
 returns-2 : tie.Need-returns-2
 returns-2 c =
-    let o = c .before .before .before .before in
+    let o = c .before .before .before .before .before in
     let t = o .before .before .before .before in
     let r = t .before .before in
     let a = r .before .before .before .before .args in
-    promised _ _ _ _ (asked-told _ _ (r .read .ensures) (t .enum-told .given .1) (now (a .work)) (now (a .answer)) _ _ (o .own-search .result) (o .own-search .ensures))
+    promised _ _ _ _ (asked-told _ _ (r .read .ensures) (t .enum-told .given .1) (now (a .work)) (now (a .answer)) _ _ _ (o .decide .ensures) _ (c .told .ensures))
 
 pub decide-spec : {M : Type 1} → statement M
 decide-spec =
@@ -49,7 +51,8 @@ decide-spec =
     enum-known-found
     refused-requires
     enum-told
-    own-search-requires
+    decide-requires
+    told-requires
     returns
     same-length
     same-length-2

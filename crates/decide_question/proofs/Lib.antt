@@ -1,0 +1,4 @@
+pub mod AnyQuestion
+pub mod SettlingSteps
+pub mod Concluding
+pub mod SettledTold

@@ -1,0 +1,77 @@
+-- `decide` meets its contract: what the search of the question says, or the next ones. Follows from `SettlingSteps`.
+use mathlib.Core.Path.{sym, _∙_}
+use denote.Ref.{now}
+use Rattle.decide_question.proofs.SettlingSteps.{first-at-most, still-clear, first-told, first-undecided}
+use borrow.Author.Needs.{needs}
+use Rattle.decide_question.proofs.decide.Statement.{statement}
+use Rattle.decide_question.proofs.decide.Tie as tie
+
+every-requires : tie.Need-every-requires
+every-requires c κs = search needs
+
+search-requires : tie.Need-search-requires
+search-requires c κs = search needs
+
+decides-requires : tie.Need-decides-requires
+decides-requires c κs = search needs
+
+told-requires : tie.Need-told-requires
+told-requires c κs = search needs
+
+same-length : tie.Need-same-length
+same-length c = search needs
+
+same-length-2 : tie.Need-same-length-2
+same-length-2 c = search needs
+
+returns : tie.Need-returns
+returns c =
+    let d = c .before .before in
+    let s = d .before .before .before .before .before in
+    let every = s .before .before .before in
+    let start = every .before .before .before in
+    first-told _ _ (every .every .ensures) (now (start .args .work)) (now (start .args .answer)) _ _ _ (s .search .ensures) (sym (d .decides .ensures) ∙ c .before .if1 .taken) _ (c .told .ensures)
+
+further-searches-requires : tie.Need-further-searches-requires
+further-searches-requires c κs =
+    let e = c .before .before in
+    let d = e .before in
+    let s = d .before .before .before .before .before in
+    let every = s .before .before .before in
+    let start = every .before .before .before in (
+      still-clear _ _ (every .every .ensures) (now (start .args .work)) (now (start .args .answer)) _ _ _ (s .search .ensures),
+      first-at-most _ _ (every .every .ensures) (now (start .args .work)) (now (start .args .answer)) _ _ _ (s .search .ensures),
+    )
+
+same-length-3 : tie.Need-same-length-3
+same-length-3 c = search needs
+
+same-length-4 : tie.Need-same-length-4
+same-length-4 c = search needs
+
+returns-2 : tie.Need-returns-2
+returns-2 c =
+    let x = c .before .before .before .before in
+    let e = x .before .before .before in
+    let d = e .before in
+    let s = d .before .before .before .before .before in
+    let every = s .before .before .before in
+    let start = every .before .before .before in
+    first-undecided _ _ (every .every .ensures) (now (start .args .work)) (now (start .args .answer)) _ _ _ (s .search .ensures) (sym (d .decides .ensures) ∙ e .if1 .left)
+    _ _ _ (x .further-searches .ensures)
+
+pub decide-spec : {M : Type 1} → statement M
+decide-spec =
+    tie.close
+    (tie.spec
+    every-requires
+    search-requires
+    decides-requires
+    told-requires
+    same-length
+    same-length-2
+    returns
+    further-searches-requires
+    same-length-3
+    same-length-4
+    returns-2)

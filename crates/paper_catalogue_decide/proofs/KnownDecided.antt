@@ -1,0 +1,76 @@
+-- Known calls of a catalogue that decides, and the seven bytes of a pair. The checker computes them. Both buffers are lent full of other bytes.
+use Prim.Native.Nat.{ℕ}
+use mathlib.Core.Path.{_≡_, refl}
+use mathlib.Core.List.{List, [], _∷_, _++_}
+use lib.ListN.{replicate}
+use Rattle.paper.specs.Places.{set-after, may-end}
+use Rattle.paper.specs.Written.{judge}
+use Rattle.paper.specs.Search.{enter, offer, take-next, search}
+use Rattle.paper.specs.Situation.{trimmed, strike, put-before, open-moves, child-by, children, question}
+use Rattle.paper.specs.Way.{search-from}
+use Rattle.paper.specs.Question.{acceptor}
+use Rattle.paper.specs.Sheet.{marked, pattern-record, side-record, marked-side, next-is}
+use Rattle.paper.specs.Outcome.{room-of, searched, count-of, how-of}
+use Rattle.paper.specs.Rule.{rule-front, read-rule, foreign-field, pair}
+use Rattle.paper.proofs.known.KnownSheet.{LE}
+use Rattle.paper_chosen.specs.Chosen.{acceptor-over, searched-over}
+use Rattle.paper_decide.specs.Alike.{alike-in, fixed, fields-standing, alike, is-least, least-ones}
+use Rattle.paper_decide.specs.Few.{leaf-choice, chosen-for, few, is-few}
+use Rattle.paper_decide.specs.Apart.{apart, few-standings}
+use Rattle.paper_decide.specs.Deciding.{concluded}
+use Rattle.paper_catalogue.specs.PairAsking.{record-by, pair-answer, pair-count}
+use Rattle.paper_catalogue.specs.Catalogue.{form, adding}
+use Rattle.paper_catalogue.proofs.KnownFew.{RU, zeros, rule-A, kept-rules}
+use Rattle.paper_catalogue_decide.specs.DecidedPairs.{pair-decided, by-deciding, adding-decided, rechecking-decided}
+
+-- x4x; xx
+abbrev x-4-x : List ℕ
+x-4-x = RU (LE (64 ∷ 4 ∷ 64 ∷ []))
+
+abbrev x-x : List ℕ
+x-x = RU (LE (64 ∷ 64 ∷ []))
+
+-- `A`, and x4x is new, in a room of six: 01's search leaves it open,
+pub searched-known :
+    adding (rule-A ++ zeros 8) x-4-x (replicate 1104 90)
+    ≡ record { number = 30; count = 6; place = 0; rule = 0; answer = 18; catalogue = rule-A ++ zeros 8; work = replicate 1104 0 }
+unfolding set-after may-end judge enter offer take-next search trimmed strike put-before open-moves child-by children question search-from acceptor marked pattern-record side-record marked-side next-is room-of searched count-of how-of rule-front read-rule foreign-field pair form pair-answer pair-count adding
+searched-known = refl
+
+-- and deciding enters it: the fourth search decides.
+pub decided-known :
+    adding-decided (rule-A ++ zeros 8) x-4-x (replicate 1104 90)
+    ≡ record {
+      added = record { number = 0; count = 0; place = 0; rule = 0; answer = 0; catalogue = rule-A ++ x-4-x; work = replicate 1104 0 };
+      search = 0;
+    }
+unfolding set-after may-end judge enter offer take-next search trimmed strike put-before open-moves child-by children question search-from acceptor marked pattern-record side-record marked-side next-is room-of searched count-of how-of rule-front read-rule foreign-field pair acceptor-over searched-over alike-in fixed fields-standing alike is-least least-ones leaf-choice chosen-for few is-few apart few-standings concluded form pair-decided adding-decided
+decided-known = refl
+
+-- xx, and `A` is new, in a room of 14: none decides. The fourth search finds texts, and yet there is no label.
+pub undecided-known :
+    adding-decided (x-x ++ zeros 6) rule-A (replicate 2576 90)
+    ≡ record {
+      added = record { number = 30; count = 43; place = 0; rule = 0; answer = 18; catalogue = x-x ++ zeros 6; work = replicate 2576 0 };
+      search = 0;
+    }
+unfolding set-after may-end judge enter offer take-next search trimmed strike put-before open-moves child-by children question search-from acceptor marked pattern-record side-record marked-side next-is room-of searched count-of how-of rule-front read-rule foreign-field pair acceptor-over searched-over alike-in fixed fields-standing alike is-least least-ones leaf-choice chosen-for few is-few apart few-standings concluded form pair-decided adding-decided
+undecided-known = refl
+
+-- The same two rules in a kept catalogue: its seven bytes; and `A` and `A` with a space, where the first search tells the clash.
+pub listed-undecided :
+    rechecking-decided (x-x ++ rule-A) (replicate 2576 90) (replicate 8 165)
+    ≡ record { number = 0; pairs = 1; written = 7; list = 0 ∷ 1 ∷ 18 ∷ 43 ∷ 0 ∷ 0 ∷ 0 ∷ 165 ∷ []; work = replicate 2576 0 }
+unfolding set-after may-end judge enter offer take-next search trimmed strike put-before open-moves child-by children question search-from acceptor marked pattern-record side-record marked-side next-is room-of searched count-of how-of rule-front read-rule foreign-field pair acceptor-over searched-over alike-in fixed fields-standing alike is-least least-ones leaf-choice chosen-for few is-few apart few-standings concluded form pair-decided rechecking-decided
+listed-undecided = refl
+
+pub listed-clash :
+    rechecking-decided kept-rules (replicate 1104 90) (replicate 7 165)
+    ≡ record { number = 0; pairs = 1; written = 7; list = 0 ∷ 1 ∷ 0 ∷ 6 ∷ 0 ∷ 0 ∷ 1 ∷ []; work = replicate 1104 0 }
+unfolding set-after may-end judge enter offer take-next search trimmed strike put-before open-moves child-by children question search-from acceptor marked pattern-record side-record marked-side next-is room-of searched count-of how-of rule-front read-rule foreign-field pair acceptor-over searched-over alike-in fixed fields-standing alike is-least least-ones leaf-choice chosen-for few is-few apart few-standings concluded form pair-decided rechecking-decided
+listed-clash = refl
+
+-- a count of three bytes
+pub seven-bytes-known :
+    record-by by-deciding 3 5 (record { answer = 19; count = 70000; search = 0 }) ≡ 3 ∷ 5 ∷ 19 ∷ 112 ∷ 17 ∷ 1 ∷ 0 ∷ []
+seven-bytes-known = refl
