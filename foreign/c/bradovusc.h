@@ -4,7 +4,7 @@
  * A rule is fixed Code 39 characters with fields between them; a field may have a pattern. Two rules clash when one label can be
  * read by both. Spaces at the end of a label are dropped before it is read, so LT4 and LT4 with a space are the same label. The two
  * rules stand on a question sheet; the answer is a number, and after a clash a text for each field. One search answers it, or up to
- * four, which decide more.
+ * four, which decide more. The sheet is written from the two sides and the patterns; where one of them is wrong, its place is told.
  * A catalogue has up to 32 rules in one buffer. A rule is added only if it clashes with none that is there; it can be withdrawn. One
  * that was kept can be checked again, pair by pair. A pair is asked by one search, or by up to four, which enter more rules.
  * A sheet can be written out as a script for string solvers, in SMT-LIB 2.6.
@@ -13,17 +13,17 @@
  * Up to version 0.6 a pattern had at most 96 bytes and 31 leaves. Since 0.7 it may have 192 bytes and 63 leaves, and a situation
  * takes 184 bytes where it took 144. What was good before is good and means the same.
  *
- * The static library libexported.a, for x86-64 Linux, defines eleven functions: bradovusc_clash, bradovusc_decide, bradovusc_script,
- * bradovusc_add, bradovusc_add_decided, bradovusc_withdraw, bradovusc_recheck, bradovusc_recheck_decided, bradovusc_spell_open,
- * bradovusc_spell_open_rule and bradovusc_spell_open_catalogue. They keep nothing from one call to the next, ask for no memory, and
- * touch nothing but what they are lent, so calls in several threads don't meet. bradovusc_decide takes at most about 165 KiB of stack,
- * bradovusc_spell_open_catalogue about 120, the others about 110; 156, 115 and 106 were measured. bradovusc_add_decided and
- * bradovusc_recheck_decided decide, and take what that takes. So a thread with 128 KiB is enough for all but these three, and one with
- * 192 KiB for them. All else is in this header: bradovusc_ask, bradovusc_settle, bradovusc_write_script, bradovusc_enter,
- * bradovusc_enter_decided, bradovusc_remove, bradovusc_check_again, bradovusc_check_again_decided, bradovusc_carry_sheet,
- * bradovusc_carry_rule and bradovusc_carry_catalogue call them with any buffers, bradovusc_text and bradovusc_catalogue_text say a
- * number in words, bradovusc_next walks the texts of a clash, bradovusc_next_pair the pairs that were listed, bradovusc_sign and
- * bradovusc_value go between values and signs.
+ * The static library libexported.a, for x86-64 Linux, defines twelve functions: bradovusc_clash, bradovusc_decide, bradovusc_write,
+ * bradovusc_script, bradovusc_add, bradovusc_add_decided, bradovusc_withdraw, bradovusc_recheck, bradovusc_recheck_decided,
+ * bradovusc_spell_open, bradovusc_spell_open_rule and bradovusc_spell_open_catalogue. They keep nothing from one call to the next, ask
+ * for no memory, and touch nothing but what they are lent, so calls in several threads don't meet. bradovusc_add_decided takes at most
+ * about 125 KiB of stack, bradovusc_recheck_decided about 120, bradovusc_decide about 105, bradovusc_spell_open_catalogue about 90, the
+ * others about 80; 120, 113, 100, 85 and 74 were measured. So a thread with 96 KiB is enough for all but the first three, and one with
+ * 160 KiB for these. All else is in this header: bradovusc_ask, bradovusc_settle, bradovusc_write_sheet,
+ * bradovusc_write_script, bradovusc_enter, bradovusc_enter_decided, bradovusc_remove, bradovusc_check_again,
+ * bradovusc_check_again_decided, bradovusc_carry_sheet, bradovusc_carry_rule and bradovusc_carry_catalogue call them with any buffers,
+ * bradovusc_text and bradovusc_catalogue_text say a number in words, bradovusc_next walks the texts of a clash, bradovusc_next_pair the
+ * pairs that were listed, bradovusc_sign and bradovusc_value go between values and signs.
  *
  * The header is C99 and C++11. The rules in full: docs/RULES.md.
  */
@@ -51,6 +51,9 @@ extern "C" {
  *
  * Of a catalogue's call, 0 is success. 11 to 17 say what is wrong with the rule that was to be added, 30 to 35 why it can't be done.
  *
+ * Of a sheet that is to be written, 0 is success, 11 and 13 to 17 say what is wrong with a pattern or a side, and 41 that the sheet
+ * doesn't fit.
+ *
  * Of a script, 0 is success, 11 to 17 say what is wrong with the sheet, and 40 that the script doesn't fit.
  *
  * Of carrying over, 0 is success, 11 to 17 say what is wrong with the sheet or the rule, 31, 32, 34 and 41 why it can't be done.
@@ -62,7 +65,8 @@ enum bradovusc_number {
     /* The rules don't clash: no label, however long, and with whatever spaces at its end, can be made by both. */
     BRADOVUSC_NO_CLASH = 1,
 
-    /* The sheet, or the rule, ends too early: a mark, a field byte, a length byte or a body is not all there. */
+    /* The sheet, or the rule, ends too early: a mark, a field byte, a length byte or a body is not all there. Of a sheet that is to be
+     * written: a pattern has fewer bytes than its length says. */
     BRADOVUSC_CUT_SHORT = 11,
     /* A mark is not PA, LE or RI, in a rule not RU, PA or LE, or stands where it isn't allowed; or bytes follow the last side. */
     BRADOVUSC_WRONG_MARK = 12,
@@ -86,8 +90,8 @@ enum bradovusc_number {
     /* The rules clash, but a text has more than 65,535 characters, too many for its record. */
     BRADOVUSC_TEXT_TOO_LONG = 21,
 
-    /* Of a catalogue's call: the rule was added, or withdrawn, or the pairs are listed. Of a script: it is written. Of carrying
-     * over: the sheet, the rule or the catalogue is carried over. */
+    /* Of a catalogue's call: the rule was added, or withdrawn, or the pairs are listed. Of a sheet or a script: it is written. Of
+     * carrying over: the sheet, the rule or the catalogue is carried over. */
     BRADOVUSC_DONE = 0,
     /* The new rule clashes with one that is there, or that is not decided. That rule and the answer of the pair are told. */
     BRADOVUSC_NOT_APART = 30,
@@ -104,7 +108,8 @@ enum bradovusc_number {
 
     /* The output buffer is too short for the script. Not a byte of it is written. */
     BRADOVUSC_SCRIPT_TOO_SHORT = 40,
-    /* The output buffer is too short for the sheet, or the rule, that is carried over. Not a byte of it is written. */
+    /* The output buffer is too short for the sheet that is to be written, or for the sheet or the rule that is carried over. Not a
+     * byte of it is written. */
     BRADOVUSC_OUTPUT_TOO_SHORT = 41
 };
 
@@ -158,7 +163,7 @@ static inline const char *bradovusc_text(uint32_t number) {
     }
 }
 
-/* The same for what a catalogue's call returned, or a script's, or carrying over: 0 is "done". */
+/* The same for what a catalogue's call returned, or that of a sheet or a script that is written, or carrying over: 0 is "done". */
 static inline const char *bradovusc_catalogue_text(uint32_t number) {
     return number == BRADOVUSC_DONE ? "done" : bradovusc_text(number);
 }
@@ -273,7 +278,8 @@ static inline int bradovusc_next(struct bradovusc_records *records) {
 }
 
 /*
- * The place of a fault, 11 to 17: an offset in the sheet, or in the rule from its RU. It shows the byte itself.
+ * The place of a fault, 11 to 17: an offset in the sheet, or in the rule from its RU, or in the sheet that would be written. It shows
+ * the byte itself.
  *
  *   11   the length of the sheet, or of the rule's bytes
  *   12   the first byte of the mark, or the first byte behind the last side
@@ -293,11 +299,11 @@ static inline int bradovusc_next(struct bradovusc_records *records) {
  * behind them are left as they are.
  */
 enum bradovusc_told {
-    /* situations entered; 0 after 11 to 17, of a script, and of what is carried over */
+    /* situations entered; 0 after 11 to 17, of a sheet or a script that is written, and of what is carried over */
     BRADOVUSC_COUNT = 0,
     /* after 11 to 17 the offset of the byte at fault, as above; otherwise 0 */
     BRADOVUSC_PLACE = 1,
-    /* bytes written to the answer buffer, of the script, or of what is carried over; 0 where the number is not */
+    /* bytes written to the answer buffer, of the sheet, of the script, or of what is carried over; 0 where the number is not */
     BRADOVUSC_WRITTEN = 2,
     BRADOVUSC_TOLD = 3
 };
@@ -392,6 +398,66 @@ static inline struct bradovusc_decision bradovusc_settle(const uint8_t *sheet, s
     decided.written = told[BRADOVUSC_WRITTEN];
     decided.search = told[BRADOVUSC_DECIDED_SEARCH];
     return decided;
+}
+
+/*
+ * A sheet that is written. The two sides are handed over as their tokens. `patterns` are the bytes of all patterns, one behind the
+ * other, by rising field, and `lengths` says how many of them each field has: lengths[0] of them are the pattern of field 0. A field
+ * has no pattern where its length is 0, and where no length is there for it. Bytes behind the last pattern are not looked at.
+ *
+ * The sheet that is written has a PA for each field with a pattern, then LE, then RI. It is proved that reading it gives the same sides
+ * and the same patterns, byte for byte, and that writing what was read from a good sheet gives the same bytes. BRADOVUSC_SHEET_BYTES
+ * are always enough, which is proved too.
+ */
+
+/*
+ * Writes the sheet. What is told has the indices of bradovusc_told: the count is 0, the place is that of a fault, and written are the
+ * bytes of the sheet. Afterwards
+ *
+ *   number            output buffer
+ *   0                 the sheet, the rest unchanged
+ *   11, 13 to 17      unchanged
+ *   41                unchanged: the sheet is longer
+ *
+ * The faults are those of the sheet that would be written, by what is wrong, the first one that reading it would meet. So the patterns
+ * come first, by rising field, then the left side, then the right one; 41 comes last. The place is an offset in that sheet:
+ *
+ *   11   a pattern has fewer bytes than its length says: the offset behind those that it has
+ *   13   a length that is not 0 for a field above 7: the field byte
+ *   14   a pattern's length above 192, or a side above 24 tokens: the length byte
+ *   15   a pattern's bytes are not exactly one pattern: as above
+ *   16   a pattern has more than 63 leaves: the first byte of the 64th
+ *   17   a side's byte is no token: that byte
+ *
+ * Any bytes, any lengths of patterns and any lengths of buffers are taken, 0 included. Each pointer must be that of so many elements,
+ * and not null, also where the length is 0; the output buffer and `told` must overlap neither each other nor one of the rest.
+ */
+uint32_t bradovusc_write(const uint8_t *patterns, size_t patterns_length, const uint64_t *lengths, size_t lengths_length,
+                         const uint8_t *left, size_t left_length, const uint8_t *right, size_t right_length, uint8_t *out,
+                         size_t out_length, uint64_t *told, size_t told_length);
+
+/* What writing a sheet answers: the number, and what is told beside it. */
+struct bradovusc_sheet_written {
+    uint32_t number;
+    uint64_t place, written;
+};
+
+/* bradovusc_write with all three numbers at once, and each pointer may be null where its length is 0. This is the one to call. */
+static inline struct bradovusc_sheet_written bradovusc_write_sheet(const uint8_t *patterns, size_t patterns_length,
+                                                                   const uint64_t *lengths, size_t lengths_length,
+                                                                   const uint8_t *left, size_t left_length, const uint8_t *right,
+                                                                   size_t right_length, uint8_t *out, size_t out_length) {
+    uint8_t no_patterns = 0, no_left = 0, no_right = 0, no_out = 0;
+    uint64_t no_lengths = 0, told[BRADOVUSC_TOLD] = {0, 0, 0};
+    struct bradovusc_sheet_written written;
+    written.number = bradovusc_write(patterns == NULL && patterns_length == 0 ? &no_patterns : patterns, patterns_length,
+                                     lengths == NULL && lengths_length == 0 ? &no_lengths : lengths, lengths_length,
+                                     left == NULL && left_length == 0 ? &no_left : left, left_length,
+                                     right == NULL && right_length == 0 ? &no_right : right, right_length,
+                                     out == NULL && out_length == 0 ? &no_out : out, out_length, told, BRADOVUSC_TOLD);
+    written.place = told[BRADOVUSC_PLACE];
+    written.written = told[BRADOVUSC_WRITTEN];
+    return written;
 }
 
 /*

@@ -2,15 +2,16 @@
  * Two rules: one makes labels of any digits, the other the label 4. Do they clash? Then the same as a script, for a string solver.
  * Then the sheet with a wrong byte. Then a catalogue of rules is kept. Then one that was kept since a space at the end made another
  * label is checked again. Then a sheet and a catalogue are carried over, from the time when a field without a pattern could be empty.
- * Then a keypad maker's 40 finish codes stand in one pattern. Then two rules in which fields stand twice: one search gives up, deciding
- * does not. Last a catalogue of such rules: one search can't enter the second, deciding can, and finds the clash of the third.
+ * Then a keypad maker's 40 finish codes stand in one pattern, of a sheet that the library writes. Then two rules in which fields stand
+ * twice: one search gives up, deciding does not. Last a catalogue of such rules: one search can't enter the second, deciding can, and
+ * finds the clash of the third.
  *
  * The first line of a sheet is number, count and place, and the number in words. After a clash follows a line for each field, its
  * number and its text, and after a fault a line with the byte at its place. The script has a line with its number before it. Then
  * comes a line for each call of a catalogue, and one for each pair that is listed, then the lines of what is carried over. Of the
- * finish codes there is a line for each pattern, with its bytes and the number in words, and after a clash the texts. Of the last sheet
- * there is a line for each function, number, count and the number in words, and of deciding the search. The lines of the last catalogue
- * say the search too.
+ * finish codes there is a line for each pattern, with its bytes, what writing its sheet answered, and the place of a fault; of a sheet
+ * that was written a line with its length and its answer, and the texts. Of the last sheet there is a line for each function, number,
+ * count and the number in words, and of deciding the search. The lines of the last catalogue say the search too.
  */
 #include <inttypes.h>
 #include <stdio.h>
@@ -63,10 +64,8 @@ static const char *const finishes[] = {"ABCN", "BBCKNRZ", "CBHP", "DBN",    "GBD
                                        "OBR",  "PBCNW",   "RBG",  "SBCGNS", "WBH",  "ZBNP"};
 enum { FIRST_LETTERS = sizeof finishes / sizeof *finishes, FINISHES = 40 };
 /* Keypads are marked KP and a finish, field 0. Is such a label also KPS and any text, field 1? */
-static const uint8_t keypad_sides[] = {
-    'L', 'E', 3, 20, 25, 64,    /* left side: K, P, field 0 */
-    'R', 'I', 4, 20, 25, 28, 65 /* right side: K, P, S, field 1 */
-};
+static const uint8_t keypads[] = {20, 25, 64};    /* left side: K, P, field 0 */
+static const uint8_t others[] = {20, 25, 28, 65}; /* right side: K, P, S, field 1 */
 
 /* One rule is KP, a number, - and the number again. The other is the same, but its number ends in 0. */
 static const uint8_t twice[] = {
@@ -212,18 +211,20 @@ static uint8_t *put_by_first_letter(uint8_t *at) {
 }
 
 static void ask_keypads(const char *how, uint8_t *(*put_finishes)(uint8_t *)) {
-    static const uint8_t head[] = {'P', 'A', 0, 0}; /* the pattern of field 0; its length comes last */
-    uint8_t *at = keypad_sheet + sizeof head;
-    struct bradovusc_answer given;
-    memcpy(keypad_sheet, head, sizeof head);
-    at = put_finishes(at);
-    keypad_sheet[3] = (uint8_t)(at - keypad_sheet - sizeof head);
-    memcpy(at, keypad_sides, sizeof keypad_sides);
-    at += sizeof keypad_sides;
-    given = bradovusc_ask(keypad_sheet, (size_t)(at - keypad_sheet), work, sizeof work, answer, sizeof answer);
-    printf("%d finishes %s, %u bytes: %" PRIu32 ", %s\n", FINISHES, how, (unsigned)keypad_sheet[3], given.number,
-           bradovusc_text(given.number));
-    print_texts(given.written);
+    static uint8_t finish[192]; /* the pattern of field 0; field 1 has none */
+    const uint64_t length = (uint64_t)(put_finishes(finish) - finish);
+    struct bradovusc_sheet_written written = bradovusc_write_sheet(finish, (size_t)length, &length, 1, keypads, sizeof keypads, others,
+                                                                   sizeof others, keypad_sheet, sizeof keypad_sheet);
+    printf("%d finishes %s, %" PRIu64 " bytes: %" PRIu32 ", %s", FINISHES, how, length, written.number,
+           bradovusc_catalogue_text(written.number));
+    if (written.number == BRADOVUSC_DONE) {
+        struct bradovusc_answer given =
+            bradovusc_ask(keypad_sheet, (size_t)written.written, work, sizeof work, answer, sizeof answer);
+        printf("\na sheet of %" PRIu64 " bytes: %" PRIu32 ", %s\n", written.written, given.number, bradovusc_text(given.number));
+        print_texts(given.written);
+    } else {
+        printf(", at %" PRIu64 "\n", written.place); /* in the sheet that would be written, where the pattern stands from 4 on */
+    }
 }
 
 static void decide(void) {

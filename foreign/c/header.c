@@ -1,7 +1,7 @@
 /*
  * Tries what bradovusc.h itself defines: the texts of the numbers, the signs, the walks over records and over listed pairs, null
- * pointers of length 0, deciding, the script of a sheet, the calls of a catalogue, with one search and decided, what is carried over,
- * the version, the lengths of buffers; and the places of faults, as it lists them.
+ * pointers of length 0, deciding, a sheet that is written, the script of one, the calls of a catalogue, with one search and decided,
+ * what is carried over, the version, the lengths of buffers; and the places of faults, as it lists them.
  * C99, and C++11 too. Prints what does not hold, and how many checks there were; the exit status is 0 if all hold.
  */
 #include <stdio.h>
@@ -11,6 +11,7 @@
 /* What the header defines calls `watched_clash` and the like here, which look at the pointers and call the library. */
 #define bradovusc_clash watched_clash
 #define bradovusc_decide watched_decide
+#define bradovusc_write watched_write
 #define bradovusc_script watched_script
 #define bradovusc_add watched_add
 #define bradovusc_withdraw watched_withdraw
@@ -23,6 +24,7 @@
 #include "bradovusc.h"
 #undef bradovusc_clash
 #undef bradovusc_decide
+#undef bradovusc_write
 #undef bradovusc_script
 #undef bradovusc_add
 #undef bradovusc_withdraw
@@ -40,6 +42,9 @@ uint32_t bradovusc_clash(const uint8_t *sheet, size_t sheet_length, uint8_t *wor
                          size_t answer_length, uint64_t *told, size_t told_length);
 uint32_t bradovusc_decide(const uint8_t *sheet, size_t sheet_length, uint8_t *work, size_t work_length, uint8_t *answer,
                           size_t answer_length, uint64_t *told, size_t told_length);
+uint32_t bradovusc_write(const uint8_t *patterns, size_t patterns_length, const uint64_t *lengths, size_t lengths_length,
+                         const uint8_t *left, size_t left_length, const uint8_t *right, size_t right_length, uint8_t *out,
+                         size_t out_length, uint64_t *told, size_t told_length);
 uint32_t bradovusc_script(const uint8_t *sheet, size_t sheet_length, uint8_t *script, size_t script_length, uint64_t *told,
                           size_t told_length);
 uint32_t bradovusc_add(uint8_t *catalogue, size_t catalogue_length, const uint8_t *rule, size_t rule_length, uint8_t *work,
@@ -86,6 +91,19 @@ uint32_t watched_decide(const uint8_t *sheet, size_t sheet_length, uint8_t *work
     check(answer != NULL, "the answer buffer's pointer is not null", (long)answer_length);
     check(told != NULL, "the pointer of what is told is not null", (long)told_length);
     return bradovusc_decide(sheet, sheet_length, work, work_length, answer, answer_length, told, told_length);
+}
+
+uint32_t watched_write(const uint8_t *patterns, size_t patterns_length, const uint64_t *lengths, size_t lengths_length,
+                       const uint8_t *left, size_t left_length, const uint8_t *right, size_t right_length, uint8_t *out,
+                       size_t out_length, uint64_t *told, size_t told_length) {
+    check(patterns != NULL, "the patterns' pointer is not null", (long)patterns_length);
+    check(lengths != NULL, "the lengths' pointer is not null", (long)lengths_length);
+    check(left != NULL, "the left side's pointer is not null", (long)left_length);
+    check(right != NULL, "the right side's pointer is not null", (long)right_length);
+    check(out != NULL, "the output buffer's pointer is not null", (long)out_length);
+    check(told != NULL, "the pointer of what is told is not null", (long)told_length);
+    return bradovusc_write(patterns, patterns_length, lengths, lengths_length, left, left_length, right, right_length, out, out_length,
+                           told, told_length);
 }
 
 uint32_t watched_script(const uint8_t *sheet, size_t sheet_length, uint8_t *script, size_t script_length, uint64_t *told,
@@ -877,6 +895,107 @@ static void try_longest_decided_list(void) {
     check(!bradovusc_next_pair(&pairs), "the end", 496);
 }
 
+/* ---- a sheet that is written */
+
+static uint8_t out[BRADOVUSC_SHEET_BYTES + 1];
+
+static int is_written(struct bradovusc_sheet_written w, uint32_t number, uint64_t place, uint64_t written) {
+    return w.number == number && w.place == place && w.written == written;
+}
+
+/* x B y, and z; x is A, z is any digits, field 7; y, field 1, has no pattern */
+static const uint8_t patterns[] = {10, 68, 65, 0, 9};
+static const uint64_t lengths[] = {1, 0, 0, 0, 0, 0, 0, 4};
+static const uint8_t left[] = {64, 11, 65}, right[] = {71};
+static const uint8_t written_sheet[] = {'P', 'A', 0, 1, 10, 'P', 'A', 7, 4, 68, 65, 0, 9, 'L', 'E', 3, 64, 11, 65, 'R', 'I', 1, 71};
+
+static struct bradovusc_sheet_written write_into(uint8_t *to, size_t length) {
+    return bradovusc_write_sheet(patterns, 5, lengths, 8, left, 3, right, 1, to, length);
+}
+
+static void try_write(void) {
+    /* zeros behind the last length, and a byte behind the last pattern */
+    static const uint64_t zeros_behind[] = {1, 0, 0, 0, 0, 0, 0, 4, 0, 0};
+    static const uint8_t byte_behind[] = {10, 68, 65, 0, 9, 255};
+    size_t length = sizeof written_sheet;
+    memset(out, 7, sizeof out);
+
+    check(is_written(write_into(NULL, 0), 41, 0, 0), "no output buffer", 41);
+    check(is_written(write_into(out, length - 1), 41, 0, 0), "a byte too few", 41);
+    check(out[0] == 7 && out[length - 2] == 7, "no byte changed", 41);
+    check(is_written(write_into(out, length), 0, 0, length), "just enough", (long)length);
+    check(memcmp(out, written_sheet, length) == 0 && out[length] == 7, "the sheet's bytes, and no more", (long)length);
+    memset(out, 7, sizeof out);
+    check(is_written(bradovusc_write_sheet(NULL, 0, NULL, 0, NULL, 0, NULL, 0, out, 6), 0, 0, 6), "nothing handed over", 0);
+    check(memcmp(out, "LE\0RI\0", 6) == 0 && out[6] == 7, "two empty sides", 6);
+    check(is_written(bradovusc_write_sheet(NULL, 0, NULL, 0, NULL, 0, NULL, 0, NULL, 0), 41, 0, 0), "nothing at all", 41);
+    check(is_written(bradovusc_write_sheet(byte_behind, 6, zeros_behind, 10, left, 3, right, 1, out, sizeof out), 0, 0, length),
+          "more than is looked at", (long)length);
+    check(memcmp(out, written_sheet, length) == 0 && out[length] == 7, "the same bytes", (long)length);
+}
+
+/* told in so many elements */
+static void try_write_told(void) {
+    size_t length, i;
+    for (length = 0; length <= 4; length++) {
+        uint64_t told[] = {7, 7, 7, 7};
+        const uint64_t expected[] = {0, 0, sizeof written_sheet, 7};
+        check(bradovusc_write(patterns, 5, lengths, 8, left, 3, right, 1, out, sizeof out, told, length) == 0, "written", (long)length);
+        for (i = 0; i < 4; i++) {
+            check(told[i] == (i < length ? expected[i] : 7), "an element of what is told", (long)i);
+        }
+    }
+}
+
+/* the places that the header lists, and what comes before what */
+static void try_write_places(void) {
+    static const uint64_t ninth[] = {1, 0, 0, 0, 0, 0, 0, 0, 1}, long_ones[] = {0, 193}, longest[] = {UINT64_MAX}, five[] = {1, 5};
+    static const uint64_t one[] = {1}, two[] = {2}, leaves[] = {127};
+    static const uint8_t no_code[] = {10, 43}, no_token[] = {10, 72}, cut[] = {10, 68, 68};
+    uint8_t many[127], many_tokens[25];
+    memset(many, 66, 63);
+    memset(many + 63, 10, 64);
+    memset(many_tokens, 10, sizeof many_tokens);
+    memset(out, 7, sizeof out);
+
+    check(is_written(bradovusc_write_sheet(patterns, 5, ninth, 9, left, 3, no_token, 2, out, sizeof out), 13, 7, 0), "field 8", 13);
+    check(is_written(bradovusc_write_sheet(patterns, 5, long_ones, 2, left, 3, right, 1, out, sizeof out), 14, 3, 0), "193", 14);
+    check(is_written(bradovusc_write_sheet(NULL, 0, longest, 1, NULL, 0, NULL, 0, out, sizeof out), 14, 3, 0), "the longest", 14);
+    check(is_written(bradovusc_write_sheet(cut, 3, five, 2, left, 3, right, 1, out, sizeof out), 11, 11, 0), "two of five bytes", 11);
+    check(is_written(bradovusc_write_sheet(NULL, 0, one, 1, NULL, 0, NULL, 0, NULL, 0), 11, 4, 0), "11 is before 41", 11);
+    check(is_written(bradovusc_write_sheet(no_code, 2, two, 1, no_token, 2, right, 1, out, sizeof out), 15, 5, 0), "left over", 15);
+    check(is_written(bradovusc_write_sheet(no_code + 1, 1, one, 1, left, 3, right, 1, out, sizeof out), 15, 4, 0), "no code", 15);
+    check(is_written(bradovusc_write_sheet(many, 127, leaves, 1, left, 3, right, 1, out, sizeof out), 16, 130, 0), "leaf 64", 16);
+    check(is_written(bradovusc_write_sheet(NULL, 0, NULL, 0, many_tokens, 25, no_token, 2, NULL, 0), 14, 2, 0), "25 tokens", 14);
+    check(is_written(bradovusc_write_sheet(NULL, 0, NULL, 0, left, 3, many_tokens, 25, NULL, 0), 14, 8, 0), "on the right", 14);
+    check(is_written(bradovusc_write_sheet(patterns, 1, one, 1, no_token, 2, many_tokens, 25, NULL, 0), 17, 9, 0), "no token", 17);
+    check(is_written(bradovusc_write_sheet(NULL, 0, NULL, 0, left, 3, no_token, 2, NULL, 0), 17, 10, 0), "on the right", 17);
+    check(out[0] == 7 && out[22] == 7 && out[sizeof out - 1] == 7, "no byte changed", 11);
+}
+
+/* the longest sheet, in just enough bytes */
+static void try_longest_sheet(void) {
+    static uint8_t all_patterns[8 * 192];
+    uint64_t each[8];
+    uint8_t tokens[24];
+    struct bradovusc_answer given;
+    size_t i;
+    memset(all_patterns, 68, sizeof all_patterns);
+    for (i = 0; i < 8; i++) {
+        all_patterns[192 * i + 191] = 10;
+        each[i] = 192;
+    }
+    memset(tokens, 64, sizeof tokens);
+    memset(out, 7, sizeof out);
+    check(is_written(bradovusc_write_sheet(all_patterns, sizeof all_patterns, each, 8, tokens, 24, tokens, 24, out, 1621), 41, 0, 0),
+          "a byte too few", 41);
+    check(is_written(bradovusc_write_sheet(all_patterns, sizeof all_patterns, each, 8, tokens, 24, tokens, 24, out, 1622), 0, 0, 1622),
+          "just enough", 1622);
+    check(out[1622] == 7, "no byte behind it", 1622);
+    given = bradovusc_ask(out, 1622, NULL, 0, NULL, 0);
+    check(given.number == BRADOVUSC_NO_ROOM, "it is a good sheet", (long)given.number);
+}
+
 /* ---- carrying over */
 
 static int is_carried(struct bradovusc_carried carried, uint32_t number, uint64_t place, uint64_t written) {
@@ -891,8 +1010,6 @@ static const uint8_t new_sheet[] = {'P', 'A', 0, 4, 68, 65, 0, 42, 'P', 'A', 1, 
 static const uint8_t old_rule[] = {'R', 'U', 'P', 'A', 2, 1, 10, 'L', 'E', 3, 64, 11, 67};
 static const uint8_t new_rule[] = {'R', 'U', 'P', 'A', 0, 4, 68, 65, 0, 42, 'P', 'A', 2, 1,  10, 'P',
                                    'A', 3, 4, 68, 65, 0, 42, 'L', 'E', 3, 64, 11, 67};
-static uint8_t out[BRADOVUSC_SHEET_BYTES + 1];
-
 static void try_carry_sheet(void) {
     static const uint8_t one_more[] = {'L', 'E', 0, 'R', 'I', 0, 0}, wrong[] = {'L', 'E', 2, 10, 72};
     size_t length = sizeof new_sheet;
@@ -1024,6 +1141,10 @@ int main(void) {
     try_recheck_decided();
     try_recheck_serials();
     try_longest_decided_list();
+    try_write();
+    try_write_told();
+    try_write_places();
+    try_longest_sheet();
     try_carry_sheet();
     try_carry_rule();
     try_carried_told();

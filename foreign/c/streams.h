@@ -15,8 +15,8 @@
 
 enum { WORK_FILL = 90 };
 
-static inline uint32_t low_first(const uint8_t *bytes, size_t length) {
-    uint32_t number = 0;
+static inline uint64_t low_first(const uint8_t *bytes, size_t length) {
+    uint64_t number = 0;
     while (length-- > 0) {
         number = number * 256 + bytes[length];
     }
@@ -90,9 +90,8 @@ static inline int each_case(const char *name, void (*answer_case)(const struct s
     return EXIT_SUCCESS;
 }
 
-/* The line of an answer, but for its end: number, count, place and written length, and every byte of the two buffers. */
-static inline void print_answer(uint32_t number, const uint64_t *told, const uint8_t *answer, size_t answer_length, uint8_t fill,
-                                const uint8_t *work, size_t work_length) {
+/* The beginning of a line: number, count, place and written length, and every byte of the buffer that is written. */
+static inline void print_written(uint32_t number, const uint64_t *told, const uint8_t *answer, size_t answer_length, uint8_t fill) {
     uint64_t written = told[BRADOVUSC_WRITTEN];
     printf("%" PRIu32 " %" PRIu64 " %" PRIu64 " %" PRIu64, number, told[BRADOVUSC_COUNT], told[BRADOVUSC_PLACE], written);
     if (written <= answer_length) {
@@ -104,6 +103,12 @@ static inline void print_answer(uint32_t number, const uint64_t *told, const uin
         fputs(", more than the answer buffer", stdout);
         print_each(answer, answer_length);
     }
+}
+
+/* The line of an answer, but for its end: the same, and every byte of the working buffer. */
+static inline void print_answer(uint32_t number, const uint64_t *told, const uint8_t *answer, size_t answer_length, uint8_t fill,
+                                const uint8_t *work, size_t work_length) {
+    print_written(number, told, answer, answer_length, fill);
     print_work(work, work_length);
 }
 

@@ -121,7 +121,7 @@ impl AfterDecided {
 }
 
 /// What the answer buffer holds.
-fn push_answer(line: &mut String, answer: &[u8], written: usize) {
+pub fn push_answer(line: &mut String, answer: &[u8], written: usize) {
     match answer.split_at_checked(written) {
         Some((records, rest)) => {
             *line += ", written";

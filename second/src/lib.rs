@@ -22,6 +22,8 @@
 //! kept one that may; they search by `searched` or by `scan::searched`.
 //! `catalogue::add_decided` and `catalogue::recheck_decided` decide each pair.
 //!
+//! `writer::write` writes the sheet of two sides and patterns by field.
+//!
 //! `smt` reads scripts for other solvers and compares them with their sheets.
 //!
 //! Sentences in quotation marks in the comments are those of the text in which
@@ -46,6 +48,7 @@ pub mod smt;
 pub mod spell_open;
 pub mod storeroom;
 pub mod write;
+pub mod writer;
 
 use fault::Fault;
 use search::{Ending, Texts};

@@ -2,7 +2,8 @@
 //! and answer buffers near their bounds. `spaces` makes the ends of labels,
 //! `calls` operations on a catalogue with the same parts, `spelt` sheets and
 //! rules to carry over, `damages` the faults of them all. `pairs` makes pairs of
-//! rules as storerooms write them, `decided` cases to decide.
+//! rules as storerooms write them, `decided` cases to decide, `written` what is
+//! handed to the writer of sheets.
 
 pub mod calls;
 mod damages;
@@ -10,13 +11,14 @@ pub mod decided;
 pub mod pairs;
 mod spaces;
 pub mod spelt;
+pub mod written;
 
 use std::ops::Range;
 
 use self::damages::{damaged, random_bytes};
 use crate::cases::Case;
 use crate::pattern::{CHARACTERS, MOST_LEAVES, SPACE};
-use crate::sheet::{FIELDS, LEFT, MOST_PATTERN, PATTERN, RIGHT};
+use crate::sheet::{FIELDS, LEFT, MOST_PATTERN, MOST_SIDE, PATTERN, RIGHT};
 use crate::storeroom::{by_first_letter, FINISHES};
 use crate::write::{self, choice, field, row, tokens};
 use crate::{spell_open, ANSWER_BUFFER_TOO_SHORT, CLASH, SITUATION_BYTES};
@@ -71,9 +73,6 @@ impl Dice {
         }
     }
 }
-
-/// "length byte 0 to 24, tokens"
-const MOST_SIDE: usize = 24;
 
 /// A record before it is written out. The length byte is kept apart from the
 /// body, so that it can be damaged.

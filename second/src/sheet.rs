@@ -22,11 +22,13 @@ pub const MOST_PATTERN: usize = 192;
 /// Mark, field byte and length byte.
 pub const PATTERN_HEAD: usize = 4;
 /// The field byte's offset from the mark.
-const FIELD_BYTE: usize = 2;
+pub const FIELD_BYTE: usize = 2;
 const PATTERN_LENGTHS: RangeInclusive<u8> = 1..=MOST_PATTERN as u8;
+/// "length byte 0 to 24, tokens"
+pub const MOST_SIDE: usize = 24;
 /// Mark and length byte.
-const SIDE_HEAD: usize = 3;
-const SIDE_LENGTHS: RangeInclusive<u8> = 0..=24;
+pub const SIDE_HEAD: usize = 3;
+const SIDE_LENGTHS: RangeInclusive<u8> = 0..=MOST_SIDE as u8;
 
 /// "A token is 0 to 42 (a character) or 64 to 71 (field 0 to 7)." The hidden
 /// fields have "tokens 72 and 73, never allowed in a sheet".

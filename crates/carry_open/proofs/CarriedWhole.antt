@@ -24,6 +24,7 @@ use Rattle.paper.proofs.base.Lists.{map-append}
 use Rattle.paper.proofs.sheets.Asked.{GoodSide, GoodQuestion, sheet-good, left-39, right-39}
 use Rattle.paper.proofs.sheets.Hidden.{HasSet, in-range-has-set}
 use Rattle.paper.proofs.saying.Code.{judged-code}
+use Rattle.paper.proofs.saying.SaidParts.{said-parts}
 use Rattle.paper_catalogue.proofs.GoodRule.{GoodRule, own-in-range}
 use Rattle.base_codes.specs.Inner.{token-code, side-code, tokens, padded}
 use Rattle.base_codes.proofs.Tokens.{tokens-padded}
@@ -88,7 +89,6 @@ module _ (s : List ℕ) (q : Question) (asks : read-sheet s ≡ asked q) where
   pub sheet-whole : (left right : List ℕ) → left ≡ padded (side-code (q .left)) → right ≡ padded (side-code (q .right))
       → (bodies : List Body) → bodies ≡ bodies-of s → (counts : List ℕ) → counts ≡ standing-times left right
       → put-whole s 0 bodies counts ≡ sheet-saying (spelt-open q)
-  unfolding sheet-saying
   sheet-whole left right l r bodies b counts e =
       let sides = q .left ++ q .right in
       let has-set : (t : Token) → List·Memᴰ t sides → HasSet t =
@@ -97,11 +97,11 @@ module _ (s : List ℕ) (q : Question) (asks : read-sheet s ≡ asked q) where
       ap₂ (λ (a b : List ℕ). a ++ b) (ap tokens l ∙ side-back (q .left) (left-39 good)) (ap tokens r ∙ side-back (q .right) (right-39 good))
       ∙ sym (map-append token-code (q .left) (q .right)) in
       let said : s ≡ patterns-saying 0 (q .held) ++ (side-saying LE (q .left) ++ side-saying RI (q .right)) =
-      sym (said-back s q asks) ∙ append-assoc (patterns-saying 0 (q .held)) (side-saying LE (q .left)) (side-saying RI (q .right)) in
+      sym (said-back s q asks) ∙ said-parts q in
       let there = have-bytes s (q .held) (bodies-of s) (good .held .each-field) (sheet-stands s q asks) in
       ap₂ (opened-from s 0) b e
       ∙ records-whole s 0 (q .held) (q .left) (side-saying RI (q .right)) sides has-set (good .held .each-field) (bodies-of s) there left right codes said
-      ∙ sym (append-assoc (patterns-saying 0 (opened (stands-asked q) 0 (q .held))) (side-saying LE (q .left)) (side-saying RI (q .right)))
+      ∙ sym (said-parts (spelt-open q))
 
 module _ (r : Rule) (good : GoodRule r) (s : List ℕ) (said : rule-saying (r .fields .held) (r .side) ≡ s) where
   good-side : GoodSide characters (r .side)

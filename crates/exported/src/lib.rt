@@ -6,10 +6,13 @@ ghost use Rattle.paper_catalogue.specs.Recheck.{rechecking};
 ghost use Rattle.paper_catalogue_decide.specs.DecidedPairs.{adding-decided, rechecking-decided};
 ghost use Rattle.paper_script.specs.Scripting.{scripting};
 ghost use Rattle.paper_carry.specs.Spelling.{spelling, rule-spelling, carrying-over};
+ghost use Rattle.paper_write.specs.Writing.{writing};
 ghost use Rattle.paper_decide.specs.Deciding.{decision};
 ghost use Rattle.c_clash.specs.Asking.{telling};
 ghost use Rattle.c_decide.specs.Decided.{telling-decided};
 ghost use Rattle.c_carry.specs.Carried.{telling-spelt};
+ghost use Rattle.c_write.specs.WrittenNumbers.{telling-written};
+ghost use Rattle.write_sheet.specs.SheetWritten.{given};
 ghost use Rattle.c_script.specs.Scripted.{telling-scripted};
 ghost use Rattle.c_catalogue.specs.Catalogued.{telling-added, telling-rechecked};
 ghost use Rattle.c_catalogue_decide.specs.CatalogueDecided.{telling-added-by};
@@ -164,4 +167,23 @@ pub extern "C" fn bradovusc_spell_open_catalogue(catalogue: &mut [u8]) -> u32
     ensures catalogue { λ _. ⌜ now (catalogue .exit) ≡ carrying-over (now (catalogue .entry)) .catalogue ⌝ }
 {
     c_carry::catalogue(catalogue)
+}
+
+// Writes the one sheet that says these sides and patterns. `patterns` are the bytes of all patterns one behind the other; `lengths` says how many of
+// them each field has, by field number; 0, and a field behind the last length, is a field without a pattern. Returns request K8's number; count
+// (which is 0), place and written length go into the first three elements of `told`, as many as there is room for.
+#[no_mangle]
+pub extern "C" fn bradovusc_write(
+    patterns: &[u8],
+    lengths: &[u64],
+    left: &[u8],
+    right: &[u8],
+    out: &mut [u8],
+    told: &mut [u64],
+) -> u32
+    ensures number { λ r. ⌜ r ≡ writing (given (now (patterns .entry)) (now (lengths .entry)) (now (left .entry)) (now (right .entry))) (now (out .entry)) .number ⌝ }
+    ensures told { λ _. ⌜ now (told .exit) ≡ telling-written (now (told .entry)) (writing (given (now (patterns .entry)) (now (lengths .entry)) (now (left .entry)) (now (right .entry))) (now (out .entry))) ⌝ }
+    ensures out { λ _. ⌜ now (out .exit) ≡ writing (given (now (patterns .entry)) (now (lengths .entry)) (now (left .entry)) (now (right .entry))) (now (out .entry)) .out ⌝ }
+{
+    c_write::sheet(patterns, lengths, left, right, out, told)
 }

@@ -1,5 +1,6 @@
 pub mod Code
 pub mod Continued
 pub mod LeafPlace
+pub mod SaidParts
 pub mod Saying
 pub mod Sayable

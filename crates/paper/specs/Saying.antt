@@ -1,12 +1,48 @@
--- The sheet that says a question (document 01, "The question sheet"): its patterns by rising field, operator first, then its sides.
+-- The sheet that says given sides and patterns by field (document 01, "The question sheet"; request K8): "Given the two sides and the patterns by
+-- field, please write the one sheet that says them." And the sheet that says a question: its patterns, operator first, and its sides.
 use Prim.Native.Nat.{ℕ, suc, _+_}
+use mathlib.Core.Bool.{cond}
 use mathlib.Core.List.{List, [], _∷_, _++_, map}
-use lib.ListN.{length}
+use lib.Dec.{ltb, eqb}
+use lib.ListN.{length, take, drop}
+use Rattle.paper.specs.Lists.{each}
 use Rattle.paper.specs.Numbers.{field-token, empty-code, range-code, then-code, or-code, many-code}
 use Rattle.paper.specs.Pattern.{char, range, Pattern, leaf, empty, then, either, many, Held, some-text, pattern}
 use Rattle.paper.specs.Equation.{Token, chr, fld, Side}
 use Rattle.paper.specs.Question.{Question}
 use Rattle.paper.specs.Sheet.{Mark, PA, LE, RI, first-letter, second-letter}
+
+abbrev pub mark-bytes : Mark → List ℕ
+mark-bytes m = first-letter m ∷ second-letter m ∷ []
+
+-- `PA`: "field byte 0 to 7, length byte n 1 to 192, n bytes"
+abbrev pub pattern-laid : ℕ → ℕ → List ℕ → List ℕ
+pattern-laid f n code = mark-bytes PA ++ f ∷ n ∷ code
+
+-- `LE`, `RI`: "length byte 0 to 24, tokens"
+abbrev pub side-laid : Mark → List ℕ → List ℕ
+side-laid m tokens = mark-bytes m ++ length tokens ∷ tokens
+
+-- What a sheet is to say: the bytes of all patterns one behind the other, how many of them each field has, by field number, and both sides. A
+-- field whose length is 0, and one behind the last length, has no pattern. A field's number and a length stand in the sheet as the numbers that they
+-- are, also where no byte holds them: reading refuses them then as it refuses the bytes 8 to 255, or 193 to 255 (`NoByte` of `paper_write`).
+pub record ToSay : Type 0 where
+  pub patterns : List ℕ
+  pub lengths : List ℕ
+  pub left : List ℕ
+  pub right : List ℕ
+
+-- The records of the fields from f on, "field numbers rising", and the rest. Where bytes of a pattern are missing, the sheet ends with those that
+-- are there.
+abbrev pub laid-from : ℕ → List ℕ → List ℕ → List ℕ → List ℕ
+laid-from f [] patterns rest = rest
+laid-from f (n ∷ lengths) patterns rest =
+    cond (eqb n 0) (laid-from (suc f) lengths patterns rest)
+    (cond (ltb (length patterns) n) (pattern-laid f n patterns)
+    (pattern-laid f n (take n patterns) ++ laid-from (suc f) lengths (drop n patterns) rest))
+
+unfoldable pub sheet-laid : ToSay → List ℕ
+sheet-laid t = laid-from 0 (t .lengths) (t .patterns) (side-laid LE (t .left) ++ side-laid RI (t .right))
 
 -- "A pattern is written operator first."
 abbrev pub pattern-code : Pattern → List ℕ
@@ -21,22 +57,34 @@ abbrev pub token-byte : Token → ℕ
 token-byte (chr c) = c
 token-byte (fld f) = field-token + f
 
-abbrev pub mark-bytes : Mark → List ℕ
-mark-bytes m = first-letter m ∷ second-letter m ∷ []
+-- "A field without `PA` is open": it has no code.
+abbrev pub held-code : Held → List ℕ
+held-code some-text = []
+held-code (pattern p) = pattern-code p
 
--- `PA`: "field byte 0 to 7, length byte n 1 to 192, n bytes"; "A field without `PA` is open"
+abbrev pub held-lengths : List Held → List ℕ
+held-lengths held = map (λ (h : Held). length (held-code h)) held
+
+abbrev pub to-say : Question → ToSay
+to-say q =
+    record {
+      patterns = each held-code (q .held);
+      lengths = held-lengths (q .held);
+      left = map token-byte (q .left);
+      right = map token-byte (q .right);
+    }
+
+unfoldable pub sheet-saying : Question → List ℕ
+sheet-saying q = sheet-laid (to-say q)
+
+-- The same record by record, as a rule has them too: the patterns of the fields from f on, and a side.
 abbrev pub pattern-saying : ℕ → Held → List ℕ
 pattern-saying f some-text = []
-pattern-saying f (pattern p) = mark-bytes PA ++ f ∷ length (pattern-code p) ∷ pattern-code p
+pattern-saying f (pattern p) = pattern-laid f (length (pattern-code p)) (pattern-code p)
 
--- the patterns of the fields from f on
 abbrev pub patterns-saying : ℕ → List Held → List ℕ
 patterns-saying f [] = []
 patterns-saying f (h ∷ held) = pattern-saying f h ++ patterns-saying (suc f) held
 
--- `LE`, `RI`: "length byte 0 to 24, tokens"
 abbrev pub side-saying : Mark → Side → List ℕ
 side-saying m side = mark-bytes m ++ length side ∷ map token-byte side
-
-unfoldable pub sheet-saying : Question → List ℕ
-sheet-saying q = patterns-saying 0 (q .held) ++ side-saying LE (q .left) ++ side-saying RI (q .right)

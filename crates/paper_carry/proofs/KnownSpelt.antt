@@ -7,7 +7,7 @@ use Rattle.paper.specs.Lists.{upto, each}
 use Rattle.paper.specs.Written.{judge}
 use Rattle.paper.specs.Sheet.{marked, pattern-record, side-record, read-end, marked-side, next-is, read-sheet}
 use Rattle.paper.specs.Rule.{rule-front, read-rule, foreign-field}
-use Rattle.paper.specs.Saying.{sheet-saying}
+use Rattle.paper.specs.Saying.{sheet-laid, sheet-saying}
 use Rattle.paper_catalogue.specs.Catalogue.{form}
 use Rattle.paper.proofs.known.KnownSheet.{PA, LE, RI}
 use Rattle.paper_carry.specs.Opened.{rule-open}
@@ -39,7 +39,7 @@ sheets-known :
     spelling old (lent 40) ∷ spelling old (lent 39) ∷ spelling old (lent 38) ∷ spelling new (lent 39) ∷ spelling (PA 8 digit) (lent 1) ∷ []
     ≡ spelling-told 0 0 39 (new ++ 165 ∷ []) ∷ spelling-told 0 0 39 new ∷ spelling-told 41 0 0 (lent 38) ∷ spelling-told 0 0 39 new
     ∷ spelling-told 13 2 0 (lent 1) ∷ []
-unfolding judge marked pattern-record side-record read-end marked-side next-is read-sheet sheet-saying spelling
+unfolding judge marked pattern-record side-record read-end marked-side next-is read-sheet sheet-laid sheet-saying spelling
 sheets-known = refl
 
 -- a rule's fields 0 and 2 stand without a pattern, field 1 has one
@@ -87,5 +87,5 @@ pub none-to-spare :
     spelling full-sheet (lent 1622) .number ∷ spelling full-sheet (lent 1621) .number ∷ rule-spelling full-rule (lent 813) .number
     ∷ rule-spelling full-rule (lent 812) .number ∷ []
     ≡ 0 ∷ 41 ∷ 0 ∷ 41 ∷ []
-unfolding judge marked pattern-record side-record read-end marked-side next-is read-sheet sheet-saying spelling rule-front read-rule foreign-field rule-open rule-spelling
+unfolding judge marked pattern-record side-record read-end marked-side next-is read-sheet sheet-laid sheet-saying spelling rule-front read-rule foreign-field rule-open rule-spelling
 none-to-spare = refl

@@ -7,7 +7,7 @@
 use Prim.Native.Nat.{ℕ, zero, suc, _+_, _*_, _≤_}
 use native.Mathlib.Nat.{suc-mul}
 use native.Mathlib.Omega.{arith}
-use mathlib.Core.Path.{_≡_, refl}
+use mathlib.Core.Path.{_≡_, refl, ap}
 use mathlib.Core.Bool.{Bool, cond}
 use mathlib.Core.List.{List, [], _∷_, _++_}
 use lib.ListN.{length, getD, length-append, length-map}
@@ -18,6 +18,7 @@ use Rattle.paper.specs.Question.{Question}
 use Rattle.paper.specs.Sheet.{Mark, LE, RI}
 use Rattle.paper.specs.Saying.{token-byte, pattern-saying, patterns-saying, side-saying, sheet-saying}
 use Rattle.paper.proofs.base.Tests.{cond-by}
+use Rattle.paper.proofs.saying.SaidParts.{said-parts}
 use Rattle.paper.proofs.saying.Saying.{ShortCode, Sayable}
 use Rattle.paper_carry.specs.Opened.{spelt-held, opened, rule-saying}
 use Rattle.paper_carry.specs.Spelling.{longest-sheet, longest-rule}
@@ -45,7 +46,6 @@ past-end (x ∷ held) zero h = absurd (omega arith)
 past-end (x ∷ held) (suc i) h = past-end held i (omega arith)
 
 pub sheet-length : (q : Question) → Sayable q → length (sheet-saying q) ≤ longest-sheet
-unfolding sheet-saying
 sheet-length q h =
     let every = h .good .held .each-field in
     let said = patterns-saying 0 (q .held) in
@@ -56,8 +56,9 @@ sheet-length q h =
       patterns-length (q .held) 0 fields (h .codes) (λ i l. past-end (q .held) i (omega arith)),
       side-length LE (q .left) (h .good .left .short),
       side-length RI (q .right) (h .good .right .short),
-      length-append (said ++ left) right,
-      length-append said left,
+      ap length (said-parts q),
+      length-append said (left ++ right),
+      length-append left right,
     )
 
 pub rule-length : (held : List Held) (side : Side) → ((i : ℕ) → ShortCode (getD held i some-text))

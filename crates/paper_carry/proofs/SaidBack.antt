@@ -32,6 +32,7 @@ use Rattle.paper.proofs.base.Tests.{cond-by, by-bool, true-false, and-left, and
 use Rattle.paper.proofs.base.Tests.{leb-true, leb-false, ltb-false, eqb-true}
 use Rattle.paper.proofs.base.Lists.{cons-eq}
 use Rattle.paper.proofs.saying.Code.{judged-code}
+use Rattle.paper.proofs.saying.SaidParts.{said-parts}
 use Rattle.paper.proofs.sheets.Asked.{open-by}
 use Rattle.paper_carry.specs.Opened.{rule-saying}
 
@@ -270,10 +271,11 @@ end-asks s at q e = cond-by (Asks s) (ltb at (length s)) (λ _. tt) (λ h. e ∙
 
 right-asks : (s : List ℕ) (held : List Held) (l : Side) (at : ℕ) (x : Checked Side)
     → patterns-saying 0 held ++ side-saying LE l ≡ take at s → SideTakes RI s at x → Asks s (right-read s held l x)
-unfolding sheet-saying
 right-asks s held l at (fault x place) e k = tt
 right-asks s held l at (read r next) e k =
-    end-asks s next (record { alphabet = code-39; left = l; right = r; held = held }) (ap (λ (b : List ℕ). b ++ side-saying RI r) e ∙ sym k)
+    let q : Question = record { alphabet = code-39; left = l; right = r; held = held } in
+    end-asks s next q
+    (said-parts q ∙ sym (append-assoc (patterns-saying 0 held) (side-saying LE l) (side-saying RI r)) ∙ ap (λ (b : List ℕ). b ++ side-saying RI r) e ∙ sym k)
 
 left-asks : (s : List ℕ) (held : List Held) (at : ℕ) (x : Checked Side)
     → patterns-saying 0 held ≡ take at s → SideTakes LE s at x → Asks s (left-read s held x)

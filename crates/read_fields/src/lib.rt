@@ -19,7 +19,7 @@ ghost use Rattle.read_fields.specs.Bodies.{bodies-in};
 ghost use Rattle.read_fields.specs.Walk.{fields-of, Pattern-read};
 
 // "length byte n 1 to 192"
-const PATTERN_BYTES: usize = 192;
+pub const PATTERN_BYTES: usize = 192;
 
 // What the patterns' records say.
 pub struct Fields {

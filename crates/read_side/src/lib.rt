@@ -22,7 +22,7 @@ ghost use Rattle.read_side.specs.SideRead.{mark-of, code-of, side-of};
 // "64 to 71 (field 0 to 7)"
 const FIELD_TOKEN: usize = 64;
 // "length byte 0 to 24"
-const SHEET_SIDE: usize = 24;
+pub const SHEET_SIDE: usize = 24;
 
 // "Every record begins with a two-byte mark."
 pub enum Mark {
@@ -172,7 +172,7 @@ fn is_token(b: u8) -> bool
 }
 
 // How many stand before the first that is no token.
-fn leading_tokens(side: &[u8]) -> usize
+pub fn leading_tokens(side: &[u8]) -> usize
     ensures { λ r. ⌜ r ≡ leading is-token (now (side .entry)) ⌝ }
 {
     let mut i = 0;

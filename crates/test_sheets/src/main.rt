@@ -1,9 +1,9 @@
 // `test_sheets`: tries the library on many sheets. Standard input is a sequence of parts: a mark, the number of the cases, and so many cases. The
-// mark says what is done with each case and what is printed of it (part.rt); a case is a sheet and the lengths of its buffers. The program ends
-// where the input does, and also before a part or a case that is cut short, has another mark or asks for more than is lent here. A read or a
-// write that fails is told on standard error.
+// mark says what is done with each case and what is printed of it (part.rt); a case is a sheet and the lengths of its buffers, or what the writer
+// of sheets is handed. The program ends where the input does, and also before a part or a case that is cut short, has another mark or asks for
+// more than is lent here. A read or a write that fails is told on standard error.
 //
-// The stored parts are these seven; tools/part frames a part. The second program prints the same lines, but for those of the scripts, which it
+// The stored parts are these eight; tools/part frames a part. The second program prints the same lines, but for those of the scripts, which it
 // reads. tools/compare tries fresh parts.
 //
 // 1. `BY`: the known sheets of document 01
@@ -93,11 +93,19 @@
 // 7. `SP`: sheets and rules carried over
 //
 // What the second program's `sheets --spelt 6 1500` makes. `second --spelt` prints the same.
+//
+// 8. `WR`: sheets written by the program
+//
+// What the second program's `sheets --write 8 1500` makes: good sides and patterns, up to the longest sheet; each refusal, among them patterns cut
+// short, fields from 8 on and lengths that no byte holds; and output buffers of just the right length, of every length around it, and of none.
+// `second --write` prints the same.
 mod part;
 mod script;
 mod spelt;
+mod written;
 
 use base_answers::Numbers;
+use part::Kind;
 use part::Part;
 use part::Shown;
 use print_clash::FIRST_LINE;
@@ -136,7 +144,7 @@ fn main() {
 
 // A proved loop has to end, and nothing says that the input does: the turns are counted down from a number that no run uses up.
 fn answer_each(sheet: &mut [u8], work: &mut [u8], answer: &mut [u8]) -> How {
-    let mut part = part::cases(How::Going, Shown::Bytes, 0);
+    let mut part = part::cases(How::Going, Kind::Written, 0);
     let mut turns = u64::MAX;
     while turns > 0 && goes_on(part) {
         part = answer_next(sheet, work, answer, part);
@@ -157,14 +165,20 @@ fn answer_next(sheet: &mut [u8], work: &mut [u8], answer: &mut [u8], part: Part)
     if left == 0 {
         return part::next();
     }
-    let shown = part.shown;
-    let how = answer_one(sheet, work, answer, shown);
-    part::cases(how, shown, left - 1)
+    let kind = part.kind;
+    let how = answer_one(sheet, work, answer, kind);
+    part::cases(how, kind, left - 1)
 }
 
-// A case: the length of the working buffer and that of the answer buffer in four bytes each, the sheet's length in two, all low first, and the
-// sheet.
-fn answer_one(sheet: &mut [u8], work: &mut [u8], answer: &mut [u8], shown: Shown) -> How {
+fn answer_one(sheet: &mut [u8], work: &mut [u8], answer: &mut [u8], kind: Kind) -> How {
+    match kind {
+        Kind::Sheets(shown) => answer_sheet(sheet, work, answer, shown),
+        Kind::Written => written::show_written(),
+    }
+}
+
+// The length of the working buffer and that of the answer buffer in four bytes each, the sheet's length in two, all low first, and the sheet.
+fn answer_sheet(sheet: &mut [u8], work: &mut [u8], answer: &mut [u8], shown: Shown) -> How {
     let first = read_number(How::Going, 4, work.len());
     let w = first.number;
     let one = first.how;
@@ -224,11 +238,18 @@ fn show_decided(sheet: &[u8], work: &mut [u8], answer: &mut [u8]) -> How {
 
 // Number, count, place and written length, and every byte of the two buffers.
 fn print_answered(told: Numbers, work: &[u8], answer: &[u8]) -> How {
-    let line = print_numbers(
+    print_work(
+        print_answer(print_all(told), answer, told.written, ANSWER_FILL),
+        work,
+    )
+}
+
+// Number, count, place and written length.
+fn print_all(told: Numbers) -> How {
+    print_numbers(
         print_number(How::Going, told.number),
         &[told.count, told.place, told.written],
-    );
-    print_work(print_answer(line, answer, told.written, ANSWER_FILL), work)
+    )
 }
 
 // The lines, with just the room that the longest need.

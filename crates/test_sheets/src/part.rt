@@ -4,7 +4,15 @@ use print_out::is_going;
 use print_out::low_first;
 use print_out::read_next;
 
-// What is done with a case of a part, and what is printed of it.
+// What the cases of a part are.
+pub enum Kind {
+    // sheets and the lengths of their buffers
+    Sheets(Shown),
+    // `WR`: what the writer of sheets is handed (written.rt). A line: number, count, place and written length, and every byte of the output buffer
+    Written,
+}
+
+// What is done with a sheet, and what is printed of it.
 pub enum Shown {
     // `BY`: a line: number, count, place and written length, and every byte of the two buffers as they are afterwards
     Bytes,
@@ -19,10 +27,10 @@ pub enum Shown {
     Spelt,
 }
 
-// How far the program is, what is done with the cases of the part, and how many are left.
+// How far the program is, what the cases of the part are, and how many are left.
 pub struct Part {
     pub how: How,
-    pub shown: Shown,
+    pub kind: Kind,
     pub left: usize,
 }
 
@@ -39,12 +47,14 @@ const SCRIPTS: usize = b'S' as usize + 256 * (b'C' as usize);
 
 const SPELT: usize = b'S' as usize + 256 * (b'P' as usize);
 
+const WRITTEN: usize = b'W' as usize + 256 * (b'R' as usize);
+
 // Reads the head of the next part.
 pub fn next() -> Part {
     let mut head = [0u8; HEAD];
     let how = read_next(&mut head);
     if !is_going(how) {
-        return cases(how, Shown::Bytes, 0);
+        return cases(how, Kind::Written, 0);
     }
     let number = low_first(head[2], head[3], head[4], head[5]);
     part_of(low_first(head[0], head[1], 0, 0), number)
@@ -52,15 +62,16 @@ pub fn next() -> Part {
 
 fn part_of(mark: usize, number: usize) -> Part {
     match mark {
-        BYTES => cases(How::Going, Shown::Bytes, number),
-        DECIDED => cases(How::Going, Shown::Decided, number),
-        LINES => cases(How::Going, Shown::Lines, number),
-        SCRIPTS => cases(How::Going, Shown::Scripts, number),
-        SPELT => cases(How::Going, Shown::Spelt, number),
-        _ => cases(How::Stopped, Shown::Bytes, 0),
+        BYTES => cases(How::Going, Kind::Sheets(Shown::Bytes), number),
+        DECIDED => cases(How::Going, Kind::Sheets(Shown::Decided), number),
+        LINES => cases(How::Going, Kind::Sheets(Shown::Lines), number),
+        SCRIPTS => cases(How::Going, Kind::Sheets(Shown::Scripts), number),
+        SPELT => cases(How::Going, Kind::Sheets(Shown::Spelt), number),
+        WRITTEN => cases(How::Going, Kind::Written, number),
+        _ => cases(How::Stopped, Kind::Written, 0),
     }
 }
 
-pub fn cases(how: How, shown: Shown, left: usize) -> Part {
-    Part { how, shown, left }
+pub fn cases(how: How, kind: Kind, left: usize) -> Part {
+    Part { how, kind, left }
 }

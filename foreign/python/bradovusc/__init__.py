@@ -48,6 +48,7 @@ from ._answers import (
     NoRule,
     NotAnswered,
     NotApart,
+    NotWritten,
     OutputTooShort,
     Pair,
     Rechecked,
@@ -55,6 +56,7 @@ from ._answers import (
     Refused,
     Scripted,
     ScriptTooShort,
+    SheetWritten,
     SideTooLong,
     SpeltOpen,
     Text,
@@ -63,7 +65,7 @@ from ._answers import (
     Withdrawn,
     Written,
 )
-from ._build import ANY, between, choice, many, row, rule, sheet, word
+from ._build import ANY, between, choice, many, row, rule, word
 from ._catalogue import (
     DECIDED_PAIR_BYTES,
     MOST_RULES,
@@ -99,6 +101,7 @@ from ._sheets import (
     work_bytes,
 )
 from ._signs import CHARACTERS, SIGNS, SPACE, sign, signs, value, values
+from ._written import sheet, write
 
 __version__ = VERSION
 
@@ -132,6 +135,7 @@ __all__ = [
     "NoRule",
     "NotAnswered",
     "NotApart",
+    "NotWritten",
     "OutputTooShort",
     "PAIR_BYTES",
     "Pair",
@@ -148,6 +152,7 @@ __all__ = [
     "SPACE",
     "ScriptTooShort",
     "Scripted",
+    "SheetWritten",
     "SideTooLong",
     "SpeltOpen",
     "Text",
@@ -185,4 +190,5 @@ __all__ = [
     "withdraw",
     "word",
     "work_bytes",
+    "write",
 ]

@@ -12,11 +12,13 @@ from ._signs import signs
 class Fault(enum.Enum):
     """What is wrong with a sheet or a rule. The value is its number.
 
-    Its place is an offset in the sheet, or in the rule from its ``RU``: that of the byte itself. It is never above the length, but it can
-    be the length, where no byte stands: with ``CUT_SHORT`` always, and with ``NOT_ONE_PATTERN`` if the code runs out where the bytes end.
+    Its place is an offset in the sheet, in the rule from its ``RU``, or in the sheet that would be written: that of the byte itself. It is
+    never above the length, but it can be the length, where no byte stands: with ``CUT_SHORT`` always, and with ``NOT_ONE_PATTERN`` if the
+    code runs out where the bytes end.
     """
 
-    #: It ends too early. The place is its length.
+    #: It ends too early, or a pattern of a sheet that is to be written has fewer bytes than its length says. The place is its length: where
+    #: the bytes end.
     CUT_SHORT = 11
     #: A mark that is unknown or not allowed here, or bytes behind the last side. The place is the first byte of the mark, or the first
     #: byte behind the side.
@@ -56,6 +58,14 @@ _FAULTS = {
 
 class NotAnswered(Exception):
     """Neither yes nor no: it is not decided whether the rules clash, or the sheet is at fault. ``answer`` says which."""
+
+    def __init__(self, answer: Told) -> None:
+        super().__init__(str(answer))
+        self.answer = answer
+
+
+class NotWritten(ValueError):
+    """No sheet says these sides and patterns. ``answer`` says what is at fault, and where: the place is that in the sheet that would be written."""
 
     def __init__(self, answer: Told) -> None:
         super().__init__(str(answer))
@@ -141,7 +151,7 @@ class NoClash(Told):
 
 @dataclass(frozen=True)
 class Refused(_Open):
-    """11 to 17: the sheet, or the rule, is at fault."""
+    """11 to 17: the sheet, or the rule, is at fault, or what a sheet is to be written of."""
 
     fault: Fault
     #: The offset of the byte at fault, as :class:`Fault` says.
@@ -225,7 +235,7 @@ class Decision(Told):
 
 @dataclass(frozen=True)
 class Written(Told):
-    """0: the script, the new sheet or the new rule is written. It stands in the front of the output buffer, too."""
+    """0: the sheet, the script, the new sheet or the new rule is written. It stands in the front of the output buffer, too."""
 
     data: bytes
     number = 0
@@ -242,7 +252,7 @@ class ScriptTooShort(Told):
 
 @dataclass(frozen=True)
 class OutputTooShort(Told):
-    """41: the output buffer is too short for the new sheet or rule. Not a byte of it is written."""
+    """41: the output buffer is too short for the sheet, or for the new sheet or rule. Not a byte of it is written."""
 
     number = 41
     _words = "the output buffer is too short for the sheet or the rule"
@@ -383,6 +393,8 @@ class ListedDecided(Told):
     _words = "done"
 
 
+#: The answer to sides and patterns of which a sheet is to be written.
+SheetWritten = Union[Written, Refused, OutputTooShort]
 #: The answer to a sheet that is to be written out.
 Scripted = Union[Written, Refused, ScriptTooShort]
 #: The answer to a rule that is to be added.

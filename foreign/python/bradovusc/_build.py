@@ -1,4 +1,4 @@
-"""The bytes of sheets, rules and patterns. Whether they are good is for the library to say."""
+"""The bytes of patterns, sides and rules. Whether they are good is for the library to say."""
 
 from __future__ import annotations
 
@@ -41,33 +41,11 @@ def many(pattern: bytes) -> bytes:
     return _MANY + pattern
 
 
-def _tokens(template: str) -> bytes:
-    """The tokens of a template, in which ``{0}`` is field 0."""
+def tokens(template: str) -> bytes:
+    """The tokens of a template, in which ``{0}`` is field 0. What no byte can say is said by 255, which is no token."""
     parts = re.split(r"\{([0-9]+)\}", template)
-    fields = [bytes([_FIELD + int(field)]) for field in parts[1::2]] + [b""]
+    fields = [bytes([min(_FIELD + int(field), 255)]) for field in parts[1::2]] + [b""]
     return b"".join(values(fixed) + field for fixed, field in zip(parts[::2], fields))
-
-
-def _side(mark: bytes, template: str) -> bytes:
-    tokens = _tokens(template)
-    return mark + bytes([len(tokens)]) + tokens
-
-
-def _patterns(patterns: Optional[Mapping[int, bytes]]) -> bytes:
-    rising = sorted((patterns or {}).items())
-    return b"".join(b"PA" + bytes([field, len(pattern)]) + pattern for field, pattern in rising)
-
-
-def sheet(left: str, right: str, patterns: Optional[Mapping[int, bytes]] = None) -> bytes:
-    """The sheet of two rules, with the patterns of their fields.
-
-    A template has the signs of the fixed characters, and ``{0}`` to ``{7}`` for the fields. A field without a pattern holds one character
-    or more. A field of the one rule and a field of the other should have different numbers, unless they are to hold the same text.
-
-    >>> sheet("LT{0}", "{1}4", {0: many(between("0", "9"))}).hex(" ")
-    '50 41 00 04 44 41 00 09 4c 45 03 15 1d 40 52 49 02 41 04'
-    """
-    return _patterns(patterns) + _side(b"LE", left) + _side(b"RI", right)
 
 
 def rule(template: str, patterns: Optional[Mapping[int, bytes]] = None) -> bytes:
@@ -76,4 +54,7 @@ def rule(template: str, patterns: Optional[Mapping[int, bytes]] = None) -> bytes
     >>> rule("A{0}").hex(" ")
     '52 55 4c 45 02 0a 40'
     """
-    return b"RU" + _patterns(patterns) + _side(b"LE", template)
+    rising = sorted((patterns or {}).items())
+    records = b"".join(b"PA" + bytes([field, len(pattern)]) + pattern for field, pattern in rising)
+    side = tokens(template)
+    return b"RU" + records + b"LE" + bytes([len(side)]) + side

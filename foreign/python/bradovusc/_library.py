@@ -2,12 +2,13 @@
 
 from __future__ import annotations
 
+import array
 import ctypes
 import ctypes.util
 import functools
 import os
 from pathlib import Path
-from typing import Iterator, List, Tuple, Union
+from typing import Iterable, Iterator, List, Tuple, Union
 
 #: The version of this package, of the library and of the C header.
 VERSION = "0.8.0"
@@ -26,10 +27,11 @@ Writable = Union[bytearray, memoryview]
 
 _READ = (ctypes.c_char_p, ctypes.c_size_t)
 _LENT = (ctypes.c_void_p, ctypes.c_size_t)
-_TOLD = (ctypes.POINTER(ctypes.c_uint64), ctypes.c_size_t)
+_NUMBERS = _TOLD = (ctypes.POINTER(ctypes.c_uint64), ctypes.c_size_t)
 _FUNCTIONS = {
     "bradovusc_clash": _READ + _LENT + _LENT + _TOLD,
     "bradovusc_decide": _READ + _LENT + _LENT + _TOLD,
+    "bradovusc_write": _READ + _NUMBERS + _READ + _READ + _LENT + _TOLD,
     "bradovusc_script": _READ + _LENT + _TOLD,
     "bradovusc_add": _LENT + _READ + _LENT + _TOLD,
     "bradovusc_withdraw": _LENT + (ctypes.c_size_t,),
@@ -122,10 +124,20 @@ class Lent:
         return self.address < other.address + other.length and other.address < self.address + self.length
 
 
-def call(name: str, *given: Union[bytes, Lent, int], told: int = 0) -> Tuple[int, List[int]]:
+class Numbers:
+    """Numbers of 64 bits, to be read. Raises :class:`OverflowError` for one that has not so many."""
+
+    def __init__(self, numbers: Iterable[int]) -> None:
+        checked = array.array("Q", numbers)
+        self.length = len(checked)
+        # the library takes no null pointer, so there is always one
+        self.array = (ctypes.c_uint64 * (self.length + 1))(*checked)
+
+
+def call(name: str, *given: Union[bytes, Lent, Numbers, int], told: int = 0) -> Tuple[int, List[int]]:
     """Calls a function, and hands back its number and the numbers told beside it.
 
-    Bytes and buffers that are lent go with their lengths. Buffers that overlap are refused: the library's promises are not about them.
+    Bytes, numbers and buffers that are lent go with their lengths. Buffers that overlap are refused: the library's promises are not about them.
     """
     lent = [one for one in given if isinstance(one, Lent)]
     if any(one.meets(other) for index, one in enumerate(lent) for other in lent[:index]):
@@ -136,6 +148,8 @@ def call(name: str, *given: Union[bytes, Lent, int], told: int = 0) -> Tuple[int
             words += [one.address, one.length]
         elif isinstance(one, bytes):
             words += [one, len(one)]
+        elif isinstance(one, Numbers):
+            words += [one.array, one.length]
         else:
             words.append(one)
     numbers = (ctypes.c_uint64 * told)()

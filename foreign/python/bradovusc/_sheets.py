@@ -30,7 +30,7 @@ DEFAULT_SITUATIONS = 356
 FIELDS = 8
 #: A record of the answer buffer has so many bytes before its text.
 RECORD_HEAD = 5
-#: A good sheet has at most so many bytes. An output buffer of so many is long enough for every sheet that is carried over.
+#: A good sheet has at most so many bytes. An output buffer of so many is long enough for every sheet that is written or carried over.
 SHEET_BYTES = 1_622
 #: A good rule of a catalogue has at most so many bytes.
 RULE_BYTES = 813

@@ -1,10 +1,10 @@
-"""Bytes of sheets, rules and patterns. These tests call nothing of the library."""
+"""Bytes of patterns, sides and rules. These tests call nothing of the library."""
 
 import doctest
 import unittest
 
 import bradovusc
-from bradovusc import ANY, _build, between, choice, many, row, rule, sheet, word
+from bradovusc import ANY, _build, between, choice, many, row, rule, word
 
 
 class Built(unittest.TestCase):
@@ -20,11 +20,12 @@ class Built(unittest.TestCase):
         self.assertEqual(ANY, bytes([68, 65, 0, 42]))
         self.assertEqual(many(between("0", "%")), ANY)
 
-    def test_sheets(self):
-        self.assertEqual(sheet("", ""), b"LE\0RI\0")
-        self.assertEqual(sheet("LT4", "LT4 "), bytes.fromhex("4C 45 03 15 1D 04 52 49 04 15 1D 04 26"))
-        both = {1: word("4"), 0: many(between("0", "9"))}
-        self.assertEqual(sheet("{0}", "{1}", both), bytes.fromhex("50410004444100095041010104 4C450140 52490141"))
+    def test_tokens(self):
+        self.assertEqual(_build.tokens(""), b"")
+        self.assertEqual(_build.tokens("LT4 "), bytes([21, 29, 4, 38]))
+        self.assertEqual(_build.tokens("A{0}{7}B{00}"), bytes([10, 64, 71, 11, 64]))
+        # no tokens, for the library to refuse
+        self.assertEqual(_build.tokens("{8}{191}{192}{1000}"), bytes([72, 255, 255, 255]))
 
     def test_rules(self):
         self.assertEqual(rule("A{3}", {3: word("B")}), bytes.fromhex("5255 504103010B 4C45020A43"))
@@ -33,11 +34,9 @@ class Built(unittest.TestCase):
     def test_what_is_no_text(self):
         for wrong in ("a", "{", "{x}", "A{0", "}", "{0}}"):
             with self.assertRaises(ValueError):
-                sheet(wrong, "")
+                rule(wrong)
         with self.assertRaises(ValueError):
-            sheet("{192}", "")
-        with self.assertRaises(ValueError):
-            sheet("A" * 256, "")
+            rule("A" * 256)
         with self.assertRaises(ValueError):
             rule("{0}", {0: many(word("A")) * 128})
 

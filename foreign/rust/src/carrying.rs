@@ -5,7 +5,7 @@ use std::fmt;
 use crate::Fault;
 
 /// A good sheet has at most so many bytes; an output buffer of so many is long enough for every
-/// sheet that is carried over, which is proved.
+/// sheet that is written or carried over, which is proved.
 pub const SHEET_BYTES: usize = 1622;
 
 /// The answer to a sheet or a rule that is to be carried over.

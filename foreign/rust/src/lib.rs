@@ -54,6 +54,21 @@
 //! assert_eq!(sheet.get(6), Some(&1));
 //! ```
 //!
+//! [`write`](crate::write()) writes a sheet, from the tokens of its sides and the patterns by field.
+//!
+//! ```
+//! use bradovusc::{write, Fault, Written, SHEET_BYTES};
+//!
+//! // Field 0, any digits, is the left side; field 1, the digit 4, the right one.
+//! let mut sheet = [0; SHEET_BYTES];
+//! let written = write(&[68, 65, 0, 9, 4], &[4, 1], &[64], &[65], &mut sheet);
+//! assert_eq!(written, Written::Sheet { bytes: 21 });
+//! assert_eq!(&sheet[..21], b"PA\x00\x04\x44\x41\x00\x09PA\x01\x01\x04LE\x01\x40RI\x01\x41");
+//! // A range from 9 to 0: the place is that of the byte in the sheet that would be written.
+//! let refused = write(&[68, 65, 9, 0], &[4], &[64], &[4], &mut sheet);
+//! assert_eq!(refused, Written::Refused { fault: Fault::NotOnePattern, place: 7 });
+//! ```
+//!
 //! [`script`] writes a sheet out as a script for string solvers.
 //!
 //! ```
@@ -153,6 +168,7 @@ mod catalogue;
 mod catalogue_decided;
 mod deciding;
 mod scripts;
+mod writing;
 
 pub use carrying::{
     spell_open, spell_open_catalogue, spell_open_rule, CarriedOver, SpeltOpen, SHEET_BYTES,
@@ -167,6 +183,7 @@ pub use catalogue_decided::{
 };
 pub use deciding::{decide, Decision};
 pub use scripts::{script, Scripted, SCRIPT_BYTES};
+pub use writing::{write, Written};
 
 use std::error::Error;
 use std::fmt::{self, Write};
@@ -209,14 +226,16 @@ pub const fn answer_bytes(situations: usize) -> usize {
 
 /// What is wrong with a sheet, or with a rule by itself.
 ///
-/// The place that is told with a fault is an offset in the sheet, or in the rule from its `RU`. It
-/// shows the byte itself, as each fault says. It is never above the length, but it can be the
-/// length, where no byte stands: with [`Fault::CutShort`] always, and with
-/// [`Fault::NotOnePattern`] if the code runs out where the bytes end. So take the byte by `get`.
+/// The place that is told with a fault is an offset in the sheet, in the rule from its `RU`, or in
+/// the sheet that would be written. It shows the byte itself, as each fault says. It is never above
+/// the length, but it can be the length, where no byte stands: with [`Fault::CutShort`] always, and
+/// with [`Fault::NotOnePattern`] if the code runs out where the bytes end. So take the byte by
+/// `get`.
 #[derive(Clone, Copy, Debug, PartialEq, Eq)]
 pub enum Fault {
-    /// 11: the sheet or the rule ends too early. Its place is the length of the sheet, or of the
-    /// rule.
+    /// 11: the sheet or the rule ends too early, or a pattern of a sheet that is to be written has
+    /// fewer bytes than its length says. Its place is the length of the sheet, or of the rule: where
+    /// the bytes end.
     CutShort,
     /// 12: a mark that is unknown or not allowed here, or bytes behind the last side. Its place is
     /// the first byte of the mark, or the first byte behind the side.

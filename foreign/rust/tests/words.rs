@@ -3,8 +3,8 @@
 use bradovusc::{
     catalogue_bytes, decided_list_bytes, list_bytes, recheck, recheck_decided, sign, texts, value,
     Added, AddedDecided, Answer, CarriedOver, DecidedPair, Fault, Pair, Rechecked,
-    RecheckedDecided, Scripted, SpeltOpen, Text, Withdrawn, DECIDED_PAIR_BYTES, MOST_RULES,
-    PAIR_BYTES, RULE_BYTES, RULE_FIELDS, SCRIPT_BYTES, SHEET_BYTES, SIGNS, VERSION,
+    RecheckedDecided, Scripted, SpeltOpen, Text, Withdrawn, Written, DECIDED_PAIR_BYTES,
+    MOST_RULES, PAIR_BYTES, RULE_BYTES, RULE_FIELDS, SCRIPT_BYTES, SHEET_BYTES, SIGNS, VERSION,
 };
 
 const HEADER: &str = include_str!("../../c/bradovusc.h");
@@ -132,6 +132,21 @@ fn scripts_in_words() {
     assert_eq!((written.number(), written.place(), written.written()), (0, 0, 9));
     assert_eq!(written.to_string(), "done");
     assert_eq!((Scripted::TooShort.place(), Scripted::TooShort.written()), (0, 0));
+}
+
+#[test]
+fn written_sheets_in_words() {
+    for fault in FAULTS {
+        let refused = Written::Refused { fault, place: 13 };
+        assert_eq!(refused.to_string(), format!("{fault}, at offset 13"));
+        assert_eq!((refused.number(), refused.place(), refused.written()), (fault.number(), 13, 0));
+    }
+    let sheet = Written::Sheet { bytes: 9 };
+    assert_eq!((sheet.number(), sheet.place(), sheet.written()), (0, 0, 9));
+    assert_eq!(sheet.to_string(), "done");
+    let (short, carried) = (Written::TooShort, SpeltOpen::TooShort);
+    assert_eq!((short.number(), short.place(), short.written()), (carried.number(), 0, 0));
+    assert_eq!(short.to_string(), carried.to_string());
 }
 
 #[test]

@@ -1,6 +1,6 @@
 //! Asks the library whether two rules make the same label, in room that grows.
 
-use bradovusc::{answer_bytes, Answer, MOST_SITUATIONS, SITUATION_BYTES};
+use bradovusc::{answer_bytes, Answer, Written, MOST_SITUATIONS, SITUATION_BYTES};
 
 use crate::sides::{sheet, texts, Side, Text};
 
@@ -79,9 +79,18 @@ impl Buffers {
 
     /// Asks until it is decided, or the room is the most there can be.
     pub fn ask(&mut self, left: &Side, right: &Side, room: Room) -> Asked {
-        let sheet = sheet(left, right);
         let mut asked =
             Asked { answer: Answer::NoRoom { count: 0 }, search: 0, room: 0, shared: None };
+        let sheet = match sheet(left, right) {
+            Ok(sheet) => sheet,
+            Err(written) => {
+                // what reading the sheet would say
+                if let Written::Refused { fault, place } = written {
+                    asked.answer = Answer::Refused { fault, place };
+                }
+                return asked;
+            }
+        };
         for room in room.sizes() {
             asked = self.ask_once(&sheet, room);
             if !matches!(asked.answer, Answer::NoRoom { .. } | Answer::SideTooLong { .. }) {
@@ -114,11 +123,22 @@ impl Buffers {
 #[cfg(test)]
 mod tests {
     use super::*;
+    use crate::sides::Title;
+    use bradovusc::Fault;
 
     #[test]
     fn the_room_grows_fourfold() {
         assert!(Room::Growing.sizes().eq([356, 1_424, 5_696, 22_784, 65_535]));
         assert!(Room::Fixed(17).sizes().eq([17]));
         assert!(Room::Fixed(65_535).sizes().eq([65_535]));
+    }
+
+    #[test]
+    fn a_rule_that_the_library_refuses() {
+        let (title, patterns, tokens) = (Title::Number(0), Vec::new(), vec![4, 43]);
+        let side = Side { title, patterns, tokens, fields: Vec::new() };
+        let asked = Buffers::new().ask(&side, &side, Room::Growing);
+        assert_eq!(asked.answer, Answer::Refused { fault: Fault::WrongToken, place: 4 });
+        assert!(asked.shared.is_none());
     }
 }

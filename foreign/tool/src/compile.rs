@@ -238,7 +238,7 @@ mod tests {
         assert_eq!(rules[0].record(), b"RUPA\x01\x04\x44\x41\x00\x09LE\x04\x15\x1D\x40\x41");
         assert_eq!(rules[1].record(), b"RUPA\x00\x05\x43\x0A\x42\x0B\x1BLE\x03\x40\x04\x40");
         assert_eq!(
-            sheet(&rules[0], &rules[1]),
+            sheet(&rules[0], &rules[1]).unwrap(),
             b"PA\x01\x04\x44\x41\x00\x09PA\x04\x05\x43\x0A\x42\x0B\x1BLE\x04\x15\x1D\x40\x41RI\x03\x44\x04\x44"
         );
     }

@@ -1,6 +1,7 @@
 //! The commands.
 
 use std::ffi::OsString;
+use std::fmt;
 use std::fs::File;
 use std::io::{self, Read, Write};
 use std::path::Path;
@@ -217,9 +218,10 @@ impl Run<'_> {
     fn script(&mut self, path: &Path, left: &str, right: &str) -> Outcome {
         let [left, right] = self.two(path, left, right)?;
         let mut script = vec![0; SCRIPT_BYTES];
-        let written = match bradovusc::script(&sheet(&left, &right), &mut script) {
+        let sheet = sheet(&left, &right).map_err(library_says)?;
+        let written = match bradovusc::script(&sheet, &mut script) {
             Scripted::Written { bytes } => bytes,
-            other => return Err(Problem::Fault(format!("the library says: {other}"))),
+            other => return Err(library_says(other)),
         };
         let text = String::from_utf8_lossy(script.get(..written).unwrap_or_default());
         self.say(&text, || titles(&left, &right).text("script", &text))
@@ -227,7 +229,7 @@ impl Run<'_> {
 
     fn sheet(&mut self, path: &Path, left: &str, right: &str) -> Outcome {
         let [left, right] = self.two(path, left, right)?;
-        let bytes = sheet(&left, &right);
+        let bytes = sheet(&left, &right).map_err(library_says)?;
         if self.options.json {
             let digits: String = bytes.iter().map(|byte| format!("{byte:02x}")).collect();
             return self.say("", || titles(&left, &right).text("sheet", &digits));
@@ -405,6 +407,11 @@ impl Run<'_> {
 }
 
 /// The status of one answer.
+/// An answer of the library that ends a command, with its place if it has one.
+fn library_says(answer: impl fmt::Display) -> Problem {
+    Problem::Fault(format!("the library says: {answer}"))
+}
+
 fn status_of(answer: Answer) -> Status {
     let mut tally = Tally::default();
     tally.count(answer);

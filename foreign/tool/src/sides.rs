@@ -2,7 +2,7 @@
 
 use std::fmt;
 
-use bradovusc::RULE_FIELDS;
+use bradovusc::{Written, RULE_FIELDS, SHEET_BYTES};
 
 use crate::characters::sign;
 
@@ -52,8 +52,14 @@ impl Side {
     /// The record of a catalogue.
     pub fn record(&self) -> Vec<u8> {
         let mut bytes = b"RU".to_vec();
-        self.put_patterns(0, &mut bytes);
-        self.put_side(b"LE", 0, &mut bytes);
+        for (field, body) in &self.patterns {
+            bytes.extend(b"PA");
+            bytes.extend([*field, body.len() as u8]);
+            bytes.extend(body);
+        }
+        bytes.extend(b"LE");
+        bytes.push(self.tokens.len() as u8);
+        bytes.extend(&self.tokens);
         bytes
     }
 
@@ -73,30 +79,36 @@ impl Side {
         label
     }
 
-    fn put_patterns(&self, first: u8, to: &mut Vec<u8>) {
-        for (field, body) in &self.patterns {
-            to.extend(b"PA");
-            to.extend([field + first, body.len() as u8]);
-            to.extend(body);
-        }
-    }
-
-    fn put_side(&self, mark: &[u8; 2], first: u8, to: &mut Vec<u8>) {
-        to.extend(mark);
-        to.push(self.tokens.len() as u8);
-        let renamed = |&token: &u8| if token < FIELD { token } else { token + first };
-        to.extend(self.tokens.iter().map(renamed));
+    /// The tokens, with so much added to each field's number.
+    fn renamed(&self, first: u8) -> Vec<u8> {
+        let renamed = |&token: &u8| if token < FIELD { token } else { token.saturating_add(first) };
+        self.tokens.iter().map(renamed).collect()
     }
 }
 
-/// The sheet that asks whether two rules make the same label.
-pub fn sheet(left: &Side, right: &Side) -> Vec<u8> {
-    let mut bytes = Vec::new();
-    left.put_patterns(0, &mut bytes);
-    right.put_patterns(RIGHT, &mut bytes);
-    left.put_side(b"LE", 0, &mut bytes);
-    right.put_side(b"RI", RIGHT, &mut bytes);
-    bytes
+/// The sheet that asks whether two rules make the same label. The library writes it, or says what is
+/// at fault and where, which it never does of rules that it takes.
+pub fn sheet(left: &Side, right: &Side) -> Result<Vec<u8>, Written> {
+    let (mut patterns, mut lengths) = (Vec::new(), Vec::new());
+    for (side, first) in [(left, 0), (right, usize::from(RIGHT))] {
+        for (field, body) in &side.patterns {
+            let number = first + usize::from(*field);
+            debug_assert!(lengths.len() <= number && !body.is_empty(), "{side:?}");
+            // the fields between have no pattern
+            lengths.resize(number, 0);
+            lengths.push(body.len() as u64);
+            patterns.extend(body);
+        }
+    }
+    let mut sheet = vec![0; SHEET_BYTES];
+    let (left, right) = (left.renamed(0), right.renamed(RIGHT));
+    match bradovusc::write(&patterns, &lengths, &left, &right, &mut sheet) {
+        Written::Sheet { bytes } => {
+            sheet.truncate(bytes);
+            Ok(sheet)
+        }
+        other => Err(other),
+    }
 }
 
 /// The texts that a clash has written, those of the left rule and those of the right one.
@@ -106,4 +118,36 @@ pub fn texts(written: &[u8]) -> (Vec<Text>, Vec<Text>) {
         bradovusc::texts(written).map(text).partition(|text| text.field < RIGHT);
     right.iter_mut().for_each(|text| text.field -= RIGHT);
     (left, right)
+}
+
+#[cfg(test)]
+mod tests {
+    use super::*;
+    use bradovusc::Fault;
+
+    fn side(patterns: &[(u8, &[u8])], tokens: &[u8]) -> Side {
+        let patterns = patterns.iter().map(|&(field, body)| (field, body.to_vec())).collect();
+        Side { title: Title::Number(0), patterns, tokens: tokens.to_vec(), fields: Vec::new() }
+    }
+
+    #[test]
+    fn fields_without_a_pattern_between_others() {
+        let left = side(&[(1, &[10]), (3, &[68, 11])], &[64, 65, 67]);
+        let right = side(&[(0, &[4]), (2, &[5])], &[20, 64, 66, 65]);
+        let expected = b"PA\x01\x01\x0APA\x03\x02\x44\x0BPA\x04\x01\x04PA\x06\x01\x05\
+            LE\x03\x40\x41\x43RI\x04\x14\x44\x46\x45";
+        assert_eq!(sheet(&left, &right).unwrap(), expected);
+        assert_eq!(sheet(&side(&[], &[]), &side(&[], &[])).unwrap(), b"LE\x00RI\x00");
+    }
+
+    #[test]
+    fn what_the_library_refuses() {
+        let good = side(&[(0, &[4])], &[64]);
+        let refused = |fault, place| Err(Written::Refused { fault, place });
+        assert_eq!(sheet(&good, &side(&[(0, &[4, 4])], &[])), refused(Fault::NotOnePattern, 10));
+        assert_eq!(sheet(&good, &side(&[(4, &[4])], &[])), refused(Fault::WrongField, 7));
+        assert_eq!(sheet(&good, &side(&[], &[4; 25])), refused(Fault::WrongLength, 11));
+        assert_eq!(sheet(&side(&[], &[4, 43]), &good), refused(Fault::WrongToken, 9));
+        assert_eq!(sheet(&good, &side(&[], &[68])), refused(Fault::WrongToken, 12));
+    }
 }

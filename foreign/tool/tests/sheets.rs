@@ -1,4 +1,5 @@
-//! The sheets that the tool writes are those of tools/sheet, for rules that both can write.
+//! The sheets that the library writes for the tool are those that tools/sheet puts together, for
+//! rules that both can say.
 
 mod common;
 

@@ -23,6 +23,7 @@
 //! - `second --spelt`: a stream of cases, a line for each: what
 //!   `--spell-open-rule` writes where it begins with `RU`, and `--spell-open`
 //!   where not, into a buffer of the answer buffer's length
+//! - `second --write`: a stream of cases of the writer of sheets, a line for each
 
 use std::io::{self, BufWriter, Read, Write};
 use std::process::ExitCode;
@@ -33,7 +34,7 @@ use second::catalogue::{Searcher, HASHING, SCANNING};
 use second::decide::{self, SEARCHES};
 use second::fault::Fault;
 use second::smt::{compare, output, Told};
-use second::{sheet, shown, spell_open};
+use second::{sheet, shown, spell_open, writer};
 use second::{ANSWER_BUFFER_TOO_SHORT, CLASH, NO_CLASH, NO_ROOM, SIDE_TOO_LONG};
 
 /// "the program's 65,520 hold 356; it reads 2,048 bytes of input", and lends
@@ -55,6 +56,7 @@ fn main() -> ExitCode {
         ["--decide", "--lines"] => many(|case| case.decide(decide::HASHING).lines()),
         ["--decide", "--left"] => many(left),
         ["--decide", "--table"] => table(),
+        ["--write"] => each(writer::Case::read, |case| case.line() + "\n"),
         ["--spelt"] => many(|case| case.spelt() + "\n"),
         ["--spell-open"] => return spelt(spell_open::sheet),
         ["--spell-open-rule"] => return spelt(spell_open::rule),
@@ -87,6 +89,7 @@ fn usage() -> ExitCode {
     eprintln!("       second --decide [--scan | --lines | --table | --left]");
     eprintln!("       second --scripts STREAM | second --script SHEET");
     eprintln!("       second --spell-open | second --spell-open-rule | second --spelt");
+    eprintln!("       second --write");
     ExitCode::from(2)
 }
 
@@ -123,14 +126,22 @@ fn a_line(answerer: Answerer) -> impl Fn(&Case) -> String {
     move |case| case.run(answerer).line() + "\n"
 }
 
+/// A stream of sheets with their buffers, and what is shown for each.
+fn many(shown: impl FnMut(&Case) -> String) -> io::Result<()> {
+    each(Case::read, shown)
+}
+
+/// Reads a case from the front of a stream and hands back the rest.
+type Reading<C> = fn(&[u8]) -> Option<(C, &[u8])>;
+
 /// A stream of cases, and what is shown for each.
-fn many(mut shown: impl FnMut(&Case) -> String) -> io::Result<()> {
+fn each<C>(read: Reading<C>, mut shown: impl FnMut(&C) -> String) -> io::Result<()> {
     let mut stream = Vec::new();
     io::stdin().lock().read_to_end(&mut stream)?;
     let mut out = BufWriter::new(io::stdout().lock());
     let mut rest = &stream[..];
     while !rest.is_empty() {
-        let Some((case, behind)) = Case::read(rest) else {
+        let Some((case, behind)) = read(rest) else {
             out.flush()?;
             return Err(io::Error::other("the stream stops inside a case"));
         };

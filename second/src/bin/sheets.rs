@@ -3,6 +3,8 @@
 //! - `sheets SEED NUMBER`: so many cases made from the seed
 //! - `sheets --spelt SEED NUMBER`: so many sheets and rules to carry over, made
 //!   from the seed
+//! - `sheets --write SEED NUMBER`: so many cases of the writer of sheets, made
+//!   from the seed
 //! - `sheets --long ROOM`: five whose search fills room for so many situations,
 //!   the last one with a pattern of 54 leaves
 //! - `sheets --long ROOM N`: the sheet alone of the N-th of these
@@ -18,7 +20,7 @@ use std::io::{self, Write};
 use std::process::ExitCode;
 
 use second::cases::Case;
-use second::make::{case, decided, long, pairs, spelt, Dice};
+use second::make::{case, decided, long, pairs, spelt, written, Dice};
 use second::{printed, storeroom, MOST_ROOM};
 
 fn main() -> ExitCode {
@@ -42,6 +44,12 @@ fn main() -> ExitCode {
             Some(cases) => cases,
             None => return usage(),
         },
+        ["--write", seed, number] => {
+            return match made(seed, number, written::case) {
+                Some(cases) => put_all(&cases, |case, stream| case.write(stream)),
+                None => usage(),
+            };
+        }
         ["--pairs", seed, number, ref rest @ ..] => match paired(seed, number, rest) {
             Some(cases) => cases,
             None => return usage(),
@@ -56,15 +64,20 @@ fn main() -> ExitCode {
         },
         _ => return usage(),
     };
+    put_all(&cases, Case::write)
+}
+
+/// The cases one behind the other.
+fn put_all<C>(cases: &[C], write: impl Fn(&C, &mut Vec<u8>)) -> ExitCode {
     let mut stream = Vec::new();
-    for case in &cases {
-        case.write(&mut stream);
+    for case in cases {
+        write(case, &mut stream);
     }
     put(&stream)
 }
 
 /// So many cases from a seed.
-fn made(seed: &str, number: &str, case: impl Fn(&mut Dice) -> Case) -> Option<Vec<Case>> {
+fn made<C>(seed: &str, number: &str, case: impl Fn(&mut Dice) -> C) -> Option<Vec<C>> {
     let (seed, number) = (seed.parse().ok()?, number.parse::<usize>().ok()?);
     let mut dice = Dice::new(seed);
     Some((0..number).map(|_| case(&mut dice)).collect())
@@ -110,7 +123,7 @@ fn put(bytes: &[u8]) -> ExitCode {
 
 fn usage() -> ExitCode {
     eprintln!(
-        "usage: sheets [--spelt] SEED NUMBER | sheets --long ROOM [N] | sheets --printed [N]"
+        "usage: sheets [--spelt | --write] SEED NUMBER | sheets --long ROOM [N] | sheets --printed [N]"
     );
     eprintln!(
         "       sheets --pairs [SEED NUMBER [--twice] [--room ROOM]] | sheets --decide SEED NUMBER"

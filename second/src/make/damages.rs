@@ -48,7 +48,7 @@ pub(super) fn damaged(
 }
 
 /// One to three patterns for fields that have none, before the sides.
-fn more_patterns(dice: &mut Dice, sides: usize, records: &mut Vec<Record>) {
+pub(super) fn more_patterns(dice: &mut Dice, sides: usize, records: &mut Vec<Record>) {
     for _ in 0..dice.between(1, 3) {
         let field = dice.below(FIELDS) as u8;
         let patterns = &records[..records.len() - sides];
@@ -130,7 +130,7 @@ fn wrong_length(dice: &mut Dice, record: &mut Record) {
 }
 
 /// A token that is none, now and then two, in the side or in one of any length.
-fn wrong_tokens(dice: &mut Dice, record: &mut Record) {
+pub(super) fn wrong_tokens(dice: &mut Dice, record: &mut Record) {
     let mut side = record.body.clone();
     side.truncate(MOST_SIDE);
     if dice.one_in(4) || side.is_empty() {
@@ -147,7 +147,7 @@ fn wrong_tokens(dice: &mut Dice, record: &mut Record) {
 // --------------------------------------------------------- wrong patterns
 
 /// One with too many leaves, or bytes that are not one pattern.
-fn wrong_pattern(dice: &mut Dice) -> Vec<u8> {
+pub(super) fn wrong_pattern(dice: &mut Dice) -> Vec<u8> {
     let alphabet = alphabet(dice);
     match dice.below(10) {
         0 | 1 => {

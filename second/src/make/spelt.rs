@@ -68,7 +68,7 @@ fn rule(dice: &mut Dice) -> Vec<u8> {
 }
 
 /// Fields below this one, in one or two sides, each with a pattern or without.
-fn records(dice: &mut Dice, below: usize, marks: &[&[u8; 2]]) -> Vec<Record> {
+pub(super) fn records(dice: &mut Dice, below: usize, marks: &[&[u8; 2]]) -> Vec<Record> {
     let alphabet = alphabet(dice);
     let mut fields: Vec<u8> = (0..below as u8).collect();
     dice.shuffle(&mut fields);

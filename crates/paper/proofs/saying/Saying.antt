@@ -28,6 +28,7 @@ use Rattle.paper.specs.Sheet.{open-fields, next-is, read-patterns, asked
 use Rattle.paper.specs.Saying.{pattern-code, token-byte, pattern-saying, patterns-saying, side-saying, sheet-saying}
 use Rattle.paper.proofs.sheets.Asked.{InRange, GoodSide, GoodHeld, GoodQuestion, left-39, right-39, held-39}
 use Rattle.paper.proofs.saying.Code.{code-judged}
+use Rattle.paper.proofs.saying.SaidParts.{code-bytes, said-parts}
 
 -- "length byte n 1 to 192": the code of what a field may hold fits into a record
 abbrev pub ShortCode : Held → Type 0
@@ -59,14 +60,6 @@ module _ (s : List ℕ) (at : ℕ) (t : List ℕ) (e : drop at s ≡ t) where
       ap₂ (λ (a b : ℕ). eqb a (first-letter m) && eqb b (second-letter m)) (ap (byte-at s) (sym (add-zero at)) ∙ byte-there 0) (byte-there 1)
 
 -- A pattern's record.
-code-bytes : (p : Pattern) → 0 < length (pattern-code p)
-code-bytes (leaf (char c)) = omega arith
-code-bytes (leaf (range lo hi)) = omega arith
-code-bytes empty = omega arith
-code-bytes (then a b) = omega arith
-code-bytes (either a b) = omega arith
-code-bytes (many a) = omega arith
-
 module _ (s : List ℕ) (at f : ℕ) (p : Pattern) (rest : List ℕ) (e : drop at s ≡ pattern-saying f (pattern p) ++ rest) where
   pub record-next : next-is PA s at ≡ true
   unfolding next-is marked
@@ -241,17 +234,17 @@ patterns-of s = read-patterns (suc (length s)) s 0 open-fields
 
 all-said : (q : Question) → Sayable q
     → Said (sheet-saying q) (q .held) (side-saying LE (q .left) ++ side-saying RI (q .right)) (patterns-of (sheet-saying q))
-unfolding sheet-saying
 all-said q h =
     let s = sheet-saying q in
     let patterns = patterns-saying 0 (q .held) in
     let left = side-saying LE (q .left) in
     let right = side-saying RI (q .right) in
-    let bytes = length-append (patterns ++ left) right in
-    let first-bytes = length-append patterns left in
+    let bytes = length-append patterns (left ++ right) in
+    let parts = said-parts q in
+    let sum = ap length parts in
     let every = h .good .held .each-field in
     rw every at
-    (patterns-said (q .held) [] (suc (length s)) s 0 0 0 (left ++ right) (append-assoc patterns left right) (not-marked (q .left) right)
+    (patterns-said (q .held) [] (suc (length s)) s 0 0 0 (left ++ right) parts (not-marked (q .left) right)
     (omega arith) refl (omega arith) (omega arith) (held-39 (h .good) .good) (h .codes))
 
 pub reads-back : (q : Question) → Sayable q → read-sheet (sheet-saying q) ≡ asked q

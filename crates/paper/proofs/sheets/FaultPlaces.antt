@@ -39,7 +39,7 @@ Shown s too-many-leaves at = at < length s
 Shown s wrong-token at = at < length s
 
 -- the first that fails the test is one of them
-leading-below : (p : ℕ → Bool) (l : List ℕ) → all p l ≡ false → leading p l < length l
+pub leading-below : (p : ℕ → Bool) (l : List ℕ) → all p l ≡ false → leading p l < length l
 leading-below p [] h = absurd (true-false refl h)
 leading-below p (x ∷ l) h =
     by-bool (p x)

@@ -1,0 +1,5 @@
+pub mod LaidRead
+pub mod LaidSaying
+pub mod WritePromised
+pub mod NoByte
+pub mod LaidShort

@@ -1,0 +1,4 @@
+pub mod SheetPut
+pub mod FieldsPut
+pub mod SheetAnswered
+pub mod OneWriting

@@ -1,0 +1,22 @@
+-- What the answers of writing a sheet tell, in numbers.
+use Prim.Native.Nat.{ℕ}
+use mathlib.Core.List.{List}
+use Rattle.paper.specs.Sheet.{fault-number}
+use Rattle.paper_carry.specs.Spelling.{Spelling, spelling-told}
+use Rattle.paper.specs.Saying.{ToSay}
+use Rattle.base_answers.specs.Faults.{fault-of}
+use Rattle.base_answers.specs.declared.Numbers.{Numbers}
+use Rattle.write_sheet.specs.declared.Written.{Written}
+use Rattle.write_sheet.specs.declared.Written.the-variants.{Sheet, Refused, TooShort}
+
+-- what is lent: the patterns' bytes, their lengths by field number, and both sides
+abbrev pub given : List ℕ → List ℕ → List ℕ → List ℕ → ToSay
+given patterns lengths left right = record { patterns = patterns; lengths = lengths; left = left; right = right }
+
+abbrev pub written-numbers : Written → Numbers
+written-numbers (Sheet bytes) = record { number = 0; count = 0; place = 0; written = bytes }
+written-numbers (Refused fault place) = record { number = fault-number (fault-of fault); count = 0; place = place; written = 0 }
+written-numbers TooShort = record { number = 41; count = 0; place = 0; written = 0 }
+
+abbrev pub told-written : Written → List ℕ → Spelling
+told-written w out = let n = written-numbers w in spelling-told (n .number) (n .place) (n .written) out

@@ -1,0 +1,158 @@
+//! Sheets that are written: known ones to the byte, refusals, buffers that are too short; what is
+//! read again; and many generated cases, on which the library and the crate `second` agree: number,
+//! place, written length, and the buffer to the last byte.
+
+use std::collections::BTreeMap;
+
+use bradovusc::{clash, write, Answer, Fault, Written, SHEET_BYTES};
+use second::make::{self, written::case, Dice};
+use second::Outcome;
+
+const FILL: u8 = 165;
+
+/// What is handed over.
+#[derive(Clone, Copy)]
+struct Parts<'a> {
+    patterns: &'a [u8],
+    lengths: &'a [u64],
+    left: &'a [u8],
+    right: &'a [u8],
+}
+
+const NOTHING: Parts = Parts { patterns: &[], lengths: &[], left: &[], right: &[] };
+
+/// The answer in a filled buffer of this length, and what was written. Looks at every byte behind it.
+fn written(parts: Parts, length: usize) -> (Written, Vec<u8>) {
+    let Parts { patterns, lengths, left, right } = parts;
+    let mut out = vec![FILL; length];
+    let given = write(patterns, lengths, left, right, &mut out);
+    let rest = out.split_off(given.written());
+    assert!(rest.iter().all(|&byte| byte == FILL), "{given:?}");
+    (given, out)
+}
+
+/// They become this sheet, in just enough bytes too, and not in one less.
+fn known(parts: Parts, sheet: &[u8]) {
+    for length in [sheet.len(), sheet.len() + 1, SHEET_BYTES] {
+        let done = (Written::Sheet { bytes: sheet.len() }, sheet.to_vec());
+        assert_eq!(written(parts, length), done);
+    }
+    for length in [0, sheet.len() - 1] {
+        assert_eq!(written(parts, length), (Written::TooShort, Vec::new()));
+    }
+}
+
+#[test]
+fn sheets() {
+    known(NOTHING, b"LE\x00RI\x00");
+    known(Parts { left: &[10], right: &[64, 11], ..NOTHING }, b"LE\x01\x0ARI\x02\x40\x0B");
+    let sheet = b"PA\x00\x04\x44\x41\x00\x09PA\x01\x01\x04LE\x01\x40RI\x01\x41";
+    let four = Parts { patterns: &[68, 65, 0, 9, 4], lengths: &[4, 1], left: &[64], right: &[65] };
+    known(four, sheet);
+    // zeros behind the last length, those of fields that no sheet has among them
+    known(Parts { lengths: &[4, 1, 0, 0, 0, 0, 0, 0, 0, 0, 0], ..four }, sheet);
+    // bytes behind the last pattern, no code among them
+    known(Parts { patterns: &[68, 65, 0, 9, 4, 255, 255], ..four }, sheet);
+    known(Parts { patterns: &[255], lengths: &[0, 0], ..NOTHING }, b"LE\x00RI\x00");
+    // fields without a pattern between two that don't stand
+    let stray = Parts { patterns: &[64, 7], lengths: &[0, 1, 0, 0, 0, 0, 0, 1], ..NOTHING };
+    known(stray, b"PA\x01\x01\x40PA\x07\x01\x07LE\x00RI\x00");
+}
+
+/// One slice for several parts: they are only read.
+#[test]
+fn parts_that_are_the_same() {
+    let same = [4, 4];
+    let parts = Parts { patterns: &same, lengths: &[1, 1], left: &same, right: &same };
+    known(parts, b"PA\x00\x01\x04PA\x01\x01\x04LE\x02\x04\x04RI\x02\x04\x04");
+}
+
+#[test]
+fn the_longest_sheet() {
+    let patterns = [vec![68; 191], vec![0]].concat().repeat(8);
+    let parts =
+        Parts { patterns: &patterns, lengths: &[192; 8], left: &[71; 24], right: &[42; 24] };
+    assert_eq!(written(parts, SHEET_BYTES).0, Written::Sheet { bytes: SHEET_BYTES });
+    assert_eq!(written(parts, SHEET_BYTES - 1).0, Written::TooShort);
+}
+
+/// The first fault that the sheet would meet, before 41.
+#[test]
+fn faults() {
+    fn refused(parts: Parts, fault: Fault, place: usize) {
+        for length in [0, SHEET_BYTES] {
+            assert_eq!(written(parts, length), (Written::Refused { fault, place }, Vec::new()));
+        }
+    }
+    fn of<'a>(patterns: &'a [u8], lengths: &'a [u64]) -> Parts<'a> {
+        Parts { patterns, lengths, left: &[43], right: &[43] }
+    }
+    let leaves = [[66; 63].to_vec(), [7; 64].to_vec()].concat();
+    // behind a record of five bytes; 13 before 14 and before the sides
+    refused(of(&[4, 4], &[0, 1, 0, 0, 0, 0, 0, 0, 1]), Fault::WrongField, 7);
+    refused(of(&[], &[0, 0, 0, 0, 0, 0, 0, 0, 0, u64::MAX]), Fault::WrongField, 2);
+    refused(of(&[4; 300], &[193]), Fault::WrongLength, 3);
+    for low_byte_4 in [256 + 4, (1 << 32) + 4, (1 << 63) + 4, u64::MAX] {
+        refused(of(&[68, 65, 0, 9], &[low_byte_4]), Fault::WrongLength, 3);
+    }
+    refused(of(&[4, 43, 43], &[1, 4]), Fault::CutShort, 11);
+    refused(of(&[], &[1]), Fault::CutShort, 4);
+    refused(of(&[4, 65, 2, 1], &[1, 3]), Fault::NotOnePattern, 11);
+    refused(of(&[66, 4], &[2]), Fault::NotOnePattern, 6);
+    refused(of(&leaves, &[127]), Fault::TooManyLeaves, 130);
+    refused(of(&[4], &[1]), Fault::WrongToken, 8);
+    refused(Parts { left: &[4; 25], ..of(&[4], &[1]) }, Fault::WrongLength, 7);
+    refused(Parts { left: &[4], right: &[43; 280], ..NOTHING }, Fault::WrongLength, 6);
+    refused(Parts { left: &[4], right: &[71, 72], ..NOTHING }, Fault::WrongToken, 8);
+}
+
+/// 12 never comes, and each of the other answers does.
+#[test]
+fn generated_cases() {
+    let mut dice = Dice::new(39);
+    let mut seen = BTreeMap::new();
+    for _ in 0..4000 {
+        let case = case(&mut dice);
+        let (told, theirs) = case.run();
+        let mut ours = vec![FILL; case.output.into()];
+        let given = write(&case.patterns, &case.lengths, &case.left, &case.right, &mut ours);
+        let (number, place, written) = (given.number() as u8, given.place(), given.written());
+        assert_eq!(Outcome { number, count: 0, place, written }, told, "{case:?}");
+        assert_eq!(ours, theirs, "{case:?}");
+        *seen.entry(number).or_insert(0) += 1;
+        // The sheet that is written has no fault; the longest buffer is long enough.
+        if written > 0 {
+            let answer = clash(&ours[..written], &mut [], &mut []);
+            assert!(matches!(answer, Answer::NoRoom { .. }), "{case:?}: {answer}");
+        }
+        let mut longest = [FILL; SHEET_BYTES];
+        let given = write(&case.patterns, &case.lengths, &case.left, &case.right, &mut longest);
+        assert_ne!(given, Written::TooShort, "{case:?}");
+    }
+    assert!(seen.keys().eq(&[0, 11, 13, 14, 15, 16, 17, 41]));
+    assert!(seen.values().all(|&times| times > 100), "{seen:?}");
+}
+
+/// Writing what stands in a good sheet gives the same bytes.
+#[test]
+fn sheets_written_again() {
+    let mut dice = Dice::new(41);
+    let mut good = 0;
+    for _ in 0..4000 {
+        let sheet = make::case(&mut dice).sheet;
+        if matches!(clash(&sheet, &mut [], &mut []), Answer::Refused { .. }) {
+            continue;
+        }
+        let (mut patterns, mut lengths, mut rest) = (Vec::new(), [0; 8], &sheet[..]);
+        while rest.starts_with(b"PA") {
+            let (record, behind) = rest.split_at(4 + usize::from(rest[3]));
+            patterns.extend_from_slice(&record[4..]);
+            lengths[usize::from(record[2])] = u64::from(record[3]);
+            rest = behind;
+        }
+        let (left, behind) = rest[3..].split_at(usize::from(rest[2]));
+        known(Parts { patterns: &patterns, lengths: &lengths, left, right: &behind[3..] }, &sheet);
+        good += 1;
+    }
+    assert!(good > 2000, "{good}");
+}
