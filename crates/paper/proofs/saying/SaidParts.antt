@@ -37,8 +37,9 @@ from-held (pattern p ∷ held) f rest =
       le-ltb (length (code ++ codes)) (length code) (omega (arith, length-append code codes)),
       take-append-seam code codes,
       drop-append-seam code codes,
-      from-held held (suc f) rest,
-    ) (sym (append-assoc (pattern-saying f (pattern p)) (patterns-saying (suc f) held) rest))
+    )
+    (ap (λ (records : List ℕ). pattern-saying f (pattern p) ++ records) (from-held held (suc f) rest)
+    ∙ sym (append-assoc (pattern-saying f (pattern p)) (patterns-saying (suc f) held) rest))
 
 of-side : (m : Mark) (side : Side) → side-laid m (map token-byte side) ≡ side-saying m side
 of-side m side = ap (λ (n : ℕ). mark-bytes m ++ n ∷ map token-byte side) (length-map side token-byte)
