@@ -177,9 +177,9 @@ fn carrying_over_in_words() {
 #[test]
 fn what_is_decided() {
     assert!(OTHERS.iter().all(|answer| answer.count() == 7));
-    assert_eq!(OTHERS.map(Answer::written), [9, 0, 0, 0, 0, 0]);
+    assert_eq!(OTHERS.map(Answer::written), [9, 0, 0, 0, 0]);
     let decided = OTHERS.map(Answer::clashes);
-    assert_eq!(decided, [Some(true), Some(false), None, None, Some(true), Some(true)]);
+    assert_eq!(decided, [Some(true), Some(false), None, None, Some(true)]);
 }
 
 #[test]
