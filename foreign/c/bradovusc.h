@@ -46,7 +46,7 @@ extern "C" {
 /*
  * The number of an answer.
  *
- * Of a sheet, 0 and 1 settle the question. So do 20 and 21: the rules clash, but the texts couldn't be written. 18 and 19 are
+ * Of a sheet, 0 and 1 settle the question. So does 20: the rules clash, but the texts couldn't be written. 18 and 19 are
  * neither yes nor no. 11 to 17 say what is wrong with the sheet: the first fault met, whose byte is told as its place.
  *
  * Of a catalogue's call, 0 is success. 11 to 17 say what is wrong with the rule that was to be added, 30 to 35 why it can't be done.
@@ -87,8 +87,6 @@ enum bradovusc_number {
     BRADOVUSC_SIDE_TOO_LONG = 19,
     /* The rules clash, but the answer buffer is too short for the texts. Lend a longer one. */
     BRADOVUSC_ANSWER_TOO_SHORT = 20,
-    /* The rules clash, but a text has more than 65,535 characters, too many for its record. */
-    BRADOVUSC_TEXT_TOO_LONG = 21,
 
     /* Of a catalogue's call: the rule was added, or withdrawn, or the pairs are listed. Of a sheet or a script: it is written. Of
      * carrying over: the sheet, the rule or the catalogue is carried over. */
@@ -140,8 +138,6 @@ static inline const char *bradovusc_text(uint32_t number) {
         return "not decided: a side grew too long";
     case BRADOVUSC_ANSWER_TOO_SHORT:
         return "clash, but the answer buffer is too short for the texts";
-    case BRADOVUSC_TEXT_TOO_LONG:
-        return "clash, but a text is too long for its record";
     case BRADOVUSC_NOT_APART:
         return "not apart from a rule of the catalogue";
     case BRADOVUSC_FOREIGN_FIELD:
@@ -313,7 +309,7 @@ enum bradovusc_told {
  *
  *   number            answer buffer                       working buffer
  *   0                 the records, the rest unchanged     all zero
- *   1, 18 to 21       unchanged                           all zero
+ *   1, 18 to 20       unchanged                           all zero
  *   11 to 17          unchanged                           unchanged
  *
  * Any bytes and any lengths are taken, 0 included. Each pointer must be that of so many elements, and not null, also where the

@@ -106,7 +106,7 @@ pub fn decide(sheet: &[u8], work: &mut [u8], answer: &mut [u8], by: By) -> Decid
 }
 
 /// Decides a pair's question. "A pair's texts are not written", so a clash is 0
-/// whatever its texts: no 20 and no 21.
+/// whatever its texts, and never 20.
 pub fn pair(question: &Question, work: &mut [u8], search: Searcher) -> Asked {
     let mut count = 0;
     let mut given_up = None;

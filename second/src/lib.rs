@@ -60,7 +60,6 @@ pub const NO_CLASH: u8 = 1;
 pub const NO_ROOM: u8 = 18;
 pub const SIDE_TOO_LONG: u8 = 19;
 pub const ANSWER_BUFFER_TOO_SHORT: u8 = 20;
-pub const TEXT_TOO_LONG: u8 = 21;
 
 /// Room is one situation for each whole so many bytes of working buffer: "A
 /// situation then takes 184 bytes".
@@ -69,8 +68,8 @@ pub const SITUATION_BYTES: usize = 184;
 pub const MOST_ROOM: usize = 65_535;
 /// "a side above 48 tokens gives 19"
 pub const MOST_TOKENS: usize = 48;
-/// "a text above 65,535 characters"
-pub const MOST_TEXT: usize = 65_535;
+/// "So a text can't pass 65,534 characters"
+pub const MOST_TEXT: usize = 65_534;
 /// A record of the answer without its values: "`VA`, field byte, length in two
 /// bytes (low first), the values".
 pub const ANSWER_RECORD_HEAD: usize = 5;
@@ -126,18 +125,13 @@ pub fn asked(question: &Question, work: &mut [u8], answer: &mut [u8]) -> Outcome
     work.fill(0);
     let (number, written) = match found.ending {
         Ending::Clash(texts) => {
-            // "21 comes before 20."
-            if texts.iter().any(|(_, text)| text.len() > MOST_TEXT) {
-                (TEXT_TOO_LONG, 0)
+            let records = records(&texts);
+            if records.len() > answer.len() {
+                (ANSWER_BUFFER_TOO_SHORT, 0)
             } else {
-                let records = records(&texts);
-                if records.len() > answer.len() {
-                    (ANSWER_BUFFER_TOO_SHORT, 0)
-                } else {
-                    // "records, the rest unchanged"
-                    answer[..records.len()].copy_from_slice(&records);
-                    (CLASH, records.len())
-                }
+                // "records, the rest unchanged"
+                answer[..records.len()].copy_from_slice(&records);
+                (CLASH, records.len())
             }
         }
         other => (other.number(), 0),
@@ -159,6 +153,7 @@ pub fn searched(question: &Question, work: &mut [u8]) -> (u8, usize) {
 fn records(texts: &Texts) -> Vec<u8> {
     let mut bytes = Vec::new();
     for (field, text) in texts {
+        assert!(text.len() <= MOST_TEXT);
         bytes.extend_from_slice(b"VA");
         bytes.push(*field);
         bytes.extend_from_slice(&(text.len() as u16).to_le_bytes());

@@ -20,7 +20,7 @@ use crate::search::Ending;
 use crate::sheet::{self, Question, Token, ALL_FIELDS, FIELDS};
 use crate::{
     room, Outcome, ANSWER_BUFFER_TOO_SHORT, ANSWER_RECORD_HEAD, CLASH, MOST_TEXT, MOST_TOKENS,
-    SITUATION_BYTES, TEXT_TOO_LONG,
+    SITUATION_BYTES,
 };
 
 const LEFT: usize = 2;
@@ -383,10 +383,7 @@ fn write_answer(
     let mut lengths = [0; ALL_FIELDS];
     walk_back(slots, finish, |_, field| lengths[field] += 1);
 
-    // "21 comes before 20."
-    if lengths[..FIELDS].iter().any(|&length| length > MOST_TEXT) {
-        return (TEXT_TOO_LONG, 0);
-    }
+    assert!(lengths.iter().all(|&length| length <= MOST_TEXT));
     let stands = |field: usize| {
         let field = Token::Field(field as u8);
         question.left.contains(&field) || question.right.contains(&field)

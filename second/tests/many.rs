@@ -27,7 +27,6 @@ fn all_answers_come_up() {
     for case in cases(2, 6000) {
         *seen.entry(case.run(second::scan::answer).outcome.number).or_insert(0) += 1;
     }
-    // 21 needs a way with more puts than there can be situations.
     for number in [0, 1, 11, 12, 13, 14, 15, 16, 17, 18, 19, 20] {
         assert!(seen.get(&number).is_some_and(|&times| times >= 40), "{number}: {seen:?}");
     }

@@ -10,7 +10,7 @@ use Rattle.base_answers.specs.Faults.{fault-of}
 use Rattle.base_answers.specs.AnswerNumbers.{how-number, number-in-pair, as-numbers, told}
 use Rattle.base_answers.specs.declared.Fault.the-variants.{CutShort, WrongMark, WrongField, WrongLength, NotOnePattern, TooManyLeaves, WrongToken}
 use Rattle.base_answers.specs.declared.How.{How}
-use Rattle.base_answers.specs.declared.How.the-variants.{Clash, NoClash, NoRoom, SideTooLong, AnswerTooShort, TextTooLong}
+use Rattle.base_answers.specs.declared.How.the-variants.{Clash, NoClash, NoRoom, SideTooLong, AnswerTooShort}
 use Rattle.base_answers.specs.declared.Answer.{Answer}
 use Rattle.base_answers.specs.declared.Answer.the-variants.{Searched, Refused}
 use Rattle.base_answers.proofs.Same.{fault-from}
@@ -21,8 +21,7 @@ how-from n written =
     cond (eqb n 0) (Clash written)
     (cond (eqb n 1) NoClash
     (cond (eqb n 18) NoRoom
-    (cond (eqb n 19) SideTooLong
-    (cond (eqb n 20) AnswerTooShort TextTooLong))))
+    (cond (eqb n 19) SideTooLong AnswerTooShort)))
 
 -- the answer with these numbers
 answer-from : Outcome → Answer
@@ -39,7 +38,6 @@ module _ (answer work : List ℕ) where
   end-told NoRoom n = refl
   end-told SideTooLong n = refl
   end-told AnswerTooShort n = refl
-  end-told TextTooLong n = refl
 
   answer-told : (r : Answer) → answer-from (told r answer work) ≡ r
   unfolding answer-from fault-from
@@ -56,7 +54,7 @@ module _ (answer work : List ℕ) where
 pub one-answer : (r r′ : Answer) (a a′ w w′ : List ℕ) → told r a w ≡ told r′ a′ w′ → r ≡ r′
 one-answer r r′ a a′ w w′ same = sym (answer-told a w r) ∙ ap answer-from same ∙ answer-told a′ w′ r′
 
-pub fault-below : (x : Paper.Fault) → Paper.fault-number x < 22
+pub fault-below : (x : Paper.Fault) → Paper.fault-number x < 21
 fault-below Paper.cut-short = lit< tt
 fault-below Paper.wrong-mark = lit< tt
 fault-below Paper.wrong-field = lit< tt
@@ -65,16 +63,15 @@ fault-below Paper.not-one-pattern = lit< tt
 fault-below Paper.too-many-leaves = lit< tt
 fault-below Paper.wrong-token = lit< tt
 
-how-below : (how : How) → how-number how < 22
+how-below : (how : How) → how-number how < 21
 how-below (Clash written) = lit< tt
 how-below NoClash = lit< tt
 how-below NoRoom = lit< tt
 how-below SideTooLong = lit< tt
 how-below AnswerTooShort = lit< tt
-how-below TextTooLong = lit< tt
 
--- 21 is the last of document 01's numbers
-pub number-below : (a : Answer) → as-numbers a .number < 22
+-- 20 is the last of a sheet's numbers
+pub number-below : (a : Answer) → as-numbers a .number < 21
 number-below (Searched e) = how-below (e .how)
 number-below (Refused x at) = fault-below (fault-of x)
 
@@ -84,4 +81,3 @@ pair-below NoClash = lit< tt
 pair-below NoRoom = lit< tt
 pair-below SideTooLong = lit< tt
 pair-below AnswerTooShort = lit< tt
-pair-below TextTooLong = lit< tt

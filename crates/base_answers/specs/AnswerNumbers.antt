@@ -7,7 +7,7 @@ use Rattle.paper.specs.Outcome.{Outcome}
 use Rattle.paper.specs.Sheet.{fault-number}
 use Rattle.base_answers.specs.Faults.{fault-of}
 use Rattle.base_answers.specs.declared.How.{How}
-use Rattle.base_answers.specs.declared.How.the-variants.{Clash, NoClash, NoRoom, SideTooLong, AnswerTooShort, TextTooLong}
+use Rattle.base_answers.specs.declared.How.the-variants.{Clash, NoClash, NoRoom, SideTooLong, AnswerTooShort}
 use Rattle.base_answers.specs.declared.Answer.{Answer}
 use Rattle.base_answers.specs.declared.Answer.the-variants.{Searched, Refused}
 use Rattle.base_answers.specs.declared.Numbers.{Numbers}
@@ -19,7 +19,6 @@ how-number NoClash = 1
 how-number NoRoom = 18
 how-number SideTooLong = 19
 how-number AnswerTooShort = 20
-how-number TextTooLong = 21
 
 -- the answer bytes written
 abbrev pub how-written : How → ℕ
@@ -28,7 +27,6 @@ how-written NoClash = 0
 how-written NoRoom = 0
 how-written SideTooLong = 0
 how-written AnswerTooShort = 0
-how-written TextTooLong = 0
 
 -- a clash is 0, also where what tells of it is not written: from 20 on
 abbrev pub clash-is-0 : ℕ → ℕ

@@ -48,8 +48,6 @@ pub enum How {
     SideTooLong,
     // 20: a clash, but the answer buffer is too short for the texts
     AnswerTooShort,
-    // 21: a clash, but a text is above 65,535 characters
-    TextTooLong,
 }
 
 // How it ended, and the situations entered.
@@ -78,7 +76,6 @@ pub fn how_number(how: How) -> usize
         How::NoRoom => 18,
         How::SideTooLong => 19,
         How::AnswerTooShort => ANSWER_TOO_SHORT,
-        How::TextTooLong => 21,
     }
 }
 
@@ -100,7 +97,6 @@ fn how_written(how: How) -> usize
         How::NoRoom => 0,
         How::SideTooLong => 0,
         How::AnswerTooShort => 0,
-        How::TextTooLong => 0,
     }
 }
 

@@ -14,7 +14,7 @@ use Rattle.paper.specs.Search.{End, found, used-up, no-room, too-long}
 use Rattle.paper.specs.Situation.{Situation, Move}
 use Rattle.paper.specs.Question.{Question, hidden}
 use Rattle.paper.specs.Rule.{Rule, pair}
-use Rattle.paper.specs.Outcome.{Outcome, room-of, searched, records, some-text-too-long, cleared, clash, answered, count-of, how-of}
+use Rattle.paper.specs.Outcome.{Outcome, room-of, searched, records, cleared, clash, answered, count-of, how-of}
 use Rattle.paper.specs.Sheet.{asked}
 use Rattle.paper_decide.specs.Deciding.{concluded, Decision, decision-of}
 use Rattle.paper_catalogue.specs.PairAsking.{pair-number, pair-answer, pair-count, by-search}
@@ -43,8 +43,7 @@ module _ (q : Question) (n : ℕ) (work answer : List ℕ) where
       let o = answered q n x work answer in (clash-is-0 (o .number) ≡ pair-number x) × (o .count ≡ n)
   unfolding clash
   answered-is (found e) =
-      by-bool (some-text-too-long q e) (λ h. (rw h, rw h))
-      (λ h. by-bool (not (leb (length (records q e)) (length answer))) (λ k. (rw (h, k), rw (h, k))) (λ k. (rw (h, k), rw (h, k))))
+      by-bool (not (leb (length (records q e)) (length answer))) (λ k. (rw k, rw k)) (λ k. (rw k, rw k))
   answered-is used-up = (refl, refl)
   answered-is no-room = (refl, refl)
   answered-is too-long = (refl, refl)

@@ -84,7 +84,6 @@ made-at-most t bytes answer =
 
 -- A clash that decides is the only end with bytes.
 found-decides : (g : Given) (no-clash : Bool) → decides-number true no-clash (number-in-pair (clash-how g)) ≡ true
-found-decides Given-as.TextTooLong no-clash = refl
 found-decides Given-as.TooShort no-clash = refl
 found-decides (Given-as.Bytes bytes) no-clash = refl
 

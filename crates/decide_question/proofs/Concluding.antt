@@ -14,14 +14,14 @@ use Rattle.paper.specs.Places.{PlaceSet}
 use Rattle.paper.specs.Search.{End, found, used-up, no-room, too-long, State}
 use Rattle.paper.specs.Situation.{Situation, Move}
 use Rattle.paper.specs.Question.{Question, hidden}
-use Rattle.paper.specs.Outcome.{Outcome, room-of, records, some-text-too-long, cleared, clash, answered, count-of, how-of}
+use Rattle.paper.specs.Outcome.{Outcome, room-of, records, cleared, clash, answered, count-of, how-of}
 use Rattle.paper.proofs.base.Tests.{by-bool, true-false}
 use Rattle.paper_chosen.specs.Chosen.{searched-over}
 use Rattle.paper_decide.specs.Deciding.{Attempt, decides, Conclusion, concluded-from, Decision}
 use Rattle.base_answers.specs.AnswerNumbers.{clash-is-0, number-in-pair}
 use Rattle.base_answers.specs.declared.Ended.{Ended}
 use Rattle.base_answers.specs.declared.How.{How}
-use Rattle.base_answers.specs.declared.How.the-variants.{Clash, NoClash, NoRoom, SideTooLong, AnswerTooShort, TextTooLong}
+use Rattle.base_answers.specs.declared.How.the-variants.{Clash, NoClash, NoRoom, SideTooLong, AnswerTooShort}
 use Rattle.search_run.specs.Ended.{told-end}
 use Rattle.decide_question.specs.Attempt.{decides-number, decides-coded, with-count}
 use Rattle.decide_question.specs.Settling.{told-settled}
@@ -43,8 +43,7 @@ module _ (q : Question) (n : ℕ) (work answer : List ℕ) where
       → decides t x ≡ decides-number (t .clash-decides) (t .no-clash-decides) (clash-is-0 (answered q n x work answer .number))
   unfolding clash
   answer-decides t (found e) =
-      by-bool (some-text-too-long q e) (λ h. rw h)
-      (λ h. by-bool (not (leb (length (records q e)) (length answer))) (λ k. rw (h, k)) (λ k. rw (h, k)))
+      by-bool (not (leb (length (records q e)) (length answer))) (λ k. rw k) (λ k. rw k)
   answer-decides t used-up = refl
   answer-decides t no-room = refl
   answer-decides t too-long = refl
@@ -52,8 +51,7 @@ module _ (q : Question) (n : ℕ) (work answer : List ℕ) where
   answer-count : (x : Ends) → answered q n x work answer .count ≡ n
   unfolding clash
   answer-count (found e) =
-      by-bool (some-text-too-long q e) (λ h. rw h)
-      (λ h. by-bool (not (leb (length (records q e)) (length answer))) (λ k. rw (h, k)) (λ k. rw (h, k)))
+      by-bool (not (leb (length (records q e)) (length answer))) (λ k. rw k) (λ k. rw k)
   answer-count used-up = refl
   answer-count no-room = refl
   answer-count too-long = refl
@@ -61,8 +59,7 @@ module _ (q : Question) (n : ℕ) (work answer : List ℕ) where
   answer-counted : (m : ℕ) (x : Ends) → counted m (answered q n x work answer) ≡ answered q m x work answer
   unfolding clash
   answer-counted m (found e) =
-      by-bool (some-text-too-long q e) (λ h. rw h)
-      (λ h. by-bool (not (leb (length (records q e)) (length answer))) (λ k. rw (h, k)) (λ k. rw (h, k)))
+      by-bool (not (leb (length (records q e)) (length answer))) (λ k. rw k) (λ k. rw k)
   answer-counted m used-up = refl
   answer-counted m no-room = refl
   answer-counted m too-long = refl
@@ -124,7 +121,6 @@ module _ (t : Attempt) (work answer after : List ℕ) (e : Ended)
       no-clash-told NoRoom i x j n = absurd (true-false i refl)
       no-clash-told SideTooLong i x j n = absurd (true-false i refl)
       no-clash-told AnswerTooShort i x j n = absurd (true-false i a)
-      no-clash-told TextTooLong i x j n = absurd (true-false i a)
 
 -- What is concluded from it on.
 module _ {q : Question} {t : Attempt} {work answer after : List ℕ} {e : Ended} (m : Made q t work answer after e) (first : Ends) (k n : ℕ) (ts : List Attempt) where

@@ -12,12 +12,12 @@ use Rattle.paper.specs.Outcome.{Outcome}
 
 -- the numbers of the answers: clash, no clash and the refusals of the search; the faults of a sheet
 abbrev pub search-numbers : List ℕ
-search-numbers = 0 ∷ 1 ∷ 18 ∷ 19 ∷ 20 ∷ 21 ∷ []
+search-numbers = 0 ∷ 1 ∷ 18 ∷ 19 ∷ 20 ∷ []
 
 abbrev pub sheet-numbers : List ℕ
 sheet-numbers = 11 ∷ 12 ∷ 13 ∷ 14 ∷ 15 ∷ 16 ∷ 17 ∷ []
 
--- rows 0, 1 and 18 to 21
+-- rows 0, 1 and 18 to 20
 pub record AfterSearch (work : List ℕ) (o : Outcome) : Type 0 where
   pub place : o .place ≡ 0
   -- "all zero": every byte, those behind the last situation too

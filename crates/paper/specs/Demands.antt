@@ -52,7 +52,7 @@ abbrev pub records-of : Question → Texts → List ℕ
 records-of q texts = each (λ (f : ℕ). value-record f (texts f)) (standing q)
 
 -- "Clash carries a text for each field standing in the sides": the first bytes of the answer buffer, as many as are written, are the
--- records of the texts found. No field that stands is left out, and each text is short enough for the two bytes of its length.
+-- records of the texts found. No field that stands is left out, and each text has at most 65,534 characters, so that two bytes hold its length.
 -- The rest of the buffer is unchanged.
 pub record Clash (r : Reading) (work answer : List ℕ) (o : Outcome) : Type 0 where
   pub solved : Solved r work
@@ -146,8 +146,6 @@ pub record Demand2 (r : Reading) (work answer : List ℕ) (o : Outcome) : Type 0
   pub no-room : o .number ≡ 18 → NoRoom r work o
   pub too-long : o .number ≡ 19 → TooLong r work
   pub too-short : o .number ≡ 20 → TooShort r work answer
-  -- 21, "a text above 65,535 characters", is never given.
-  pub text-too-long : o .number ≡ 21 → ⊥
   -- A reading that is not good gets none of these numbers, and no situation is entered.
   pub not-good : (x : Fault) (at : ℕ) → r ≡ refused x at → (11 ≤ o .number) × (o .number ≤ 17) × (o .count ≡ 0)
   -- Whatever the reading, the count is never above the room.

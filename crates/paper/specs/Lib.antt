@@ -24,5 +24,6 @@ pub mod Rule
 pub mod Saying
 pub mod Printed
 -- what is promised of the whole
+pub mod ShortWays
 pub mod Buffers
 pub mod Demands

@@ -68,9 +68,9 @@ situation-bytes = 184
 abbrev pub most-room : ℕ
 most-room = 65535
 
--- "a text above 65,535 characters"
+-- "So a text can't pass 65,534 characters" (request K12)
 abbrev pub longest-text : ℕ
-longest-text = 65535
+longest-text = 65534
 
 -- "its own fields, numbered 0 to 3"
 abbrev pub rule-fields : ℕ

@@ -1,12 +1,12 @@
 -- The whole outcome (document 01): from a sheet, a working buffer and an answer buffer, any lists of bytes, to the number, the
 -- count, the place, the bytes written and both buffers afterwards. One definition, for all lists.
 use Prim.Native.Nat.{ℕ, _/_, _%_, min}
-use mathlib.Core.Bool.{Bool, cond, not}
+use mathlib.Core.Bool.{cond, not}
 use mathlib.Core.List.{List, _∷_, _++_}
 use lib.Dec.{leb}
 use lib.ListN.{length, drop, replicate}
-use Rattle.paper.specs.Lists.{upto, any, keep, each}
-use Rattle.paper.specs.Numbers.{fields, longest-side, situation-bytes, most-room, longest-text}
+use Rattle.paper.specs.Lists.{upto, keep, each}
+use Rattle.paper.specs.Numbers.{fields, longest-side, situation-bytes, most-room}
 use Rattle.paper.specs.Places.{PlaceSet}
 use Rattle.paper.specs.Search.{Entry, End, found, used-up, no-room, too-long, State, how, count}
 use Rattle.paper.specs.Equation.{stands-in}
@@ -43,11 +43,6 @@ value-record f text = 86 ∷ 65 ∷ f ∷ length text % 256 ∷ length text / 25
 unfoldable pub records : Question → Entry (Situation PlaceSet) Move → List ℕ
 records q e = each (λ (f : ℕ). value-record f (texts-of (acceptor q) (q .left) (q .right) e f)) (standing q)
 
--- "a text above 65,535 characters"
-unfoldable pub some-text-too-long : Question → Entry (Situation PlaceSet) Move → Bool
-some-text-too-long q e =
-    any (λ (f : ℕ). not (leb (length (texts-of (acceptor q) (q .left) (q .right) e f)) longest-text)) (standing q)
-
 -- "all zero"
 abbrev pub cleared : List ℕ → List ℕ
 cleared work = replicate (length work) 0
@@ -57,11 +52,10 @@ abbrev pub without-bytes : ℕ → ℕ → List ℕ → List ℕ → Outcome
 without-bytes number count work answer =
     record { number = number; count = count; place = 0; written = 0; answer = answer; work = cleared work }
 
--- "clash": the records, "the rest unchanged". "21 comes before 20."
+-- "clash": the records, "the rest unchanged". 20 where they don't fit.
 unfoldable pub clash : Question → ℕ → Entry (Situation PlaceSet) Move → List ℕ → List ℕ → Outcome
 clash q n e work answer =
-    cond (some-text-too-long q e) (without-bytes 21 n work answer)
-    (cond (not (leb (length (records q e)) (length answer))) (without-bytes 20 n work answer)
+    cond (not (leb (length (records q e)) (length answer))) (without-bytes 20 n work answer)
     (record {
       number = 0;
       count = n;
@@ -69,9 +63,9 @@ clash q n e work answer =
       written = length (records q e);
       answer = records q e ++ drop (length (records q e)) answer;
       work = cleared work;
-    }))
+    })
 
--- the answers of the search: 0, 1, 18, 19, 20, 21
+-- the answers of the search: 0, 1, 18, 19, 20
 abbrev pub answered : Question → ℕ → End (Situation PlaceSet) Move → List ℕ → List ℕ → Outcome
 answered q n (found e) work answer = clash q n e work answer
 answered q n used-up work answer = without-bytes 1 n work answer

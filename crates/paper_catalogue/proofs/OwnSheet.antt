@@ -1,6 +1,6 @@
 -- "Demands 2 and 3 read each pair as a sheet of its own": the sheet that says the pair of two good rules, lent the same room and any answer buffer.
 --   own-sheet : GoodRule r → GoodRule s → OwnSheet r s work answer
---   pair-demand-1, pair-demand-2, pair-demand-3 : its outcome meets demands 1, 2 and 3; so 21 is never given (`text-too-long` of demand 2)
+--   pair-demand-1, pair-demand-2, pair-demand-3 : its outcome meets demands 1, 2 and 3
 -- Follows from `reads-back`, from the demands for every reading whose question is good, and from the number and the count of a good reading.
 use Prim.Native.Nat.{ℕ}
 use mathlib.Core.Path.{_≡_, refl, sym, ap, _∙_}

@@ -24,8 +24,8 @@ use Rattle.paper.specs.Question.{Question, Solution, hidden}
 use Rattle.paper.specs.Sheet.{asked, read-sheet}
 use Rattle.paper.specs.Rule.{Rule, Makes, pair}
 use Rattle.paper.specs.Saying.{sheet-saying}
-use Rattle.paper.specs.Outcome.{Outcome, room-of, searched, records, some-text-too-long, clash, answered, count-of, how-of}
-use Rattle.paper.proofs.base.Tests.{cond-by, true-false, eqb-true}
+use Rattle.paper.specs.Outcome.{Outcome, room-of, searched, records, clash, answered, count-of, how-of}
+use Rattle.paper.proofs.base.Tests.{cond-by, eqb-true}
 use Rattle.paper.proofs.saying.Saying.{reads-back}
 use Rattle.paper_chosen.proofs.Over.{searched-every}
 use Rattle.paper_decide.specs.Deciding.{own-search, decides, concluded, Decision, decision-of, decision}
@@ -38,28 +38,20 @@ use Rattle.paper_catalogue.proofs.Pair.{unsolved-apart, solved-together}
 use Rattle.paper_catalogue.proofs.RightAsking.{AsksRight, number-not-1}
 use Rattle.paper_catalogue_decide.specs.DecidedPairs.{pair-decided, by-deciding, OwnDecision}
 
--- What the answer of an end says of the number and the count that are told of it; 21 is never told.
+-- What the answer of an end says of the number and the count that are told of it.
 module _ (q : Question) (n : ℕ) (work answer : List ℕ) where
-  abbrev Zero : Outcome → Type 0
-  Zero o = member (o .number) (0 ∷ 1 ∷ 18 ∷ 19 ∷ 20 ∷ []) ≡ true → 0 ≡ without-20 (o .number)
-
-  same-number : (x : End (Situation PlaceSet) Move) → member (answered q n x work answer .number) (0 ∷ 1 ∷ 18 ∷ 19 ∷ 20 ∷ []) ≡ true
-      → pair-number x ≡ without-20 (answered q n x work answer .number)
+  same-number : (x : End (Situation PlaceSet) Move) → pair-number x ≡ without-20 (answered q n x work answer .number)
   unfolding clash
   same-number (found e) =
-      cond-by Zero (some-text-too-long q e)
-      (λ _ h. absurd (true-false h refl))
-      (λ _. cond-by Zero (not (leb (length (records q e)) (length answer))) (λ _ _. refl) (λ _ _. refl))
-  same-number used-up = λ h. refl
-  same-number no-room = λ h. refl
-  same-number too-long = λ h. refl
+      cond-by (λ (o : Outcome). 0 ≡ without-20 (o .number)) (not (leb (length (records q e)) (length answer))) (λ _. refl) (λ _. refl)
+  same-number used-up = refl
+  same-number no-room = refl
+  same-number too-long = refl
 
   same-count : (x : End (Situation PlaceSet) Move) → answered q n x work answer .count ≡ n
   unfolding clash
   same-count (found e) =
-      cond-by (λ (o : Outcome). o .count ≡ n) (some-text-too-long q e)
-      (λ _. refl)
-      (λ _. cond-by (λ (o : Outcome). o .count ≡ n) (not (leb (length (records q e)) (length answer))) (λ _. refl) (λ _. refl))
+      cond-by (λ (o : Outcome). o .count ≡ n) (not (leb (length (records q e)) (length answer))) (λ _. refl) (λ _. refl)
   same-count used-up = refl
   same-count no-room = refl
   same-count too-long = refl
@@ -75,7 +67,7 @@ module _ (r s : Rule) (good-r : GoodRule r) (good-s : GoodRule s) (work answer :
   unfolding pair-decided
   its-number =
       let c = concluded (pair r s) (room-of work) in
-      same-number (hidden (pair r s)) (c .count) work answer (c .end) (promised .good-number (pair r s) refl)
+      same-number (hidden (pair r s)) (c .count) work answer (c .end)
 
   its-count : its-decision .outcome .count ≡ pair-decided r s (room-of work) .count
   unfolding pair-decided

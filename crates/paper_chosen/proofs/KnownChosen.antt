@@ -16,7 +16,7 @@ use Rattle.paper.specs.Situation.{trimmed, strike, put-before, open-moves, chil
 use Rattle.paper.specs.Way.{search-from, texts-of}
 use Rattle.paper.specs.Alphabet.{code-39}
 use Rattle.paper.specs.Question.{Question, acceptor}
-use Rattle.paper.specs.Outcome.{Outcome, standing, value-record, records, some-text-too-long, clash, answered, without-bytes, count-of, how-of}
+use Rattle.paper.specs.Outcome.{Outcome, standing, value-record, records, clash, answered, without-bytes, count-of, how-of}
 use Rattle.paper_chosen.specs.Chosen.{every, acceptor-over, searched-over}
 
 abbrev four-or-five : Held
@@ -50,5 +50,5 @@ both count c =
 pub known-over :
     told every 20 ∷ told (eqb 4) 20 ∷ told (eqb 5) 20 ∷ told (eqb 6) 20 ∷ told (eqb 5) 4 ∷ []
     ≡ both 8 4 ∷ both 5 4 ∷ both 5 5 ∷ without-bytes 1 1 work answer ∷ without-bytes 18 4 work answer ∷ []
-unfolding set-after may-end enter offer take-next search trimmed strike put-before open-moves child-by children question search-from texts-of acceptor standing value-record records some-text-too-long clash count-of how-of acceptor-over searched-over
+unfolding set-after may-end enter offer take-next search trimmed strike put-before open-moves child-by children question search-from texts-of acceptor standing value-record records clash count-of how-of acceptor-over searched-over
 known-over = refl

@@ -2,18 +2,17 @@
 --   over-decides   : its place sets decide the texts that a field may hold and that have no other character
 --   found-over     : the texts that it finds solve the word equation of the whole question
 --   used-up-over   : where it uses all up, no texts of these characters solve it
---   count-over, short-over, none-too-long-over : the count is within the room, so no text is too long
+--   count-over     : the count is within the room
+--   ways-over, short-over : no way is longer than the room allows, so no text is above `longest-text`
 --   plain-count-over, plain-enough-over : of a plain question the count is bounded, and with that room it is never 18 or 19
 --   searched-every : over every character it is 01's search
 -- Follows from the laws over any acceptor (`Sound`, `Complete`, `Searched`, `Plain`), since these place sets are 01's after characters
 -- that pass the test, and empty after any other.
 use Prim.Native.Nat.{ℕ, _≤_, _<_}
-use native.Mathlib.Omega.{arith}
 use mathlib.Core.Path.{_≡_, refl, sym, subst}
-use mathlib.Core.Bool.{Bool, true, false, not}
-use mathlib.Core.List.{List, [], _∷_, _++_, reverse, List·Memᴰ}
-use lib.Dec.{leb}
-use lib.ListN.{length, length-reverseAux}
+use mathlib.Core.Bool.{Bool, true, false}
+use mathlib.Core.List.{List, [], _∷_, _++_, List·Memᴰ}
+use lib.ListN.{length}
 use Rattle.paper.specs.Lists.{all}
 use Rattle.paper.specs.Numbers.{set-fields, longest-side, most-room, longest-text}
 use Rattle.paper.specs.Pattern.{Holds}
@@ -24,11 +23,11 @@ use Rattle.paper.specs.Equation.{Texts, stands-in, Solves}
 use Rattle.paper.specs.Situation.{Situation, Move, same-situation, question}
 use Rattle.paper.specs.Decides.{Decides, accepted-along}
 use Rattle.paper.specs.Way.{search-from, texts-of}
+use Rattle.paper.specs.ShortWays.{ShortWays}
 use Rattle.paper.specs.Plain.{plain, plain-bound, Reaches}
 use Rattle.paper.specs.Question.{Question, held-by, Equated, acceptor}
-use Rattle.paper.specs.Outcome.{searched, count-of, how-of, standing, some-text-too-long}
-use Rattle.paper.proofs.base.Tests.{by-bool, cond-true, cond-false, true-false, true-not, and-left, and-right, both-true, le-leb}
-use Rattle.paper.proofs.base.Lists.{none-any}
+use Rattle.paper.specs.Outcome.{searched, count-of, how-of}
+use Rattle.paper.proofs.base.Tests.{by-bool, cond-true, cond-false, true-false, and-left, and-right, both-true}
 use Rattle.paper.proofs.search.Searched
 use Rattle.paper.proofs.places.PlacesDecide.{only-held, all-held}
 use Rattle.paper.proofs.places.PlaceSets.{empty-ends, empty-after, same-equal, equal-same}
@@ -37,7 +36,7 @@ use Rattle.paper.proofs.equations.Same.{situation-equal, situation-same}
 use Rattle.paper.proofs.equations.Sound.{sound}
 use Rattle.paper.proofs.equations.Complete.{complete}
 use Rattle.paper.proofs.plain.Plain as Any
-use Rattle.paper.proofs.sheets.TextLength.{text-short}
+use Rattle.paper.proofs.sheets.TextLength.{short-ways, found-way}
 use Rattle.paper_chosen.specs.Chosen.{every, acceptor-over, searched-over}
 use Rattle.paper_chosen.proofs.Likewise.{same-texts}
 
@@ -147,25 +146,16 @@ module _ (among : ℕ → Bool) (q : Question) where
   unfolding count-of searched-over search-from
   count-over room = Searched.count-at-most-room _ _ _ equal same room first
 
+  -- No way has more steps than the room has situations, less one, and no text more characters than its way has steps.
+  pub ways-over : (room : ℕ) → ShortWays (acceptor-over among q) longest-side room (q .left) (q .right)
+  ways-over room = short-ways (acceptor-over among q) (q .left) (q .right) equal same longest-side room
+
   module _ (room : ℕ) (at-most : room ≤ most-room) (e : Entry (Situation PlaceSet) Move) (h : how-of (searched-over among q room) ≡ found e) where
-    -- A text has fewer characters than situations were entered,
-    below-count : (f : ℕ) → length (texts-of (acceptor-over among q) (q .left) (q .right) e f) < count-of (searched-over among q room)
-    unfolding texts-of how-of count-of searched-over search-from
-    below-count f =
-        let short = text-short (acceptor-over among q) f first (reverse (e .way)) in
-        let below =
-        Searched.way-below-count _ _ _ equal same room first e (Searched.found-entered _ _ _ equal same room first e h) in
-        omega (arith, short, length-reverseAux (e .way) [], below)
-
-    -- so it is never too long.
     pub short-over : (f : ℕ) → length (texts-of (acceptor q) (q .left) (q .right) e f) ≤ longest-text
-    short-over f = rw (sym (texts-over e f)) (omega (arith, below-count f, count-over room, at-most))
-
-    pub none-too-long-over : some-text-too-long q e ≡ false
-    unfolding some-text-too-long
-    none-too-long-over =
-        none-any (λ (f : ℕ). not (leb (length (texts-of (acceptor q) (q .left) (q .right) e f)) longest-text)) (standing q)
-        (λ f d. true-not (le-leb (length (texts-of (acceptor q) (q .left) (q .right) e f)) longest-text (short-over f)))
+    unfolding how-of searched-over
+    short-over f =
+        let entered = found-way (acceptor-over among q) (q .left) (q .right) equal same longest-side room e h in
+        rw (sym (texts-over e f)) (ways-over room .texts at-most e entered f)
 
   -- The reachable place sets of 01 have all that are reachable over these characters.
   abbrev reach : ℕ → List PlaceSet

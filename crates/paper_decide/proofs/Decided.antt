@@ -23,7 +23,7 @@ use Rattle.paper.specs.Situation.{Situation, Move}
 use Rattle.paper.specs.Question.{Question, Solution, hidden, Equated}
 use Rattle.paper.specs.Sheet.{Fault, cut-short, wrong-mark, wrong-field, wrong-length, not-one-pattern, too-many-leaves, wrong-token}
 use Rattle.paper.specs.Sheet.{fault-number, Reading, refused, asked, read-sheet}
-use Rattle.paper.specs.Outcome.{Outcome, room-of, searched, standing, some-text-too-long, cleared, without-bytes, clash, answered, count-of, how-of, outcome-of}
+use Rattle.paper.specs.Outcome.{Outcome, room-of, searched, standing, cleared, without-bytes, clash, answered, count-of, how-of, outcome-of}
 use Rattle.paper.specs.Demands.{texts-spelt}
 use Rattle.paper.proofs.base.Tests.{cond-by, true-false, not-is-true, not-is-false, false-not, leb-true, leb-false, neq-eqb}
 use Rattle.paper.proofs.base.Lists.{length-only, mem-only, mem-cons-by, keep-mem, upto-mem}
@@ -32,7 +32,7 @@ use Rattle.paper.proofs.sheets.Hidden.{hidden-known, own-solves, with-spaces, h
 use Rattle.paper.proofs.sheets.Rows.{fault-range, found-records, records-hidden}
 use Rattle.paper.proofs.demands.Demand1.{demand-1, answered-met}
 use Rattle.paper_chosen.specs.Chosen.{every, searched-over}
-use Rattle.paper_chosen.proofs.Over.{searched-every, found-over, used-up-over, count-over, short-over, none-too-long-over}
+use Rattle.paper_chosen.proofs.Over.{searched-every, found-over, used-up-over, count-over, short-over}
 use Rattle.paper_decide.specs.Apart.{few-standings}
 use Rattle.paper_decide.specs.Deciding.{Attempt, own-search, alike-search, few-search, apart-search, decides, Conclusion, concluded-from, concluded, Decision, decision-of, decision}
 use Rattle.paper_decide.specs.DecidePromised.{ClashTold, TextsDontFit, Decided}
@@ -46,7 +46,6 @@ Ended = End (Situation PlaceSet) Move
 record Solving (q : Question) (e : Entry (Situation PlaceSet) Move) : Type 0 where
   solves : Equated (hidden q) (texts-spelt (hidden q) e)
   short : (f : ℕ) → length (texts-spelt (hidden q) e f) ≤ longest-text
-  none-long : some-text-too-long (hidden q) e ≡ false
 
 abbrev Unsolved : Question → Type 0
 Unsolved q = (texts : Texts) → Solution q texts → ⊥
@@ -67,7 +66,6 @@ found-solving among q room h e k =
     record {
       solves = found-over among (hidden q) room e k;
       short = short-over among (hidden q) room h e k;
-      none-long = none-too-long-over among (hidden q) room h e k;
     }
 
 every-passes : (w : List ℕ) → all every w ≡ true
@@ -180,11 +178,11 @@ module _ (q : Question) (good : GoodQuestion q) (work answer : List ℕ) where
         })
     dont-fit : length answer < length (found-records q e) → Tells e n (without-bytes 20 n work answer)
 
-  tells : (e : Entry (Situation PlaceSet) Move) (n : ℕ) → Solving q e → Tells e n (clash (hidden q) n e work answer)
+  tells : (e : Entry (Situation PlaceSet) Move) (n : ℕ) → Tells e n (clash (hidden q) n e work answer)
   unfolding clash
-  tells e n x =
+  tells e n =
       let bytes = found-records q e in
-      rw (x .none-long, records-hidden q e)
+      rw (records-hidden q e)
       (cond-by (Tells e n) (not (leb (length bytes) (length answer)))
       (λ k. dont-fit (leb-false (length bytes) (length answer) (not-is-true k)))
       (λ k. fit (leb-true (length bytes) (length answer) (not-is-false k))))
@@ -250,7 +248,7 @@ module _ (q : Question) (good : GoodQuestion q) (work answer : List ℕ) where
   decided-of : (at-most : room-of work ≤ most-room) (c : Conclusion) → Concludes q good (room-of work) at-most c → AsClash c
       → Decided (asked q) work answer (decision-by c)
   decided-of at-most c (clashes k n e i j x) same =
-      let t = tells e n x in
+      let t = tells e n in
       let told = tells-number e n (clash (hidden q) n e work answer) t in
       record {
         demand1 = answered-met work answer q n (found e);

@@ -13,7 +13,7 @@ use Rattle.paper.specs.Situation.{trimmed, strike, put-before, open-moves, chil
 use Rattle.paper.specs.Way.{search-from, texts-of}
 use Rattle.paper.specs.Question.{acceptor}
 use Rattle.paper.specs.Sheet.{marked, pattern-record, side-record, read-end, marked-side, next-is, read-sheet}
-use Rattle.paper.specs.Outcome.{room-of, searched, standing, value-record, records, some-text-too-long, clash, count-of, how-of}
+use Rattle.paper.specs.Outcome.{room-of, searched, standing, value-record, records, clash, count-of, how-of}
 use Rattle.paper.proofs.known.KnownSheet.{LE, RI, sheet-S}
 use Rattle.paper_chosen.specs.Chosen.{acceptor-over, searched-over}
 use Rattle.paper_decide.specs.Deciding.{concluded, Decision, decision}
@@ -42,5 +42,5 @@ decided-lines-known = refl
 pub sheets-decided-printed :
     map printed-decided (sheet-S ∷ (LE (10 ∷ []) ++ RI (11 ∷ [])) ∷ (76 ∷ 69 ∷ []) ∷ [])
     ≡ map ascii ("0 13 0 1\n0 4\n1 4\n" ∷ "1 1 0 1\n" ∷ "11 0 2 0\n" ∷ [])
-unfolding set-after may-end judge enter offer take-next search trimmed strike put-before open-moves child-by children question search-from texts-of acceptor marked pattern-record side-record read-end marked-side next-is read-sheet room-of searched standing value-record records some-text-too-long clash count-of how-of acceptor-over searched-over concluded decision printed-decision printed-decided
+unfolding set-after may-end judge enter offer take-next search trimmed strike put-before open-moves child-by children question search-from texts-of acceptor marked pattern-record side-record read-end marked-side next-is read-sheet room-of searched standing value-record records clash count-of how-of acceptor-over searched-over concluded decision printed-decision printed-decided
 sheets-decided-printed = refl

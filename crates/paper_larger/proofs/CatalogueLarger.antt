@@ -95,7 +95,7 @@ module _ (a : PairAsking) (keeps : Keeps1 a) (work larger : List ℕ) (more : ro
           one,
           others,
           length-append (pair-listed-by a i r j (s .rule) (room-of larger)) (listed-with-by a i r (suc j) l (room-of larger)),
-          length-append (pair-listed-by a i r j (s .rule) (room-of work)) (listed-with-by a i r (suc j) l (room-of work))
+          length-append (pair-listed-by a i r j (s .rule) (room-of work)) (listed-with-by a i r (suc j) l (room-of work)),
         )
 
     from-fits : (i : ℕ) (l : List Present) → ((t : Present) → List·Memᴰ t l → GoodRule (t .rule))
@@ -109,7 +109,7 @@ module _ (a : PairAsking) (keeps : Keeps1 a) (work larger : List ℕ) (more : ro
           its,
           others,
           length-append (listed-with-by a i (r .rule) (suc i) l (room-of larger)) (listed-from-by a (suc i) l (room-of larger)),
-          length-append (listed-with-by a i (r .rule) (suc i) l (room-of work)) (listed-from-by a (suc i) l (room-of work))
+          length-append (listed-with-by a i (r .rule) (suc i) l (room-of work)) (listed-from-by a (suc i) l (room-of work)),
         )
 
     module _ (catalogue : List ℕ) where

@@ -15,7 +15,7 @@ use Rattle.paper.specs.Situation.{Situation, Move}
 use Rattle.paper.specs.Question.{Question, hidden}
 use Rattle.paper.specs.Sheet.{Fault, cut-short, wrong-mark, wrong-field, wrong-length, not-one-pattern, too-many-leaves, wrong-token}
 use Rattle.paper.specs.Sheet.{fault-number, Reading, refused, asked, read-sheet}
-use Rattle.paper.specs.Outcome.{Outcome, room-of, searched, records, some-text-too-long, cleared, clash, answered, count-of, how-of, outcome-of, outcome}
+use Rattle.paper.specs.Outcome.{Outcome, room-of, searched, records, cleared, clash, answered, count-of, how-of, outcome-of, outcome}
 use Rattle.paper.proofs.base.Tests.{by-bool, cond-by, true-false}
 use Rattle.paper_larger.specs.Stands.{settles, SameTold, OldStands}
 use Rattle.paper_larger.proofs.SearchedLarger.{searched-larger}
@@ -25,11 +25,9 @@ module _ (q : Question) (n : ℕ) (answer : List ℕ) where
   pub told-alike : (x : End (Situation PlaceSet) Move) (work larger : List ℕ) → SameTold (answered q n x work answer) (answered q n x larger answer)
   unfolding clash
   told-alike (found e) work larger =
-      by-bool (some-text-too-long q e)
-      (λ h. rw h (record { number = refl; count = refl; place = refl; written = refl; answer = refl }))
-      (λ h. by-bool (not (leb (length (records q e)) (length answer)))
-      (λ k. rw (h, k) (record { number = refl; count = refl; place = refl; written = refl; answer = refl }))
-      (λ k. rw (h, k) (record { number = refl; count = refl; place = refl; written = refl; answer = refl })))
+      by-bool (not (leb (length (records q e)) (length answer)))
+      (λ k. rw k (record { number = refl; count = refl; place = refl; written = refl; answer = refl }))
+      (λ k. rw k (record { number = refl; count = refl; place = refl; written = refl; answer = refl }))
   told-alike used-up work larger = record { number = refl; count = refl; place = refl; written = refl; answer = refl }
   told-alike no-room work larger = record { number = refl; count = refl; place = refl; written = refl; answer = refl }
   told-alike too-long work larger = record { number = refl; count = refl; place = refl; written = refl; answer = refl }
@@ -37,9 +35,7 @@ module _ (q : Question) (n : ℕ) (answer : List ℕ) where
   zero-after : (x : End (Situation PlaceSet) Move) (work : List ℕ) → answered q n x work answer .work ≡ cleared work
   unfolding clash
   zero-after (found e) work =
-      cond-by (λ (o : Outcome). o .work ≡ cleared work) (some-text-too-long q e)
-      (λ _. refl)
-      (λ _. cond-by (λ (o : Outcome). o .work ≡ cleared work) (not (leb (length (records q e)) (length answer))) (λ _. refl) (λ _. refl))
+      cond-by (λ (o : Outcome). o .work ≡ cleared work) (not (leb (length (records q e)) (length answer))) (λ _. refl) (λ _. refl)
   zero-after used-up work = refl
   zero-after no-room work = refl
   zero-after too-long work = refl

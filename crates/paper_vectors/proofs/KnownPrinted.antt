@@ -19,7 +19,7 @@ use Rattle.paper.specs.Situation.{trimmed, strike, put-before, open-moves, chil
 use Rattle.paper.specs.Way.{search-from, texts-of}
 use Rattle.paper.specs.Question.{acceptor}
 use Rattle.paper.specs.Sheet.{marked, pattern-record, side-record, read-end, marked-side, next-is, read-sheet}
-use Rattle.paper.specs.Outcome.{Outcome, outcome, room-of, searched, standing, value-record, records, some-text-too-long, clash, count-of, how-of}
+use Rattle.paper.specs.Outcome.{Outcome, outcome, room-of, searched, standing, value-record, records, clash, count-of, how-of}
 use Rattle.paper.specs.Printed.{decimal, printed-of, printed}
 use Rattle.paper.proofs.known.KnownSheet.{PA, LE, RI, sheet-S}
 use Rattle.paper_vectors.proofs.KnownLengths.{program-room}
@@ -88,7 +88,7 @@ pub sheets-printed :
     "0 5 0\n" ∷
     "12 0 1622\n" ∷
     [])
-unfolding set-after may-end judge enter offer take-next search trimmed strike put-before open-moves child-by children question search-from texts-of acceptor marked pattern-record side-record read-end marked-side next-is read-sheet outcome room-of searched standing value-record records some-text-too-long clash count-of how-of printed-of printed
+unfolding set-after may-end judge enter offer take-next search trimmed strike put-before open-moves child-by children question search-from texts-of acceptor marked pattern-record side-record read-end marked-side next-is read-sheet outcome room-of searched standing value-record records clash count-of how-of printed-of printed
 sheets-printed = refl
 
 -- "reads the first" 2,048 "bytes of standard input, lends 65,520 bytes of work and 4,096 of answer"

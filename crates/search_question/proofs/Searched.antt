@@ -3,6 +3,7 @@
 --   search-told-every : over every character it is 01's search of `hidden q`
 -- for the struct of the question, wherever its patterns stand. Follows from `run-told-over`, from what the hidden fields and the cut tables are.
 use Prim.Native.Nat.{ℕ}
+use native.Mathlib.Omega.{arith}
 use mathlib.Core.Path.{_≡_, ap, _∙_}
 use mathlib.Core.Bool.{Bool}
 use mathlib.Core.List.{List, map}
@@ -73,7 +74,7 @@ module _ (q : Question) (in-39 : q .alphabet ≡ code-39) (l : GoodSide characte
         told-end e after worked ≡ answered (hidden q) (count-of st) (how-of st) work answer
     unfolding ended-over buffer-over room-of
     search-told test among marks p =
-        rw (p .0, p .1 .0, p .1 .1, is, marks, tables-are test, first-is) (run-told-over test (hidden q) good (room-of work) work answer)
+        rw (p .0, p .1 .0, p .1 .1, is, marks, tables-are test, first-is) (run-told-over test (hidden q) good (room-of work) (omega arith) work answer)
 
     pub search-told-every : (among : List Bool) → among ≡ listed-by every characters → Searched among s work answer after worked e
         → let st = searched (hidden q) (room-of work) in

@@ -1,7 +1,7 @@
 -- The records of an answer: head and text, stored one behind the other, are the record in front of what was lent; record after record, each
 -- in front of the buffer's rest, are the records in front of the buffer.
 -- Follows from the definitions and the laws of parts.
-use Prim.Native.Nat.{ℕ, _+_, _-_, _≤_, _<_}
+use Prim.Native.Nat.{ℕ, _+_, _-_, _≤_}
 use native.Mathlib.Nat.{add-sub-cancel-left}
 use native.Mathlib.Omega.{arith}
 use mathlib.Core.Path.{_≡_, refl, sym, ap, _∙_}
@@ -9,11 +9,12 @@ use mathlib.Core.List.{List, [], _++_, append-assoc, append-nil}
 use lib.ListN.{length, take, drop, length-append, length-drop, take-append-drop, drop-of-length-le}
 use lib.Seq.{sets, sets-eq, drop-length, take-at, take-all, drop-at, drop-drop, length-take-le}
 use borrow.Rule.Slice.PartMut.{putMid, postOf}
+use Rattle.paper.specs.Numbers.{longest-text}
 use Rattle.paper.specs.Outcome.{value-record}
 use Rattle.search_records.specs.Records.{Record-written}
-use Rattle.search_records.specs.Records.{record-mark, mark-width, record-head, head-bytes, in-front}
+use Rattle.search_records.specs.Records.{record-mark, mark-width, record-head, head-bytes, record-bytes, in-front}
 use Rattle.search_slots.specs.LowFirst.{low-bytes}
-use Rattle.search_slots.specs.Slots.{number-width, number-bytes}
+use Rattle.search_slots.specs.Slots.{number-width}
 use Rattle.search_slots.proofs.numbers.Bytes.{low-bytes-all}
 use Rattle.search_slots.proofs.Parts.{part-back}
 
@@ -33,19 +34,25 @@ module _ (mark out : List ℕ) (f n : ℕ) (e : mark ≡ record-mark f) (l : len
       rw (drop-at mark (drop mark-width out) mark-width mark-length)
       (length-take-le number-width (drop mark-width out) (rw length-drop (omega arith)))
 
-  pub head-stored : (bytes : List ℕ) → n < 65536 → bytes ≡ low-bytes (length (take number-width (drop mark-width (mark ++ postOf 0 mark-width out)))) n
+  pub head-stored : (bytes : List ℕ) → bytes ≡ low-bytes (length (take number-width (drop mark-width (mark ++ postOf 0 mark-width out)))) n
       → putMid mark-width number-width (mark ++ postOf 0 mark-width out) bytes ≡ record-head f n
-  head-stored bytes small h =
-      let b : bytes ≡ number-bytes n = (rw number-part at h) ∙ low-bytes-all (number-width - 1) n (omega arith) in
+  head-stored bytes h =
+      let b : bytes ≡ low-bytes number-width n = rw number-part at h in
       let none : drop number-width (drop mark-width out) ≡ [] = drop-of-length-le (drop mark-width out) {i = number-width} (rw length-drop (omega arith)) in
       part-back mark (drop mark-width out) bytes mark-width number-width refl mark-length ∙ rw (none, append-nil, e, b)
 
-record-split : (f : ℕ) (text : List ℕ) → value-record f text ≡ record-head f (length text) ++ text
-unfolding value-record
+record-split : (f : ℕ) (text : List ℕ) → record-bytes f text ≡ record-head f (length text) ++ text
+unfolding record-bytes
 record-split f text = refl
 
-pub length-record : (f : ℕ) (text : List ℕ) → length (value-record f text) ≡ head-bytes + length text
+-- The record of a text that is short enough is 01's: its length has no third byte.
+pub record-is : (f : ℕ) (text : List ℕ) → length text ≤ longest-text → record-bytes f text ≡ value-record f text
 unfolding value-record
+record-is f text h =
+    record-split f text ∙ ap (λ (bytes : List ℕ). (record-mark f ++ bytes) ++ text) (low-bytes-all (number-width - 1) (length text) (omega arith))
+
+pub length-record : (f : ℕ) (text : List ℕ) → length (record-bytes f text) ≡ head-bytes + length text
+unfolding record-bytes
 length-record f text = omega arith
 
 length-in-front : (bytes buffer : List ℕ) → length bytes ≤ length buffer → length (in-front bytes buffer) ≡ length buffer
@@ -67,14 +74,14 @@ module _ (out head : List ℕ) (f n : ℕ) (e : head ≡ record-head f n) (room 
 
   -- The text stored there makes the record.
   pub record-stored : (text : List ℕ) → n ≡ length text
-      → Record-written out (putMid head-bytes (head-bytes + n - head-bytes) (head ++ postOf 0 head-bytes out) text) (head-bytes + n) (value-record f text)
+      → Record-written out (putMid head-bytes (head-bytes + n - head-bytes) (head ++ postOf 0 head-bytes out) text) (head-bytes + n) (record-bytes f text)
   record-stored text m =
-      let l : length (value-record f text) ≡ head-bytes + n = length-record f text ∙ omega arith in
-      let b : (head ++ text) ++ drop n (drop head-bytes out) ≡ in-front (value-record f text) out =
+      let l : length (record-bytes f text) ≡ head-bytes + n = length-record f text ∙ omega arith in
+      let b : (head ++ text) ++ drop n (drop head-bytes out) ≡ in-front (record-bytes f text) out =
       rw (l, ← drop-drop n head-bytes out, record-split f text, ← m, e) in
-      let s : putMid head-bytes (head-bytes + n - head-bytes) (head ++ postOf 0 head-bytes out) text ≡ in-front (value-record f text) out =
+      let s : putMid head-bytes (head-bytes + n - head-bytes) (head ++ postOf 0 head-bytes out) text ≡ in-front (record-bytes f text) out =
       rw (add-sub-cancel-left head-bytes n) (part-back head (drop head-bytes out) text head-bytes n refl head-length ∙ b) in
-      record { bytes = s; many = omega (arith, l); same-length = rw s (length-in-front (value-record f text) out (omega (arith, l))) }
+      record { bytes = s; many = omega (arith, l); same-length = rw s (length-in-front (record-bytes f text) out (omega (arith, l))) }
 
 -- The buffer's rest, from a place on.
 pub length-rest : (at : ℕ) (l : List ℕ) → length (take (length l - at) (drop at l)) ≡ length l - at

@@ -2,19 +2,18 @@
 -- and what becomes of the answer buffer.
 use Prim.Native.Nat.{ℕ, zero, suc, _+_, _*_, _≤_, _<_}
 use mathlib.Core.Path.{_≡_}
-use mathlib.Core.Bool.{Bool, false, cond, not, _&&_, _||_}
+use mathlib.Core.Bool.{Bool, cond, not, _&&_, _||_}
 use mathlib.Core.List.{List, [], _∷_, _++_}
 use lib.Dec.{leb, ltb, eqb}
 use lib.ListN.{length, getD, drop}
-use Rattle.paper.specs.Lists.{upto, any, only, keep, each}
-use Rattle.paper.specs.Numbers.{characters, fields, longest-text, situation-bytes}
-use Rattle.paper.specs.Outcome.{value-record}
+use Rattle.paper.specs.Lists.{upto, only, keep, each}
+use Rattle.paper.specs.Numbers.{characters, fields, situation-bytes}
 use Rattle.base_codes.specs.Inner.{field-code}
-use Rattle.search_slots.specs.LowFirst.{low-first-number}
-use Rattle.search_slots.specs.Slots.{number-width, number-bytes, key-bytes, right-at, part}
+use Rattle.search_slots.specs.LowFirst.{low-first-number, low-bytes}
+use Rattle.search_slots.specs.Slots.{number-width, key-bytes, right-at, part}
 use Rattle.search_records.specs.declared.Back.{Back}
 use Rattle.search_records.specs.declared.Given.{Given}
-use Rattle.search_records.specs.declared.Given.the-variants.{TextTooLong, TooShort, Bytes}
+use Rattle.search_records.specs.declared.Given.the-variants.{TooShort, Bytes}
 
 -- the parent's number and the step in the slot with the number i
 abbrev pub parent-in : List ℕ → ℕ → ℕ
@@ -60,15 +59,14 @@ abbrev pub mark-width : ℕ
 mark-width = 3
 
 abbrev pub record-head : ℕ → ℕ → List ℕ
-record-head f n = record-mark f ++ number-bytes n
+record-head f n = record-mark f ++ low-bytes number-width n
 
 abbrev pub head-bytes : ℕ
 head-bytes = mark-width + number-width
 
--- the record of a text has room in the buffer, and its length two bytes
-pub record Record-fits (text buffer : List ℕ) : Type 0 where
-  pub short : length text ≤ longest-text
-  pub room : head-bytes + length text ≤ length buffer
+-- the record of a text as bytes: of its length the two low ones. That is 01's record of every text that a way can spell (`record-is`).
+unfoldable pub record-bytes : ℕ → List ℕ → List ℕ
+record-bytes f text = record-head f (length text) ++ text
 
 -- the bytes in front of the buffer, "the rest unchanged"
 abbrev pub in-front : List ℕ → List ℕ → List ℕ
@@ -87,30 +85,19 @@ fields-with-sets sets = keep (λ (f : ℕ). not (eqb (getD sets f 0) 0)) (upto f
 module _ (sets : List ℕ) (text : ℕ → List ℕ) where
   -- "each record written directly behind the one before"
   unfoldable pub value-records : List ℕ
-  value-records = each (λ (f : ℕ). value-record f (text f)) (fields-with-sets sets)
+  value-records = each (λ (f : ℕ). record-bytes f (text f)) (fields-with-sets sets)
 
-  -- "a text above 65,535 characters"
-  unfoldable pub text-above : Bool
-  text-above = any (λ (f : ℕ). not (leb (length (text f)) longest-text)) (fields-with-sets sets)
-
-  -- no text is too long, and the records have room in the buffer
-  pub record Records-fit (buffer : List ℕ) : Type 0 where
-    pub short : text-above ≡ false
-    pub room : length value-records ≤ length buffer
-
-  -- "21 comes before 20"
+  -- "answer buffer too short", or the bytes written
   unfoldable pub answer-given : List ℕ → Given
   answer-given buffer =
-      cond text-above TextTooLong
-      (cond (not (leb (length value-records) (length buffer))) TooShort
-      (Bytes (length value-records)))
+      cond (not (leb (length value-records) (length buffer))) TooShort
+      (Bytes (length value-records))
 
   -- "records, the rest unchanged", or "unchanged"
   unfoldable pub buffer-after : List ℕ → List ℕ
   buffer-after buffer =
-      cond text-above buffer
-      (cond (not (leb (length value-records) (length buffer))) buffer
-      (in-front value-records buffer))
+      cond (not (leb (length value-records) (length buffer))) buffer
+      (in-front value-records buffer)
 
   -- what is answered, and the buffer afterwards
   pub record Answered (before after : List ℕ) (answer : Given) : Type 0 where

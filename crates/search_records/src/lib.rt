@@ -12,24 +12,19 @@ use search_slots::numbers::number;
 use search_slots::numbers::put_number;
 use search_slots::slots_in;
 ghost use mathlib.Core.Path.{_≡_};
-ghost use Prim.Native.Nat.{_/_, _<_, _≤_};
+ghost use Prim.Native.Nat.{_+_, _/_, _<_, _≤_};
 ghost use lib.ListN.{length};
-ghost use Rattle.paper.specs.Numbers.{fields, longest-text, situation-bytes};
-ghost use Rattle.paper.specs.Outcome.{value-record};
-ghost use Rattle.search_records.specs.Records.{parent-in, step-in, puts-in, way-spelt, Slot-in, Steps-back, Record-fits, Record-written, Records-fit, Answered};
-ghost use Rattle.search_records.specs.Records.{record-mark, mark-width, record-head, head-bytes, in-front, text-above, value-records};
+ghost use Rattle.paper.specs.Numbers.{fields, situation-bytes};
+ghost use Rattle.search_records.specs.Records.{parent-in, step-in, puts-in, way-spelt, Slot-in, Steps-back, Record-written, Answered};
+ghost use Rattle.search_records.specs.Records.{record-mark, mark-width, record-head, head-bytes, record-bytes, in-front, value-records};
 
 // Mark and field of a record, and its length.
 const MARK: usize = 3;
 
 const HEAD: usize = MARK + NUMBER;
 
-// "a text above 65,535 characters"
-const LONGEST_TEXT: usize = 65535;
-
-// What became of the answer: a text above 65,535 characters, an answer buffer too short, or so many bytes written.
+// What became of the answer: an answer buffer too short, or so many bytes written.
 pub enum Given {
-    TextTooLong,
     TooShort,
     Bytes(usize),
 }
@@ -141,9 +136,9 @@ fn write_mark(out: &mut [u8], f: u8)
     out[2] = f;
 }
 
-// "`VA`, field byte, length in two bytes (low first)"
+// "`VA`, field byte, length in two bytes (low first)". No text is so long that it needs a third (`ShortWays.texts`).
 fn write_head(out: &mut [u8], f: u8, n: usize)
-    requires { ⌜ (length (now out) ≡ head-bytes) × (n ≤ longest-text) ⌝ }
+    requires { ⌜ length (now out) ≡ head-bytes ⌝ }
     ensures { λ _. ⌜ now (out .exit) ≡ record-head f n ⌝ }
 {
     write_mark(&mut out[0..MARK], f);
@@ -154,30 +149,13 @@ fn write_head(out: &mut [u8], f: u8, n: usize)
 fn write_record(out: &mut [u8], work: &[u8], last: usize, f: u8) -> usize
     requires { ⌜ Slot-in (now work) last ⌝ }
     requires { ⌜ f < fields ⌝ }
-    requires { ⌜ Record-fits (way-spelt (now work) last f) (now out) ⌝ }
-    ensures { λ r. ⌜ Record-written (now (out .entry)) (now (out .exit)) r (value-record f (way-spelt (now (work .entry)) last f)) ⌝ }
+    requires { ⌜ head-bytes + length (way-spelt (now work) last f) ≤ length (now out) ⌝ }
+    ensures { λ r. ⌜ Record-written (now (out .entry)) (now (out .exit)) r (record-bytes f (way-spelt (now (work .entry)) last f)) ⌝ }
 {
     let n = text_length(work, last, f);
     write_head(&mut out[0..HEAD], f, n);
     write_text(&mut out[HEAD..HEAD + n], work, last, f);
     HEAD + n
-}
-
-// Is a text above 65,535 characters?
-fn some_text_above(work: &[u8], last: usize, sets: [PlaceSet; FIELDS]) -> bool
-    requires { ⌜ Slot-in (now work) last ⌝ }
-    ensures { λ r. ⌜ r ≡ text-above sets (way-spelt (now (work .entry)) last) ⌝ }
-{
-    let mut f = 0;
-    while f < SHEET_FIELDS {
-        if sets[f] != 0 {
-            if text_length(work, last, f as u8) > LONGEST_TEXT {
-                return true;
-            }
-        }
-        f += 1;
-    }
-    false
 }
 
 // How many bytes the records have.
@@ -199,7 +177,7 @@ fn records_length(work: &[u8], last: usize, sets: [PlaceSet; FIELDS]) -> usize
 // "each record written directly behind the one before"
 fn write_records(answer: &mut [u8], work: &[u8], last: usize, sets: [PlaceSet; FIELDS])
     requires { ⌜ Slot-in (now work) last ⌝ }
-    requires { ⌜ Records-fit sets (way-spelt (now work) last) (now answer) ⌝ }
+    requires { ⌜ length (value-records sets (way-spelt (now work) last)) ≤ length (now answer) ⌝ }
     ensures { λ _. ⌜ now (answer .exit) ≡ in-front (value-records sets (way-spelt (now (work .entry)) last)) (now (answer .entry)) ⌝ }
 {
     let mut at = 0;
@@ -212,15 +190,12 @@ fn write_records(answer: &mut [u8], work: &[u8], last: usize, sets: [PlaceSet; F
     }
 }
 
-// The answer of a clash whose finish is in the last slot. A field stands in the question's sides if its first place set isn't 0. Where there is no such slot nothing is written. "21 comes before 20", and both before any byte is written.
+// The answer of a clash whose finish is in the last slot. A field stands in the question's sides if its first place set isn't 0. Where there is no such slot, or the records don't fit, nothing is written.
 pub fn answer_clash(answer: &mut [u8], work: &[u8], last: usize, sets: [PlaceSet; FIELDS]) -> Given
     ensures { λ r. ⌜ (last < length (now (work .entry)) / situation-bytes → Answered sets (way-spelt (now (work .entry)) last) (now (answer .entry)) (now (answer .exit)) r) ⌝ }
 {
     if slots_in(work.len()) <= last {
         return Given::TooShort;
-    }
-    if some_text_above(work, last, sets) {
-        return Given::TextTooLong;
     }
     let total = records_length(work, last, sets);
     if answer.len() < total {

@@ -16,7 +16,7 @@ use Rattle.base_answers.specs.AnswerNumbers.{told}
 use Rattle.base_answers.specs.declared.Answer.the-variants.{Searched}
 use Rattle.base_answers.specs.declared.Ended.{Ended}
 use Rattle.base_answers.specs.declared.How.{How}
-use Rattle.base_answers.specs.declared.How.the-variants.{Clash, NoClash, NoRoom, SideTooLong, AnswerTooShort, TextTooLong}
+use Rattle.base_answers.specs.declared.How.the-variants.{Clash, NoClash, NoRoom, SideTooLong, AnswerTooShort}
 use Rattle.search_records.specs.Records.{answer-given, buffer-after}
 use Rattle.search_records.specs.declared.Given.{Given}
 use Rattle.search_records.specs.declared.Given.the-variants as Given-as
@@ -34,7 +34,6 @@ told-end r answer work = told (Searched r) answer work
 
 -- how a clash ends, by what became of its records
 abbrev pub clash-how : Given → How
-clash-how Given-as.TextTooLong = TextTooLong
 clash-how Given-as.TooShort = AnswerTooShort
 clash-how (Given-as.Bytes bytes) = Clash bytes
 

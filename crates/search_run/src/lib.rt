@@ -80,7 +80,6 @@ fn found(answer: &mut [u8], work: &[u8], count: usize, sets: [PlaceSet; FIELDS])
 {
     let given = search_records::answer_clash(answer, work, count - 1, sets);
     match given {
-        Given::TextTooLong => How::TextTooLong,
         Given::TooShort => How::AnswerTooShort,
         Given::Bytes(written) => How::Clash { written },
     }

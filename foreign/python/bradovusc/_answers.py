@@ -196,18 +196,8 @@ class AnswerTooShort(_Yes):
     _words = "clash, but the answer buffer is too short for the texts"
 
 
-@dataclass(frozen=True)
-class TextTooLong(_Yes):
-    """21: the rules clash, but a text is above 65,535 characters. It is proved that this never comes."""
-
-    #: The situations that were entered.
-    count: int
-    number = 21
-    _words = "clash, but a text is too long for its record"
-
-
 #: The answer to a sheet. Each has ``clashes``: true, false, or :class:`NotAnswered` is raised.
-Answer = Union[Clash, NoClash, Refused, NoRoom, SideTooLong, AnswerTooShort, TextTooLong]
+Answer = Union[Clash, NoClash, Refused, NoRoom, SideTooLong, AnswerTooShort]
 
 
 @dataclass(frozen=True)
@@ -428,6 +418,4 @@ def answer(number: int, count: int, place: int, written: int = 0, texts: Tuple[T
         return SideTooLong(count)
     if number == AnswerTooShort.number:
         return AnswerTooShort(count)
-    if number == TextTooLong.number:
-        return TextTooLong(count)
     return refused(number, place)

@@ -323,8 +323,6 @@ pub enum Answer {
     SideTooLong { count: usize },
     /// 20: the rules clash, but the answer buffer is too short for the texts.
     AnswerTooShort { count: usize },
-    /// 21: the rules clash, but a text is above 65,535 characters.
-    TextTooLong { count: usize },
 }
 
 impl Answer {
@@ -336,7 +334,6 @@ impl Answer {
             18 => Answer::NoRoom { count },
             19 => Answer::SideTooLong { count },
             20 => Answer::AnswerTooShort { count },
-            21 => Answer::TextTooLong { count },
             _ => Answer::Refused { fault: Fault::numbered(number), place },
         }
     }
@@ -350,7 +347,6 @@ impl Answer {
             Answer::NoRoom { .. } => 18,
             Answer::SideTooLong { .. } => 19,
             Answer::AnswerTooShort { .. } => 20,
-            Answer::TextTooLong { .. } => 21,
         }
     }
 
@@ -362,8 +358,7 @@ impl Answer {
             | Answer::NoClash { count }
             | Answer::NoRoom { count }
             | Answer::SideTooLong { count }
-            | Answer::AnswerTooShort { count }
-            | Answer::TextTooLong { count } => count,
+            | Answer::AnswerTooShort { count } => count,
         }
     }
 
@@ -379,9 +374,7 @@ impl Answer {
     /// Whether the rules clash; none where that is not decided, or the sheet is at fault.
     pub fn clashes(self) -> Option<bool> {
         match self {
-            Answer::Clash { .. } | Answer::AnswerTooShort { .. } | Answer::TextTooLong { .. } => {
-                Some(true)
-            }
+            Answer::Clash { .. } | Answer::AnswerTooShort { .. } => Some(true),
             Answer::NoClash { .. } => Some(false),
             Answer::Refused { .. } | Answer::NoRoom { .. } | Answer::SideTooLong { .. } => None,
         }
@@ -402,7 +395,6 @@ impl fmt::Display for Answer {
             Answer::AnswerTooShort { .. } => {
                 "clash, but the answer buffer is too short for the texts"
             }
-            Answer::TextTooLong { .. } => "clash, but a text is too long for its record",
         })
     }
 }

@@ -25,7 +25,6 @@ fn generated_cases() {
         assert_eq!(after, case.run(second::answer), "{case:?}");
         seen.insert(after.outcome.number);
     }
-    // 21 needs a text longer than any way can be.
     assert!(seen.into_iter().eq([0, 1, 11, 12, 13, 14, 15, 16, 17, 18, 19, 20]));
 }
 

@@ -20,13 +20,12 @@ const FAULTS: [Fault; 7] = [
 ];
 
 /// The answers that are no fault of the sheet, with count 7.
-const OTHERS: [Answer; 6] = [
+const OTHERS: [Answer; 5] = [
     Answer::Clash { count: 7, written: 9 },
     Answer::NoClash { count: 7 },
     Answer::NoRoom { count: 7 },
     Answer::SideTooLong { count: 7 },
     Answer::AnswerTooShort { count: 7 },
-    Answer::TextTooLong { count: 7 },
 ];
 
 const NOT_APART: Added = Added::NotApart { rule: 5, pair: Answer::NoRoom { count: 7 } };
@@ -47,7 +46,7 @@ fn header_texts() -> Vec<(u32, &'static str)> {
 #[test]
 fn answers_in_words() {
     let expected = header_texts();
-    assert_eq!(expected.len(), 21);
+    assert_eq!(expected.len(), 20);
     let faults = FAULTS.map(|fault| (fault.number(), fault.to_string()));
     let others = OTHERS.map(|answer| (answer.number(), answer.to_string()));
     let added = [Added::ForeignField, Added::Full, Added::NoCatalogue]
@@ -178,9 +177,9 @@ fn carrying_over_in_words() {
 #[test]
 fn what_is_decided() {
     assert!(OTHERS.iter().all(|answer| answer.count() == 7));
-    assert_eq!(OTHERS.map(Answer::written), [9, 0, 0, 0, 0, 0]);
+    assert_eq!(OTHERS.map(Answer::written), [9, 0, 0, 0, 0]);
     let decided = OTHERS.map(Answer::clashes);
-    assert_eq!(decided, [Some(true), Some(false), None, None, Some(true), Some(true)]);
+    assert_eq!(decided, [Some(true), Some(false), None, None, Some(true)]);
 }
 
 #[test]

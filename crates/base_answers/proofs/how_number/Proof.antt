@@ -20,9 +20,6 @@ enum-told-4 c = search needs
 enum-told-5 : tie.Need-enum-told-5
 enum-told-5 c = search needs
 
-enum-told-6 : tie.Need-enum-told-6
-enum-told-6 c = search needs
-
 returns : tie.Need-returns
 returns c = ap how-number (sym (c .enum-told .given .1))
 
@@ -38,9 +35,6 @@ returns-4 c = ap how-number (sym (c .enum-told4 .given .1))
 returns-5 : tie.Need-returns-5
 returns-5 c = ap how-number (sym (c .enum-told5 .given .1))
 
-returns-6 : tie.Need-returns-6
-returns-6 c = ap how-number (sym (c .enum-told6 .given .1))
-
 pub how-number-spec : {M : Type 1} → statement M
 how-number-spec =
     tie.close
@@ -50,10 +44,8 @@ how-number-spec =
     enum-told-3
     enum-told-4
     enum-told-5
-    enum-told-6
     returns
     returns-2
     returns-3
     returns-4
-    returns-5
-    returns-6)
+    returns-5)

@@ -15,7 +15,7 @@ use Rattle.paper.specs.Situation.{Situation, Move}
 use Rattle.paper.specs.Question.{Question, hidden}
 use Rattle.paper.specs.Sheet.{Fault, cut-short, wrong-mark, wrong-field, wrong-length, not-one-pattern, too-many-leaves, wrong-token}
 use Rattle.paper.specs.Sheet.{fault-number, Reading, refused, asked, read-sheet}
-use Rattle.paper.specs.Outcome.{Outcome, room-of, searched, records, some-text-too-long, without-bytes, clash, answered, count-of, how-of}
+use Rattle.paper.specs.Outcome.{Outcome, room-of, searched, records, without-bytes, clash, answered, count-of, how-of}
 use Rattle.paper.specs.Outcome.{outcome-of, outcome}
 use Rattle.paper.specs.Buffers.{search-numbers, sheet-numbers, Demand1}
 use Rattle.paper.proofs.base.Tests.{cond-by}
@@ -62,15 +62,14 @@ module _ (work answer : List ℕ) where
     clash-met : (c : ℕ) (e : Entry (Situation PlaceSet) Move) → Met (clash (hidden q) c e work answer)
     unfolding clash
     clash-met c e =
-        cond-by Met (some-text-too-long (hidden q) e) (λ _. without-met 21 c refl false≢true)
-        (λ _. cond-by Met (not (leb (length (records (hidden q) e)) (length answer))) (λ _. without-met 20 c refl false≢true)
+        cond-by Met (not (leb (length (records (hidden q) e)) (length answer))) (λ _. without-met 20 c refl false≢true)
         (λ _. record {
           numbered = refl;
           no-byte = λ h. absurd (h refl);
           after-search = λ _. record { place = refl; all-zero = refl };
           after-fault = λ h. absurd (false≢true h);
           first-fault = λ x at i. absurd (no-fault x at i);
-        }))
+        })
 
     pub answered-met : (c : ℕ) (x : End (Situation PlaceSet) Move) → Met (answered (hidden q) c x work answer)
     answered-met c (found e) = clash-met c e

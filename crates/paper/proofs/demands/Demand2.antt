@@ -1,6 +1,6 @@
 -- Demand 2: for every reading whose question is good and all buffers, lists of bytes, the outcome of 01 meets it. A sheet's is an instance: from
 -- bytes to bytes. What it says stands in specs/Demands: clash carries texts that solve the question, no clash means that there are none, the
--- refusals 18, 19, 20 and the count are those of the search, and 21 is never given.
+-- refusals 18, 19, 20 and the count are those of the search.
 -- Follows from the rows of the table of answers, from the laws of good questions, and from the laws of the search of a question.
 use Prim.Native.Nat.{ℕ}
 use native.Mathlib.Omega.{arith}
@@ -40,7 +40,6 @@ demand-2 r good work answer =
       no-room = λ e. full (row 18 e);
       too-long = λ e. long (row 19 e);
       too-short = λ e. short (row 20 e);
-      text-too-long = λ e. never-21 (row 21 e);
       not-good = refused-outcome r work answer;
       count-within = by-reading r
           (λ x at e. let (low, high, none) = refused-outcome r work answer x at e in omega arith)
@@ -104,9 +103,6 @@ demand-2 r good work answer =
     short : Row r work answer o 20 → TooShort r work answer
     short (faulty x at e low high c) = absurd (omega arith)
     short (is-too-short q e g h k) = record { solved = solved q e g h; short = k }
-
-    never-21 : Row r work answer o 21 → ⊥
-    never-21 (faulty x at e low high c) = omega arith
 
     in-order : (q : Question) → Good r q → InOrder q work answer o
     in-order q g =

@@ -10,7 +10,6 @@
 use Prim.Native.Nat.{ℕ, _*_, _≤_, _<_}
 use native.Mathlib.Omega.{arith}
 use mathlib.Core.Path.{_≡_, refl, sym, _∙_}
-use mathlib.Core.Bool.{false}
 use mathlib.Core.List.{List, [], _∷_, _++_}
 use lib.ListN.{length, drop, replicate, take-append-drop}
 use lib.Seq.{length-take-le}
@@ -22,7 +21,7 @@ use Rattle.paper.specs.Situation.{Situation, Move, trimmed, strike, put-
 use Rattle.paper.specs.Way.{search-from, texts-of}
 use Rattle.paper.specs.Question.{Question, hidden, acceptor}
 use Rattle.paper.specs.Sheet.{marked, pattern-record, side-record, Reading, read-end, marked-side, next-is, read-sheet}
-use Rattle.paper.specs.Outcome.{Outcome, outcome, room-of, searched, standing, value-record, records, some-text-too-long, cleared, clash, count-of, how-of}
+use Rattle.paper.specs.Outcome.{Outcome, outcome, room-of, searched, standing, value-record, records, cleared, clash, count-of, how-of}
 use Rattle.paper.specs.Demands.{Good, end-of, Solved, texts-found, records-of, Clash, Demand2}
 use Rattle.paper.proofs.base.Tests.{le-leb}
 use Rattle.paper.proofs.known.KnownSheet.{sheet-S}
@@ -100,10 +99,6 @@ count-S : count-of (searched (hidden question-S) (room-of roomy)) ≡ 13
 unfolding set-after may-end enter offer take-next search trimmed strike put-before open-moves child-by children question search-from acceptor room-of searched count-of
 count-S = refl
 
-short-S : some-text-too-long (hidden question-S) entry-S ≡ false
-unfolding set-after may-end enter offer take-next search trimmed strike put-before open-moves child-by children question search-from texts-of acceptor room-of searched standing some-text-too-long how-of
-short-S = refl
-
 records-S : records (hidden question-S) entry-S ≡ bytes-S
 unfolding set-after may-end enter offer take-next search trimmed strike put-before open-moves child-by children question search-from texts-of acceptor room-of searched standing value-record records how-of
 records-S = refl
@@ -116,7 +111,7 @@ written-S : (answer : List ℕ) → 12 ≤ length answer
     → clash (hidden question-S) 13 entry-S roomy answer
     ≡ record { number = 0; count = 13; place = 0; written = 12; answer = bytes-S ++ drop 12 answer; work = cleared roomy }
 unfolding clash
-written-S answer h = rw (short-S, records-S, le-leb 12 (length answer) h)
+written-S answer h = rw (records-S, le-leb 12 (length answer) h)
 
 number-AB : outcome sheet-AB roomy [] .number ≡ 1
 unfolding set-after may-end judge enter offer take-next search trimmed strike put-before open-moves child-by children question search-from texts-of acceptor marked pattern-record side-record read-end marked-side next-is read-sheet outcome room-of searched clash count-of how-of

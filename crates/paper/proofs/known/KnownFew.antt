@@ -12,7 +12,7 @@ use Rattle.paper.specs.Situation.{trimmed, strike, put-before, open-move
 use Rattle.paper.specs.Way.{search-from, texts-of}
 use Rattle.paper.specs.Question.{acceptor}
 use Rattle.paper.specs.Sheet.{marked, pattern-record, side-record, read-end, marked-side, next-is, read-sheet}
-use Rattle.paper.specs.Outcome.{outcome, room-of, searched, standing, value-record, records, some-text-too-long, clash, count-of, how-of}
+use Rattle.paper.specs.Outcome.{outcome, room-of, searched, standing, value-record, records, clash, count-of, how-of}
 use Rattle.paper.proofs.known.KnownSheet.{Known, answer-row, fault-row, got, wanted, PA, LE, RI, A}
 
 -- a pattern of a field that stands in neither side: only judged
@@ -34,5 +34,5 @@ few-sheets =
     []
 
 pub few-sheets-met : map got few-sheets ≡ map wanted few-sheets
-unfolding set-after may-end judge enter offer take-next search trimmed strike put-before open-moves child-by children question search-from texts-of acceptor marked pattern-record side-record read-end marked-side next-is read-sheet outcome room-of searched standing value-record records some-text-too-long clash count-of how-of
+unfolding set-after may-end judge enter offer take-next search trimmed strike put-before open-moves child-by children question search-from texts-of acceptor marked pattern-record side-record read-end marked-side next-is read-sheet outcome room-of searched standing value-record records clash count-of how-of
 few-sheets-met = refl

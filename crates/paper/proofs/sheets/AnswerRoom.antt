@@ -1,7 +1,7 @@
 -- How long an answer can be: an answer buffer that has, for each of the eight fields, a record's head and a byte for each situation of the
 -- room is always long enough.
 --   answer-enough : fields * (record-head + room-of work) ≤ length answer → the number is not 20
--- Follows from `text-below-count`, since there is one record at most for a field.
+-- Follows from `text-below-room`, since there is one record at most for a field.
 use Prim.Native.Nat.{ℕ, _+_, _*_, _≤_}
 use native.Mathlib.Nat.{mul-le-mul-right, suc-mul}
 use native.Mathlib.Omega.{arith}
@@ -20,8 +20,7 @@ use Rattle.paper.specs.Sheet.{Reading}
 use Rattle.paper.specs.Outcome.{room-of, standing, value-record, outcome-of}
 use Rattle.paper.specs.Demands.{end-of, texts-spelt, records-of}
 use Rattle.paper.proofs.base.Lists.{length-only, length-from}
-use Rattle.paper.proofs.sheets.QuestionSearched.{count-in-room}
-use Rattle.paper.proofs.sheets.TextLength.{text-below-count}
+use Rattle.paper.proofs.sheets.TextLength.{text-below-room}
 use Rattle.paper.proofs.sheets.Rows.{Row, faulty, is-too-short, in-row}
 
 -- `VA`, field byte, length in two bytes
@@ -46,7 +45,7 @@ standing-few q =
 module _ (q : Question) (work : List ℕ) (e : Entry (Situation PlaceSet) Move) (h : end-of (hidden q) work ≡ found e) where
   record-short : (f : ℕ) → length (value-record f (texts-spelt (hidden q) e f)) ≤ record-head + room-of work
   unfolding value-record
-  record-short f = omega (arith, text-below-count (hidden q) work e h f, count-in-room (hidden q) work)
+  record-short f = omega (arith, text-below-room (hidden q) work e h f)
 
   records-short : length (records-of q (texts-spelt (hidden q) e)) ≤ fields * (record-head + room-of work)
   records-short =

@@ -1,6 +1,5 @@
 -- The rows of 01's table of answers: how each number comes about, as a relation without a test, and how to read it.
--- Every outcome is in one of the rows; the row of 21 is not among them, since no text is too long.
--- Follows from the definition of the outcome, test by test, and from `none-too-long`.
+-- Every outcome is in one of the rows. Follows from the definition of the outcome, test by test.
 use Prim.Native.Nat.{ℕ, _≤_, _<_}
 use native.Mathlib.Omega.{arith}
 use mathlib.Core.Path.{_≡_, refl, ap, subst}
@@ -19,7 +18,6 @@ use Rattle.paper.specs.Sheet.{fault-number, Reading, refused, asked}
 use Rattle.paper.specs.Outcome.{Outcome, room-of, searched, value-record, records, clash, answered, count-of, outcome-of}
 use Rattle.paper.specs.Demands.{Good, end-of, texts-spelt, records-of, demanded-number}
 use Rattle.paper.proofs.sheets.Hidden.{standing-hidden}
-use Rattle.paper.proofs.sheets.TextLength.{none-too-long}
 
 pub fault-range : (x : Fault) → (11 ≤ fault-number x) × (fault-number x ≤ 17)
 fault-range cut-short = omega arith
@@ -59,7 +57,7 @@ module _ (r : Reading) (work answer : List ℕ) where
   unfolding clash
   clash-in-row q n e g h =
       let bytes = found-records q e in
-      rw (none-too-long (hidden q) work e h, records-hidden q e)
+      rw (records-hidden q e)
       (cond-by InRow (not (leb (length bytes) (length answer)))
       (λ k. is-too-short q e g h (leb-false (length bytes) (length answer) (not-is-true k)))
       (λ k. clashes q e g h (leb-true (length bytes) (length answer) (not-is-false k)) refl refl))
@@ -80,25 +78,25 @@ pub in-row : (r : Reading) (work answer : List ℕ) (n : ℕ) → outcome-of r w
 in-row r work answer n e = subst (Row r work answer (outcome-of r work answer)) e (reading-in-row r work answer)
 
 -- The number and the count of a good reading are those of the search.
-clash-number : (q : Question) (n : ℕ) (e : Entry (Situation PlaceSet) Move) (work answer : List ℕ) → end-of (hidden q) work ≡ found e
+clash-number : (q : Question) (n : ℕ) (e : Entry (Situation PlaceSet) Move) (work answer : List ℕ)
     → (clash (hidden q) n e work answer .number ≡ demanded-number q answer (found e)) × (clash (hidden q) n e work answer .count ≡ n)
 unfolding clash
-clash-number q n e work answer h =
-    rw (none-too-long (hidden q) work e h, records-hidden q e)
+clash-number q n e work answer =
+    rw (records-hidden q e)
     (by-bool (leb (length (found-records q e)) (length answer)) (λ k. rw k (refl, refl)) (λ k. rw k (refl, refl)))
 
-end-number : (q : Question) (n : ℕ) (x : End (Situation PlaceSet) Move) (work answer : List ℕ) → end-of (hidden q) work ≡ x
+end-number : (q : Question) (n : ℕ) (x : End (Situation PlaceSet) Move) (work answer : List ℕ)
     → (answered (hidden q) n x work answer .number ≡ demanded-number q answer x) × (answered (hidden q) n x work answer .count ≡ n)
-end-number q n (found e) work answer h = clash-number q n e work answer h
-end-number q n used-up work answer h = (refl, refl)
-end-number q n no-room work answer h = (refl, refl)
-end-number q n too-long work answer h = (refl, refl)
+end-number q n (found e) work answer = clash-number q n e work answer
+end-number q n used-up work answer = (refl, refl)
+end-number q n no-room work answer = (refl, refl)
+end-number q n too-long work answer = (refl, refl)
 
 pub good-outcome : (r : Reading) (work answer : List ℕ) (q : Question) → Good r q
     → (outcome-of r work answer .number ≡ demanded-number q answer (end-of (hidden q) work))
     × (outcome-of r work answer .count ≡ count-of (searched (hidden q) (room-of work)))
 good-outcome r work answer q g =
-    rw g (end-number q (count-of (searched (hidden q) (room-of work))) (end-of (hidden q) work) work answer refl)
+    rw g (end-number q (count-of (searched (hidden q) (room-of work))) (end-of (hidden q) work) work answer)
 
 -- So the number is one of the search's.
 abbrev OfSearch : ℕ → Type 0

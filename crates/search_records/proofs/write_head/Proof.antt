@@ -1,5 +1,4 @@
 -- `write_head` stores the mark and the length, one behind the other. Follows from `head-stored`.
-use native.Mathlib.Omega.{arith}
 use Rattle.search_records.proofs.Records.{head-stored}
 use borrow.Author.Needs.{needs}
 use Rattle.search_records.proofs.write_head.Statement.{statement}
@@ -37,8 +36,8 @@ returns c =
     let number = c .before .before in
     let put = number .before .before .before .before in
     let start = put .before .before .before in
-    head-stored (put .write-mark .last .0) (start .args .out .now) (start .args .f) (start .args .n) (put .write-mark .ensures) (start .pre .0)
-    (number .put-number .last .0) (omega (arith, start .pre .1)) (number .put-number .ensures)
+    head-stored (put .write-mark .last .0) (start .args .out .now) (start .args .f) (start .args .n) (put .write-mark .ensures) (start .pre)
+    (number .put-number .last .0) (number .put-number .ensures)
 
 pub write-head-spec : {M : Type 1} → statement M
 write-head-spec =

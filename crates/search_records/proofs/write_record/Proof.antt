@@ -4,7 +4,6 @@ use native.Mathlib.Omega.{arith}
 use mathlib.Core.Path.{_∙_}
 use lib.ListN.{length}
 use lib.Seq.{length-take-le}
-use Rattle.paper.specs.Numbers.{longest-text}
 use Rattle.search_records.specs.Records.{head-bytes}
 use Rattle.search_records.proofs.Records.{text-room, text-part, record-stored}
 use borrow.Author.Needs.{needs}
@@ -20,23 +19,18 @@ sub-write-head c = search needs
 part-write-head-start : tie.Need-part-write-head-start
 part-write-head-start c = search needs
 
--- the text's length, as it was counted, is in its bounds
-short : (c : tie.After-text-length) → c .text-length .result ≤ longest-text
-short c =
-    let at = c .before .before .before in
-    rw (c .text-length .ensures) (at .pre .1 .1 .short)
-
+-- there is room for the text, whose length was counted
 room : (c : tie.After-text-length) → head-bytes + c .text-length .result ≤ length (c .before .before .before .args .out .now)
 room c =
     let at = c .before .before .before in
-    rw (c .text-length .ensures) (at .pre .1 .1 .room)
+    rw (c .text-length .ensures) (at .pre .1 .1)
 
 part-write-head-end : tie.Need-part-write-head-end
 part-write-head-end c = omega (arith, room c)
 
 write-head-requires : tie.Need-write-head-requires
 write-head-requires c κs =
-    (length-take-le head-bytes (c .before .before .before .before .args .out .now) (omega (arith, room (c .before))), short (c .before))
+    length-take-le head-bytes (c .before .before .before .before .args .out .now) (omega (arith, room (c .before)))
 
 add-write-text : tie.Need-add-write-text
 add-write-text c = omega (arith, room (c .before .before .before .before))

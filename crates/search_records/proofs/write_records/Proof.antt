@@ -7,11 +7,10 @@ use mathlib.Core.Logic.{⊎-elim}
 use lib.ListN.{length}
 use borrow.Author.Needs.{needs}
 use borrow.Rule.Slice.PartMut.{same-len-mid}
-use Rattle.paper.specs.Outcome.{value-record}
 use Rattle.paper.specs.Numbers.{fields}
-use Rattle.search_records.specs.Records.{way-spelt, value-records}
+use Rattle.search_records.specs.Records.{way-spelt, record-bytes, value-records}
 use Rattle.search_records.proofs.Records.{Underway, none-written, one-more, all-written, length-record, length-rest}
-use Rattle.search_records.proofs.FieldsStanding.{records-from, records-all, records-here, length-here, records-passed, short-text}
+use Rattle.search_records.proofs.FieldsStanding.{records-from, records-all, records-here, length-here, records-passed}
 use Rattle.search_records.proofs.write_records.Statement.{statement}
 use Rattle.search_records.proofs.write_records.Tie as tie
 
@@ -39,7 +38,7 @@ place : (c : tie.At-loop Inv-loop μ-loop) →
     c .loop .at + length (records-from (args .t4) (way-spelt (args .work .now) (args .last)) (c .loop .f)) ≤ length (c .loop .answer)
 place c =
     let at = c .before .before .before in
-    omega (arith, c .loop .inv .1, c .loop .inv .2 .place, at .pre .1 .room)
+    omega (arith, c .loop .inv .1, c .loop .inv .2 .place, at .pre .1)
 
 mul-if1 : tie.Need-mul-if1 Inv-loop μ-loop
 mul-if1 c = search needs
@@ -68,12 +67,8 @@ write-record-requires c κs =
       pre .0,
       (
         search needs,
-        record {
-          short = short-text (args .t4) (way-spelt (args .work .now) (args .last)) (at .loop .f) (omega arith) (pre .1 .short) stands;
-          room =
-              rw (length-rest (at .loop .at) (at .loop .answer))
-              (omega (arith, place at, length-here (args .t4) (way-spelt (args .work .now) (args .last)) (at .loop .f) (omega arith) stands));
-        },
+        rw (length-rest (at .loop .at) (at .loop .answer))
+            (omega (arith, place at, length-here (args .t4) (way-spelt (args .work .now) (args .last)) (at .loop .f) (omega arith) stands)),
       ),
     )
 
@@ -107,7 +102,7 @@ loop-again c =
       let text = way-spelt (args .work .now) (args .last) in
           ⊎-elim
           (λ g. rw (g .5, g .6)
-          (one-more (value-record (at .loop .f) (text (at .loop .f))) (records-from (args .t4) text (at .loop .f + 1)) (g .2 .last .0) (g .2 .result)
+          (one-more (record-bytes (at .loop .f) (text (at .loop .f))) (records-from (args .t4) text (at .loop .f + 1)) (g .2 .last .0) (g .2 .result)
           (rw (records-here (args .t4) text (at .loop .f) (omega arith) (g .0 .taken)) at (at .loop .inv .2))
           (omega (arith, place at)) (g .2 .ensures)))
           (λ g. rw (g .1, g .2, ← records-passed (args .t4) text (at .loop .f) (omega arith) (g .0 .left)) (at .loop .inv .2))

@@ -16,9 +16,6 @@ answer-clash-requires c κs = search needs
 enum-told : tie.Need-enum-told
 enum-told c = search needs
 
-enum-told-2 : tie.Need-enum-told-2
-enum-told-2 c = search needs
-
 enum-known-given : tie.Need-enum-known-given
 enum-known-given c = search needs
 
@@ -34,13 +31,6 @@ same-length-2 c = search needs
 
 returns-2 : tie.Need-returns-2
 returns-2 c w =
-    told-by (w .slots) _ (answered-alike w (c .before .before .before .before .answer-clash .ensures (slot-there w))) (ap clash-how (sym (c .enum-told2 .given .1)))
-
-same-length-3 : tie.Need-same-length-3
-same-length-3 c = search needs
-
-returns-3 : tie.Need-returns-3
-returns-3 c w =
     told-by (w .slots) _ (answered-alike w (c .before .before .before .before .before .answer-clash .ensures (slot-there w))) (ap clash-how (sym (c .before .given .given .1)))
 
 pub found-spec : {M : Type 1} → statement M
@@ -50,11 +40,8 @@ found-spec =
     sub-answer-clash
     answer-clash-requires
     enum-told
-    enum-told-2
     enum-known-given
     same-length
     returns
     same-length-2
-    returns-2
-    same-length-3
-    returns-3)
+    returns-2)
