@@ -4,7 +4,8 @@
  * A rule is fixed Code 39 characters with fields between them; a field may have a pattern. Two rules clash when one label can be
  * read by both. Spaces at the end of a label are dropped before it is read, so LT4 and LT4 with a space are the same label. The two
  * rules stand on a question sheet; the answer is a number, and after a clash a text for each field. One search answers it, or up to
- * four, which decide more. The sheet is written from the two sides and the patterns; where one of them is wrong, its place is told.
+ * four, which decide more. Where no field stands twice, a small engine says clash or no clash in at most 9,731 bytes. The sheet is
+ * written from the two sides and the patterns; where one of them is wrong, its place is told.
  * A catalogue has up to 32 rules in one buffer. A rule is added only if it clashes with none that is there; it can be withdrawn. One
  * that was kept can be checked again, pair by pair. A pair is asked by one search, or by up to four, which enter more rules.
  * A sheet can be written out as a script for string solvers, in SMT-LIB 2.6.
@@ -13,17 +14,18 @@
  * Up to version 0.6 a pattern had at most 96 bytes and 31 leaves. Since 0.7 it may have 192 bytes and 63 leaves, and a situation
  * takes 184 bytes where it took 144. What was good before is good and means the same.
  *
- * The static library libexported.a, for x86-64 Linux, defines twelve functions: bradovusc_clash, bradovusc_decide, bradovusc_write,
- * bradovusc_script, bradovusc_add, bradovusc_add_decided, bradovusc_withdraw, bradovusc_recheck, bradovusc_recheck_decided,
- * bradovusc_spell_open, bradovusc_spell_open_rule and bradovusc_spell_open_catalogue. They keep nothing from one call to the next, ask
- * for no memory, and touch nothing but what they are lent, so calls in several threads don't meet. bradovusc_add_decided takes at most
- * about 125 KiB of stack, bradovusc_recheck_decided about 120, bradovusc_decide about 105, bradovusc_spell_open_catalogue about 90, the
- * others about 80; 120, 113, 100, 85 and 74 were measured. So a thread with 96 KiB is enough for all but the first three, and one with
- * 160 KiB for these. All else is in this header: bradovusc_ask, bradovusc_settle, bradovusc_write_sheet,
- * bradovusc_write_script, bradovusc_enter, bradovusc_enter_decided, bradovusc_remove, bradovusc_check_again,
- * bradovusc_check_again_decided, bradovusc_carry_sheet, bradovusc_carry_rule and bradovusc_carry_catalogue call them with any buffers,
- * bradovusc_text and bradovusc_catalogue_text say a number in words, bradovusc_next walks the texts of a clash, bradovusc_next_pair the
- * pairs that were listed, bradovusc_sign and bradovusc_value go between values and signs.
+ * The static library libexported.a, for x86-64 Linux, defines fourteen functions: bradovusc_clash, bradovusc_decide, bradovusc_plain,
+ * bradovusc_plain_bytes, bradovusc_write, bradovusc_script, bradovusc_add, bradovusc_add_decided, bradovusc_withdraw,
+ * bradovusc_recheck, bradovusc_recheck_decided, bradovusc_spell_open, bradovusc_spell_open_rule and bradovusc_spell_open_catalogue.
+ * They keep nothing from one call to the next, ask for no memory, and touch nothing but what they are lent, so calls in several
+ * threads don't meet. bradovusc_add_decided takes at most about 125 KiB of stack, bradovusc_recheck_decided about 120,
+ * bradovusc_decide about 105, bradovusc_spell_open_catalogue about 90, the others about 80; 120, 113, 100, 85 and 74 were measured. So
+ * a thread with 96 KiB is enough for all but the first three, and one with 160 KiB for these. All else is in this header:
+ * bradovusc_ask, bradovusc_settle, bradovusc_ask_plain, bradovusc_measure_plain, bradovusc_write_sheet, bradovusc_write_script,
+ * bradovusc_enter, bradovusc_enter_decided, bradovusc_remove, bradovusc_check_again, bradovusc_check_again_decided,
+ * bradovusc_carry_sheet, bradovusc_carry_rule and bradovusc_carry_catalogue call them with any buffers, bradovusc_text and
+ * bradovusc_catalogue_text say a number in words, bradovusc_next walks the texts of a clash, bradovusc_next_pair the pairs that were
+ * listed, bradovusc_sign and bradovusc_value go between values and signs.
  *
  * The header is C99 and C++11. The rules in full: docs/RULES.md.
  */
@@ -48,6 +50,9 @@ extern "C" {
  *
  * Of a sheet, 0 and 1 settle the question. So does 20: the rules clash, but the texts couldn't be written. 18 and 19 are
  * neither yes nor no. 11 to 17 say what is wrong with the sheet: the first fault met, whose byte is told as its place.
+ *
+ * Of the engine for plain rules, 0 and 1 settle the question, 11 to 17 say what is wrong with the sheet, 42 that a field stands more
+ * than once, and 43 that the bits don't fit. Of the bytes that a sheet needs for it, 0 is success, and 11 to 17 and 42 are the same.
  *
  * Of a catalogue's call, 0 is success. 11 to 17 say what is wrong with the rule that was to be added, 30 to 35 why it can't be done.
  *
@@ -89,7 +94,7 @@ enum bradovusc_number {
     BRADOVUSC_ANSWER_TOO_SHORT = 20,
 
     /* Of a catalogue's call: the rule was added, or withdrawn, or the pairs are listed. Of a sheet or a script: it is written. Of
-     * carrying over: the sheet, the rule or the catalogue is carried over. */
+     * carrying over: the sheet, the rule or the catalogue is carried over. Of the bytes that a sheet needs: they are told. */
     BRADOVUSC_DONE = 0,
     /* The new rule clashes with one that is there, or that is not decided. That rule and the answer of the pair are told. */
     BRADOVUSC_NOT_APART = 30,
@@ -108,7 +113,12 @@ enum bradovusc_number {
     BRADOVUSC_SCRIPT_TOO_SHORT = 40,
     /* The output buffer is too short for the sheet that is to be written, or for the sheet or the rule that is carried over. Not a
      * byte of it is written. */
-    BRADOVUSC_OUTPUT_TOO_SHORT = 41
+    BRADOVUSC_OUTPUT_TOO_SHORT = 41,
+
+    /* A field stands more than once in the two sides together: the rules are not plain. Ask by bradovusc_clash or bradovusc_decide. */
+    BRADOVUSC_NOT_PLAIN = 42,
+    /* The bit buffer is too short for the pairs of standings. Lend a longer one; BRADOVUSC_PLAIN_BYTES are always enough. */
+    BRADOVUSC_BITS_TOO_SHORT = 43
 };
 
 /* The number in words, 0 as the answer of a sheet or a pair. Never null. */
@@ -154,12 +164,17 @@ static inline const char *bradovusc_text(uint32_t number) {
         return "the output buffer is too short for the script";
     case BRADOVUSC_OUTPUT_TOO_SHORT:
         return "the output buffer is too short for the sheet or the rule";
+    case BRADOVUSC_NOT_PLAIN:
+        return "a field stands more than once";
+    case BRADOVUSC_BITS_TOO_SHORT:
+        return "the bit buffer is too short";
     default:
         return "no number of an answer";
     }
 }
 
-/* The same for what a catalogue's call returned, or that of a sheet or a script that is written, or carrying over: 0 is "done". */
+/* The same for what a catalogue's call returned, or that of a sheet or a script that is written, or carrying over, or the bytes that a
+ * sheet needs: 0 is "done". */
 static inline const char *bradovusc_catalogue_text(uint32_t number) {
     return number == BRADOVUSC_DONE ? "done" : bradovusc_text(number);
 }
@@ -295,7 +310,8 @@ static inline int bradovusc_next(struct bradovusc_records *records) {
  * behind them are left as they are.
  */
 enum bradovusc_told {
-    /* situations entered; 0 after 11 to 17, of a sheet or a script that is written, and of what is carried over */
+    /* situations entered; 0 after 11 to 17, of the engine for plain rules, of a sheet or a script that is written, and of what is
+     * carried over */
     BRADOVUSC_COUNT = 0,
     /* after 11 to 17 the offset of the byte at fault, as above; otherwise 0 */
     BRADOVUSC_PLACE = 1,
@@ -394,6 +410,89 @@ static inline struct bradovusc_decision bradovusc_settle(const uint8_t *sheet, s
     decided.written = told[BRADOVUSC_WRITTEN];
     decided.search = told[BRADOVUSC_DECIDED_SEARCH];
     return decided;
+}
+
+/*
+ * Plain rules: no field stands more than once in the two sides together. For them a small engine says clash or no clash, without
+ * situations and without texts: it takes one bit for each pair of a left and a right standing. A standing is how far a side is read,
+ * with one place of the field in front. A side has one standing for its end, one for each character and, for each field, one for
+ * each of its places: its leaves and the start, or two for a field without a pattern; the hidden field at its end has two. So with L
+ * standings on the left and R on the right L * R bits are needed. Four fields of 63 leaves and 20 characters a side make 279
+ * standings: so many bytes are always enough, which is proved.
+ *
+ * What it answers is proved as what bradovusc_clash answers is: 0 exactly if some texts solve the question, of any length, and 1
+ * exactly if none do. So it says the same as bradovusc_clash wherever that gives 0, 1 or 20, 20 being a clash, and says it too where
+ * that has no room.
+ */
+#define BRADOVUSC_PLAIN_BYTES 9731
+
+/*
+ * What is told has the indices of bradovusc_told for count and place, and no written length: the count is 0, the place that of a
+ * fault. bradovusc_plain_bytes tells one number more. Fewer elements than these are filled as far as there are any; elements behind
+ * them are left as they are.
+ */
+enum bradovusc_told_plain {
+    /* so many by bradovusc_plain */
+    BRADOVUSC_PLAIN_TOLD = 2,
+    /* by bradovusc_plain_bytes, the bytes of the shortest bit buffer that will do; 0 with a refusal */
+    BRADOVUSC_PLAIN_NEEDED = 2,
+    BRADOVUSC_PLAIN_NEEDED_TOLD = 3
+};
+
+/*
+ * Says whether the rules of the sheet clash. Afterwards
+ *
+ *   number            bit buffer
+ *   0, 1              all zero
+ *   11 to 17          unchanged
+ *   42, 43            all zero
+ *
+ * 11 to 17 come before 42, then 43. The bit buffer need not be cleared beforehand. Any bytes and any lengths are taken, 0 included.
+ * Each pointer must be that of so many elements, and not null, also where the length is 0; the three must not overlap.
+ */
+uint32_t bradovusc_plain(const uint8_t *sheet, size_t sheet_length, uint8_t *bits, size_t bits_length, uint64_t *told,
+                         size_t told_length);
+
+/*
+ * Tells how many bytes of bit buffer the sheet needs: bradovusc_plain gives 43 with fewer, and 0 or 1 with so many. The refusals are
+ * 11 to 17, then 42. The same holds of the pointers; the two must not overlap.
+ */
+uint32_t bradovusc_plain_bytes(const uint8_t *sheet, size_t sheet_length, uint64_t *told, size_t told_length);
+
+/* What the engine for plain rules answers: the number, and what is told beside it. */
+struct bradovusc_plain_answer {
+    uint32_t number;
+    uint64_t place;
+};
+
+/* bradovusc_plain with both numbers at once, and each pointer may be null where its length is 0. This is the one to call. */
+static inline struct bradovusc_plain_answer bradovusc_ask_plain(const uint8_t *sheet, size_t sheet_length, uint8_t *bits,
+                                                                size_t bits_length) {
+    uint8_t no_sheet = 0, no_bits = 0;
+    uint64_t told[BRADOVUSC_PLAIN_TOLD] = {0, 0};
+    struct bradovusc_plain_answer given;
+    given.number = bradovusc_plain(sheet == NULL && sheet_length == 0 ? &no_sheet : sheet, sheet_length,
+                                   bits == NULL && bits_length == 0 ? &no_bits : bits, bits_length, told, BRADOVUSC_PLAIN_TOLD);
+    given.place = told[BRADOVUSC_PLACE];
+    return given;
+}
+
+/* What a sheet needs: the number, the place of a fault, and the bytes. */
+struct bradovusc_plain_needs {
+    uint32_t number;
+    uint64_t place, bytes;
+};
+
+/* bradovusc_plain_bytes with all three numbers at once, and the pointer may be null where the length is 0. This is the one to call. */
+static inline struct bradovusc_plain_needs bradovusc_measure_plain(const uint8_t *sheet, size_t sheet_length) {
+    uint8_t no_sheet = 0;
+    uint64_t told[BRADOVUSC_PLAIN_NEEDED_TOLD] = {0, 0, 0};
+    struct bradovusc_plain_needs needs;
+    needs.number = bradovusc_plain_bytes(sheet == NULL && sheet_length == 0 ? &no_sheet : sheet, sheet_length, told,
+                                         BRADOVUSC_PLAIN_NEEDED_TOLD);
+    needs.place = told[BRADOVUSC_PLACE];
+    needs.bytes = told[BRADOVUSC_PLAIN_NEEDED];
+    return needs;
 }
 
 /*

@@ -2,15 +2,17 @@
  * Two rules: one makes labels of any digits, the other the label 4. Do they clash? Then the same as a script, for a string solver.
  * Then the sheet with a wrong byte. Then a catalogue of rules is kept. Then one that was kept since a space at the end made another
  * label is checked again. Then a sheet and a catalogue are carried over, from the time when a field without a pattern could be empty.
- * Then a keypad maker's 40 finish codes stand in one pattern, of a sheet that the library writes. Then two rules in which fields stand
- * twice: one search gives up, deciding does not. Last a catalogue of such rules: one search can't enter the second, deciding can, and
- * finds the clash of the third.
+ * Then a keypad maker's 40 finish codes stand in one pattern, of a sheet that the library writes; since no field stands twice in it, the
+ * small engine for plain rules answers it too. Then two rules in which fields stand twice: one search gives up, the small engine refuses
+ * them, deciding does not. Last a catalogue of such rules: one search can't enter the second, deciding can, and finds the clash of the
+ * third.
  *
  * The first line of a sheet is number, count and place, and the number in words. After a clash follows a line for each field, its
  * number and its text, and after a fault a line with the byte at its place. The script has a line with its number before it. Then
  * comes a line for each call of a catalogue, and one for each pair that is listed, then the lines of what is carried over. Of the
  * finish codes there is a line for each pattern, with its bytes, what writing its sheet answered, and the place of a fault; of a sheet
- * that was written a line with its length and its answer, and the texts. Of the last sheet there is a line for each function, number,
+ * that was written a line with its length and its answer, the texts, and a line of the small engine: the bytes that it needs, its
+ * number, and the number in words. Of the last sheet there is a line for each function, number,
  * count and the number in words, and of deciding the search. The lines of the last catalogue say the search too.
  */
 #include <inttypes.h>
@@ -82,6 +84,7 @@ static const uint8_t ends_in_0[] = {'R', 'U', 'P', 'A', 0, 6, 66, 68, 65, 0, 9, 
 
 static uint8_t work[BRADOVUSC_WORK_BYTES(356)];
 static uint8_t answer[BRADOVUSC_ANSWER_BYTES(356)];
+static uint8_t bits[BRADOVUSC_PLAIN_BYTES];
 static uint8_t script[BRADOVUSC_SCRIPT_BYTES];
 static uint8_t catalogue[BRADOVUSC_CATALOGUE_BYTES(BRADOVUSC_RULES)]; /* all zero: no rule is there */
 static uint8_t list[BRADOVUSC_LIST_BYTES(BRADOVUSC_RULES)];
@@ -210,6 +213,13 @@ static uint8_t *put_by_first_letter(uint8_t *at) {
     return at;
 }
 
+/* The small engine: the bytes that the sheet needs, and its answer with just so many. */
+static void ask_plain(const uint8_t *bytes, size_t length) {
+    struct bradovusc_plain_needs needs = bradovusc_measure_plain(bytes, length);
+    struct bradovusc_plain_answer given = bradovusc_ask_plain(bytes, length, bits, (size_t)needs.bytes);
+    printf("the small engine, %" PRIu64 " bytes of bits: %" PRIu32 ", %s\n", needs.bytes, given.number, bradovusc_text(given.number));
+}
+
 static void ask_keypads(const char *how, uint8_t *(*put_finishes)(uint8_t *)) {
     static uint8_t finish[192]; /* the pattern of field 0; field 1 has none */
     const uint64_t length = (uint64_t)(put_finishes(finish) - finish);
@@ -222,6 +232,7 @@ static void ask_keypads(const char *how, uint8_t *(*put_finishes)(uint8_t *)) {
             bradovusc_ask(keypad_sheet, (size_t)written.written, work, sizeof work, answer, sizeof answer);
         printf("\na sheet of %" PRIu64 " bytes: %" PRIu32 ", %s\n", written.written, given.number, bradovusc_text(given.number));
         print_texts(given.written);
+        ask_plain(keypad_sheet, (size_t)written.written);
     } else {
         printf(", at %" PRIu64 "\n", written.place); /* in the sheet that would be written, where the pattern stands from 4 on */
     }
@@ -231,6 +242,7 @@ static void decide(void) {
     struct bradovusc_answer given = bradovusc_ask(twice, sizeof twice, work, sizeof work, answer, sizeof answer);
     struct bradovusc_decision decided = bradovusc_settle(twice, sizeof twice, work, sizeof work, answer, sizeof answer);
     printf("one search: %" PRIu32 " %" PRIu64 ", %s\n", given.number, given.count, bradovusc_text(given.number));
+    ask_plain(twice, sizeof twice);
     printf("decided: %" PRIu32 " %" PRIu64 ", %s, by search %" PRIu64 "\n", decided.number, decided.count,
            bradovusc_text(decided.number), decided.search);
     print_texts(decided.written);

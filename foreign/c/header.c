@@ -1,6 +1,6 @@
 /*
  * Tries what bradovusc.h itself defines: the texts of the numbers, the signs, the walks over records and over listed pairs, null
- * pointers of length 0, deciding, a sheet that is written, the script of one, the calls of a catalogue, with one search and decided,
+ * pointers of length 0, deciding, plain rules, a sheet that is written, the script of one, the calls of a catalogue, with one search and decided,
  * what is carried over, the version, the lengths of buffers; and the places of faults, as it lists them.
  * C99, and C++11 too. Prints what does not hold, and how many checks there were; the exit status is 0 if all hold.
  */
@@ -11,6 +11,8 @@
 /* What the header defines calls `watched_clash` and the like here, which look at the pointers and call the library. */
 #define bradovusc_clash watched_clash
 #define bradovusc_decide watched_decide
+#define bradovusc_plain watched_plain
+#define bradovusc_plain_bytes watched_plain_bytes
 #define bradovusc_write watched_write
 #define bradovusc_script watched_script
 #define bradovusc_add watched_add
@@ -24,6 +26,8 @@
 #include "bradovusc.h"
 #undef bradovusc_clash
 #undef bradovusc_decide
+#undef bradovusc_plain
+#undef bradovusc_plain_bytes
 #undef bradovusc_write
 #undef bradovusc_script
 #undef bradovusc_add
@@ -42,6 +46,9 @@ uint32_t bradovusc_clash(const uint8_t *sheet, size_t sheet_length, uint8_t *wor
                          size_t answer_length, uint64_t *told, size_t told_length);
 uint32_t bradovusc_decide(const uint8_t *sheet, size_t sheet_length, uint8_t *work, size_t work_length, uint8_t *answer,
                           size_t answer_length, uint64_t *told, size_t told_length);
+uint32_t bradovusc_plain(const uint8_t *sheet, size_t sheet_length, uint8_t *bits, size_t bits_length, uint64_t *told,
+                         size_t told_length);
+uint32_t bradovusc_plain_bytes(const uint8_t *sheet, size_t sheet_length, uint64_t *told, size_t told_length);
 uint32_t bradovusc_write(const uint8_t *patterns, size_t patterns_length, const uint64_t *lengths, size_t lengths_length,
                          const uint8_t *left, size_t left_length, const uint8_t *right, size_t right_length, uint8_t *out,
                          size_t out_length, uint64_t *told, size_t told_length);
@@ -91,6 +98,20 @@ uint32_t watched_decide(const uint8_t *sheet, size_t sheet_length, uint8_t *work
     check(answer != NULL, "the answer buffer's pointer is not null", (long)answer_length);
     check(told != NULL, "the pointer of what is told is not null", (long)told_length);
     return bradovusc_decide(sheet, sheet_length, work, work_length, answer, answer_length, told, told_length);
+}
+
+uint32_t watched_plain(const uint8_t *sheet, size_t sheet_length, uint8_t *bits, size_t bits_length, uint64_t *told,
+                       size_t told_length) {
+    check(sheet != NULL, "the sheet's pointer is not null", (long)sheet_length);
+    check(bits != NULL, "the bit buffer's pointer is not null", (long)bits_length);
+    check(told != NULL, "the pointer of what is told is not null", (long)told_length);
+    return bradovusc_plain(sheet, sheet_length, bits, bits_length, told, told_length);
+}
+
+uint32_t watched_plain_bytes(const uint8_t *sheet, size_t sheet_length, uint64_t *told, size_t told_length) {
+    check(sheet != NULL, "the sheet's pointer is not null", (long)sheet_length);
+    check(told != NULL, "the pointer of what is told is not null", (long)told_length);
+    return bradovusc_plain_bytes(sheet, sheet_length, told, told_length);
 }
 
 uint32_t watched_write(const uint8_t *patterns, size_t patterns_length, const uint64_t *lengths, size_t lengths_length,
@@ -202,6 +223,8 @@ static const struct {
     {35, "the list buffer is too short for the pairs"},
     {40, "the output buffer is too short for the script"},
     {41, "the output buffer is too short for the sheet or the rule"},
+    {42, "a field stands more than once"},
+    {43, "the bit buffer is too short"},
 };
 
 static void try_texts(void) {
@@ -217,7 +240,7 @@ static void try_texts(void) {
         expected = number == 0 ? "done" : expected;
         check(strcmp(bradovusc_catalogue_text(number), expected) == 0, "the text of a catalogue's number", (long)number);
     }
-    check(next == 20, "20 numbers have a text", (long)next);
+    check(next == 22, "22 numbers have a text", (long)next);
     check(strcmp(bradovusc_text(UINT32_MAX), none) == 0, "the greatest number has no text", -1);
 }
 
@@ -995,6 +1018,104 @@ static void try_longest_sheet(void) {
     check(given.number == BRADOVUSC_NO_ROOM, "it is a good sheet", (long)given.number);
 }
 
+/* ---- plain rules */
+
+static uint8_t bits[BRADOVUSC_PLAIN_BYTES + 1];
+
+/* The number and the place with so many bytes lent, all of them 7 before: unchanged after a fault, else all zero, and none behind. */
+static int is_plain(const uint8_t *sheet, size_t sheet_length, size_t length, uint32_t number, uint64_t place) {
+    struct bradovusc_plain_answer given;
+    size_t i;
+    int left = number >= 11 && number <= 17 ? 7 : 0;
+    memset(bits, 7, sizeof bits);
+    given = bradovusc_ask_plain(sheet, sheet_length, length > 0 ? bits : NULL, length);
+    for (i = 0; i < sizeof bits; i++) {
+        if (bits[i] != (i < length ? left : 7)) {
+            return 0;
+        }
+    }
+    return given.number == number && given.place == place;
+}
+
+static int needs(const uint8_t *sheet, size_t sheet_length, uint32_t number, uint64_t place, uint64_t bytes) {
+    struct bradovusc_plain_needs needed = bradovusc_measure_plain(sheet, sheet_length);
+    return needed.number == number && needed.place == place && needed.bytes == bytes;
+}
+
+/* A, and x B; x has no pattern: 4 standings and 6, 24 bits */
+static const uint8_t plain_sheet[] = {'L', 'E', 1, 10, 'R', 'I', 2, 64, 11};
+/* x, any digits, and A: 5 and 4, 20 bits */
+static const uint8_t plain_digits[] = {'P', 'A', 0, 4, 68, 65, 0, 9, 'L', 'E', 1, 64, 'R', 'I', 1, 5};
+
+static void try_plain(void) {
+    static const uint8_t nothing[] = {'L', 'E', 0, 'R', 'I', 0}, one_more[] = {'L', 'E', 0, 'R', 'I', 0, 0};
+    static const uint8_t twice[] = {'L', 'E', 1, 64, 'R', 'I', 2, 64, 11}, wrong[] = {'L', 'E', 3, 64, 64, 72, 'R', 'I', 0};
+    static const uint8_t spaces[] = {'L', 'E', 1, 10, 'R', 'I', 3, 10, 38, 38};
+    static const size_t lengths[] = {0, 1, 2, BRADOVUSC_PLAIN_BYTES};
+    size_t i;
+
+    check(needs(plain_sheet, sizeof plain_sheet, 0, 0, 3) && needs(plain_digits, sizeof plain_digits, 0, 0, 3), "24 and 20 bits", 3);
+    for (i = 0; i < 3; i++) {
+        check(is_plain(plain_sheet, sizeof plain_sheet, i, 43, 0), "too few bits", (long)i);
+        check(is_plain(plain_digits, sizeof plain_digits, i, 43, 0), "too few bits", (long)i);
+    }
+    check(is_plain(plain_sheet, sizeof plain_sheet, 3, 1, 0), "no clash in just enough", 3);
+    check(is_plain(plain_sheet, sizeof plain_sheet, BRADOVUSC_PLAIN_BYTES, 1, 0), "no clash in plenty", BRADOVUSC_PLAIN_BYTES);
+    check(is_plain(plain_digits, sizeof plain_digits, 3, 0, 0), "a clash in just enough", 3);
+    check(is_plain(plain_digits, sizeof plain_digits, BRADOVUSC_PLAIN_BYTES, 0, 0), "a clash in plenty", BRADOVUSC_PLAIN_BYTES);
+    check(needs(nothing, sizeof nothing, 0, 0, 2) && is_plain(nothing, sizeof nothing, 2, 0, 0), "both sides empty", 2);
+    check(needs(spaces, sizeof spaces, 0, 0, 3) && is_plain(spaces, sizeof spaces, 3, 0, 0), "spaces at the end", 3);
+    for (i = 0; i < sizeof lengths / sizeof *lengths; i++) {
+        check(is_plain(NULL, 0, lengths[i], 11, 0), "no sheet", (long)lengths[i]);
+        check(is_plain(one_more, sizeof one_more, lengths[i], 12, 6), "a byte too many", (long)lengths[i]);
+        check(is_plain(wrong, sizeof wrong, lengths[i], 17, 5), "a fault is before 42", (long)lengths[i]);
+        check(is_plain(twice, sizeof twice, lengths[i], 42, 0), "42 is before 43", (long)lengths[i]);
+    }
+    check(needs(NULL, 0, 11, 0, 0) && needs(one_more, sizeof one_more, 12, 6, 0), "a fault needs nothing", 12);
+    check(needs(wrong, sizeof wrong, 17, 5, 0) && needs(twice, sizeof twice, 42, 0, 0), "nor does 42", 42);
+}
+
+/* told in so many elements */
+static void try_plain_told(void) {
+    size_t told_length, i;
+    for (told_length = 0; told_length <= 4; told_length++) {
+        uint64_t told[] = {7, 7, 7, 7}, told_needs[] = {7, 7, 7, 7};
+        const uint64_t expected[] = {0, 0, 7, 7}, expected_needs[] = {0, 0, 3, 7};
+        check(bradovusc_plain(plain_digits, sizeof plain_digits, bits, 3, told, told_length) == 0, "a clash", (long)told_length);
+        check(bradovusc_plain_bytes(plain_digits, sizeof plain_digits, told_needs, told_length) == 0, "measured", (long)told_length);
+        for (i = 0; i < 4; i++) {
+            check(told[i] == (i < told_length ? expected[i] : 7), "an element of what is told", (long)i);
+            check(told_needs[i] == (i < told_length ? expected_needs[i] : 7), "an element of what is needed", (long)i);
+        }
+    }
+}
+
+/* Four fields of 63 leaves and 20 characters a side: 279 standings each. */
+static void try_most_bits(void) {
+    static uint8_t sheet[8 * (4 + 125) + 2 * 27];
+    uint8_t *at = sheet, *side;
+    size_t field, i;
+    for (field = 0; field < 8; field++) {
+        const uint8_t head[] = {'P', 'A', (uint8_t)field, 125};
+        memcpy(at, head, 4);
+        memset(at + 4, 66, 62); /* 63 leaves, one behind the other */
+        memset(at + 66, 10, 63);
+        at += 129;
+    }
+    for (side = at; at < side + 54; at += 27) {
+        memcpy(at, at == side ? "LE" : "RI", 2);
+        at[2] = 24;
+        for (i = 0; i < 24; i++) {
+            at[3 + i] = (uint8_t)(i < 4 ? 64 + i + (at == side ? 0 : 4) : 10);
+        }
+    }
+    check(needs(sheet, sizeof sheet, 0, 0, BRADOVUSC_PLAIN_BYTES), "279 by 279 bits", BRADOVUSC_PLAIN_BYTES);
+    check(is_plain(sheet, sizeof sheet, BRADOVUSC_PLAIN_BYTES - 1, 43, 0), "a byte too few", BRADOVUSC_PLAIN_BYTES - 1);
+    check(is_plain(sheet, sizeof sheet, BRADOVUSC_PLAIN_BYTES, 0, 0), "just enough", BRADOVUSC_PLAIN_BYTES);
+    sheet[sizeof sheet - 1] = 11;
+    check(is_plain(sheet, sizeof sheet, BRADOVUSC_PLAIN_BYTES, 1, 0), "the last character is another", BRADOVUSC_PLAIN_BYTES);
+}
+
 /* ---- carrying over */
 
 static int is_carried(struct bradovusc_carried carried, uint32_t number, uint64_t place, uint64_t written) {
@@ -1115,6 +1236,7 @@ int main(void) {
     check(BRADOVUSC_LIST_BYTES(32) == 2480, "a list of their pairs", 32);
     check(BRADOVUSC_SCRIPT_BYTES == 280000, "a script", 280000);
     check(BRADOVUSC_SHEET_BYTES == BRADOVUSC_FIELDS * (4 + 192) + 2 * (3 + 24), "a sheet", 1622);
+    check(BRADOVUSC_PLAIN_BYTES == (279 * 279 + 7) / 8, "a bit buffer", 9731);
     check(BRADOVUSC_RULE_BYTES == 2 + BRADOVUSC_RULE_FIELDS * (4 + 192) + (3 + 24), "a rule", 813);
     check(BRADOVUSC_DECIDED_LIST_BYTES(32) == 3472 && BRADOVUSC_DECIDED_LIST_BYTES(2) == 7, "a list of decided pairs", 32);
     check(BRADOVUSC_LIST_BYTES(2) == 5 && BRADOVUSC_LIST_BYTES(1) == 0 && BRADOVUSC_LIST_BYTES(0) == 0, "of fewer rules", 2);
@@ -1144,6 +1266,9 @@ int main(void) {
     try_write_told();
     try_write_places();
     try_longest_sheet();
+    try_plain();
+    try_plain_told();
+    try_most_bits();
     try_carry_sheet();
     try_carry_rule();
     try_carried_told();

@@ -6,6 +6,7 @@
 
 use crate::catalogue::RULE;
 use crate::decide::{self, By, Decided};
+use crate::plain::{plain, plain_bytes, Needs, Told};
 use crate::spell_open::{rule_into, sheet_into, Spelt};
 use crate::Outcome;
 
@@ -61,6 +62,30 @@ impl Case {
         let mut line = format!("{number} {place} {written}");
         push_answer(&mut line, &output, written);
         line
+    }
+
+    /// Asks the engine for plain rules, with a freshly filled bit buffer of the
+    /// working buffer's length: what is told, and the buffer.
+    pub fn plain(&self) -> (Told, Vec<u8>) {
+        let mut bits = vec![WORK_FILL; self.work as usize];
+        let told = plain(&self.sheet, &mut bits);
+        (told, bits)
+    }
+
+    /// Number, count and place, then every byte of the bit buffer; then what the
+    /// sheet needs: number, place and bytes.
+    pub fn plain_line(&self) -> String {
+        let (Told { number, count, place }, bits) = self.plain();
+        let mut line = format!("{number} {count} {place}");
+        push_work(&mut line, &bits);
+        let Needs { number, place, bytes } = plain_bytes(&self.sheet);
+        line + &format!(", needs {number} {place} {bytes}")
+    }
+
+    /// What the program `plain` prints: number, count and place.
+    pub fn plain_lines(&self) -> String {
+        let (Told { number, count, place }, _) = self.plain();
+        format!("{number} {count} {place}\n")
     }
 
     /// Writes the case behind the stream. A sheet has at most 65,535 bytes.

@@ -22,6 +22,9 @@
 //! kept one that may; they search by `searched` or by `scan::searched`.
 //! `catalogue::add_decided` and `catalogue::recheck_decided` decide each pair.
 //!
+//! `plain::plain` says clash or no clash where no field stands twice, with a bit
+//! for each pair of standings in place of situations.
+//!
 //! `writer::write` writes the sheet of two sides and patterns by field.
 //!
 //! `smt` reads scripts for other solvers and compares them with their sheets.
@@ -37,6 +40,7 @@ pub mod decide;
 pub mod fault;
 pub mod make;
 pub mod pattern;
+pub mod plain;
 pub mod printed;
 pub mod scan;
 pub mod search;

@@ -3,12 +3,14 @@
 //! `calls` operations on a catalogue with the same parts, `spelt` sheets and
 //! rules to carry over, `damages` the faults of them all. `pairs` makes pairs of
 //! rules as storerooms write them, `decided` cases to decide, `written` what is
-//! handed to the writer of sheets.
+//! handed to the writer of sheets, `plainly` sheets for the engine for plain
+//! rules.
 
 pub mod calls;
 mod damages;
 pub mod decided;
 pub mod pairs;
+pub mod plainly;
 mod spaces;
 pub mod spelt;
 pub mod written;

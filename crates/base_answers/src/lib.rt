@@ -117,6 +117,10 @@ pub const LIST_TOO_SHORT: usize = 35;
 pub const SCRIPT_TOO_SHORT: usize = 40;
 // K8: "41 if the buffer is too short"
 pub const SHEET_TOO_SHORT: usize = 41;
+// K9: "42 if a field stands more than once in the two sides together"
+pub const STANDS_TWICE: usize = 42;
+// "43 if the bits don't fit"
+pub const BITS_TOO_FEW: usize = 43;
 
 // An answer in document 01's numbers.
 pub struct Numbers {

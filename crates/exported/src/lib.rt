@@ -7,11 +7,13 @@ ghost use Rattle.paper_catalogue_decide.specs.DecidedPairs.{adding-decided, rec
 ghost use Rattle.paper_script.specs.Scripting.{scripting};
 ghost use Rattle.paper_carry.specs.Spelling.{spelling, rule-spelling, carrying-over};
 ghost use Rattle.paper_write.specs.Writing.{writing};
+ghost use Rattle.paper_plain.specs.Engine.{engine, needs};
 ghost use Rattle.paper_decide.specs.Deciding.{decision};
 ghost use Rattle.c_clash.specs.Asking.{telling};
 ghost use Rattle.c_decide.specs.Decided.{telling-decided};
 ghost use Rattle.c_carry.specs.Carried.{telling-spelt};
 ghost use Rattle.c_write.specs.WrittenNumbers.{telling-written};
+ghost use Rattle.c_plain.specs.EngineTelling.{telling-plain, telling-needs};
 ghost use Rattle.write_sheet.specs.SheetWritten.{given};
 ghost use Rattle.c_script.specs.Scripted.{telling-scripted};
 ghost use Rattle.c_catalogue.specs.Catalogued.{telling-added, telling-rechecked};
@@ -186,4 +188,26 @@ pub extern "C" fn bradovusc_write(
     ensures out { λ _. ⌜ now (out .exit) ≡ writing (given (now (patterns .entry)) (now (lengths .entry)) (now (left .entry)) (now (right .entry))) (now (out .entry)) .out ⌝ }
 {
     c_write::sheet(patterns, lengths, left, right, out, told)
+}
+
+// Can the two rules of the sheet make the same label? Only clash or no clash, for a sheet in which no field stands twice, with one bit for each pair of
+// a left and a right standing. Returns request K9's number; count (which is 0) and place go into the first two elements of `told`, as many as there is
+// room for.
+#[no_mangle]
+pub extern "C" fn bradovusc_plain(sheet: &[u8], bits: &mut [u8], told: &mut [u64]) -> u32
+    ensures number { λ r. ⌜ r ≡ engine (now (sheet .entry)) (now (bits .entry)) .number ⌝ }
+    ensures told { λ _. ⌜ now (told .exit) ≡ telling-plain (now (told .entry)) (engine (now (sheet .entry)) (now (bits .entry))) ⌝ }
+    ensures bits { λ _. ⌜ now (bits .exit) ≡ engine (now (sheet .entry)) (now (bits .entry)) .bits ⌝ }
+{
+    c_plain::sheet(sheet, bits, told)
+}
+
+// How many bytes `bradovusc_plain` must be lent for the sheet's bits. Returns request K9's number; count (which is 0), place and the bytes go into the
+// first three elements of `told`, as many as there is room for.
+#[no_mangle]
+pub extern "C" fn bradovusc_plain_bytes(sheet: &[u8], told: &mut [u64]) -> u32
+    ensures number { λ r. ⌜ r ≡ needs (now (sheet .entry)) .number ⌝ }
+    ensures told { λ _. ⌜ now (told .exit) ≡ telling-needs (now (told .entry)) (needs (now (sheet .entry))) ⌝ }
+{
+    c_plain::bytes(sheet, told)
 }

@@ -3,7 +3,7 @@
 // of sheets is handed. The program ends where the input does, and also before a part or a case that is cut short, has another mark or asks for
 // more than is lent here. A read or a write that fails is told on standard error.
 //
-// The stored parts are these eight; tools/part frames a part. The second program prints the same lines, but for those of the scripts, which it
+// The stored parts are these nine; tools/part frames a part. The second program prints the same lines, but for those of the scripts, which it
 // reads. tools/compare tries fresh parts.
 //
 // 1. `BY`: the known sheets of document 01
@@ -99,7 +99,14 @@
 // What the second program's `sheets --write 8 1500` makes: good sides and patterns, up to the longest sheet; each refusal, among them patterns cut
 // short, fields from 8 on and lengths that no byte holds; and output buffers of just the right length, of every length around it, and of none.
 // `second --write` prints the same.
+//
+// 9. `PL`: sheets for the engine for plain rules
+//
+// What the second program's `sheets --plain 9 1500` makes: sheets in which no field stands twice, with patterns of no leaf to 63, some up to
+// the largest of all, ends at which spaces decide, pairs of rules; sheets in which a field stands twice; refused ones; and bit buffers of just
+// the right length, of every length around it, and of none. `second --plain` prints the same.
 mod part;
+mod plain;
 mod script;
 mod spelt;
 mod written;
@@ -220,6 +227,7 @@ fn answer_case(sheet: &[u8], work: &mut [u8], answer: &mut [u8], shown: Shown) -
         Shown::Lines => show_lines(sheet, work, answer),
         Shown::Scripts => script::show_script(sheet),
         Shown::Spelt => spelt::show_spelt(sheet, answer),
+        Shown::Plain => plain::show_plain(sheet, work),
     }
 }
 

@@ -25,6 +25,9 @@ pub enum Shown {
     Scripts,
     // `SP`: a line: number, place and written length of the sheet or rule carried over into the answer buffer, and every byte of that
     Spelt,
+    // `PL`: a line: number, count and place of the engine for plain rules, and every byte of the bit buffer, which is the working buffer; then
+    // number, place and bytes of what the sheet needs
+    Plain,
 }
 
 // How far the program is, what the cases of the part are, and how many are left.
@@ -47,6 +50,8 @@ const SCRIPTS: usize = b'S' as usize + 256 * (b'C' as usize);
 
 const SPELT: usize = b'S' as usize + 256 * (b'P' as usize);
 
+const PLAIN: usize = b'P' as usize + 256 * (b'L' as usize);
+
 const WRITTEN: usize = b'W' as usize + 256 * (b'R' as usize);
 
 // Reads the head of the next part.
@@ -67,6 +72,7 @@ fn part_of(mark: usize, number: usize) -> Part {
         LINES => cases(How::Going, Kind::Sheets(Shown::Lines), number),
         SCRIPTS => cases(How::Going, Kind::Sheets(Shown::Scripts), number),
         SPELT => cases(How::Going, Kind::Sheets(Shown::Spelt), number),
+        PLAIN => cases(How::Going, Kind::Sheets(Shown::Plain), number),
         WRITTEN => cases(How::Going, Kind::Written, number),
         _ => cases(How::Stopped, Kind::Written, 0),
     }

@@ -122,7 +122,7 @@ class Clash(_Yes):
     """0: a label can be made by both rules.
 
     ``texts`` has what each field holds on it, by rising field. With them one side may have spaces at its end that the other has not.
-    Of a pair of a catalogue no texts are told.
+    Of a pair of a catalogue no texts are told, nor by :func:`plain`.
     """
 
     #: The situations that were entered.
@@ -221,6 +221,37 @@ class Decision(Told):
 
     def __str__(self) -> str:
         return str(self.answer)
+
+
+@dataclass(frozen=True)
+class NotPlain(_Open):
+    """42: a field stands more than once in the two sides together. Ask by :func:`clash` or :func:`decide`."""
+
+    number = 42
+    _words = "a field stands more than once"
+
+
+@dataclass(frozen=True)
+class BitsTooShort(_Open):
+    """43: the bit buffer is too short. :func:`plain_bytes` says how many bytes will do."""
+
+    number = 43
+    _words = "the bit buffer is too short"
+
+
+@dataclass(frozen=True)
+class Needed(Told):
+    """0: the shortest bit buffer that will do has so many bytes."""
+
+    bytes: int
+    number = 0
+    _words = "done"
+
+
+#: What the small engine for plain rules answers. Each has ``clashes``: true, false, or :class:`NotAnswered` is raised. The counts are 0.
+PlainAnswer = Union[Clash, NoClash, Refused, NotPlain, BitsTooShort]
+#: How long a bit buffer a sheet needs for it.
+PlainBytes = Union[Needed, Refused, NotPlain]
 
 
 @dataclass(frozen=True)

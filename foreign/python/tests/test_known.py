@@ -57,6 +57,19 @@ class Known(unittest.TestCase):
             with self.subTest(line=number):
                 self.assertEqual(printed(self.asked(bradovusc.clash, row)), quoted(row["Prints"]))
 
+    def test_plain_rules(self):
+        examples = list(rows("Answers"))
+        self.assertGreater(len(examples), 25)
+        for number, row in examples:
+            with self.subTest(line=number):
+                bits = bytearray([FILL]) * int(row["Bits"])
+                said = bradovusc.plain(in_bytes(row["Sheet"]), bits)
+                self.assertEqual(printed(said), quoted(row["Answers"]))
+                self.assertEqual(set(bits), set() if not bits else {FILL if isinstance(said, Refused) else 0})
+                needs = bradovusc.plain_bytes(in_bytes(row["Sheet"]))
+                place, needed = getattr(needs, "place", 0), getattr(needs, "bytes", 0)
+                self.assertEqual([f"{needs.number} {place} {needed}"], quoted(row["Needs"]))
+
     def test_sheets_without_lent_buffers(self):
         small = [(number, row) for number, row in rows("Prints") if not row.get("Lent") and len(row["Sheet"]) < 200]
         for number, row in small:

@@ -37,7 +37,7 @@ class Words(unittest.TestCase):
                 upper = re.sub(r"(?<=[a-z])(?=[A-Z])", "_", name).upper()
                 number = NUMBERS.get(upper, 0)
                 self.assertEqual(kind.number, number, name)
-                if name not in ("NotApart", "Written", "Listed", "ListedDecided", "Done"):
+                if name not in ("NotApart", "Written", "Listed", "ListedDecided", "Needed", "Done"):
                     self.assertEqual(kind._words, WORDS[upper], name)
                 seen.add(kind.number)
         self.assertEqual(seen | set(range(11, 18)), set(NUMBERS[name] for name in WORDS))
@@ -58,6 +58,7 @@ class Words(unittest.TestCase):
             "RULE_FIELDS": bradovusc.RULE_FIELDS,
             "RULE_BYTES": bradovusc.RULE_BYTES,
             "PAIR_BYTES": bradovusc.PAIR_BYTES,
+            "PLAIN_BYTES": bradovusc.PLAIN_BYTES,
             "DECIDED_PAIR_BYTES": bradovusc.DECIDED_PAIR_BYTES,
         }
         self.assertEqual({name: int(defined(name)) for name in plain}, plain)

@@ -41,6 +41,23 @@
 //! assert_eq!(texts, ["0", "0"]);
 //! ```
 //!
+//! Where no field stands more than once, [`plain()`] says clash or no clash in a small buffer of bits,
+//! and [`plain_bytes`] says how many bytes it needs.
+//!
+//! ```
+//! use bradovusc::{plain, plain_bytes, Plain, PlainBytes, PLAIN_BYTES};
+//!
+//! // Field 0, any digits, is the left side; field 1, the digit 4, the right one.
+//! let sheet = b"PA\x00\x04\x44\x41\x00\x09PA\x01\x01\x04LE\x01\x40RI\x01\x41";
+//! assert_eq!(plain_bytes(sheet), PlainBytes::Needed { bytes: 4 });
+//! assert_eq!(plain(sheet, &mut [0; 4]), Plain::Clash);
+//! assert_eq!(plain(sheet, &mut [0; 3]), Plain::BitsTooShort);
+//! // So many bytes are always enough. Here field 0 stands twice.
+//! let twice = b"LE\x02\x40\x40RI\x01\x04";
+//! assert_eq!(plain(twice, &mut [0; PLAIN_BYTES]), Plain::NotPlain);
+//! assert_eq!(plain(twice, &mut [0; PLAIN_BYTES]).clashes(), None);
+//! ```
+//!
 //! Of a sheet at fault the place is told, the byte itself.
 //!
 //! ```
@@ -167,6 +184,7 @@ mod carrying;
 mod catalogue;
 mod catalogue_decided;
 mod deciding;
+mod plain;
 mod scripts;
 mod writing;
 
@@ -182,6 +200,7 @@ pub use catalogue_decided::{
     RecheckedDecided, DECIDED_PAIR_BYTES,
 };
 pub use deciding::{decide, Decision};
+pub use plain::{plain, plain_bytes, Plain, PlainBytes, PLAIN_BYTES};
 pub use scripts::{script, Scripted, SCRIPT_BYTES};
 pub use writing::{write, Written};
 

@@ -2,9 +2,10 @@
 
 use bradovusc::{
     catalogue_bytes, decided_list_bytes, list_bytes, recheck, recheck_decided, sign, texts, value,
-    Added, AddedDecided, Answer, CarriedOver, DecidedPair, Fault, Pair, Rechecked,
-    RecheckedDecided, Scripted, SpeltOpen, Text, Withdrawn, Written, DECIDED_PAIR_BYTES,
-    MOST_RULES, PAIR_BYTES, RULE_BYTES, RULE_FIELDS, SCRIPT_BYTES, SHEET_BYTES, SIGNS, VERSION,
+    Added, AddedDecided, Answer, CarriedOver, DecidedPair, Fault, Pair, Plain, PlainBytes,
+    Rechecked, RecheckedDecided, Scripted, SpeltOpen, Text, Withdrawn, Written, DECIDED_PAIR_BYTES,
+    MOST_RULES, PAIR_BYTES, PLAIN_BYTES, RULE_BYTES, RULE_FIELDS, SCRIPT_BYTES, SHEET_BYTES, SIGNS,
+    VERSION,
 };
 
 const HEADER: &str = include_str!("../../c/bradovusc.h");
@@ -46,7 +47,7 @@ fn header_texts() -> Vec<(u32, &'static str)> {
 #[test]
 fn answers_in_words() {
     let expected = header_texts();
-    assert_eq!(expected.len(), 20);
+    assert_eq!(expected.len(), 22);
     let faults = FAULTS.map(|fault| (fault.number(), fault.to_string()));
     let others = OTHERS.map(|answer| (answer.number(), answer.to_string()));
     let added = [Added::ForeignField, Added::Full, Added::NoCatalogue]
@@ -57,7 +58,9 @@ fn answers_in_words() {
     let no_script = (Scripted::TooShort.number(), Scripted::TooShort.to_string());
     let no_sheet = (SpeltOpen::TooShort.number(), SpeltOpen::TooShort.to_string());
     let further = [(NOT_APART.number(), not_apart), no_rule, short, no_script, no_sheet];
-    let mut ours = [&faults[..], &others, &added, &further].concat();
+    let plain =
+        [Plain::NotPlain, Plain::BitsTooShort].map(|plain| (plain.number(), plain.to_string()));
+    let mut ours = [&faults[..], &others, &added, &further, &plain].concat();
     ours.sort();
     assert!(ours.iter().map(|(number, text)| (*number, text.as_str())).eq(expected));
 }
@@ -149,6 +152,32 @@ fn written_sheets_in_words() {
 }
 
 #[test]
+fn plain_rules_in_words() {
+    for fault in FAULTS {
+        let (given, needs) =
+            (Plain::Refused { fault, place: 13 }, PlainBytes::Refused { fault, place: 13 });
+        let words = format!("{fault}, at offset 13");
+        assert_eq!((given.to_string(), needs.to_string()), (words.clone(), words));
+        assert_eq!((given.number(), given.place()), (fault.number(), 13));
+        assert_eq!((needs.number(), needs.place(), needs.bytes()), (fault.number(), 13, 0));
+        assert_eq!(given.clashes(), None);
+    }
+    let said = [Plain::Clash, Plain::NoClash];
+    assert_eq!(said.map(Plain::clashes), [Some(true), Some(false)]);
+    assert_eq!(said.map(Plain::number), [0, 1]);
+    assert_eq!(said.map(|given| given.to_string()), ["clash", "no clash"]);
+    for refused in [Plain::NotPlain, Plain::BitsTooShort] {
+        assert_eq!((refused.place(), refused.clashes()), (0, None));
+    }
+    let needed = PlainBytes::Needed { bytes: 9 };
+    assert_eq!((needed.number(), needed.place(), needed.bytes()), (0, 0, 9));
+    assert_eq!(needed.to_string(), "done");
+    let (one, other) = (PlainBytes::NotPlain, Plain::NotPlain);
+    assert_eq!((one.number(), one.place(), one.bytes()), (other.number(), 0, 0));
+    assert_eq!(one.to_string(), other.to_string());
+}
+
+#[test]
 fn carrying_over_in_words() {
     for fault in FAULTS {
         let spelt = SpeltOpen::Refused { fault, place: 13 };
@@ -222,6 +251,7 @@ fn lengths_of_buffers() {
     defined("DECIDED_PAIR_BYTES", DECIDED_PAIR_BYTES);
     defined("SCRIPT_BYTES", SCRIPT_BYTES);
     defined("SHEET_BYTES", SHEET_BYTES);
+    defined("PLAIN_BYTES", PLAIN_BYTES);
     assert_eq!(catalogue_bytes(MOST_RULES), 26_016);
     assert_eq!([0, 1, 2, 3, MOST_RULES].map(list_bytes), [0, 0, 5, 15, 2_480]);
     assert_eq!([0, 1, 2, 3, MOST_RULES].map(decided_list_bytes), [0, 0, 7, 21, 3_472]);

@@ -24,6 +24,10 @@
 //!   `--spell-open-rule` writes where it begins with `RU`, and `--spell-open`
 //!   where not, into a buffer of the answer buffer's length
 //! - `second --write`: a stream of cases of the writer of sheets, a line for each
+//! - `second --plain`: a stream of cases, a line for each: what the engine for
+//!   plain rules says, with a bit buffer of the working buffer's length, and how
+//!   many bytes it needs
+//! - `second --plain --lines`: a stream of cases, what `plain` prints for each
 
 use std::io::{self, BufWriter, Read, Write};
 use std::process::ExitCode;
@@ -57,6 +61,8 @@ fn main() -> ExitCode {
         ["--decide", "--left"] => many(left),
         ["--decide", "--table"] => table(),
         ["--write"] => each(writer::Case::read, |case| case.line() + "\n"),
+        ["--plain"] => many(|case| case.plain_line() + "\n"),
+        ["--plain", "--lines"] => many(Case::plain_lines),
         ["--spelt"] => many(|case| case.spelt() + "\n"),
         ["--spell-open"] => return spelt(spell_open::sheet),
         ["--spell-open-rule"] => return spelt(spell_open::rule),
@@ -89,7 +95,7 @@ fn usage() -> ExitCode {
     eprintln!("       second --decide [--scan | --lines | --table | --left]");
     eprintln!("       second --scripts STREAM | second --script SHEET");
     eprintln!("       second --spell-open | second --spell-open-rule | second --spelt");
-    eprintln!("       second --write");
+    eprintln!("       second --write | second --plain [--lines]");
     ExitCode::from(2)
 }
 

@@ -5,6 +5,14 @@
 //!   from the seed
 //! - `sheets --write SEED NUMBER`: so many cases of the writer of sheets, made
 //!   from the seed
+//! - `sheets --plain SEED NUMBER`: so many cases of the engine for plain rules,
+//!   made from the seed; the working buffer is the bit buffer
+//! - `sheets --plain-pairs SEED NUMBER`: so many of the pairs of rules as
+//!   storerooms write them in which no field stands twice, each with just the bit
+//!   buffer that it needs
+//! - `sheets --growing`: 16 plain sheets that grow: 1 to 4 fields of 63 leaves a
+//!   side, and 0, 5, 10 or 20 characters
+//! - `sheets --growing N`: the sheet alone of the N-th of these
 //! - `sheets --long ROOM`: five whose search fills room for so many situations,
 //!   the last one with a pattern of 54 leaves
 //! - `sheets --long ROOM N`: the sheet alone of the N-th of these
@@ -20,7 +28,7 @@ use std::io::{self, Write};
 use std::process::ExitCode;
 
 use second::cases::Case;
-use second::make::{case, decided, long, pairs, spelt, written, Dice};
+use second::make::{case, decided, long, pairs, plainly, spelt, written, Dice};
 use second::{printed, storeroom, MOST_ROOM};
 
 fn main() -> ExitCode {
@@ -54,6 +62,16 @@ fn main() -> ExitCode {
             Some(cases) => cases,
             None => return usage(),
         },
+        ["--plain", seed, number] => match made(seed, number, plainly::case) {
+            Some(cases) => cases,
+            None => return usage(),
+        },
+        ["--plain-pairs", seed, number] => match made(seed, number, pairs::plain_case) {
+            Some(cases) => cases,
+            None => return usage(),
+        },
+        ["--growing"] => plainly::growing(),
+        ["--growing", number] => return put_one(&plainly::growing(), number),
         ["--decide", seed, number] => match made(seed, number, decided::case) {
             Some(cases) => cases,
             None => return usage(),
@@ -123,11 +141,10 @@ fn put(bytes: &[u8]) -> ExitCode {
 
 fn usage() -> ExitCode {
     eprintln!(
-        "usage: sheets [--spelt | --write] SEED NUMBER | sheets --long ROOM [N] | sheets --printed [N]"
+        "usage: sheets [--spelt | --write | --plain | --plain-pairs] SEED NUMBER | sheets --growing [N]"
     );
-    eprintln!(
-        "       sheets --pairs [SEED NUMBER [--twice] [--room ROOM]] | sheets --decide SEED NUMBER"
-    );
+    eprintln!("       sheets --long ROOM [N] | sheets --printed [N] | sheets --decide SEED NUMBER");
+    eprintln!("       sheets --pairs [SEED NUMBER [--twice] [--room ROOM]]");
     eprintln!("ROOM is at most 65535");
     ExitCode::from(2)
 }

@@ -9,8 +9,10 @@
 
 use super::Dice;
 use crate::cases::Case;
+use crate::catalogue::DONE;
 use crate::pattern::{Allowed, Pattern, Places};
-use crate::sheet::{read, Question, Token, FIELDS, PATTERN};
+use crate::plain::{plain_bytes, stands_twice};
+use crate::sheet::{read, PATTERN};
 use crate::storeroom::{by_first_letter, FINISHES};
 use crate::write::{self, choice, many, row, sheet, text, values};
 use crate::SITUATION_BYTES;
@@ -39,6 +41,18 @@ pub fn case(dice: &mut Dice, twice: bool, room: usize) -> Case {
     Case { work: (room * SITUATION_BYTES) as u32, answer: 4096, sheet }
 }
 
+/// The next pair in which no field stands twice, with just the bit buffer that it
+/// needs and no answer buffer.
+pub fn plain_case(dice: &mut Dice) -> Case {
+    loop {
+        let sheet = pair(dice);
+        let needs = plain_bytes(&sheet);
+        if needs.number == DONE {
+            return Case { work: needs.bytes as u32, answer: 0, sheet };
+        }
+    }
+}
+
 /// The next pair with a field that stands twice or more in the two sides
 /// together.
 pub(super) fn with_a_field_twice(dice: &mut Dice) -> Vec<u8> {
@@ -48,12 +62,6 @@ pub(super) fn with_a_field_twice(dice: &mut Dice) -> Vec<u8> {
             return sheet;
         }
     }
-}
-
-fn stands_twice(question: &Question) -> bool {
-    let tokens = || question.left.iter().chain(&question.right);
-    let times = |field: &Token| tokens().filter(|&token| token == field).count();
-    (0..FIELDS).any(|field| times(&Token::Field(field as u8)) > 1)
 }
 
 /// The sheet of a pair: the left rule's fields are 0 to 3, the right one's 4 to

@@ -1,0 +1,4 @@
+pub mod Entered
+pub mod ByRows
+pub mod Tokens
+pub mod Standings

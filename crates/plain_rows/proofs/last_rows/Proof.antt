@@ -1,0 +1,74 @@
+-- `last_rows` meets its contract. The loop's invariant: the fields below `f` have their rows (`Laid`). Assumes nothing.
+use Prim.Native.Nat.{_-_}
+use native.Mathlib.Omega.{arith}
+use mathlib.Core.Path.{_≡_, refl}
+use borrow.Author.Needs.{needs}
+use lib.ListN.{length}
+use Rattle.paper.specs.Numbers.{set-fields}
+use Rattle.plain_rows.specs.Fronts.{no-tables, one-place}
+use Rattle.search_tables.specs.Tables.{last-of}
+use Rattle.plain_rows.proofs.Rows.{Laid, laid-none, laid-long, laid-more, laid-all}
+use Rattle.plain_rows.proofs.last_rows.Statement.{statement}
+use Rattle.plain_rows.proofs.last_rows.Tie as tie
+
+abbrev Inv-loop : tie.InvT-loop
+Inv-loop fields rows₀ f₀ rows f = Laid last-of fields rows₀ rows f
+
+abbrev μ-loop : tie.MeasureT-loop
+μ-loop fields rows₀ f₀ rows f = set-fields - f
+
+array-write-rows : tie.Need-array-write-rows Inv-loop μ-loop
+array-write-rows c = search needs
+
+loop-holds : tie.Need-loop-holds Inv-loop μ-loop
+loop-holds c =
+    let all : length (c .args .t1) ≡ set-fields = search needs in
+    laid-none last-of (c .args .t1) _ all refl
+
+mul-tables : tie.Need-mul-tables Inv-loop μ-loop
+mul-tables c = search needs
+
+array-copy-out-tables : tie.Need-array-copy-out-tables Inv-loop μ-loop
+array-copy-out-tables c = search needs
+
+mul-rows : tie.Need-mul-rows Inv-loop μ-loop
+mul-rows c = search needs
+
+array-write-rows-2 : tie.Need-array-write-rows-2 Inv-loop μ-loop
+array-write-rows-2 c =
+    let l = c .before .before .loop in
+    omega (arith, laid-long last-of (c .before .before .before .args .t1) _ (l .rows) (l .f) (l .inv))
+
+add-f : tie.Need-add-f Inv-loop μ-loop
+add-f c = search needs
+
+loop-less : tie.Need-loop-less Inv-loop μ-loop
+loop-less c = search needs
+
+loop-again : tie.Need-loop-again Inv-loop μ-loop
+loop-again c =
+    let l = c .before .before .loop in
+    laid-more last-of (c .before .before .before .args .t1) _ (l .rows) (l .f) (l .inv) (omega arith)
+
+returns : tie.Need-returns Inv-loop μ-loop
+unfolding one-place no-tables
+returns c =
+    let l = c .before .loop in
+    laid-all last-of (c .before .before .args .t1) _ (l .rows) (l .f) (l .inv) (omega arith) refl
+
+pub last-rows-spec : {M : Type 1} → statement M
+last-rows-spec =
+    tie.close
+    (tie.spec
+    Inv-loop
+    μ-loop
+    array-write-rows
+    loop-holds
+    mul-tables
+    array-copy-out-tables
+    mul-rows
+    array-write-rows-2
+    add-f
+    loop-less
+    loop-again
+    returns)
