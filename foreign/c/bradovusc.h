@@ -9,23 +9,25 @@
  * A catalogue has up to 32 rules in one buffer. A rule is added only if it clashes with none that is there; it can be withdrawn. One
  * that was kept can be checked again, pair by pair. A pair is asked by one search, or by up to four, which enter more rules.
  * A sheet can be written out as a script for string solvers, in SMT-LIB 2.6.
+ * A text of Full ASCII, 128 characters, can be spelt in the 43 of Code 39, and read back.
  * Up to version 0.5 a field without a pattern could be empty. Since 0.6 it holds one character or more. Sheets, rules and catalogues
  * from before can be carried over: they then mean what they meant.
  * Up to version 0.6 a pattern had at most 96 bytes and 31 leaves. Since 0.7 it may have 192 bytes and 63 leaves, and a situation
  * takes 184 bytes where it took 144. What was good before is good and means the same.
  *
- * The static library libexported.a, for x86-64 Linux, defines fourteen functions: bradovusc_clash, bradovusc_decide, bradovusc_plain,
- * bradovusc_plain_bytes, bradovusc_write, bradovusc_script, bradovusc_add, bradovusc_add_decided, bradovusc_withdraw,
- * bradovusc_recheck, bradovusc_recheck_decided, bradovusc_spell_open, bradovusc_spell_open_rule and bradovusc_spell_open_catalogue.
- * They keep nothing from one call to the next, ask for no memory, and touch nothing but what they are lent, so calls in several
- * threads don't meet. bradovusc_add_decided takes at most about 125 KiB of stack, bradovusc_recheck_decided about 120,
- * bradovusc_decide about 105, bradovusc_spell_open_catalogue about 90, the others about 80; 120, 113, 100, 85 and 74 were measured. So
- * a thread with 96 KiB is enough for all but the first three, and one with 160 KiB for these. All else is in this header:
- * bradovusc_ask, bradovusc_settle, bradovusc_ask_plain, bradovusc_measure_plain, bradovusc_write_sheet, bradovusc_write_script,
- * bradovusc_enter, bradovusc_enter_decided, bradovusc_remove, bradovusc_check_again, bradovusc_check_again_decided,
- * bradovusc_carry_sheet, bradovusc_carry_rule and bradovusc_carry_catalogue call them with any buffers, bradovusc_text and
- * bradovusc_catalogue_text say a number in words, bradovusc_next walks the texts of a clash, bradovusc_next_pair the pairs that were
- * listed, bradovusc_sign and bradovusc_value go between values and signs.
+ * The static library libexported.a, for x86-64 Linux, defines sixteen functions: bradovusc_clash, bradovusc_decide, bradovusc_plain,
+ * bradovusc_plain_bytes, bradovusc_write, bradovusc_spell, bradovusc_read_spelt, bradovusc_script, bradovusc_add,
+ * bradovusc_add_decided, bradovusc_withdraw, bradovusc_recheck, bradovusc_recheck_decided, bradovusc_spell_open,
+ * bradovusc_spell_open_rule and bradovusc_spell_open_catalogue. They keep nothing from one call to the next, ask for no memory, and
+ * touch nothing but what they are lent, so calls in several threads don't meet. bradovusc_add_decided takes at most about 125 KiB of
+ * stack, bradovusc_recheck_decided about 120, bradovusc_decide about 105, bradovusc_spell_open_catalogue about 90, the others about
+ * 80; 120, 113, 100, 85 and 74 were measured. So a thread with 96 KiB is enough for all but the first three, and one with 160 KiB
+ * for these. All else is in this header: bradovusc_ask, bradovusc_settle, bradovusc_ask_plain, bradovusc_measure_plain,
+ * bradovusc_write_sheet, bradovusc_spell_text, bradovusc_read_back, bradovusc_write_script, bradovusc_enter,
+ * bradovusc_enter_decided, bradovusc_remove, bradovusc_check_again, bradovusc_check_again_decided, bradovusc_carry_sheet,
+ * bradovusc_carry_rule and bradovusc_carry_catalogue call them with any buffers, bradovusc_text and bradovusc_catalogue_text say a
+ * number in words, bradovusc_next walks the texts of a clash, bradovusc_next_pair the pairs that were listed, bradovusc_sign and
+ * bradovusc_value go between values and signs.
  *
  * The header is C99 and C++11. The rules in full: docs/RULES.md.
  */
@@ -62,6 +64,8 @@ extern "C" {
  * Of a script, 0 is success, 11 to 17 say what is wrong with the sheet, and 40 that the script doesn't fit.
  *
  * Of carrying over, 0 is success, 11 to 17 say what is wrong with the sheet or the rule, 31, 32, 34 and 41 why it can't be done.
+ *
+ * Of spelling and of reading back, 0 is success, 45 says that the table doesn't give it, and 46 that it doesn't fit.
  */
 enum bradovusc_number {
     /* The rules clash. The answer buffer says what each field holds on a label that both can make; one of the two may have spaces
@@ -94,7 +98,8 @@ enum bradovusc_number {
     BRADOVUSC_ANSWER_TOO_SHORT = 20,
 
     /* Of a catalogue's call: the rule was added, or withdrawn, or the pairs are listed. Of a sheet or a script: it is written. Of
-     * carrying over: the sheet, the rule or the catalogue is carried over. Of the bytes that a sheet needs: they are told. */
+     * carrying over: the sheet, the rule or the catalogue is carried over. Of the bytes that a sheet needs: they are told. Of a text:
+     * it is spelt, or read back. */
     BRADOVUSC_DONE = 0,
     /* The new rule clashes with one that is there, or that is not decided. That rule and the answer of the pair are told. */
     BRADOVUSC_NOT_APART = 30,
@@ -118,7 +123,12 @@ enum bradovusc_number {
     /* A field stands more than once in the two sides together: the rules are not plain. Ask by bradovusc_clash or bradovusc_decide. */
     BRADOVUSC_NOT_PLAIN = 42,
     /* The bit buffer is too short for the pairs of standings. Lend a longer one; BRADOVUSC_PLAIN_BYTES are always enough. */
-    BRADOVUSC_BITS_TOO_SHORT = 43
+    BRADOVUSC_BITS_TOO_SHORT = 43,
+
+    /* A byte that is to be spelt is above 127, or a spelt text is none that the table of Full ASCII gives. */
+    BRADOVUSC_NOT_IN_TABLE = 45,
+    /* The output buffer is too short for the spelling, or for the text that is read back. Not a byte of it is written. */
+    BRADOVUSC_SPELT_TOO_SHORT = 46
 };
 
 /* The number in words, 0 as the answer of a sheet or a pair. Never null. */
@@ -168,13 +178,17 @@ static inline const char *bradovusc_text(uint32_t number) {
         return "a field stands more than once";
     case BRADOVUSC_BITS_TOO_SHORT:
         return "the bit buffer is too short";
+    case BRADOVUSC_NOT_IN_TABLE:
+        return "not in the table of Full ASCII";
+    case BRADOVUSC_SPELT_TOO_SHORT:
+        return "the output buffer is too short for the text";
     default:
         return "no number of an answer";
     }
 }
 
-/* The same for what a catalogue's call returned, or that of a sheet or a script that is written, or carrying over, or the bytes that a
- * sheet needs: 0 is "done". */
+/* The same for what a catalogue's call returned, or that of a sheet or a script that is written, of carrying over, of the bytes that a
+ * sheet needs, or of a text that is spelt or read back: 0 is "done". */
 static inline const char *bradovusc_catalogue_text(uint32_t number) {
     return number == BRADOVUSC_DONE ? "done" : bradovusc_text(number);
 }
@@ -964,6 +978,66 @@ static inline struct bradovusc_carried bradovusc_carry_rule(const uint8_t *rule,
 static inline uint32_t bradovusc_carry_catalogue(uint8_t *catalogue, size_t catalogue_length) {
     uint8_t no_catalogue = 0;
     return bradovusc_spell_open_catalogue(catalogue == NULL && catalogue_length == 0 ? &no_catalogue : catalogue, catalogue_length);
+}
+
+/*
+ * Full ASCII: the 128 characters 0 to 127, each spelt as one or two values of Code 39 by the table of ISO/IEC 16388. The signs $, /, + and
+ * % are shift signs, and stand before a second value; so the character $ is spelt /D. Of the spellings of DEL only %T is used.
+ *
+ * It is proved that no two different texts are spelt alike, that reading back what was spelt gives the text, and that what is read back,
+ * spelt again, gives the same values. So many bytes are always enough for the spelling of a text, which is proved too; to read back, as
+ * many as the spelt text has.
+ */
+#define BRADOVUSC_SPELT_BYTES(characters) (2 * (size_t)(characters))
+
+/*
+ * Spells a text, a byte for each character, in values of Code 39, a byte for each value. What is told has the indices of bradovusc_told:
+ * count and place are 0, and written are the values. Afterwards
+ *
+ *   number            output buffer
+ *   0                 the values, the rest unchanged
+ *   45                unchanged: a byte of the text is above 127
+ *   46                unchanged: there are more values
+ *
+ * 45 comes before 46. Any bytes and any lengths are taken, 0 included. Each pointer must be that of so many elements, and not null, also
+ * where the length is 0; the three must not overlap.
+ */
+uint32_t bradovusc_spell(const uint8_t *text, size_t text_length, uint8_t *out, size_t out_length, uint64_t *told,
+                         size_t told_length);
+
+/*
+ * Reads a spelt text back, from the front: a value alone, or a shift sign and the value behind it. Told alike; 45 says that the values are
+ * no spelt text: one is above 42, a shift sign is the last, or has a value behind it that it doesn't take, as in %X.
+ */
+uint32_t bradovusc_read_spelt(const uint8_t *spelt, size_t spelt_length, uint8_t *out, size_t out_length, uint64_t *told,
+                              size_t told_length);
+
+/* What spelling and reading back answer: the number, and the bytes written. */
+struct bradovusc_spelt {
+    uint32_t number;
+    uint64_t written;
+};
+
+/* bradovusc_spell with both numbers at once; each pointer may be null where its length is 0. This is the one to call. */
+static inline struct bradovusc_spelt bradovusc_spell_text(const uint8_t *text, size_t text_length, uint8_t *out, size_t out_length) {
+    uint8_t no_text = 0, no_out = 0;
+    uint64_t told[BRADOVUSC_TOLD] = {0, 0, 0};
+    struct bradovusc_spelt spelt;
+    spelt.number = bradovusc_spell(text == NULL && text_length == 0 ? &no_text : text, text_length,
+                                   out == NULL && out_length == 0 ? &no_out : out, out_length, told, BRADOVUSC_TOLD);
+    spelt.written = told[BRADOVUSC_WRITTEN];
+    return spelt;
+}
+
+/* bradovusc_read_spelt likewise. This is the one to call. */
+static inline struct bradovusc_spelt bradovusc_read_back(const uint8_t *spelt, size_t spelt_length, uint8_t *out, size_t out_length) {
+    uint8_t no_spelt = 0, no_out = 0;
+    uint64_t told[BRADOVUSC_TOLD] = {0, 0, 0};
+    struct bradovusc_spelt read;
+    read.number = bradovusc_read_spelt(spelt == NULL && spelt_length == 0 ? &no_spelt : spelt, spelt_length,
+                                       out == NULL && out_length == 0 ? &no_out : out, out_length, told, BRADOVUSC_TOLD);
+    read.written = told[BRADOVUSC_WRITTEN];
+    return read;
 }
 
 #ifdef __cplusplus

@@ -23,6 +23,8 @@
 #define bradovusc_spell_open watched_spell_open
 #define bradovusc_spell_open_rule watched_spell_open_rule
 #define bradovusc_spell_open_catalogue watched_spell_open_catalogue
+#define bradovusc_spell watched_spell
+#define bradovusc_read_spelt watched_read_spelt
 #include "bradovusc.h"
 #undef bradovusc_clash
 #undef bradovusc_decide
@@ -38,6 +40,8 @@
 #undef bradovusc_spell_open
 #undef bradovusc_spell_open_rule
 #undef bradovusc_spell_open_catalogue
+#undef bradovusc_spell
+#undef bradovusc_read_spelt
 
 #ifdef __cplusplus
 extern "C" {
@@ -68,6 +72,10 @@ uint32_t bradovusc_spell_open(const uint8_t *sheet, size_t sheet_length, uint8_t
 uint32_t bradovusc_spell_open_rule(const uint8_t *rule, size_t rule_length, uint8_t *out, size_t out_length, uint64_t *told,
                                    size_t told_length);
 uint32_t bradovusc_spell_open_catalogue(uint8_t *catalogue, size_t catalogue_length);
+uint32_t bradovusc_spell(const uint8_t *text, size_t text_length, uint8_t *out, size_t out_length, uint64_t *told,
+                         size_t told_length);
+uint32_t bradovusc_read_spelt(const uint8_t *spelt, size_t spelt_length, uint8_t *out, size_t out_length, uint64_t *told,
+                              size_t told_length);
 #ifdef __cplusplus
 }
 #endif
@@ -197,6 +205,22 @@ uint32_t watched_spell_open_catalogue(uint8_t *catalogue, size_t catalogue_lengt
     return bradovusc_spell_open_catalogue(catalogue, catalogue_length);
 }
 
+uint32_t watched_spell(const uint8_t *text, size_t text_length, uint8_t *out, size_t out_length, uint64_t *told,
+                       size_t told_length) {
+    check(text != NULL, "the text's pointer is not null", (long)text_length);
+    check(out != NULL, "the output buffer's pointer is not null", (long)out_length);
+    check(told != NULL, "the pointer of what is told is not null", (long)told_length);
+    return bradovusc_spell(text, text_length, out, out_length, told, told_length);
+}
+
+uint32_t watched_read_spelt(const uint8_t *spelt, size_t spelt_length, uint8_t *out, size_t out_length, uint64_t *told,
+                            size_t told_length) {
+    check(spelt != NULL, "the spelt text's pointer is not null", (long)spelt_length);
+    check(out != NULL, "the output buffer's pointer is not null", (long)out_length);
+    check(told != NULL, "the pointer of what is told is not null", (long)told_length);
+    return bradovusc_read_spelt(spelt, spelt_length, out, out_length, told, told_length);
+}
+
 /* ---- the texts of the numbers */
 
 static const struct {
@@ -225,6 +249,8 @@ static const struct {
     {41, "the output buffer is too short for the sheet or the rule"},
     {42, "a field stands more than once"},
     {43, "the bit buffer is too short"},
+    {45, "not in the table of Full ASCII"},
+    {46, "the output buffer is too short for the text"},
 };
 
 static void try_texts(void) {
@@ -240,7 +266,7 @@ static void try_texts(void) {
         expected = number == 0 ? "done" : expected;
         check(strcmp(bradovusc_catalogue_text(number), expected) == 0, "the text of a catalogue's number", (long)number);
     }
-    check(next == 22, "22 numbers have a text", (long)next);
+    check(next == 24, "24 numbers have a text", (long)next);
     check(strcmp(bradovusc_text(UINT32_MAX), none) == 0, "the greatest number has no text", -1);
 }
 
@@ -1226,6 +1252,62 @@ static void try_carry_many(void) {
     }
 }
 
+/* ---- texts that are spelt and read back */
+
+static int is_spelt(struct bradovusc_spelt spelt, uint32_t number, uint64_t written) {
+    return spelt.number == number && spelt.written == written;
+}
+
+/* a1$ and DEL: +A 1 /D %T */
+static const uint8_t text[] = {'a', '1', '$', 127}, spelling[] = {41, 10, 1, 40, 13, 42, 29};
+
+static void try_spell(void) {
+    static const uint8_t above[] = {'a', 128};
+    uint8_t to[9];
+    memset(to, 7, sizeof to);
+    check(is_spelt(bradovusc_spell_text(text, 4, NULL, 0), 46, 0), "no output buffer", 46);
+    check(is_spelt(bradovusc_spell_text(text, 4, to, 6), 46, 0), "a byte too few", 46);
+    check(is_spelt(bradovusc_spell_text(above, 2, NULL, 0), 45, 0), "45 is before 46", 45);
+    check(is_spelt(bradovusc_spell_text(above, 2, to, sizeof to), 45, 0), "a byte above 127", 45);
+    check(to[0] == 7 && to[5] == 7 && to[8] == 7, "no byte changed", 46);
+    check(is_spelt(bradovusc_spell_text(NULL, 0, NULL, 0), 0, 0), "nothing at all", 0);
+    check(is_spelt(bradovusc_spell_text(text, 4, to, 7), 0, 7), "just enough", 7);
+    check(memcmp(to, spelling, 7) == 0 && to[7] == 7, "the values, and no more", 7);
+    check(BRADOVUSC_SPELT_BYTES(sizeof text) == 8, "always enough", 8);
+}
+
+static void try_read_back(void) {
+    static const uint8_t lone[] = {10, 42}, not_taken[] = {42, 33}, above[] = {43};
+    uint8_t to[5];
+    memset(to, 7, sizeof to);
+    check(is_spelt(bradovusc_read_back(spelling, 7, NULL, 0), 46, 0), "no output buffer", 46);
+    check(is_spelt(bradovusc_read_back(spelling, 7, to, 3), 46, 0), "a byte too few", 46);
+    check(is_spelt(bradovusc_read_back(lone, 2, NULL, 0), 45, 0), "45 is before 46", 45);
+    check(is_spelt(bradovusc_read_back(lone, 2, to, sizeof to), 45, 0), "a lone shift sign", 45);
+    check(is_spelt(bradovusc_read_back(not_taken, 2, to, sizeof to), 45, 0), "%X", 45);
+    check(is_spelt(bradovusc_read_back(above, 1, to, sizeof to), 45, 0), "a value above 42", 45);
+    check(to[0] == 7 && to[2] == 7 && to[4] == 7, "no byte changed", 46);
+    check(is_spelt(bradovusc_read_back(NULL, 0, NULL, 0), 0, 0), "nothing at all", 0);
+    check(is_spelt(bradovusc_read_back(spelling, 7, to, 4), 0, 4), "just enough", 4);
+    check(memcmp(to, text, 4) == 0 && to[4] == 7, "the characters, and no more", 4);
+}
+
+/* told in so many elements */
+static void try_spelt_told(void) {
+    size_t told_length, i;
+    for (told_length = 0; told_length <= 4; told_length++) {
+        uint64_t told[] = {7, 7, 7, 7}, told_back[] = {7, 7, 7, 7};
+        const uint64_t expected[] = {0, 0, 7, 7}, expected_back[] = {0, 0, 4, 7};
+        uint8_t to[8];
+        check(bradovusc_spell(text, 4, to, sizeof to, told, told_length) == 0, "spelt", (long)told_length);
+        check(bradovusc_read_spelt(spelling, 7, to, sizeof to, told_back, told_length) == 0, "read back", (long)told_length);
+        for (i = 0; i < 4; i++) {
+            check(told[i] == (i < told_length ? expected[i] : 7), "an element of what is told", (long)i);
+            check(told_back[i] == (i < told_length ? expected_back[i] : 7), "an element of what is told", (long)i);
+        }
+    }
+}
+
 int main(void) {
     char version[64];
     snprintf(version, sizeof version, "%d.%d.%d", BRADOVUSC_VERSION_MAJOR, BRADOVUSC_VERSION_MINOR, BRADOVUSC_VERSION_PATCH);
@@ -1272,6 +1354,9 @@ int main(void) {
     try_carry_sheet();
     try_carry_rule();
     try_carried_told();
+    try_spell();
+    try_read_back();
+    try_spelt_told();
     try_carry_catalogue();
     try_carry_many();
     printf("%u checks, %u failed\n", checks, failed);

@@ -27,6 +27,9 @@
 //!
 //! `writer::write` writes the sheet of two sides and patterns by field.
 //!
+//! `full_ascii::into` spells a text of Full ASCII in Code 39 values, and reads it
+//! back.
+//!
 //! `smt` reads scripts for other solvers and compares them with their sheets.
 //!
 //! Sentences in quotation marks in the comments are those of the text in which
@@ -38,6 +41,7 @@ pub mod cases;
 pub mod catalogue;
 pub mod decide;
 pub mod fault;
+pub mod full_ascii;
 pub mod make;
 pub mod pattern;
 pub mod plain;

@@ -4,8 +4,9 @@
 //! rules to carry over, `damages` the faults of them all. `pairs` makes pairs of
 //! rules as storerooms write them, `decided` cases to decide, `written` what is
 //! handed to the writer of sheets, `plainly` sheets for the engine for plain
-//! rules.
+//! rules, `ascii` texts to be spelt and read back.
 
+pub mod ascii;
 pub mod calls;
 mod damages;
 pub mod decided;

@@ -121,6 +121,10 @@ pub const SHEET_TOO_SHORT: usize = 41;
 pub const STANDS_TWICE: usize = 42;
 // "43 if the bits don't fit"
 pub const BITS_TOO_FEW: usize = 43;
+// K10: "45 for a byte above 127 to be spelt, or a spelt text the table doesn't give"
+pub const NOT_IN_TABLE: usize = 45;
+// "46, after it, for a short buffer"
+pub const SPELT_TOO_SHORT: usize = 46;
 
 // An answer in document 01's numbers.
 pub struct Numbers {

@@ -8,6 +8,7 @@ ghost use Rattle.paper_script.specs.Scripting.{scripting};
 ghost use Rattle.paper_carry.specs.Spelling.{spelling, rule-spelling, carrying-over};
 ghost use Rattle.paper_write.specs.Writing.{writing};
 ghost use Rattle.paper_plain.specs.Engine.{engine, needs};
+ghost use Rattle.paper_spell.specs.Spell.{spelling-text, reading-spelt};
 ghost use Rattle.paper_decide.specs.Deciding.{decision};
 ghost use Rattle.c_clash.specs.Asking.{telling};
 ghost use Rattle.c_decide.specs.Decided.{telling-decided};
@@ -15,6 +16,7 @@ ghost use Rattle.c_carry.specs.Carried.{telling-spelt};
 ghost use Rattle.c_write.specs.WrittenNumbers.{telling-written};
 ghost use Rattle.c_plain.specs.EngineTelling.{telling-plain, telling-needs};
 ghost use Rattle.write_sheet.specs.SheetWritten.{given};
+ghost use Rattle.c_spell.specs.SpellNumbers.{telling-spell};
 ghost use Rattle.c_script.specs.Scripted.{telling-scripted};
 ghost use Rattle.c_catalogue.specs.Catalogued.{telling-added, telling-rechecked};
 ghost use Rattle.c_catalogue_decide.specs.CatalogueDecided.{telling-added-by};
@@ -210,4 +212,25 @@ pub extern "C" fn bradovusc_plain_bytes(sheet: &[u8], told: &mut [u64]) -> u32
     ensures told { λ _. ⌜ now (told .exit) ≡ telling-needs (now (told .entry)) (needs (now (sheet .entry))) ⌝ }
 {
     c_plain::bytes(sheet, told)
+}
+
+// Spells a text of Full ASCII in values of Code 39. Returns request K10's number; count and place (which are 0) and written length go into the first
+// three elements of `told`, as many as there is room for.
+#[no_mangle]
+pub extern "C" fn bradovusc_spell(text: &[u8], out: &mut [u8], told: &mut [u64]) -> u32
+    ensures number { λ r. ⌜ r ≡ spelling-text (now (text .entry)) (now (out .entry)) .number ⌝ }
+    ensures told { λ _. ⌜ now (told .exit) ≡ telling-spell (now (told .entry)) (spelling-text (now (text .entry)) (now (out .entry))) ⌝ }
+    ensures out { λ _. ⌜ now (out .exit) ≡ spelling-text (now (text .entry)) (now (out .entry)) .out ⌝ }
+{
+    c_spell::text(text, out, told)
+}
+
+// Reads a spelt text back, told alike.
+#[no_mangle]
+pub extern "C" fn bradovusc_read_spelt(spelt: &[u8], out: &mut [u8], told: &mut [u64]) -> u32
+    ensures number { λ r. ⌜ r ≡ reading-spelt (now (spelt .entry)) (now (out .entry)) .number ⌝ }
+    ensures told { λ _. ⌜ now (told .exit) ≡ telling-spell (now (told .entry)) (reading-spelt (now (spelt .entry)) (now (out .entry))) ⌝ }
+    ensures out { λ _. ⌜ now (out .exit) ≡ reading-spelt (now (spelt .entry)) (now (out .entry)) .out ⌝ }
+{
+    c_spell::spelt(spelt, out, told)
 }

@@ -1,9 +1,9 @@
 // `test_sheets`: tries the library on many sheets. Standard input is a sequence of parts: a mark, the number of the cases, and so many cases. The
 // mark says what is done with each case and what is printed of it (part.rt); a case is a sheet and the lengths of its buffers, or what the writer
-// of sheets is handed. The program ends where the input does, and also before a part or a case that is cut short, has another mark or asks for
-// more than is lent here. A read or a write that fails is told on standard error.
+// of sheets is handed, or a text to be spelt or read back. The program ends where the input does, and also before a part or a case that is cut
+// short, has another mark or asks for more than is lent here. A read or a write that fails is told on standard error.
 //
-// The stored parts are these nine; tools/part frames a part. The second program prints the same lines, but for those of the scripts, which it
+// The stored parts are these ten; tools/part frames a part. The second program prints the same lines, but for those of the scripts, which it
 // reads. tools/compare tries fresh parts.
 //
 // 1. `BY`: the known sheets of document 01
@@ -105,6 +105,13 @@
 // What the second program's `sheets --plain 9 1500` makes: sheets in which no field stands twice, with patterns of no leaf to 63, some up to
 // the largest of all, ends at which spaces decide, pairs of rules; sheets in which a field stands twice; refused ones; and bit buffers of just
 // the right length, of every length around it, and of none. `second --plain` prints the same.
+//
+// 10. `FA`: texts of Full ASCII spelt and read back
+//
+// What the second program's `sheets --ascii` makes: each of the 256 bytes alone, and all characters in one text; every pair of the values 0 to 44
+// and 255, read back; each value alone, behind a letter and behind two letters, so that a shift sign stands at the end; and output buffers of every
+// length around the right one. `second --ascii` prints the same.
+mod ascii;
 mod part;
 mod plain;
 mod script;
@@ -181,6 +188,7 @@ fn answer_one(sheet: &mut [u8], work: &mut [u8], answer: &mut [u8], kind: Kind) 
     match kind {
         Kind::Sheets(shown) => answer_sheet(sheet, work, answer, shown),
         Kind::Written => written::show_written(),
+        Kind::Ascii => ascii::show_ascii(),
     }
 }
 

@@ -10,6 +10,8 @@ pub enum Kind {
     Sheets(Shown),
     // `WR`: what the writer of sheets is handed (written.rt). A line: number, count, place and written length, and every byte of the output buffer
     Written,
+    // `FA`: texts to be spelt and spelt texts to be read back (ascii.rt). A line as of `WR`
+    Ascii,
 }
 
 // What is done with a sheet, and what is printed of it.
@@ -54,6 +56,8 @@ const PLAIN: usize = b'P' as usize + 256 * (b'L' as usize);
 
 const WRITTEN: usize = b'W' as usize + 256 * (b'R' as usize);
 
+const ASCII: usize = b'F' as usize + 256 * (b'A' as usize);
+
 // Reads the head of the next part.
 pub fn next() -> Part {
     let mut head = [0u8; HEAD];
@@ -74,6 +78,7 @@ fn part_of(mark: usize, number: usize) -> Part {
         SPELT => cases(How::Going, Kind::Sheets(Shown::Spelt), number),
         PLAIN => cases(How::Going, Kind::Sheets(Shown::Plain), number),
         WRITTEN => cases(How::Going, Kind::Written, number),
+        ASCII => cases(How::Going, Kind::Ascii, number),
         _ => cases(How::Stopped, Kind::Written, 0),
     }
 }

@@ -138,7 +138,7 @@ fn read_length(how: How) -> Number {
 }
 
 // The number of the bytes, and so many.
-fn read_bytes(how: How, bytes: &mut [u8]) -> Number
+pub fn read_bytes(how: How, bytes: &mut [u8]) -> Number
     ensures { λ r. ⌜ r .number ≤ length (now (bytes .entry)) ⌝ }
 {
     let first = read_number(how, 2, bytes.len());

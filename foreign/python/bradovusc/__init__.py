@@ -50,6 +50,7 @@ from ._answers import (
     NoRule,
     NotAnswered,
     NotApart,
+    NotInTable,
     NotPlain,
     NotWritten,
     OutputTooShort,
@@ -63,7 +64,9 @@ from ._answers import (
     ScriptTooShort,
     SheetWritten,
     SideTooLong,
+    Spelt,
     SpeltOpen,
+    SpeltTooShort,
     Text,
     Told,
     Withdrawn,
@@ -106,6 +109,7 @@ from ._sheets import (
     work_bytes,
 )
 from ._signs import CHARACTERS, SIGNS, SPACE, sign, signs, value, values
+from ._spelling import read_spelt, spell, spelt_bytes
 from ._written import sheet, write
 
 __version__ = VERSION
@@ -142,6 +146,7 @@ __all__ = [
     "NoRule",
     "NotAnswered",
     "NotApart",
+    "NotInTable",
     "NotPlain",
     "NotWritten",
     "OutputTooShort",
@@ -165,7 +170,9 @@ __all__ = [
     "Scripted",
     "SheetWritten",
     "SideTooLong",
+    "Spelt",
     "SpeltOpen",
+    "SpeltTooShort",
     "Text",
     "Told",
     "VERSION",
@@ -185,6 +192,7 @@ __all__ = [
     "many",
     "plain",
     "plain_bytes",
+    "read_spelt",
     "recheck",
     "recheck_decided",
     "row",
@@ -193,9 +201,11 @@ __all__ = [
     "sheet",
     "sign",
     "signs",
+    "spell",
     "spell_open",
     "spell_open_catalogue",
     "spell_open_rule",
+    "spelt_bytes",
     "texts",
     "value",
     "values",

@@ -256,7 +256,8 @@ PlainBytes = Union[Needed, Refused, NotPlain]
 
 @dataclass(frozen=True)
 class Written(Told):
-    """0: the sheet, the script, the new sheet or the new rule is written. It stands in the front of the output buffer, too."""
+    """0: the sheet, the script, the new sheet or the new rule is written, or the text is spelt or read back. It stands in the front of the
+    output buffer, too."""
 
     data: bytes
     number = 0
@@ -277,6 +278,22 @@ class OutputTooShort(Told):
 
     number = 41
     _words = "the output buffer is too short for the sheet or the rule"
+
+
+@dataclass(frozen=True)
+class NotInTable(Told):
+    """45: a byte that is to be spelt is above 127, or a spelt text is none that the table of Full ASCII gives."""
+
+    number = 45
+    _words = "not in the table of Full ASCII"
+
+
+@dataclass(frozen=True)
+class SpeltTooShort(Told):
+    """46: the output buffer is too short for the spelling, or for the text that is read back. Not a byte of it is written."""
+
+    number = 46
+    _words = "the output buffer is too short for the text"
 
 
 @dataclass(frozen=True)
@@ -428,6 +445,8 @@ Rechecked = Union[Listed, NoCatalogue, ListTooShort]
 RecheckedDecided = Union[ListedDecided, NoCatalogue, ListTooShort]
 #: The answer to a sheet or a rule that is to be carried over.
 SpeltOpen = Union[Written, Refused, ForeignField, OutputTooShort]
+#: The answer to a text that is to be spelt, or a spelt text that is to be read back.
+Spelt = Union[Written, NotInTable, SpeltTooShort]
 #: The answer to a catalogue that is to be carried over.
 CarriedOver = Union[Done, Full, NoCatalogue]
 

@@ -40,6 +40,8 @@ _FUNCTIONS = {
     "bradovusc_recheck": _READ + _LENT + _LENT + _TOLD,
     "bradovusc_add_decided": _LENT + _READ + _LENT + _TOLD,
     "bradovusc_recheck_decided": _READ + _LENT + _LENT + _TOLD,
+    "bradovusc_spell": _READ + _LENT + _TOLD,
+    "bradovusc_read_spelt": _READ + _LENT + _TOLD,
     "bradovusc_spell_open": _READ + _LENT + _TOLD,
     "bradovusc_spell_open_rule": _READ + _LENT + _TOLD,
     "bradovusc_spell_open_catalogue": _LENT,

@@ -179,6 +179,24 @@
 //! assert_eq!(clash(old, &mut work, &mut answer).clashes(), Some(false));
 //! assert_eq!(clash(&new[..bytes], &mut work, &mut answer).clashes(), Some(true));
 //! ```
+//!
+//! [`spell`] spells a text of Full ASCII in values of Code 39, and [`read_spelt`] reads it back.
+//!
+//! ```
+//! use bradovusc::{read_spelt, sign, spell, spelt_bytes, Spelt};
+//!
+//! let text = b"Box $5";
+//! let mut values = [0; spelt_bytes(6)];
+//! assert_eq!(spell(text, &mut values), Spelt::Written { bytes: 9 });
+//! let signs: String = values[..9].iter().filter_map(|&value| sign(value)).collect();
+//! assert_eq!(signs, "B+O+X /D5");
+//! let mut back = [0; 9];
+//! assert_eq!(read_spelt(&values[..9], &mut back), Spelt::Written { bytes: 6 });
+//! assert_eq!(&back[..6], text);
+//! // a byte above 127, and a shift sign with nothing behind it
+//! assert_eq!(spell(&[128], &mut values), Spelt::NotInTable);
+//! assert_eq!(read_spelt(&[42], &mut back), Spelt::NotInTable);
+//! ```
 
 mod carrying;
 mod catalogue;
@@ -186,6 +204,7 @@ mod catalogue_decided;
 mod deciding;
 mod plain;
 mod scripts;
+mod spelling;
 mod writing;
 
 pub use carrying::{
@@ -202,6 +221,7 @@ pub use catalogue_decided::{
 pub use deciding::{decide, Decision};
 pub use plain::{plain, plain_bytes, Plain, PlainBytes, PLAIN_BYTES};
 pub use scripts::{script, Scripted, SCRIPT_BYTES};
+pub use spelling::{read_spelt, spell, spelt_bytes, Spelt};
 pub use writing::{write, Written};
 
 use std::error::Error;

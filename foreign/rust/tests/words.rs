@@ -1,11 +1,11 @@
 //! Numbers in words, signs, texts of records cut short, the version: as the C header has them.
 
 use bradovusc::{
-    catalogue_bytes, decided_list_bytes, list_bytes, recheck, recheck_decided, sign, texts, value,
-    Added, AddedDecided, Answer, CarriedOver, DecidedPair, Fault, Pair, Plain, PlainBytes,
-    Rechecked, RecheckedDecided, Scripted, SpeltOpen, Text, Withdrawn, Written, DECIDED_PAIR_BYTES,
-    MOST_RULES, PAIR_BYTES, PLAIN_BYTES, RULE_BYTES, RULE_FIELDS, SCRIPT_BYTES, SHEET_BYTES, SIGNS,
-    VERSION,
+    catalogue_bytes, decided_list_bytes, list_bytes, recheck, recheck_decided, sign, spelt_bytes,
+    texts, value, Added, AddedDecided, Answer, CarriedOver, DecidedPair, Fault, Pair, Plain,
+    PlainBytes, Rechecked, RecheckedDecided, Scripted, Spelt, SpeltOpen, Text, Withdrawn, Written,
+    DECIDED_PAIR_BYTES, MOST_RULES, PAIR_BYTES, PLAIN_BYTES, RULE_BYTES, RULE_FIELDS, SCRIPT_BYTES,
+    SHEET_BYTES, SIGNS, VERSION,
 };
 
 const HEADER: &str = include_str!("../../c/bradovusc.h");
@@ -47,7 +47,7 @@ fn header_texts() -> Vec<(u32, &'static str)> {
 #[test]
 fn answers_in_words() {
     let expected = header_texts();
-    assert_eq!(expected.len(), 22);
+    assert_eq!(expected.len(), 24);
     let faults = FAULTS.map(|fault| (fault.number(), fault.to_string()));
     let others = OTHERS.map(|answer| (answer.number(), answer.to_string()));
     let added = [Added::ForeignField, Added::Full, Added::NoCatalogue]
@@ -57,10 +57,12 @@ fn answers_in_words() {
     let short = (Rechecked::ListTooShort.number(), Rechecked::ListTooShort.to_string());
     let no_script = (Scripted::TooShort.number(), Scripted::TooShort.to_string());
     let no_sheet = (SpeltOpen::TooShort.number(), SpeltOpen::TooShort.to_string());
+    let spelt = [Spelt::NotInTable, Spelt::TooShort];
+    let spelt = spelt.map(|spelt| (spelt.number(), spelt.to_string()));
     let further = [(NOT_APART.number(), not_apart), no_rule, short, no_script, no_sheet];
     let plain =
         [Plain::NotPlain, Plain::BitsTooShort].map(|plain| (plain.number(), plain.to_string()));
-    let mut ours = [&faults[..], &others, &added, &further, &plain].concat();
+    let mut ours = [&faults[..], &others, &added, &further, &plain, &spelt].concat();
     ours.sort();
     assert!(ours.iter().map(|(number, text)| (*number, text.as_str())).eq(expected));
 }
@@ -134,6 +136,15 @@ fn scripts_in_words() {
     assert_eq!((written.number(), written.place(), written.written()), (0, 0, 9));
     assert_eq!(written.to_string(), "done");
     assert_eq!((Scripted::TooShort.place(), Scripted::TooShort.written()), (0, 0));
+}
+
+#[test]
+fn spelt_texts_in_words() {
+    let written = Spelt::Written { bytes: 9 };
+    assert_eq!((written.number(), written.written(), written.to_string().as_str()), (0, 9, "done"));
+    assert_eq!((Spelt::NotInTable.written(), Spelt::TooShort.written()), (0, 0));
+    assert!(HEADER.contains("#define BRADOVUSC_SPELT_BYTES(characters) (2 * (size_t)(characters))"));
+    assert_eq!(spelt_bytes(7), 14);
 }
 
 #[test]

@@ -28,6 +28,8 @@
 //!   plain rules says, with a bit buffer of the working buffer's length, and how
 //!   many bytes it needs
 //! - `second --plain --lines`: a stream of cases, what `plain` prints for each
+//! - `second --ascii`: a stream of texts to be spelt and spelt texts to be read
+//!   back, a line for each
 
 use std::io::{self, BufWriter, Read, Write};
 use std::process::ExitCode;
@@ -38,7 +40,7 @@ use second::catalogue::{Searcher, HASHING, SCANNING};
 use second::decide::{self, SEARCHES};
 use second::fault::Fault;
 use second::smt::{compare, output, Told};
-use second::{sheet, shown, spell_open, writer};
+use second::{full_ascii, sheet, shown, spell_open, writer};
 use second::{ANSWER_BUFFER_TOO_SHORT, CLASH, NO_CLASH, NO_ROOM, SIDE_TOO_LONG};
 
 /// "the program's 65,520 hold 356; it reads 2,048 bytes of input", and lends
@@ -63,6 +65,7 @@ fn main() -> ExitCode {
         ["--write"] => each(writer::Case::read, |case| case.line() + "\n"),
         ["--plain"] => many(|case| case.plain_line() + "\n"),
         ["--plain", "--lines"] => many(Case::plain_lines),
+        ["--ascii"] => each(full_ascii::Case::read, |case| case.line() + "\n"),
         ["--spelt"] => many(|case| case.spelt() + "\n"),
         ["--spell-open"] => return spelt(spell_open::sheet),
         ["--spell-open-rule"] => return spelt(spell_open::rule),
@@ -95,7 +98,7 @@ fn usage() -> ExitCode {
     eprintln!("       second --decide [--scan | --lines | --table | --left]");
     eprintln!("       second --scripts STREAM | second --script SHEET");
     eprintln!("       second --spell-open | second --spell-open-rule | second --spelt");
-    eprintln!("       second --write | second --plain [--lines]");
+    eprintln!("       second --write | second --plain [--lines] | second --ascii");
     ExitCode::from(2)
 }
 

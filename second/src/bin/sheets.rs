@@ -13,6 +13,9 @@
 //! - `sheets --growing`: 16 plain sheets that grow: 1 to 4 fields of 63 leaves a
 //!   side, and 0, 5, 10 or 20 characters
 //! - `sheets --growing N`: the sheet alone of the N-th of these
+//! - `sheets --ascii`: texts to be spelt and spelt texts to be read back, those
+//!   that are stored
+//! - `sheets --ascii SEED NUMBER`: so many others, made from the seed
 //! - `sheets --long ROOM`: five whose search fills room for so many situations,
 //!   the last one with a pattern of 54 leaves
 //! - `sheets --long ROOM N`: the sheet alone of the N-th of these
@@ -28,7 +31,7 @@ use std::io::{self, Write};
 use std::process::ExitCode;
 
 use second::cases::Case;
-use second::make::{case, decided, long, pairs, plainly, spelt, written, Dice};
+use second::make::{ascii, case, decided, long, pairs, plainly, spelt, written, Dice};
 use second::{printed, storeroom, MOST_ROOM};
 
 fn main() -> ExitCode {
@@ -54,6 +57,13 @@ fn main() -> ExitCode {
         },
         ["--write", seed, number] => {
             return match made(seed, number, written::case) {
+                Some(cases) => put_all(&cases, |case, stream| case.write(stream)),
+                None => usage(),
+            };
+        }
+        ["--ascii"] => return put_all(&ascii::stored(), |case, stream| case.write(stream)),
+        ["--ascii", seed, number] => {
+            return match made(seed, number, ascii::made) {
                 Some(cases) => put_all(&cases, |case, stream| case.write(stream)),
                 None => usage(),
             };
@@ -145,6 +155,7 @@ fn usage() -> ExitCode {
     );
     eprintln!("       sheets --long ROOM [N] | sheets --printed [N] | sheets --decide SEED NUMBER");
     eprintln!("       sheets --pairs [SEED NUMBER [--twice] [--room ROOM]]");
+    eprintln!("       sheets --ascii [SEED NUMBER]");
     eprintln!("ROOM is at most 65535");
     ExitCode::from(2)
 }

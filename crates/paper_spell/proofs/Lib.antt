@@ -1,0 +1,4 @@
+pub mod KnownSpelt
+pub mod Promised
+pub mod Table
+pub mod Texts

@@ -1,0 +1,2 @@
+pub mod FullAscii
+pub mod Spell

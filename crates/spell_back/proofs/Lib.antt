@@ -1,0 +1,2 @@
+pub mod BackAnswered
+pub mod BackWalk

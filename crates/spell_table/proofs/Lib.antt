@@ -1,0 +1,2 @@
+pub mod CharacterPut
+pub mod Looking

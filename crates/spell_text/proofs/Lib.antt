@@ -1,0 +1,3 @@
+pub mod OneSpelling
+pub mod SpellAnswered
+pub mod SpeltWalk
