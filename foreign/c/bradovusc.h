@@ -4,8 +4,9 @@
  * A rule is fixed Code 39 characters with fields between them; a field may have a pattern. Two rules clash when one label can be
  * read by both. Spaces at the end of a label are dropped before it is read, so LT4 and LT4 with a space are the same label. The two
  * rules stand on a question sheet; the answer is a number, and after a clash a text for each field. One search answers it, or up to
- * four, which decide more. Where no field stands twice, a small engine says clash or no clash in at most 9,731 bytes. The sheet is
- * written from the two sides and the patterns; where one of them is wrong, its place is told.
+ * four, which decide more. The one search can write the way to its clash too, step by step, and any such way can be played again.
+ * Where no field stands twice, a small engine says clash or no clash in at most 9,731 bytes. The sheet is written from the two sides
+ * and the patterns; where one of them is wrong, its place is told.
  * A catalogue has up to 32 rules in one buffer. A rule is added only if it clashes with none that is there; it can be withdrawn. One
  * that was kept can be checked again, pair by pair. A pair is asked by one search, or by up to four, which enter more rules.
  * A sheet can be written out as a script for string solvers, in SMT-LIB 2.6.
@@ -15,19 +16,20 @@
  * Up to version 0.6 a pattern had at most 96 bytes and 31 leaves. Since 0.7 it may have 192 bytes and 63 leaves, and a situation
  * takes 184 bytes where it took 144. What was good before is good and means the same.
  *
- * The static library libexported.a, for x86-64 Linux, defines sixteen functions: bradovusc_clash, bradovusc_decide, bradovusc_plain,
- * bradovusc_plain_bytes, bradovusc_write, bradovusc_spell, bradovusc_read_spelt, bradovusc_script, bradovusc_add,
- * bradovusc_add_decided, bradovusc_withdraw, bradovusc_recheck, bradovusc_recheck_decided, bradovusc_spell_open,
+ * The static library libexported.a, for x86-64 Linux, defines eighteen functions: bradovusc_clash, bradovusc_decide, bradovusc_steps,
+ * bradovusc_play, bradovusc_plain, bradovusc_plain_bytes, bradovusc_write, bradovusc_spell, bradovusc_read_spelt, bradovusc_script,
+ * bradovusc_add, bradovusc_add_decided, bradovusc_withdraw, bradovusc_recheck, bradovusc_recheck_decided, bradovusc_spell_open,
  * bradovusc_spell_open_rule and bradovusc_spell_open_catalogue. They keep nothing from one call to the next, ask for no memory, and
  * touch nothing but what they are lent, so calls in several threads don't meet. bradovusc_add_decided takes at most about 125 KiB of
  * stack, bradovusc_recheck_decided about 120, bradovusc_decide about 105, bradovusc_spell_open_catalogue about 90, the others about
- * 80; 120, 113, 100, 85 and 74 were measured. So a thread with 96 KiB is enough for all but the first three, and one with 160 KiB
- * for these. All else is in this header: bradovusc_ask, bradovusc_settle, bradovusc_ask_plain, bradovusc_measure_plain,
- * bradovusc_write_sheet, bradovusc_spell_text, bradovusc_read_back, bradovusc_write_script, bradovusc_enter,
- * bradovusc_enter_decided, bradovusc_remove, bradovusc_check_again, bradovusc_check_again_decided, bradovusc_carry_sheet,
- * bradovusc_carry_rule and bradovusc_carry_catalogue call them with any buffers, bradovusc_text and bradovusc_catalogue_text say a
- * number in words, bradovusc_next walks the texts of a clash, bradovusc_next_pair the pairs that were listed, bradovusc_sign and
- * bradovusc_value go between values and signs.
+ * 80; 120, 113, 100, 85 and 74 were measured. So a thread with 96 KiB is enough for all but the first three, and one with 160 KiB for
+ * these. All else is in this header: bradovusc_ask, bradovusc_settle, bradovusc_find_steps, bradovusc_play_steps,
+ * bradovusc_ask_plain, bradovusc_measure_plain, bradovusc_write_sheet, bradovusc_spell_text, bradovusc_read_back,
+ * bradovusc_write_script, bradovusc_enter, bradovusc_enter_decided, bradovusc_remove, bradovusc_check_again,
+ * bradovusc_check_again_decided, bradovusc_carry_sheet, bradovusc_carry_rule and bradovusc_carry_catalogue call them with any
+ * buffers, bradovusc_text and bradovusc_catalogue_text say a number in words, bradovusc_next walks the texts of a clash,
+ * bradovusc_next_step the steps of its way, bradovusc_next_pair the pairs that were listed, bradovusc_sign and bradovusc_value go
+ * between values and signs.
  *
  * The header is C99 and C++11. The rules in full: docs/RULES.md.
  */
@@ -52,6 +54,9 @@ extern "C" {
  *
  * Of a sheet, 0 and 1 settle the question. So does 20: the rules clash, but the texts couldn't be written. 18 and 19 are
  * neither yes nor no. 11 to 17 say what is wrong with the sheet: the first fault met, whose byte is told as its place.
+ *
+ * Of a sheet whose way is written too, 51 settles the question as 20 does: the rules clash, but the steps couldn't be written. Of a way
+ * that is played, 0 and 20 say that the rules clash, 11 to 17 what is wrong with the sheet, and 47 to 50 and 19 why the way is none.
  *
  * Of the engine for plain rules, 0 and 1 settle the question, 11 to 17 say what is wrong with the sheet, 42 that a field stands more
  * than once, and 43 that the bits don't fit. Of the bytes that a sheet needs for it, 0 is success, and 11 to 17 and 42 are the same.
@@ -128,7 +133,18 @@ enum bradovusc_number {
     /* A byte that is to be spelt is above 127, or a spelt text is none that the table of Full ASCII gives. */
     BRADOVUSC_NOT_IN_TABLE = 45,
     /* The output buffer is too short for the spelling, or for the text that is read back. Not a byte of it is written. */
-    BRADOVUSC_SPELT_TOO_SHORT = 46
+    BRADOVUSC_SPELT_TOO_SHORT = 46,
+
+    /* Of a way that is played: a record is cut short, has another mark, a kind above 2 or a value that is no character. */
+    BRADOVUSC_WRONG_STEP = 47,
+    /* A step is not allowed where it stands, or stands behind the finish. */
+    BRADOVUSC_STEP_NOT_ALLOWED = 48,
+    /* The records end before the finish. */
+    BRADOVUSC_NOT_FINISHED = 49,
+    /* There are more than 65,534 records. */
+    BRADOVUSC_TOO_MANY_STEPS = 50,
+    /* The rules clash, but the steps buffer is too short for the way. Lend a longer one. The texts are not written either. */
+    BRADOVUSC_STEPS_TOO_SHORT = 51
 };
 
 /* The number in words, 0 as the answer of a sheet or a pair. Never null. */
@@ -182,6 +198,16 @@ static inline const char *bradovusc_text(uint32_t number) {
         return "not in the table of Full ASCII";
     case BRADOVUSC_SPELT_TOO_SHORT:
         return "the output buffer is too short for the text";
+    case BRADOVUSC_WRONG_STEP:
+        return "a wrong record of a step";
+    case BRADOVUSC_STEP_NOT_ALLOWED:
+        return "a step that is not allowed";
+    case BRADOVUSC_NOT_FINISHED:
+        return "the steps end before the finish";
+    case BRADOVUSC_TOO_MANY_STEPS:
+        return "too many steps";
+    case BRADOVUSC_STEPS_TOO_SHORT:
+        return "clash, but the steps buffer is too short for the way";
     default:
         return "no number of an answer";
     }
@@ -324,8 +350,8 @@ static inline int bradovusc_next(struct bradovusc_records *records) {
  * behind them are left as they are.
  */
 enum bradovusc_told {
-    /* situations entered; 0 after 11 to 17, of the engine for plain rules, of a sheet or a script that is written, and of what is
-     * carried over */
+    /* situations entered; 0 after 11 to 17, of a way that is played, of the engine for plain rules, of a sheet or a script that is
+     * written, and of what is carried over */
     BRADOVUSC_COUNT = 0,
     /* after 11 to 17 the offset of the byte at fault, as above; otherwise 0 */
     BRADOVUSC_PLACE = 1,
@@ -424,6 +450,168 @@ static inline struct bradovusc_decision bradovusc_settle(const uint8_t *sheet, s
     decided.written = told[BRADOVUSC_WRITTEN];
     decided.search = told[BRADOVUSC_DECIDED_SEARCH];
     return decided;
+}
+
+/*
+ * The steps on paper. A clash is found by steps: from the trimmed question on, each makes one child of a situation, up to the finished
+ * one. The steps buffer gets the way that was found, one record directly behind the other, the first step first:
+ *
+ *   ST  0           the left front, a field, was struck everywhere
+ *   ST  1           the right front, a field, was struck everywhere
+ *   ST  2  value    the character 0 to 42 was put before each front field, or is a front itself
+ *
+ * A way has a step less than the search has situations, or fewer: so many bytes are always enough, which is proved. In room for none
+ * there is no way. A row of such records from anywhere can be played, with at most so many records.
+ */
+#define BRADOVUSC_STEP_RECORD 4
+#define BRADOVUSC_MOST_STEPS 65534
+#define BRADOVUSC_STEPS_BYTES(situations) \
+    ((size_t)BRADOVUSC_STEP_RECORD * ((size_t)(situations) - ((size_t)(situations) > 0 ? (size_t)1 : (size_t)0)))
+
+/* The kinds of a step. */
+enum bradovusc_kind { BRADOVUSC_LEFT_STRUCK = 0, BRADOVUSC_RIGHT_STRUCK = 1, BRADOVUSC_CHARACTER = 2 };
+
+/*
+ * A walk over these records.
+ *
+ *   struct bradovusc_way way = bradovusc_way_in(steps, written);
+ *   while (bradovusc_next_step(&way)) {
+ *       .. way.kind, and for BRADOVUSC_CHARACTER way.value ..
+ *   }
+ */
+struct bradovusc_way {
+    /* the kind, and the value of a character, else 0: what the last bradovusc_next_step found */
+    unsigned kind, value;
+    /* what is still to be walked */
+    const uint8_t *rest;
+    size_t rest_length;
+};
+
+/* From the first step on. `written` is how many bytes of steps there are; with 0 the pointer may be null. */
+static inline struct bradovusc_way bradovusc_way_in(const uint8_t *steps, size_t written) {
+    struct bradovusc_way way;
+    way.kind = 0;
+    way.value = 0;
+    way.rest = steps;
+    way.rest_length = written;
+    return way;
+}
+
+/* 1 and the next step, or 0: none is left, or the bytes left do not begin with a record. No byte behind the `written` ones is read. */
+static inline int bradovusc_next_step(struct bradovusc_way *way) {
+    const uint8_t *record = way->rest;
+    size_t length = BRADOVUSC_STEP_RECORD - 1;
+    if (way->rest_length < length || record[0] != 'S' || record[1] != 'T' || record[2] > BRADOVUSC_CHARACTER) {
+        return 0;
+    }
+    if (record[2] == BRADOVUSC_CHARACTER) {
+        length = BRADOVUSC_STEP_RECORD;
+        if (way->rest_length < length || record[3] >= BRADOVUSC_CHARACTERS) {
+            return 0;
+        }
+    }
+    way->kind = record[2];
+    way->value = record[2] == BRADOVUSC_CHARACTER ? record[3] : 0u;
+    way->rest = record + length;
+    way->rest_length -= length;
+    return 1;
+}
+
+/* What bradovusc_steps tells has the indices of bradovusc_told, and one more. */
+enum bradovusc_told_steps {
+    /* bytes written to the steps buffer; 0 where the number is not */
+    BRADOVUSC_STEPS_WRITTEN = 3,
+    BRADOVUSC_STEPS_TOLD = 4
+};
+
+/*
+ * Answers the sheet as bradovusc_clash does, and writes the way of a clash. Afterwards
+ *
+ *   number            answer buffer                       steps buffer                      working buffer
+ *   0                 the records, the rest unchanged     the steps, the rest unchanged     all zero
+ *   1, 18 to 20       unchanged                           unchanged                         all zero
+ *   51                unchanged                           unchanged                         all zero
+ *   11 to 17          unchanged                           unchanged                         unchanged
+ *
+ * 20 comes before 51. With every number but 51 it tells what bradovusc_clash tells for the same sheet and buffers, and where it gives
+ * 51 that one gives 0.
+ *
+ * Any bytes and any lengths are taken, 0 included. Each pointer must be that of so many elements, and not null, also where the
+ * length is 0; the five must not overlap.
+ */
+uint32_t bradovusc_steps(const uint8_t *sheet, size_t sheet_length, uint8_t *work, size_t work_length, uint8_t *answer,
+                         size_t answer_length, uint8_t *steps, size_t steps_length, uint64_t *told, size_t told_length);
+
+/*
+ * Plays a way, from anywhere: makes each step as the search makes the children of a situation, and writes the texts at the end. It
+ * needs no working buffer; neither room nor what a search would have entered before counts. What is told has the indices of
+ * bradovusc_told: the count is 0, the place is that of a fault of the sheet, else 0, and written are the bytes of the texts. Afterwards
+ *
+ *   number            answer buffer
+ *   0                 the records, the rest unchanged
+ *   11 to 17          unchanged: the sheet is at fault
+ *   50                unchanged: a record is past the 65,534th
+ *   47                unchanged: a record is none
+ *   48                unchanged: a step is not allowed. A front that is struck is a field whose text may end there; the right one is
+ *                     not the same field as the left one. A character is taken by both fronts, and neither side is empty. The
+ *                     situation that comes of it is not dead. Nothing follows the finish
+ *   19                unchanged: a side grew above 48 tokens
+ *   49                unchanged: the records end before the finish, or there are none
+ *   20                unchanged: the texts don't fit
+ *
+ * The sheet's faults come first. Then, record by record, 50, 47, 48 and 19 are looked for in this order; then 49, then 20. It is proved
+ * that it gives 0 or 20 exactly if the records are a way to the finish, that the texts then solve the question, and that every way
+ * that bradovusc_steps writes is accepted and gives the same texts.
+ *
+ * Any bytes and any lengths are taken, 0 included. Each pointer must be that of so many elements, and not null, also where the
+ * length is 0; the four must not overlap.
+ */
+uint32_t bradovusc_play(const uint8_t *sheet, size_t sheet_length, const uint8_t *steps, size_t steps_length, uint8_t *answer,
+                        size_t answer_length, uint64_t *told, size_t told_length);
+
+/* The answer with its way: the number, and what is told beside it. */
+struct bradovusc_stepped {
+    uint32_t number;
+    uint64_t count, place, written, steps;
+};
+
+/* bradovusc_steps with all five numbers at once, and each pointer may be null where its length is 0. This is the one to call. */
+static inline struct bradovusc_stepped bradovusc_find_steps(const uint8_t *sheet, size_t sheet_length, uint8_t *work,
+                                                            size_t work_length, uint8_t *answer, size_t answer_length,
+                                                            uint8_t *steps, size_t steps_length) {
+    uint8_t no_sheet = 0, no_work = 0, no_answer = 0, no_steps = 0;
+    uint64_t told[BRADOVUSC_STEPS_TOLD] = {0, 0, 0, 0};
+    struct bradovusc_stepped stepped;
+    stepped.number = bradovusc_steps(sheet == NULL && sheet_length == 0 ? &no_sheet : sheet, sheet_length,
+                                     work == NULL && work_length == 0 ? &no_work : work, work_length,
+                                     answer == NULL && answer_length == 0 ? &no_answer : answer, answer_length,
+                                     steps == NULL && steps_length == 0 ? &no_steps : steps, steps_length, told,
+                                     BRADOVUSC_STEPS_TOLD);
+    stepped.count = told[BRADOVUSC_COUNT];
+    stepped.place = told[BRADOVUSC_PLACE];
+    stepped.written = told[BRADOVUSC_WRITTEN];
+    stepped.steps = told[BRADOVUSC_STEPS_WRITTEN];
+    return stepped;
+}
+
+/* What playing a way answers: the number, and what is told beside it. */
+struct bradovusc_played {
+    uint32_t number;
+    uint64_t place, written;
+};
+
+/* bradovusc_play with all three numbers at once, and each pointer may be null where its length is 0. This is the one to call. */
+static inline struct bradovusc_played bradovusc_play_steps(const uint8_t *sheet, size_t sheet_length, const uint8_t *steps,
+                                                           size_t steps_length, uint8_t *answer, size_t answer_length) {
+    uint8_t no_sheet = 0, no_steps = 0, no_answer = 0;
+    uint64_t told[BRADOVUSC_TOLD] = {0, 0, 0};
+    struct bradovusc_played played;
+    played.number = bradovusc_play(sheet == NULL && sheet_length == 0 ? &no_sheet : sheet, sheet_length,
+                                   steps == NULL && steps_length == 0 ? &no_steps : steps, steps_length,
+                                   answer == NULL && answer_length == 0 ? &no_answer : answer, answer_length, told, BRADOVUSC_TOLD);
+    played.place = told[BRADOVUSC_PLACE];
+    played.written = told[BRADOVUSC_WRITTEN];
+    return played;
 }
 
 /*

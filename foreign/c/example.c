@@ -1,5 +1,6 @@
 /*
- * Two rules: one makes labels of any digits, the other the label 4. Do they clash? Then the same as a script, for a string solver.
+ * Two rules: one makes labels of any digits, the other the label 4. Do they clash? Then the way to the clash, step by step, which is
+ * played again, and played with a wrong step. Then the same as a script, for a string solver.
  * Then the sheet with a wrong byte. Then a catalogue of rules is kept. Then one that was kept since a space at the end made another
  * label is checked again. Then a sheet and a catalogue are carried over, from the time when a field without a pattern could be empty.
  * Then a keypad maker's 40 finish codes stand in one pattern, of a sheet that the library writes; since no field stands twice in it, the
@@ -8,7 +9,8 @@
  * third.
  *
  * The first line of a sheet is number, count and place, and the number in words. After a clash follows a line for each field, its
- * number and its text, and after a fault a line with the byte at its place. The script has a line with its number before it. Then
+ * number and its text, and after a fault a line with the byte at its place. Of the way there is a line with its number and its bytes,
+ * and one for each step; then a line for each time that it is played. The script has a line with its number before it. Then
  * comes a line for each call of a catalogue, and one for each pair that is listed, then the lines of what is carried over. Of the
  * finish codes there is a line for each pattern, with its bytes, what writing its sheet answered, and the place of a fault; of a sheet
  * that was written a line with its length and its answer, the texts, and a line of the small engine: the bytes that it needs, its
@@ -84,6 +86,7 @@ static const uint8_t ends_in_0[] = {'R', 'U', 'P', 'A', 0, 6, 66, 68, 65, 0, 9, 
 
 static uint8_t work[BRADOVUSC_WORK_BYTES(356)];
 static uint8_t answer[BRADOVUSC_ANSWER_BYTES(356)];
+static uint8_t steps[BRADOVUSC_STEPS_BYTES(356)];
 static uint8_t bits[BRADOVUSC_PLAIN_BYTES];
 static uint8_t script[BRADOVUSC_SCRIPT_BYTES];
 static uint8_t catalogue[BRADOVUSC_CATALOGUE_BYTES(BRADOVUSC_RULES)]; /* all zero: no rule is there */
@@ -121,6 +124,30 @@ static void ask(void) {
     if (given.number >= BRADOVUSC_CUT_SHORT && given.number <= BRADOVUSC_WRONG_TOKEN) {
         print_fault(given.place);
     }
+}
+
+static void play(const char *what, size_t length) {
+    struct bradovusc_played played = bradovusc_play_steps(sheet, sizeof sheet, steps, length, answer, sizeof answer);
+    printf("%s: %" PRIu32 ", %s\n", what, played.number, bradovusc_text(played.number));
+    print_texts(played.written);
+}
+
+static void follow(void) {
+    struct bradovusc_stepped stepped =
+        bradovusc_find_steps(sheet, sizeof sheet, work, sizeof work, answer, sizeof answer, steps, sizeof steps);
+    struct bradovusc_way way = bradovusc_way_in(steps, (size_t)stepped.steps);
+    printf("the way: %" PRIu32 ", %s, %" PRIu64 " bytes\n", stepped.number, bradovusc_text(stepped.number), stepped.steps);
+    while (bradovusc_next_step(&way)) {
+        if (way.kind == BRADOVUSC_CHARACTER) {
+            printf("both read %c\n", bradovusc_sign(way.value));
+        } else {
+            printf("the %s front is struck\n", way.kind == BRADOVUSC_LEFT_STRUCK ? "left" : "right");
+        }
+    }
+    play("played", (size_t)stepped.steps);
+    play("without the last step", (size_t)stepped.steps - 3);
+    steps[3] = (uint8_t)bradovusc_value('5'); /* what both read */
+    play("with 5 for 4", (size_t)stepped.steps);
 }
 
 static void write_script(void) {
@@ -273,6 +300,7 @@ static void check_again_decided(void) {
 int main(void) {
     sheet[CHARACTER_OF_FIELD_1] = (uint8_t)bradovusc_value('4');
     ask();
+    follow();
     write_script();
     sheet[HI_OF_FIELD_0] = 43; /* above the last character */
     ask();

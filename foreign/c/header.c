@@ -1,7 +1,8 @@
 /*
- * Tries what bradovusc.h itself defines: the texts of the numbers, the signs, the walks over records and over listed pairs, null
- * pointers of length 0, deciding, plain rules, a sheet that is written, the script of one, the calls of a catalogue, with one search and decided,
- * what is carried over, the version, the lengths of buffers; and the places of faults, as it lists them.
+ * Tries what bradovusc.h itself defines: the texts of the numbers, the signs, the walks over records, steps and listed pairs, null
+ * pointers of length 0, deciding, the steps of a clash and the player, plain rules, a sheet that is written, the script of one, the
+ * calls of a catalogue, with one search and decided, what is carried over, the version, the lengths of buffers; and the places of
+ * faults, as it lists them.
  * C99, and C++11 too. Prints what does not hold, and how many checks there were; the exit status is 0 if all hold.
  */
 #include <stdio.h>
@@ -11,6 +12,8 @@
 /* What the header defines calls `watched_clash` and the like here, which look at the pointers and call the library. */
 #define bradovusc_clash watched_clash
 #define bradovusc_decide watched_decide
+#define bradovusc_steps watched_steps
+#define bradovusc_play watched_play
 #define bradovusc_plain watched_plain
 #define bradovusc_plain_bytes watched_plain_bytes
 #define bradovusc_write watched_write
@@ -28,6 +31,8 @@
 #include "bradovusc.h"
 #undef bradovusc_clash
 #undef bradovusc_decide
+#undef bradovusc_steps
+#undef bradovusc_play
 #undef bradovusc_plain
 #undef bradovusc_plain_bytes
 #undef bradovusc_write
@@ -50,6 +55,10 @@ uint32_t bradovusc_clash(const uint8_t *sheet, size_t sheet_length, uint8_t *wor
                          size_t answer_length, uint64_t *told, size_t told_length);
 uint32_t bradovusc_decide(const uint8_t *sheet, size_t sheet_length, uint8_t *work, size_t work_length, uint8_t *answer,
                           size_t answer_length, uint64_t *told, size_t told_length);
+uint32_t bradovusc_steps(const uint8_t *sheet, size_t sheet_length, uint8_t *work, size_t work_length, uint8_t *answer,
+                         size_t answer_length, uint8_t *steps, size_t steps_length, uint64_t *told, size_t told_length);
+uint32_t bradovusc_play(const uint8_t *sheet, size_t sheet_length, const uint8_t *steps, size_t steps_length, uint8_t *answer,
+                        size_t answer_length, uint64_t *told, size_t told_length);
 uint32_t bradovusc_plain(const uint8_t *sheet, size_t sheet_length, uint8_t *bits, size_t bits_length, uint64_t *told,
                          size_t told_length);
 uint32_t bradovusc_plain_bytes(const uint8_t *sheet, size_t sheet_length, uint64_t *told, size_t told_length);
@@ -106,6 +115,25 @@ uint32_t watched_decide(const uint8_t *sheet, size_t sheet_length, uint8_t *work
     check(answer != NULL, "the answer buffer's pointer is not null", (long)answer_length);
     check(told != NULL, "the pointer of what is told is not null", (long)told_length);
     return bradovusc_decide(sheet, sheet_length, work, work_length, answer, answer_length, told, told_length);
+}
+
+uint32_t watched_steps(const uint8_t *sheet, size_t sheet_length, uint8_t *work, size_t work_length, uint8_t *answer,
+                       size_t answer_length, uint8_t *steps, size_t steps_length, uint64_t *told, size_t told_length) {
+    check(sheet != NULL, "the sheet's pointer is not null", (long)sheet_length);
+    check(work != NULL, "the working buffer's pointer is not null", (long)work_length);
+    check(answer != NULL, "the answer buffer's pointer is not null", (long)answer_length);
+    check(steps != NULL, "the steps buffer's pointer is not null", (long)steps_length);
+    check(told != NULL, "the pointer of what is told is not null", (long)told_length);
+    return bradovusc_steps(sheet, sheet_length, work, work_length, answer, answer_length, steps, steps_length, told, told_length);
+}
+
+uint32_t watched_play(const uint8_t *sheet, size_t sheet_length, const uint8_t *steps, size_t steps_length, uint8_t *answer,
+                      size_t answer_length, uint64_t *told, size_t told_length) {
+    check(sheet != NULL, "the sheet's pointer is not null", (long)sheet_length);
+    check(steps != NULL, "the steps' pointer is not null", (long)steps_length);
+    check(answer != NULL, "the answer buffer's pointer is not null", (long)answer_length);
+    check(told != NULL, "the pointer of what is told is not null", (long)told_length);
+    return bradovusc_play(sheet, sheet_length, steps, steps_length, answer, answer_length, told, told_length);
 }
 
 uint32_t watched_plain(const uint8_t *sheet, size_t sheet_length, uint8_t *bits, size_t bits_length, uint64_t *told,
@@ -251,6 +279,11 @@ static const struct {
     {43, "the bit buffer is too short"},
     {45, "not in the table of Full ASCII"},
     {46, "the output buffer is too short for the text"},
+    {47, "a wrong record of a step"},
+    {48, "a step that is not allowed"},
+    {49, "the steps end before the finish"},
+    {50, "too many steps"},
+    {51, "clash, but the steps buffer is too short for the way"},
 };
 
 static void try_texts(void) {
@@ -266,7 +299,7 @@ static void try_texts(void) {
         expected = number == 0 ? "done" : expected;
         check(strcmp(bradovusc_catalogue_text(number), expected) == 0, "the text of a catalogue's number", (long)number);
     }
-    check(next == 24, "24 numbers have a text", (long)next);
+    check(next == 29, "29 numbers have a text", (long)next);
     check(strcmp(bradovusc_text(UINT32_MAX), none) == 0, "the greatest number has no text", -1);
 }
 
@@ -1044,6 +1077,180 @@ static void try_longest_sheet(void) {
     check(given.number == BRADOVUSC_NO_ROOM, "it is a good sheet", (long)given.number);
 }
 
+/* ---- the steps of a clash, and the player */
+
+/* x, any digits, and y, the digit 4: the way of its search, in room for 13 situations, and the texts */
+static const uint8_t stepped_sheet[] = {'P', 'A', 0, 4, 68, 65, 0, 9, 'P', 'A', 1, 1, 4, 'L', 'E', 1, 64, 'R', 'I', 1, 65};
+static const uint8_t stepped_way[] = {'S', 'T', 2, 4, 'S', 'T', 0, 'S', 'T', 0, 'S', 'T', 1, 'S', 'T', 1};
+static const uint8_t stepped_texts[] = {'V', 'A', 0, 1, 0, 4, 'V', 'A', 1, 1, 0, 4};
+static uint8_t stepped_work[BRADOVUSC_WORK_BYTES(13)];
+
+/* Every byte is this one. */
+static int all_are(const uint8_t *bytes, size_t length, int byte) {
+    size_t i;
+    for (i = 0; i < length; i++) {
+        if (bytes[i] != byte) {
+            return 0;
+        }
+    }
+    return 1;
+}
+
+/* The sheet in so many bytes of work, answer and steps, all of them 7 before: number and count, and what the buffers then hold. */
+static int is_stepped(size_t work_length, size_t answer_length, size_t steps_length, uint32_t number, uint64_t count) {
+    uint8_t answer[20], steps[24];
+    size_t written = number == 0 ? sizeof stepped_texts : 0, bytes = number == 0 ? sizeof stepped_way : 0;
+    struct bradovusc_stepped given;
+    memset(stepped_work, 7, sizeof stepped_work);
+    memset(answer, 7, sizeof answer);
+    memset(steps, 7, sizeof steps);
+    given = bradovusc_find_steps(stepped_sheet, sizeof stepped_sheet, work_length > 0 ? stepped_work : NULL, work_length,
+                                 answer_length > 0 ? answer : NULL, answer_length, steps_length > 0 ? steps : NULL, steps_length);
+    return given.number == number && given.count == count && given.place == 0 && given.written == written && given.steps == bytes &&
+           memcmp(answer, stepped_texts, written) == 0 && all_are(answer + written, sizeof answer - written, 7) &&
+           memcmp(steps, stepped_way, bytes) == 0 && all_are(steps + bytes, sizeof steps - bytes, 7) &&
+           all_are(stepped_work, work_length, 0) && all_are(stepped_work + work_length, sizeof stepped_work - work_length, 7);
+}
+
+static void try_steps(void) {
+    static const uint8_t one_more[] = {'L', 'E', 0, 'R', 'I', 0, 0};
+    size_t room = sizeof stepped_work, i;
+    uint8_t lent = 7, other = 7, third = 7;
+    struct bradovusc_stepped given;
+    check(is_stepped(room, 12, sizeof stepped_way, 0, 13), "the way in just enough", (long)sizeof stepped_way);
+    check(is_stepped(room, 20, 24, 0, 13), "the way in plenty", 24);
+    for (i = 0; i < sizeof stepped_way; i++) {
+        check(is_stepped(room, 12, i, 51, 13), "too few bytes of steps", (long)i);
+        check(is_stepped(room, 11, i, 20, 13), "20 is before 51", (long)i);
+    }
+    for (i = 0; i < sizeof stepped_texts; i++) {
+        check(is_stepped(room, i, sizeof stepped_way, 20, 13), "too few bytes of answer", (long)i);
+    }
+    check(is_stepped(room - 1, 12, sizeof stepped_way, 18, 12), "a situation too few", 12);
+    check(is_stepped(0, 0, 0, 18, 0), "no buffer", 0);
+    given = bradovusc_find_steps(one_more, sizeof one_more, &lent, 1, &other, 1, &third, 1);
+    check(given.number == 12 && given.place == 6 && given.count == 0 && given.written == 0 && given.steps == 0, "a fault", 12);
+    check(lent == 7 && other == 7 && third == 7, "a fault changes nothing", 12);
+    given = bradovusc_find_steps(NULL, 0, NULL, 0, NULL, 0, NULL, 0);
+    check(given.number == 11 && given.place == 0, "no sheet", 11);
+    check(BRADOVUSC_STEPS_BYTES(0) == 0 && BRADOVUSC_STEPS_BYTES(1) == 0 && BRADOVUSC_STEPS_BYTES(13) == 48, "bytes of steps", 13);
+    check(BRADOVUSC_STEPS_BYTES(356) == 1420 && BRADOVUSC_STEPS_BYTES(65535) == 262136, "bytes of steps", 356);
+    check(BRADOVUSC_MOST_STEPS == BRADOVUSC_MOST_SITUATIONS - 1, "a way has a step less than situations", BRADOVUSC_MOST_STEPS);
+}
+
+/* told in so many elements */
+static void try_steps_told(void) {
+    size_t told_length, i;
+    for (told_length = 0; told_length <= 5; told_length++) {
+        uint64_t told[] = {7, 7, 7, 7, 7}, told_play[] = {7, 7, 7, 7, 7};
+        const uint64_t expected[] = {13, 0, 12, 16, 7}, expected_play[] = {0, 0, 12, 7, 7};
+        uint8_t answer[12], steps[16];
+        check(bradovusc_steps(stepped_sheet, sizeof stepped_sheet, stepped_work, sizeof stepped_work, answer, sizeof answer, steps,
+                              sizeof steps, told, told_length) == 0,
+              "a clash", (long)told_length);
+        check(bradovusc_play(stepped_sheet, sizeof stepped_sheet, steps, sizeof steps, answer, sizeof answer, told_play,
+                             told_length) == 0,
+              "it is played", (long)told_length);
+        for (i = 0; i < 5; i++) {
+            check(told[i] == (i < told_length ? expected[i] : 7), "an element of what is told", (long)i);
+            check(told_play[i] == (i < told_length ? expected_play[i] : 7), "an element of what the player tells", (long)i);
+        }
+    }
+}
+
+/* The sheet played, with an answer buffer of so many bytes, all of them 7 before. */
+static int is_played(const uint8_t *steps, size_t steps_length, size_t answer_length, uint32_t number) {
+    uint8_t answer[20];
+    size_t written = number == 0 ? sizeof stepped_texts : 0;
+    struct bradovusc_played given;
+    memset(answer, 7, sizeof answer);
+    given = bradovusc_play_steps(stepped_sheet, sizeof stepped_sheet, steps, steps_length, answer_length > 0 ? answer : NULL,
+                                 answer_length);
+    return given.number == number && given.place == 0 && given.written == written &&
+           memcmp(answer, stepped_texts, written) == 0 && all_are(answer + written, sizeof answer - written, 7);
+}
+
+static void try_play(void) {
+    static const uint8_t wrong_mark[] = {'S', 'U', 0}, kind[] = {'S', 'T', 3}, value[] = {'S', 'T', 2, 43};
+    static const uint8_t letter[] = {'S', 'T', 2, 10}, right[] = {'S', 'T', 1}, one_more[] = {'L', 'E', 0, 'R', 'I', 0, 0};
+    uint8_t longer[sizeof stepped_way + 3];
+    struct bradovusc_played given;
+    size_t i;
+    check(is_played(stepped_way, sizeof stepped_way, 12, 0), "the way in just enough", 12);
+    check(is_played(stepped_way, sizeof stepped_way, 20, 0), "the way in plenty", 20);
+    for (i = 0; i < 12; i++) {
+        check(is_played(stepped_way, sizeof stepped_way, i, 20), "too few bytes of answer", (long)i);
+    }
+    for (i = 0; i < sizeof stepped_way; i++) {
+        int whole = i == 0 || (i >= 4 && (i - 4) % 3 == 0);
+        check(is_played(stepped_way, i, 20, whole ? 49 : 47), "a way cut short", (long)i);
+    }
+    check(is_played(NULL, 0, 0, 49), "no steps", 0);
+    check(is_played(wrong_mark, sizeof wrong_mark, 20, 47), "another mark", 47);
+    check(is_played(kind, sizeof kind, 20, 47), "a kind above 2", 47);
+    check(is_played(value, sizeof value, 20, 47), "a value that is no character", 47);
+    check(is_played(letter, sizeof letter, 20, 48), "a letter where digits stand", 48);
+    check(is_played(right, sizeof right, 20, 48), "a field that may not end", 48);
+    memcpy(longer, stepped_way, sizeof stepped_way);
+    memcpy(longer + sizeof stepped_way, right, sizeof right);
+    check(is_played(longer, sizeof longer, 20, 48), "a step behind the finish", 48);
+    check(is_played(longer, sizeof longer - 1, 20, 47), "a part of one behind it", 47);
+    given = bradovusc_play_steps(one_more, sizeof one_more, wrong_mark, sizeof wrong_mark, NULL, 0);
+    check(given.number == 12 && given.place == 6 && given.written == 0, "the sheet's own fault is first", 12);
+    given = bradovusc_play_steps(NULL, 0, NULL, 0, NULL, 0);
+    check(given.number == 11 && given.place == 0, "no sheet", 11);
+}
+
+/* x and y without patterns, and so many times the character A: the same situation again and again. */
+static void try_most_steps(void) {
+    static const uint8_t endless[] = {'L', 'E', 1, 64, 'R', 'I', 1, 65};
+    static const uint8_t record[] = {'S', 'T', 2, 10}, end[] = {'S', 'T', 0, 'S', 'T', 1, 'S', 'T', 0, 'S', 'T', 1};
+    static uint8_t steps[4 * (BRADOVUSC_MOST_STEPS + 1)], texts[2 * (5 + BRADOVUSC_MOST_STEPS)];
+    const size_t most = BRADOVUSC_MOST_STEPS;
+    struct bradovusc_played given;
+    size_t i;
+    for (i = 0; i <= most; i++) {
+        memcpy(steps + 4 * i, record, 4);
+    }
+    given = bradovusc_play_steps(endless, sizeof endless, steps, 4 * most, texts, sizeof texts);
+    check(given.number == 49, "as many records as there may be", (long)most);
+    given = bradovusc_play_steps(endless, sizeof endless, steps, 4 * (most + 1), texts, sizeof texts);
+    check(given.number == 50, "one more", (long)most + 1);
+    given = bradovusc_play_steps(endless, sizeof endless, steps, 4 * most + 1, texts, sizeof texts);
+    check(given.number == 50, "50 is before 47", (long)most + 1);
+    memcpy(steps + 4 * (most - 4), end, sizeof end);
+    given = bradovusc_play_steps(endless, sizeof endless, steps, 4 * (most - 4) + sizeof end, texts, sizeof texts);
+    check(given.number == 0 && given.written == 2 * (5 + most - 4), "the longest way", (long)most);
+    check(texts[3] == 250 && texts[4] == 255, "a text of 65,530 characters", 65530);
+}
+
+/* A walk over steps, and over what is none. */
+static void try_walk_over_steps(void) {
+    static const unsigned kinds[] = {2, 0, 0, 1, 1};
+    uint8_t bytes[] = {'S', 'T', 2, 42, 'S', 'T', 2, 43};
+    struct bradovusc_way way = bradovusc_way_in(stepped_way, sizeof stepped_way);
+    size_t i;
+    for (i = 0; i < 5; i++) {
+        check(bradovusc_next_step(&way) && way.kind == kinds[i] && way.value == (i == 0 ? 4u : 0u), "a step", (long)i);
+    }
+    check(!bradovusc_next_step(&way) && way.rest_length == 0, "no more steps", 5);
+    way = bradovusc_way_in(NULL, 0);
+    check(!bradovusc_next_step(&way), "no steps", 0);
+    for (i = 0; i < 4; i++) {
+        way = bradovusc_way_in(bytes, i);
+        check(!bradovusc_next_step(&way), "a part of a record", (long)i);
+    }
+    way = bradovusc_way_in(bytes, sizeof bytes);
+    check(bradovusc_next_step(&way) && way.value == 42 && !bradovusc_next_step(&way), "a value that is no character", 43);
+    bytes[2] = 3;
+    way = bradovusc_way_in(bytes, sizeof bytes);
+    check(!bradovusc_next_step(&way), "a kind above 2", 3);
+    bytes[1] = 'S';
+    bytes[2] = 0;
+    way = bradovusc_way_in(bytes, sizeof bytes);
+    check(!bradovusc_next_step(&way), "another mark", 1);
+}
+
 /* ---- plain rules */
 
 static uint8_t bits[BRADOVUSC_PLAIN_BYTES + 1];
@@ -1348,6 +1555,11 @@ int main(void) {
     try_write_told();
     try_write_places();
     try_longest_sheet();
+    try_steps();
+    try_steps_told();
+    try_play();
+    try_most_steps();
+    try_walk_over_steps();
     try_plain();
     try_plain_told();
     try_most_bits();

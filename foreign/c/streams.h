@@ -90,10 +90,8 @@ static inline int each_case(const char *name, void (*answer_case)(const struct s
     return EXIT_SUCCESS;
 }
 
-/* The beginning of a line: number, count, place and written length, and every byte of the buffer that is written. */
-static inline void print_written(uint32_t number, const uint64_t *told, const uint8_t *answer, size_t answer_length, uint8_t fill) {
-    uint64_t written = told[BRADOVUSC_WRITTEN];
-    printf("%" PRIu32 " %" PRIu64 " %" PRIu64 " %" PRIu64, number, told[BRADOVUSC_COUNT], told[BRADOVUSC_PLACE], written);
+/* A buffer of which so many bytes are written. */
+static inline void print_front(const uint8_t *answer, size_t answer_length, uint64_t written, uint8_t fill) {
     if (written <= answer_length) {
         fputs(", written", stdout);
         print_each(answer, written);
@@ -103,6 +101,13 @@ static inline void print_written(uint32_t number, const uint64_t *told, const ui
         fputs(", more than the answer buffer", stdout);
         print_each(answer, answer_length);
     }
+}
+
+/* The beginning of a line: number, count, place and written length, and every byte of the buffer that is written. */
+static inline void print_written(uint32_t number, const uint64_t *told, const uint8_t *answer, size_t answer_length, uint8_t fill) {
+    uint64_t written = told[BRADOVUSC_WRITTEN];
+    printf("%" PRIu32 " %" PRIu64 " %" PRIu64 " %" PRIu64, number, told[BRADOVUSC_COUNT], told[BRADOVUSC_PLACE], written);
+    print_front(answer, answer_length, written, fill);
 }
 
 /* The line of an answer, but for its end: the same, and every byte of the working buffer. */

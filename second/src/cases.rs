@@ -147,12 +147,17 @@ impl AfterDecided {
 
 /// What the answer buffer holds.
 pub fn push_answer(line: &mut String, answer: &[u8], written: usize) {
+    push_answer_lent(line, answer, written, ANSWER_FILL);
+}
+
+/// What a buffer that was lent full of a byte holds.
+pub fn push_answer_lent(line: &mut String, answer: &[u8], written: usize, fill: u8) {
     match answer.split_at_checked(written) {
         Some((records, rest)) => {
             *line += ", written";
             push_each(line, records);
             *line += ", rest";
-            push_lent(line, rest, ANSWER_FILL);
+            push_lent(line, rest, fill);
         }
         None => {
             *line += ", more than the answer buffer";

@@ -25,6 +25,9 @@
 //! `plain::plain` says clash or no clash where no field stands twice, with a bit
 //! for each pair of standings in place of situations.
 //!
+//! `steps::steps` does what `answer` does and writes the way too, step by step;
+//! `steps::play` goes any such way and gives its texts.
+//!
 //! `writer::write` writes the sheet of two sides and patterns by field.
 //!
 //! `full_ascii::into` spells a text of Full ASCII in Code 39 values, and reads it
@@ -54,6 +57,7 @@ pub mod shown;
 pub mod situation;
 pub mod smt;
 pub mod spell_open;
+pub mod steps;
 pub mod storeroom;
 pub mod write;
 pub mod writer;
@@ -132,8 +136,8 @@ pub fn asked(question: &Question, work: &mut [u8], answer: &mut [u8]) -> Outcome
     // answer"
     work.fill(0);
     let (number, written) = match found.ending {
-        Ending::Clash(texts) => {
-            let records = records(&texts);
+        Ending::Clash(way) => {
+            let records = records(&way.texts);
             if records.len() > answer.len() {
                 (ANSWER_BUFFER_TOO_SHORT, 0)
             } else {

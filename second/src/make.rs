@@ -4,7 +4,8 @@
 //! rules to carry over, `damages` the faults of them all. `pairs` makes pairs of
 //! rules as storerooms write them, `decided` cases to decide, `written` what is
 //! handed to the writer of sheets, `plainly` sheets for the engine for plain
-//! rules, `ascii` texts to be spelt and read back.
+//! rules, `ascii` texts to be spelt and read back, `ways` cases of the steps and
+//! of the player.
 
 pub mod ascii;
 pub mod calls;
@@ -14,6 +15,7 @@ pub mod pairs;
 pub mod plainly;
 mod spaces;
 pub mod spelt;
+pub mod ways;
 pub mod written;
 
 use std::ops::Range;

@@ -11,13 +11,14 @@
 //! | 50 to 97 | right tokens, the rest 0 |
 //! | 98 to 177 | place set of each field in eight bytes, 0 for a field that is gone |
 //! | 178, 179 | number of the parent |
-//! | 180 | the character put, or 255 for a strike or the start |
+//! | 180 | the character put, 253 or 254 for a struck left or right front, or 255 for the start |
 //!
 //! Bytes 0 to 177 are the situation, the others its way.
 
 use crate::pattern::{characters, Allowed, PlaceSet, ONLY_START};
 use crate::search::Ending;
 use crate::sheet::{self, Question, Token, ALL_FIELDS, FIELDS};
+use crate::steps::{Told, STEPS_TOO_SHORT};
 use crate::{
     room, Outcome, ANSWER_BUFFER_TOO_SHORT, ANSWER_RECORD_HEAD, CLASH, MOST_TEXT, MOST_TOKENS,
     SITUATION_BYTES,
@@ -31,8 +32,10 @@ const SET: usize = size_of::<PlaceSet>();
 const KEY_BYTES: usize = SETS + SET * ALL_FIELDS;
 const PARENT: usize = KEY_BYTES;
 const STEP: usize = PARENT + 2;
-/// The step byte where no character was put.
-const NOTHING_PUT: u8 = 255;
+/// The step bytes where no character was put.
+const LEFT_STRUCK: u8 = 253;
+const RIGHT_STRUCK: u8 = 254;
+const NO_STEP: u8 = 255;
 
 /// The part of a slot that is the situation.
 type Key = [u8; KEY_BYTES];
@@ -66,6 +69,22 @@ pub fn searched(question: &Question, work: &mut [u8]) -> (u8, usize) {
     let count = slots.count;
     work.fill(0);
     (number, count)
+}
+
+/// Judges the sheet, searches, and writes the answer and the steps.
+pub fn steps(sheet: &[u8], work: &mut [u8], answer: &mut [u8], steps: &mut [u8]) -> Told {
+    let question = match sheet::read(sheet) {
+        Ok(question) => question,
+        Err(fault) => return Told::of_fault(fault),
+    };
+    let mut slots = Slots { room: room(work.len()), work, count: 0 };
+    let (number, written, bytes) = match search(&question, &mut slots) {
+        Ending::Clash(finish) => write_steps(&question, &slots, finish, answer, steps),
+        other => (other.number(), 0, 0),
+    };
+    let count = slots.count;
+    work.fill(0);
+    Told::of_search(number, count, written, bytes)
 }
 
 /// The entered situations in the working buffer.
@@ -113,19 +132,22 @@ impl Slots<'_> {
     fn way(&self, number: usize) -> Way {
         let slot = self.slot(number);
         let parent = usize::from(u16::from_le_bytes([slot[PARENT], slot[PARENT + 1]]));
-        if slot[STEP] == NOTHING_PUT {
-            return Way { parent, put: None, before: [None, None] };
+        let step = slot[STEP];
+        if step >= LEFT_STRUCK {
+            return Way { parent, step, put: None, before: [None, None] };
         }
         // A character is put only where neither side is empty.
         let fronts = self.slot(parent);
         let before = [field(fronts[LEFT]), field(fronts[RIGHT])];
-        Way { parent, put: Some(slot[STEP]), before }
+        Way { parent, step, put: Some(step), before }
     }
 }
 
 /// "a situation's way is the one by which it was first entered"
 struct Way {
     parent: usize,
+    /// The slot's step byte.
+    step: u8,
     /// The character put; none for a strike.
     put: Option<u8>,
     /// The parent's front fields, before which it was put; twice the same
@@ -312,7 +334,7 @@ fn search(question: &Question, slots: &mut Slots) -> Ending<usize> {
     }
     let mut start = Flat::of(question);
     start.trim();
-    slots.enter(&start.key(), 0, NOTHING_PUT);
+    slots.enter(&start.key(), 0, NO_STEP);
     if start.finished() {
         return Ending::Clash(0);
     }
@@ -323,13 +345,13 @@ fn search(question: &Question, slots: &mut Slots) -> Ending<usize> {
         let (left, right) = (parent.left.front(), parent.right.front());
         if !parent.dead() {
             if let Some(child) = left.and_then(|left| parent.strike(left, allowed)) {
-                if let Some(ending) = offer(child, taken, NOTHING_PUT, slots) {
+                if let Some(ending) = offer(child, taken, LEFT_STRUCK, slots) {
                     return ending;
                 }
             }
             if left != right {
                 if let Some(child) = right.and_then(|right| parent.strike(right, allowed)) {
-                    if let Some(ending) = offer(child, taken, NOTHING_PUT, slots) {
+                    if let Some(ending) = offer(child, taken, RIGHT_STRUCK, slots) {
                         return ending;
                     }
                 }
@@ -371,25 +393,39 @@ fn offer(mut child: Flat, parent: usize, step: u8, slots: &mut Slots) -> Option<
     child.finished().then(|| Ending::Clash(slots.count - 1))
 }
 
+/// The length of each field's text, and the bytes of the records. The hidden
+/// fields "get no answer record".
+fn measured(question: &Question, slots: &Slots, finish: usize) -> ([usize; ALL_FIELDS], usize) {
+    // By walking the way back.
+    let mut lengths = [0; ALL_FIELDS];
+    walk_back(slots, finish, |_, field| lengths[field] += 1);
+    assert!(lengths.iter().all(|&length| length <= MOST_TEXT));
+    let bytes = |field: usize| record_bytes(question, &lengths, field);
+    let written = (0..FIELDS).map(bytes).sum();
+    (lengths, written)
+}
+
+fn stands(question: &Question, field: usize) -> bool {
+    let field = Token::Field(field as u8);
+    question.left.contains(&field) || question.right.contains(&field)
+}
+
+fn record_bytes(question: &Question, lengths: &[usize; ALL_FIELDS], field: usize) -> usize {
+    if stands(question, field) {
+        ANSWER_RECORD_HEAD + lengths[field]
+    } else {
+        0
+    }
+}
+
 /// Writes the records if they fit: the answer's number and the bytes written.
-/// The hidden fields "get no answer record".
 fn write_answer(
     question: &Question,
     slots: &Slots,
     finish: usize,
     answer: &mut [u8],
 ) -> (u8, usize) {
-    // Each text's length, by walking the way back.
-    let mut lengths = [0; ALL_FIELDS];
-    walk_back(slots, finish, |_, field| lengths[field] += 1);
-
-    assert!(lengths.iter().all(|&length| length <= MOST_TEXT));
-    let stands = |field: usize| {
-        let field = Token::Field(field as u8);
-        question.left.contains(&field) || question.right.contains(&field)
-    };
-    let bytes = |field: usize| if stands(field) { ANSWER_RECORD_HEAD + lengths[field] } else { 0 };
-    let written = (0..FIELDS).map(bytes).sum();
+    let (lengths, written) = measured(question, slots, finish);
     if written > answer.len() {
         return (ANSWER_BUFFER_TOO_SHORT, 0);
     }
@@ -398,12 +434,12 @@ fn write_answer(
     let mut ends = [0; FIELDS];
     let mut at = 0;
     for field in 0..FIELDS {
-        if stands(field) {
+        if stands(question, field) {
             answer[at..at + 2].copy_from_slice(b"VA");
             answer[at + 2] = field as u8;
             answer[at + 3..at + 5].copy_from_slice(&(lengths[field] as u16).to_le_bytes());
         }
-        at += bytes(field);
+        at += record_bytes(question, &lengths, field);
         ends[field] = at;
     }
     // The values, from the last to the first.
@@ -421,7 +457,7 @@ fn write_answer(
 fn walk_back(slots: &Slots, finish: usize, mut each: impl FnMut(u8, usize)) {
     let mut at = finish;
     while at != 0 {
-        let Way { parent, put, before: [left, right] } = slots.way(at);
+        let Way { parent, put, before: [left, right], .. } = slots.way(at);
         if let Some(character) = put {
             if let Some(field) = left {
                 each(character, field);
@@ -433,4 +469,41 @@ fn walk_back(slots: &Slots, finish: usize, mut each: impl FnMut(u8, usize)) {
         }
         at = parent;
     }
+}
+
+/// Writes the records and the steps if both fit: the answer's number, and the
+/// bytes written to each buffer.
+fn write_steps(
+    question: &Question,
+    slots: &Slots,
+    finish: usize,
+    answer: &mut [u8],
+    steps: &mut [u8],
+) -> (u8, usize, usize) {
+    if measured(question, slots, finish).1 > answer.len() {
+        return (ANSWER_BUFFER_TOO_SHORT, 0, 0);
+    }
+    // Each record, from the last to the first.
+    let mut way = Vec::new();
+    let mut at = finish;
+    while at != 0 {
+        let Way { parent, step, .. } = slots.way(at);
+        way.push(match step {
+            LEFT_STRUCK => vec![b'S', b'T', 0],
+            RIGHT_STRUCK => vec![b'S', b'T', 1],
+            character => vec![b'S', b'T', 2, character],
+        });
+        at = parent;
+    }
+    let bytes = way.iter().map(Vec::len).sum();
+    if bytes > steps.len() {
+        return (STEPS_TOO_SHORT, 0, 0);
+    }
+    let mut end = bytes;
+    for record in way {
+        steps[end - record.len()..end].copy_from_slice(&record);
+        end -= record.len();
+    }
+    let (number, written) = write_answer(question, slots, finish, answer);
+    (number, written, bytes)
 }

@@ -32,10 +32,17 @@ impl<W> Ending<W> {
 /// of the hidden ones.
 pub type Texts = Vec<(u8, Vec<u8>)>;
 
+/// The way to the finish: its steps, the first one first, and the texts.
+#[derive(Clone, Debug, PartialEq, Eq)]
+pub struct Way {
+    pub steps: Vec<Step>,
+    pub texts: Texts,
+}
+
 /// The ending and the number of situations entered.
 #[derive(Clone, Debug, PartialEq, Eq)]
 pub struct Found {
-    pub ending: Ending<Texts>,
+    pub ending: Ending<Way>,
     pub count: usize,
 }
 
@@ -106,35 +113,32 @@ pub fn search(question: &Question, room: usize) -> Found {
     Found { ending: Ending::NoClash, count: entered.len() }
 }
 
-/// "A field's text is the characters put before it on the way from the start
-/// to the finish".
+/// The way from the start to the finish.
 fn clash(question: &Question, entered: &[Entered], finish: usize) -> Found {
-    // The steps of the way, from the start to the finish.
     let mut steps = Vec::new();
     let mut at = finish;
     while let Some((parent, step)) = &entered[at].way {
-        steps.push(step);
+        steps.push(step.clone());
         at = *parent;
     }
     steps.reverse();
+    let texts = texts(question, &steps);
+    Found { ending: Ending::Clash(Way { steps, texts }), count: entered.len() }
+}
 
-    let standing = |field: u8| {
-        let field = Token::Field(field);
+/// "A field's text is the characters put before it on the way from the start
+/// to the finish". The hidden fields "get no answer record".
+pub fn texts(question: &Question, steps: &[Step]) -> Texts {
+    let standing = |field: &u8| {
+        let field = Token::Field(*field);
         question.left.contains(&field) || question.right.contains(&field)
     };
     let text = |field: u8| {
-        let mut text = Vec::new();
-        for step in &steps {
-            if let Step::Put { character, fields } = step {
-                if fields.contains(&field) {
-                    text.push(*character);
-                }
-            }
-        }
-        text
+        let put = steps.iter().filter_map(|step| match step {
+            Step::Put { character, fields } if fields.contains(&field) => Some(*character),
+            _ => None,
+        });
+        (field, put.collect())
     };
-    // The hidden fields "get no answer record".
-    let fields = 0..FIELDS as u8;
-    let texts = fields.filter(|&field| standing(field)).map(|field| (field, text(field)));
-    Found { ending: Ending::Clash(texts.collect()), count: entered.len() }
+    (0..FIELDS as u8).filter(standing).map(text).collect()
 }

@@ -27,8 +27,10 @@ pub enum State {
 /// How a child was made from its parent.
 #[derive(Clone, Debug, PartialEq, Eq)]
 pub enum Step {
-    /// A field was struck everywhere.
-    Strike,
+    /// The left front, a field, was struck everywhere.
+    StrikeLeft,
+    /// The right front, a field, was struck everywhere.
+    StrikeRight,
     /// The character was put before each of these fields.
     Put { character: u8, fields: Vec<u8> },
 }
@@ -88,14 +90,14 @@ impl Situation {
         // "the left front is a field whose set may end: strike it everywhere"
         if let Some(Token::Field(field)) = left {
             if allowed[usize::from(field)].may_end(self.sets[&field]) {
-                children.push((self.strike(field), Step::Strike));
+                children.push((self.strike(field), Step::StrikeLeft));
             }
         }
         // "the right front is a field, not the same as the left front, whose
         // set may end: strike it everywhere"
         if let Some(Token::Field(field)) = right {
             if left != right && allowed[usize::from(field)].may_end(self.sets[&field]) {
-                children.push((self.strike(field), Step::Strike));
+                children.push((self.strike(field), Step::StrikeRight));
             }
         }
         // "if neither side is empty, for each character c from 0 to 42"

@@ -329,10 +329,11 @@ fn the_old_meaning_has_more_clashes() {
         assert!(numbers != (0, 1), "{old:?}");
         // Where only the old meaning has a clash, a field without a pattern is
         // empty in it.
-        if let (Ending::NoClash, Ending::Clash(texts)) = (&now.ending, &before.ending) {
+        if let (Ending::NoClash, Ending::Clash(way)) = (&now.ending, &before.ending) {
             let (patterns, _) = records(&old);
             let open = |field: u8| patterns.iter().all(|(with, _)| *with != field);
-            assert!(texts.iter().any(|(field, text)| open(*field) && text.is_empty()), "{old:?}");
+            let empty = |(field, text): &(u8, Vec<u8>)| open(*field) && text.is_empty();
+            assert!(way.texts.iter().any(empty), "{old:?}");
         }
         *seen.entry(numbers).or_insert(0) += 1;
     }

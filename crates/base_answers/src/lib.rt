@@ -63,8 +63,11 @@ pub enum Answer {
     Refused { fault: Fault, place: usize },
 }
 
+// "a side above 48 tokens gives 19"
+pub const SIDE_TOO_LONG: usize = 19;
+
 // From this number on a clash was found, and not all that tells of it is written.
-const ANSWER_TOO_SHORT: usize = 20;
+pub const ANSWER_TOO_SHORT: usize = 20;
 
 // The number of a search's end.
 pub fn how_number(how: How) -> usize
@@ -74,7 +77,7 @@ pub fn how_number(how: How) -> usize
         How::Clash { written: _ } => 0,
         How::NoClash => 1,
         How::NoRoom => 18,
-        How::SideTooLong => 19,
+        How::SideTooLong => SIDE_TOO_LONG,
         How::AnswerTooShort => ANSWER_TOO_SHORT,
     }
 }
@@ -125,6 +128,16 @@ pub const BITS_TOO_FEW: usize = 43;
 pub const NOT_IN_TABLE: usize = 45;
 // "46, after it, for a short buffer"
 pub const SPELT_TOO_SHORT: usize = 46;
+// K14: "47 for one cut short, with another mark, a kind above 2 or a value that is no character"
+pub const NO_STEP: usize = 47;
+// "48 for a step not allowed"
+pub const STEP_NOT_ALLOWED: usize = 48;
+// "49 where the records end before the finish"
+pub const NOT_FINISHED: usize = 49;
+// "50 if it is past the 65,534th"
+pub const TOO_MANY_STEPS: usize = 50;
+// "51, after 20," if the steps don't fit
+pub const STEPS_TOO_SHORT: usize = 51;
 
 // An answer in document 01's numbers.
 pub struct Numbers {

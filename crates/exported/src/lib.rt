@@ -9,9 +9,13 @@ ghost use Rattle.paper_carry.specs.Spelling.{spelling, rule-spelling, carrying-
 ghost use Rattle.paper_write.specs.Writing.{writing};
 ghost use Rattle.paper_plain.specs.Engine.{engine, needs};
 ghost use Rattle.paper_spell.specs.Spell.{spelling-text, reading-spelt};
+ghost use Rattle.paper_steps.specs.StepsOutcome.{steps-outcome};
 ghost use Rattle.paper_decide.specs.Deciding.{decision};
+ghost use Rattle.paper_steps.specs.Player.{play};
 ghost use Rattle.c_clash.specs.Asking.{telling};
+ghost use Rattle.c_steps.specs.StepsTelling.{telling-steps};
 ghost use Rattle.c_decide.specs.Decided.{telling-decided};
+ghost use Rattle.c_play.specs.PlayTold.{telling-played};
 ghost use Rattle.c_carry.specs.Carried.{telling-spelt};
 ghost use Rattle.c_write.specs.WrittenNumbers.{telling-written};
 ghost use Rattle.c_plain.specs.EngineTelling.{telling-plain, telling-needs};
@@ -38,7 +42,42 @@ pub extern "C" fn bradovusc_clash(
     c_clash::sheet(sheet, work, answer, told)
 }
 
-// The same with up to four searches, where `bradovusc_clash` leaves the question open. Returns its number; count, place, written length and the
+// The same, and after a clash the way found is written into `steps` as records. Returns its number, 51 where the steps don't fit; count, place,
+// written length and the bytes of steps go into the first four elements of `told`, as many as there is room for.
+#[no_mangle]
+pub extern "C" fn bradovusc_steps(
+    sheet: &[u8],
+    work: &mut [u8],
+    answer: &mut [u8],
+    steps: &mut [u8],
+    told: &mut [u64],
+) -> u32
+    ensures number { λ r. ⌜ r ≡ steps-outcome (now (sheet .entry)) (now (work .entry)) (now (answer .entry)) (now (steps .entry)) .number ⌝ }
+    ensures told { λ _. ⌜ now (told .exit) ≡ telling-steps (now (told .entry)) (steps-outcome (now (sheet .entry)) (now (work .entry)) (now (answer .entry)) (now (steps .entry))) ⌝ }
+    ensures answer { λ _. ⌜ now (answer .exit) ≡ steps-outcome (now (sheet .entry)) (now (work .entry)) (now (answer .entry)) (now (steps .entry)) .answer ⌝ }
+    ensures steps { λ _. ⌜ now (steps .exit) ≡ steps-outcome (now (sheet .entry)) (now (work .entry)) (now (answer .entry)) (now (steps .entry)) .steps ⌝ }
+    ensures work { λ _. ⌜ now (work .exit) ≡ steps-outcome (now (sheet .entry)) (now (work .entry)) (now (answer .entry)) (now (steps .entry)) .work ⌝ }
+{
+    c_steps::sheet(sheet, work, answer, steps, told)
+}
+
+// Plays the records of steps on the sheet. Returns request K14's number; count (which is 0), place and written length go into the first three
+// elements of `told`, as many as there is room for.
+#[no_mangle]
+pub extern "C" fn bradovusc_play(
+    sheet: &[u8],
+    steps: &[u8],
+    answer: &mut [u8],
+    told: &mut [u64],
+) -> u32
+    ensures number { λ r. ⌜ r ≡ play (now (sheet .entry)) (now (steps .entry)) (now (answer .entry)) .number ⌝ }
+    ensures told { λ _. ⌜ now (told .exit) ≡ telling-played (now (told .entry)) (play (now (sheet .entry)) (now (steps .entry)) (now (answer .entry))) ⌝ }
+    ensures answer { λ _. ⌜ now (answer .exit) ≡ play (now (sheet .entry)) (now (steps .entry)) (now (answer .entry)) .answer ⌝ }
+{
+    c_play::sheet(sheet, steps, answer, told)
+}
+
+// As `bradovusc_clash`, with up to four searches where that leaves the question open. Returns its number; count, place, written length and the
 // search that decided (1 to 4; 0 where none did) go into the first four elements of `told`, as many as there is room for.
 #[no_mangle]
 pub extern "C" fn bradovusc_decide(

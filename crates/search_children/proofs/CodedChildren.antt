@@ -1,6 +1,7 @@
 -- The children of a situation by inner codes are the codes of the paper's children, in the same order:
 --   children-agree : children-coded (tables-over among q) (situation-code s) ≡ map code-child-of (children (acceptor-over among q) longest-side s),
 --     of a codable s and a question in Code 39, whichever characters pass the test `among`
+--   left-coded, right-coded, put-of-coded : the same of each move by itself
 -- First what the children of the paper are without kinds; then the three groups: the left strike, the right strike, the puts.
 -- Follows from the laws of sides by their codes and of sets as masks.
 use Prim.Native.Nat.{ℕ, _+_, _<_}
@@ -55,7 +56,7 @@ module _ {P : Type 0} (A : Acceptor P) where
       not-true (eqb a c && eqb b c)
       (λ e. true-false (rw (eqb-true a c (and-left (eqb a c) (eqb b c) e), ← eqb-true b c (and-right (eqb a c) (eqb b c) e)) (eqb-same b)) n)
 
-  moves-open : (l r : Side) (sets : List P)
+  pub moves-open : (l r : Side) (sets : List P)
       → moves-of A (kind-of l r) (record { left = l; right = r; sets = sets }) ≡ open-moves A (record { left = l; right = r; sets = sets })
   unfolding open-moves
   moves-open [] [] sets = rw (keep-none (λ (c : ℕ). false) (upto (A .characters)) (λ c. refl))
@@ -161,7 +162,7 @@ module _ (among : ℕ → Bool) (q : Question) (few : (f : ℕ) → Few (held-by
       rw (strike-coded f (s .left) (codable .left), strike-coded f (s .right) (codable .right), field-is-field f (k .0), field-of-code f, set-mask (s .sets) f [])
       (settle-coded among q m (strike (acceptor-over among q) f s) (known-strike f (s .left) (codable .left)) (known-strike f (s .right) (codable .right)))
 
-  left-coded : as-child left-struck (left-strike (tables-over among q .last) (situation-code s))
+  pub left-coded : as-child left-struck (left-strike (tables-over among q .last) (situation-code s))
       ≡ map code-child-of (left-group (acceptor-over among q) longest-side s)
   unfolding left-strike child-by
   left-coded =
@@ -182,7 +183,7 @@ module _ (among : ℕ → Bool) (q : Question) (few : (f : ℕ) → Few (held-by
       (λ e. rw e (and-false (front-may-end (acceptor-over among q) s (g ∷ []))))
       (λ e. rw e (and-true (front-may-end (acceptor-over among q) s (g ∷ [])))))
 
-  right-coded : as-child right-struck (right-strike (tables-over among q .last) (situation-code s))
+  pub right-coded : as-child right-struck (right-strike (tables-over among q .last) (situation-code s))
       ≡ map code-child-of (right-group (acceptor-over among q) longest-side s)
   unfolding right-strike child-by
   right-coded =
@@ -238,7 +239,7 @@ module _ (among : ℕ → Bool) (q : Question) (few : (f : ℕ) → Few (held-by
       rw (put-coded c (s .left) (s .right) (s .left) (codable .left) (codable .right) (codable .left), put-coded c (s .left) (s .right) (s .right) (codable .left) (codable .right) (codable .right), sets-coded c (s .left) (s .right) h (codable .left) (codable .right), l, r)
       (settle-coded among q (put c) t (rw l at (known-put-all c fs (s .left) h (codable .left))) (rw r at (known-put-all c fs (s .right) h (codable .right))))
 
-  put-of-coded : (c : ℕ) → c < characters
+  pub put-of-coded : (c : ℕ) → c < characters
       → as-child c (put-of (situation-code s) (front-at among q s (front (side-code (s .left)))) (front-at among q s (front (side-code (s .right)))) c)
       ≡ map code-child-of (put-group (acceptor-over among q) longest-side s c)
   unfolding put-of

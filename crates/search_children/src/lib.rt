@@ -6,6 +6,7 @@ use base_codes::Situation;
 pub use children::put;
 pub use children::strike_left;
 pub use children::strike_right;
+pub use sides::unmade;
 
 // What becomes of a child: dropped where it is dead or its move not allowed, a side above 48 tokens, or made.
 pub enum Fate {

@@ -13,6 +13,7 @@ use Rattle.search_trim.specs.Trimming.{question-coded}
 use Rattle.search_children.specs.Children.{Tables}
 use Rattle.search_run.specs.Ended.{room-for, ended-with, buffer-with}
 use Rattle.search_run.specs.Lent.{tables}
+use Rattle.search_run.specs.StepsEnded.{StepsRun, steps-with}
 use Rattle.base_answers.specs.declared.Ended.{Ended}
 
 -- what is worked out of the fields, with the hidden ones; no place takes another character
@@ -31,3 +32,7 @@ ended-over among s bytes answer = ended-with (tables-among among s) (room-for by
 
 unfoldable pub buffer-over : List Bool → Question → ℕ → List ℕ → List ℕ
 buffer-over among s bytes answer = buffer-with (tables-among among s) (room-for bytes) (first-of s) answer
+
+-- the same with the way in a third buffer
+unfoldable pub steps-over : List Bool → Question → ℕ → List ℕ → List ℕ → StepsRun
+steps-over among s bytes answer steps = steps-with (tables-among among s) (room-for bytes) (first-of s) answer steps

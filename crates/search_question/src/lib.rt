@@ -5,12 +5,14 @@ use base_codes::HIDDEN_LEFT;
 use base_codes::HIDDEN_RIGHT;
 use base_places::CHARACTERS;
 use base_question::Question;
+use base_steps::StepsEnded;
 ghost use mathlib.Core.Path.{_≡_};
 ghost use lib.ListN.{length, replicate};
 ghost use Rattle.paper.specs.Numbers.{characters};
 ghost use Rattle.paper_chosen.specs.Chosen.{every};
 ghost use Rattle.search_tables.specs.Cut.{listed-by};
-ghost use Rattle.search_question.specs.Over.{ended-over, buffer-over};
+ghost use Rattle.search_run.specs.StepsEnded.{steps-run};
+ghost use Rattle.search_question.specs.Over.{ended-over, buffer-over, steps-over};
 
 // Every character.
 pub fn every() -> [bool; CHARACTERS]
@@ -41,4 +43,28 @@ pub fn search(
     let last = search_tables::last_sets(fields);
     let some = search_tables::only_taking(&taking, among);
     search_run::run(left, right, follow, some, last, work, answer)
+}
+
+// The same, and after a clash the way is written into a third buffer.
+pub fn search_steps(
+    question: Question,
+    among: [bool; CHARACTERS],
+    work: &mut [u8],
+    answer: &mut [u8],
+    steps: &mut [u8],
+) -> StepsEnded
+    ensures ended { λ r. ⌜ steps-run r (now (answer .exit)) (now (steps .exit)) ≡ steps-over among question (length (now (work .entry))) (now (answer .entry)) (now (steps .entry)) ⌝ }
+    ensures work { λ _. ⌜ now (work .exit) ≡ replicate (length (now (work .entry))) 0 ⌝ }
+{
+    let own_left = question.left;
+    let own_right = question.right;
+    let own_fields = question.fields;
+    let left = search_hidden::side(own_left, HIDDEN_LEFT);
+    let right = search_hidden::side(own_right, HIDDEN_RIGHT);
+    let fields = search_hidden::fields(own_fields);
+    let follow = search_tables::follow_sets(fields);
+    let taking = search_tables::taking_sets(fields);
+    let last = search_tables::last_sets(fields);
+    let some = search_tables::only_taking(&taking, among);
+    search_run::run_steps(left, right, follow, some, last, work, answer, steps)
 }

@@ -13,6 +13,7 @@ use Rattle.search_slots.specs.LowFirst.{low-first-number, low-bytes}
 use Rattle.search_slots.specs.Slots.{number-width, key-bytes, right-at, part}
 use Rattle.search_records.specs.declared.Back.{Back}
 use Rattle.search_records.specs.declared.Given.{Given}
+use Rattle.search_records.specs.declared.Origin.{Origin}
 use Rattle.search_records.specs.declared.Given.the-variants.{TooShort, Bytes}
 
 -- the parent's number and the step in the slot with the number i
@@ -21,6 +22,9 @@ parent-in work i = low-first-number (part (situation-bytes * i + key-bytes) numb
 
 abbrev pub step-in : List ℕ → ℕ → ℕ
 step-in work i = getD work (situation-bytes * i + key-bytes + number-width) 0
+
+abbrev pub origin-in : List ℕ → ℕ → Origin
+origin-in work i = record { parent = parent-in work i; step = step-in work i }
 
 -- did this step from slot i put its character before the field f: is it a character, and the field in front of a side?
 unfoldable pub puts-in : List ℕ → ℕ → ℕ → ℕ → Bool

@@ -15,7 +15,7 @@ ghost use mathlib.Core.Path.{_≡_};
 ghost use Prim.Native.Nat.{_+_, _/_, _<_, _≤_};
 ghost use lib.ListN.{length};
 ghost use Rattle.paper.specs.Numbers.{fields, situation-bytes};
-ghost use Rattle.search_records.specs.Records.{parent-in, step-in, puts-in, way-spelt, Slot-in, Steps-back, Record-written, Answered};
+ghost use Rattle.search_records.specs.Records.{parent-in, step-in, origin-in, puts-in, way-spelt, Slot-in, Steps-back, Record-written, Answered};
 ghost use Rattle.search_records.specs.Records.{record-mark, mark-width, record-head, head-bytes, record-bytes, in-front, value-records};
 
 // Mark and field of a record, and its length.
@@ -36,6 +36,12 @@ pub struct Back {
     pub puts: bool,
 }
 
+// The parent's number of a slot, and the step from there.
+pub struct Origin {
+    pub parent: usize,
+    pub step: u8,
+}
+
 // The number of the parent of the slot with the number i.
 fn parent_of(work: &[u8], i: usize) -> usize
     requires { ⌜ Slot-in (now work) i ⌝ }
@@ -52,6 +58,18 @@ fn step_of(work: &[u8], i: usize) -> u8
 {
     let at = SLOT * i + KEY;
     work[at + NUMBER]
+}
+
+// Where the slot with the number i comes from, as far as the buffer has that slot.
+pub fn origin_of(work: &[u8], i: usize) -> Origin
+    ensures { λ r. ⌜ (i < length (now (work .entry)) / situation-bytes → r ≡ origin-in (now (work .entry)) i) ⌝ }
+{
+    if slots_in(work.len()) <= i {
+        return Origin { parent: 0, step: 0 };
+    }
+    let parent = parent_of(work, i);
+    let step = step_of(work, i);
+    Origin { parent, step }
 }
 
 // Did this step from slot i put its character before the field f?
@@ -188,6 +206,16 @@ fn write_records(answer: &mut [u8], work: &[u8], last: usize, sets: [PlaceSet; F
         }
         f += 1;
     }
+}
+
+// How many bytes the answer has of a clash whose finish is in the last slot, as far as the buffer has that slot.
+pub fn answer_length(work: &[u8], last: usize, sets: [PlaceSet; FIELDS]) -> usize
+    ensures { λ r. ⌜ (last < length (now (work .entry)) / situation-bytes → r ≡ length (value-records sets (way-spelt (now (work .entry)) last))) ⌝ }
+{
+    if slots_in(work.len()) <= last {
+        return 0;
+    }
+    records_length(work, last, sets)
 }
 
 // The answer of a clash whose finish is in the last slot. A field stands in the question's sides if its first place set isn't 0. Where there is no such slot, or the records don't fit, nothing is written.

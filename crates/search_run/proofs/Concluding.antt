@@ -18,7 +18,7 @@ pub told-by : (ss : List Slot) (n : ℕ) {sets before after : List ℕ} {given :
 told-by ss n h e = record { answer = e ∙ ap clash-how (h .given); buffer = h .buffer }
 
 module _ {work : List ℕ} {run : Run} (o : Search-over work run) where
-  ended-so : (x : Status) → run .status ≡ x → o .search .status ≡ x
+  pub ended-so : (x : Status) → run .status ≡ x → o .search .status ≡ x
   ended-so x e = sym (o .lent .status) ∙ e
 
   -- where a finished situation is found, it is in a slot

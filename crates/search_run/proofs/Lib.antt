@@ -7,4 +7,6 @@ pub mod Simulated
 pub mod WaySpelt
 pub mod Concluding
 pub mod Ending
+pub mod StepsConcluding
 pub mod RunIsSearch
+pub mod StepsRunIsSearch

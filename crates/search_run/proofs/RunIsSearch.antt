@@ -61,7 +61,7 @@ clash-cases true n rs work buffer = refl
 clash-cases false n rs work buffer = refl
 
 -- the codes of the sides' tokens
-abbrev codes : Question → List ℕ
+abbrev pub codes : Question → List ℕ
 codes q = side-code (q .left) ++ side-code (q .right)
 
 module _ (q : Question) (good : Searchable q) where
@@ -87,7 +87,7 @@ module _ (among : ℕ → Bool) (q : Question) (good : Searchable q) where
         text-agrees among q good room e h f (set-field f (mem-keep (λ (g : ℕ). stands-in g (q .left ++ q .right)) (upto fields) d .0)) (length ss - 1) (le-refl _)
         ∙ texts-over among q e f
 
-    records-alike : value-records (first-masks (codes q)) (text-at ss (length ss - 1)) ≡ records q e
+    pub records-alike : value-records (first-masks (codes q)) (text-at ss (length ss - 1)) ≡ records q e
     unfolding value-records records
     records-alike =
         rw (standing-alike q good)

@@ -1,23 +1,25 @@
 -- The search over slots is the paper's search of the question over the characters that pass a test, to its end: it ends alike, with as
--- many slots as entries, and the text spelt back from the last slot is the text of the entry found.
+-- many slots as entries, and the text spelt back from the last slot is the text of the entry found, the steps written back those of its way.
 --   status-agrees : run .status ≡ status-of (how-of (searched-over among q room))
 --   count-agrees  : length (run .slots) ≡ count-of (searched-over among q room)
 --   text-agrees   : text-back n (run .slots) f last ≡ texts-of (acceptor-over among q) (q .left) (q .right) e f, where e is found
+--   steps-agree   : steps-at (run .slots) last ≡ step-records (e .way), where e is found
 -- Holds of good questions. Follows from the children and tests agreeing (`CodedChildren`), from the law of two searches side by
 -- side (`Mapped`), and from the slots standing for entries (`Numbered`).
-use Prim.Native.Nat.{ℕ, suc, _-_, _≤_, _<_}
+use Prim.Native.Nat.{ℕ, zero, suc, _-_, _≤_, _<_}
 use native.Mathlib.Omega.{arith}
 use mathlib.Core.Path.{_≡_, refl, sym, ap, ap₂, _∙_}
 use mathlib.Core.Bool.{Bool, true, _&&_}
 use mathlib.Core.List.{List, [], _∷_, _++_, map, reverse, List·Memᴰ}
 use lib.ListN.{length, getD, length-append, List·getD-map}
 use lib.Seq.{getD-at}
+use borrow.Author.Tests.{ne-eqb}
 use Rattle.paper.specs.Numbers.{characters, set-fields, longest-side}
 use Rattle.paper.specs.Pattern.{Held, some-text, pattern}
 use Rattle.paper.specs.Places.{PlaceSet}
 use Rattle.paper.specs.Search.{Entry, End, found, used-up, no-room, too-long, search, entries}
 use Rattle.paper.specs.Leads.{Leads}
-use Rattle.paper.specs.Situation.{Situation, Move, same-situation, finished, children, question}
+use Rattle.paper.specs.Situation.{Situation, Move, strike-left, strike-right, put, same-situation, finished, children, question}
 use Rattle.paper.specs.Way.{text-along, texts-of, search-from}
 use Rattle.paper.specs.Question.{Question, held-by}
 use Rattle.paper.specs.Outcome.{count-of, how-of}
@@ -30,7 +32,7 @@ use Rattle.paper.proofs.search.Searched as Searched
 use Rattle.paper.proofs.search.Mapped.{code-entry, code-end, Simulates, search-how, search-entries, search-count}
 use Rattle.paper_chosen.specs.Chosen.{acceptor-over, searched-over}
 use Rattle.base_places.proofs.Masks.{Few}
-use Rattle.base_codes.specs.Inner.{side-code, move-code}
+use Rattle.base_codes.specs.Inner.{side-code, move-code, left-struck, right-struck}
 use Rattle.base_codes.specs.Coded.{Coded, finished-coded, same-coded}
 use Rattle.search_children.specs.Children.{children-coded, given-coded}
 use Rattle.search_trim.specs.Trimming.{question-coded}
@@ -40,8 +42,11 @@ use Rattle.search_children.proofs.CodedSets.{Codable, same-sets}
 use Rattle.search_children.proofs.CodedChildren.{children-agree}
 use Rattle.search_children.proofs.CodedQuestion.{question-agrees}
 use Rattle.search_children.proofs.KeptCodable.{child-codable, question-codable}
-use Rattle.search_children.proofs.Ways.{way-last, way-known, text-last, given-agrees}
+use Rattle.search_children.proofs.Ways.{Known-move, Last-step, way-last, way-known, text-last, given-agrees}
+use Rattle.paper_steps.specs.StepRecords.{step-record, step-records}
+use Rattle.search_steps.specs.WaySteps.{step-bytes}
 use Rattle.search_run.specs.Run.{Running, status-of, slot-search, text-back}
+use Rattle.search_run.specs.StepsEnded.{slots-steps, steps-at}
 use Rattle.search_slots.specs.Slots.{slot-at}
 use Rattle.search_run.proofs.RunNumbers.{entry-at, Numbered, numbered-length, numbered-at, slots-status, slots-numbered}
 use Rattle.search_run.proofs.TextBack.{text-back-is}
@@ -68,6 +73,14 @@ status-coded too-long = refl
 no-moves : (way : List Move) → map move-code way ≡ [] → way ≡ []
 no-moves [] e = refl
 no-moves (m ∷ way) e = absurd (let z : _≡_ {A = ℕ} 0 1 = cc in omega arith)
+
+-- the record of a move, by its code
+step-known : (m : Move) → Known-move m → step-bytes (move-code m) ≡ step-record m
+unfolding step-bytes
+step-known strike-left h = refl
+step-known strike-right h = refl
+step-known (put c) h =
+    rw (ne-eqb c left-struck (λ (e : c ≡ left-struck). omega arith), ne-eqb c right-struck (λ (e : c ≡ right-struck). omega arith))
 
 few-leaves : (h : Held) → GoodHeld characters h → Few h
 few-leaves some-text g = tt
@@ -172,14 +185,39 @@ module _ (among : ℕ → Bool) (q : Question) (good : Searchable q) where
       at-codable : Codable (paper-at i .at)
       at-codable = Searched.every-entry _ _ _ equal same room first Codable first-codable (child-codable among q few (good .alphabet)) (paper-at i) at-mem
 
+    -- the last move on the way of a slot, and the way of its parent
+    last-step : (i : ℕ) → suc i < length (run .slots)
+        → Last-step (paper-at (suc i) .way) (slot-at (run .slots) (suc i) .step) (paper-at (slot-at (run .slots) (suc i) .parent) .way)
+    last-step i h =
+        let parent = slot-at (run .slots) (suc i) .parent in
+        let below : parent < length (run .slots) = omega (arith, numbered .earlier i h) in
+        way-last (paper-at (suc i) .way) (slot-at (run .slots) (suc i) .step) (paper-at parent .way)
+        (way-known among q (good .alphabet) (at-leads (suc i) h)) (way-known among q (good .alphabet) (at-leads parent below))
+        (rw (coded-at (suc i), coded-at parent) at (numbered .its-way i h))
+
+    first-way : paper-at 0 .way ≡ []
+    first-way = no-moves (paper-at 0 .way) (ap (λ (e : Entry Coded ℕ). e .way) (sym (coded-at 0)) ∙ numbered .first-way)
+
+    -- the records of the way to a slot
+    steps-back-is : (n i : ℕ) → i ≤ n → i < length (run .slots) → slots-steps n (run .slots) i ≡ step-records (paper-at i .way)
+    steps-back-is zero i h b =
+        let z : i ≡ 0 = omega arith in sym (ap (λ (j : ℕ). step-records (paper-at j .way)) z ∙ ap step-records first-way)
+    steps-back-is (suc n) zero h b = sym (ap step-records first-way)
+    steps-back-is (suc n) (suc i) h b =
+        let parent = slot-at (run .slots) (suc i) .parent in
+        let e = numbered .earlier i b in
+        let last = last-step i b in
+        rw (steps-back-is n parent (omega arith) (omega arith))
+        (ap (λ (s : List ℕ). step-records (paper-at parent .way) ++ s) (ap step-bytes (sym (last .code)) ∙ step-known (last .move) (last .known))
+        ∙ sym (ap step-records (last .is)))
+
     module _ (f : ℕ) (b : f < set-fields) where
       -- the text of the paper's entry with the number i
       abbrev text : ℕ → List ℕ
       text i = text-along (acceptor-over among q) f first (reverse (paper-at i .way))
 
       text-first : text 0 ≡ []
-      text-first =
-          rw (no-moves (paper-at 0 .way) (ap (λ (e : Entry Coded ℕ). e .way) (sym (coded-at 0)) ∙ numbered .first-way))
+      text-first = rw first-way
 
       text-grows : (i : ℕ) → suc i < length (run .slots)
           → text (suc i)
@@ -188,10 +226,7 @@ module _ (among : ℕ → Bool) (q : Question) (good : Searchable q) where
       text-grows i h =
           let parent = slot-at (run .slots) (suc i) .parent in
           let below : parent < length (run .slots) = omega (arith, numbered .earlier i h) in
-          let last =
-          way-last (paper-at (suc i) .way) (slot-at (run .slots) (suc i) .step) (paper-at parent .way)
-          (way-known among q (good .alphabet) (at-leads (suc i) h)) (way-known among q (good .alphabet) (at-leads parent below))
-          (rw (coded-at (suc i), coded-at parent) at (numbered .its-way i h)) in
+          let last = last-step i h in
           let at-parent : slot-at (run .slots) parent .at ≡ situation-code (paper-at parent .at) =
           numbered-at numbered parent ∙ ap (λ (e : Entry Coded ℕ). e .at) (coded-at parent) in
           ap (λ (w : List Move). text-along (acceptor-over among q) f first (reverse w)) (last .is)
@@ -217,3 +252,9 @@ module _ (among : ℕ → Bool) (q : Question) (good : Searchable q) where
           text-back-is (run .slots) f (text f b) (numbered .earlier) (text-first f b) (text-grows f b) n (length (run .slots) - 1) m
           (omega (arith, found-last .0))
           ∙ ap (λ (x : Paper-entry). text-along (acceptor-over among q) f first (reverse (x .way))) (found-last .1)
+
+      -- The records of the way back from there are those of its way.
+      pub steps-agree : steps-at (run .slots) (length (run .slots) - 1) ≡ step-records (e .way)
+      steps-agree =
+          steps-back-is (length (run .slots) - 1) (length (run .slots) - 1) (omega arith) (omega (arith, found-last .0))
+          ∙ ap (λ (x : Paper-entry). step-records (x .way)) (found-last .1)

@@ -34,7 +34,7 @@ module _ {work : List ℕ} {last : ℕ} (w : Way-to work last) where
   pub slot-there : last < length work / situation-bytes
   slot-there = omega (arith, w .entered, w .holds .fits)
 
-  text-alike : way-spelt work last ≡ text-at (w .slots) last
+  pub text-alike : way-spelt work last ≡ text-at (w .slots) last
   text-alike = λ i f. back-alike (w .holds) (w .earlier) f last last (w .entered) i
 
   pub answered-alike : {sets before after : List ℕ} {given : Given}

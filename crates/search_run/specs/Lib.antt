@@ -4,3 +4,4 @@ pub mod Lent
 -- the answer
 pub mod Way
 pub mod Ended
+pub mod StepsEnded

@@ -8,6 +8,8 @@ use base_codes::FIELDS;
 use base_places::CHARACTERS;
 use base_places::PLACES;
 use base_places::PlaceSet;
+use base_steps::StepsEnded;
+use base_steps::StepsHow;
 use search::Run;
 use search::Status;
 use search_records::Given;
@@ -17,7 +19,9 @@ ghost use lib.ListN.{length, replicate};
 ghost use Rattle.base_codes.specs.Inner.{tokens};
 ghost use Rattle.search_trim.specs.Trimming.{question-coded};
 ghost use Rattle.search_run.specs.Ended.{room-for, ended-with, buffer-with, Clash-told, Search-over, Concluded};
+ghost use Rattle.search_steps.specs.WaySteps.{steps-told};
 ghost use Rattle.search_run.specs.Lent.{tables};
+ghost use Rattle.search_run.specs.StepsEnded.{steps-concluded, steps-run, steps-with};
 ghost use Rattle.search_run.specs.Way.{Way-to};
 
 // "at most 65,535"
@@ -49,6 +53,32 @@ pub fn run(
     }
 }
 
+// The same, and after a clash the way is written into a third buffer.
+pub fn run_steps(
+    left: CodedSide,
+    right: CodedSide,
+    follow: [[PlaceSet; PLACES]; FIELDS],
+    taking: [[PlaceSet; CHARACTERS]; FIELDS],
+    last: [PlaceSet; FIELDS],
+    work: &mut [u8],
+    answer: &mut [u8],
+    steps: &mut [u8],
+) -> StepsEnded
+    ensures ended { λ r. ⌜ steps-run r (now (answer .exit)) (now (steps .exit)) ≡ steps-with (tables follow taking last) (room-for (length (now (work .entry)))) (question-coded (tokens left) (tokens right)) (now (answer .entry)) (now (steps .entry)) ⌝ }
+    ensures work { λ _. ⌜ now (work .exit) ≡ replicate (length (now (work .entry))) 0 ⌝ }
+{
+    let first = search_trim::question(left, right);
+    let room = room_for(work.len());
+    let run = search::search(work, room, first, &follow, &taking, last);
+    let sets = first.sets;
+    let how = conclude_steps(answer, steps, work, run, sets);
+    search_slots::clear(work);
+    StepsEnded {
+        how,
+        count: run.entered,
+    }
+}
+
 // "Room is one situation for each whole 184 bytes of working buffer, and at most 65,535."
 fn room_for(bytes: usize) -> usize
     ensures { λ r. ⌜ r ≡ room-for bytes ⌝ }
@@ -69,6 +99,27 @@ fn conclude(answer: &mut [u8], work: &[u8], run: Run, sets: [PlaceSet; FIELDS]) 
         Status::NoRoom => How::NoRoom,
         Status::TooLong => How::SideTooLong,
         Status::Going => How::NoRoom,
+    }
+}
+
+// The same with the way. Where a finish was found it is in the last slot.
+fn conclude_steps(
+    answer: &mut [u8],
+    steps: &mut [u8],
+    work: &[u8],
+    run: Run,
+    sets: [PlaceSet; FIELDS],
+) -> StepsHow
+    requires { ⌜ Search-over (now work) run ⌝ }
+    ensures { λ r. ⌜ ((o : Search-over (now (work .entry)) run) → steps-told r (now (answer .exit)) (now (steps .exit)) ≡ steps-concluded (o .search) sets (now (answer .entry)) (now (steps .entry))) ⌝ }
+{
+    let status = run.status;
+    match status {
+        Status::Found => search_steps::answer_steps(answer, steps, work, run.entered - 1, sets),
+        Status::UsedUp => StepsHow::NoClash,
+        Status::NoRoom => StepsHow::NoRoom,
+        Status::TooLong => StepsHow::SideTooLong,
+        Status::Going => StepsHow::NoRoom,
     }
 }
 

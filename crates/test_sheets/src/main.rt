@@ -3,7 +3,7 @@
 // of sheets is handed, or a text to be spelt or read back. The program ends where the input does, and also before a part or a case that is cut
 // short, has another mark or asks for more than is lent here. A read or a write that fails is told on standard error.
 //
-// The stored parts are these ten; tools/part frames a part. The second program prints the same lines, but for those of the scripts, which it
+// The stored parts are these twelve; tools/part frames a part. The second program prints the same lines, but for those of the scripts, which it
 // reads. tools/compare tries fresh parts.
 //
 // 1. `BY`: the known sheets of document 01
@@ -111,11 +111,23 @@
 // What the second program's `sheets --ascii` makes: each of the 256 bytes alone, and all characters in one text; every pair of the values 0 to 44
 // and 255, read back; each value alone, behind a letter and behind two letters, so that a shift sign stands at the end; and output buffers of every
 // length around the right one. `second --ascii` prints the same.
+//
+// 11. `ST`: sheets answered with their steps
+//
+// What the second program's `sheets --steps 10 800` makes: sheets that clash, with rooms, answer buffers and steps buffers that are often just
+// what is needed, or one less; one whose way has 1,214 bytes; some without a clash, not decided or refused. `second --steps` prints the same.
+//
+// 12. `PY`: ways that are played
+//
+// First what the second program's `sheets --play-each` makes: every damage of every record of three short ways, and single steps that are not
+// allowed. Then what `sheets --play 11 550` makes: good ways, ways with one record damaged, left out, doubled or exchanged, ways by chance, and
+// ways of other sheets, with answer buffers around the right length. `second --play` prints the same.
 mod ascii;
 mod part;
 mod plain;
 mod script;
 mod spelt;
+mod steps;
 mod written;
 
 use base_answers::Numbers;
@@ -236,6 +248,8 @@ fn answer_case(sheet: &[u8], work: &mut [u8], answer: &mut [u8], shown: Shown) -
         Shown::Scripts => script::show_script(sheet),
         Shown::Spelt => spelt::show_spelt(sheet, answer),
         Shown::Plain => plain::show_plain(sheet, work),
+        Shown::Steps => steps::show_steps(sheet, work, answer),
+        Shown::Played => steps::show_played(sheet, answer),
     }
 }
 

@@ -30,6 +30,12 @@ pub enum Shown {
     // `PL`: a line: number, count and place of the engine for plain rules, and every byte of the bit buffer, which is the working buffer; then
     // number, place and bytes of what the sheet needs
     Plain,
+    // `ST`: a line: that of `BY` for the sheet answered with its steps, and the bytes of steps and every byte of the steps buffer, whose length
+    // stands behind the sheet in two bytes
+    Steps,
+    // `PY`: a line: number, count, place and written length of the way played, and every byte of the answer buffer. The steps stand behind the
+    // sheet, with their length in two bytes before them
+    Played,
 }
 
 // How far the program is, what the cases of the part are, and how many are left.
@@ -54,6 +60,10 @@ const SPELT: usize = b'S' as usize + 256 * (b'P' as usize);
 
 const PLAIN: usize = b'P' as usize + 256 * (b'L' as usize);
 
+const STEPS: usize = b'S' as usize + 256 * (b'T' as usize);
+
+const PLAYED: usize = b'P' as usize + 256 * (b'Y' as usize);
+
 const WRITTEN: usize = b'W' as usize + 256 * (b'R' as usize);
 
 const ASCII: usize = b'F' as usize + 256 * (b'A' as usize);
@@ -77,6 +87,8 @@ fn part_of(mark: usize, number: usize) -> Part {
         SCRIPTS => cases(How::Going, Kind::Sheets(Shown::Scripts), number),
         SPELT => cases(How::Going, Kind::Sheets(Shown::Spelt), number),
         PLAIN => cases(How::Going, Kind::Sheets(Shown::Plain), number),
+        STEPS => cases(How::Going, Kind::Sheets(Shown::Steps), number),
+        PLAYED => cases(How::Going, Kind::Sheets(Shown::Played), number),
         WRITTEN => cases(How::Going, Kind::Written, number),
         ASCII => cases(How::Going, Kind::Ascii, number),
         _ => cases(How::Stopped, Kind::Written, 0),

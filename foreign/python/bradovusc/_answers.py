@@ -224,6 +224,76 @@ class Decision(Told):
 
 
 @dataclass(frozen=True)
+class StepsTooShort(_Yes):
+    """51: the rules clash, and the texts would fit, but the steps buffer is too short for the way. Neither is written."""
+
+    #: The situations that were entered.
+    count: int
+    number = 51
+    _words = "clash, but the steps buffer is too short for the way"
+
+
+@dataclass(frozen=True)
+class Stepped(Told):
+    """The answer to a sheet, and the way of a clash. As a string it is the answer's words."""
+
+    #: As :func:`clash` gives it, or :class:`StepsTooShort`.
+    answer: Union[Answer, StepsTooShort]
+    #: The records of the way, of which :func:`way` gives the steps; none where the answer is not :class:`Clash`.
+    records: bytes
+
+    @property
+    def number(self) -> int:  # type: ignore[override]
+        """The answer's number."""
+        return self.answer.number
+
+    @property
+    def clashes(self) -> bool:
+        """Whether the rules clash. Raises :class:`NotAnswered` where that is not decided, or the sheet is at fault."""
+        return self.answer.clashes
+
+    def __str__(self) -> str:
+        return str(self.answer)
+
+
+@dataclass(frozen=True)
+class WrongStep(_Open):
+    """47: a record of a way is cut short, has another mark, a kind above 2 or a value that is no character."""
+
+    number = 47
+    _words = "a wrong record of a step"
+
+
+@dataclass(frozen=True)
+class StepNotAllowed(_Open):
+    """48: a step is not allowed where it stands, or stands behind the finish."""
+
+    number = 48
+    _words = "a step that is not allowed"
+
+
+@dataclass(frozen=True)
+class NotFinished(_Open):
+    """49: the records of a way end before the finish, or there are none."""
+
+    number = 49
+    _words = "the steps end before the finish"
+
+
+@dataclass(frozen=True)
+class TooManySteps(_Open):
+    """50: there are more records than a way may have."""
+
+    number = 50
+    _words = "too many steps"
+
+
+#: What the player answers. Each has ``clashes``: true, or :class:`NotAnswered` is raised, since steps that are no way say nothing. The counts
+#: are 0.
+Played = Union[Clash, Refused, SideTooLong, AnswerTooShort, WrongStep, StepNotAllowed, NotFinished, TooManySteps]
+
+
+@dataclass(frozen=True)
 class NotPlain(_Open):
     """42: a field stands more than once in the two sides together. Ask by :func:`clash` or :func:`decide`."""
 

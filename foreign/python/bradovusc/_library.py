@@ -31,6 +31,8 @@ _NUMBERS = _TOLD = (ctypes.POINTER(ctypes.c_uint64), ctypes.c_size_t)
 _FUNCTIONS = {
     "bradovusc_clash": _READ + _LENT + _LENT + _TOLD,
     "bradovusc_decide": _READ + _LENT + _LENT + _TOLD,
+    "bradovusc_steps": _READ + _LENT + _LENT + _LENT + _TOLD,
+    "bradovusc_play": _READ + _READ + _LENT + _TOLD,
     "bradovusc_plain": _READ + _LENT + _TOLD,
     "bradovusc_plain_bytes": _READ + _TOLD,
     "bradovusc_write": _READ + _NUMBERS + _READ + _READ + _LENT + _TOLD,

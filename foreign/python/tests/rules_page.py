@@ -4,7 +4,7 @@ import re
 from pathlib import Path
 
 TOP = Path(__file__).resolve().parents[3]
-LENT = {"work": 65_520, "answer": 4_096}
+LENT = {"work": 65_520, "answer": 4_096, "steps": 1_420}
 
 
 def _cells(line):
@@ -33,8 +33,8 @@ def in_bytes(cell):
 
 
 def lent(row):
-    """The bytes of work and of answer that a row lends."""
-    said = {word: int(number) for word, number in re.findall(r"(work|answer) (\d+)", row.get("Lent", ""))}
+    """The bytes of work, of answer and of steps that a row lends."""
+    said = {word: int(number) for word, number in re.findall(r"(work|answer|steps) (\d+)", row.get("Lent", ""))}
     return {**LENT, **said}
 
 

@@ -70,6 +70,34 @@ class Known(unittest.TestCase):
                 place, needed = getattr(needs, "place", 0), getattr(needs, "bytes", 0)
                 self.assertEqual([f"{needs.number} {place} {needed}"], quoted(row["Needs"]))
 
+    def test_steps(self):
+        examples = list(rows("Steps told"))
+        self.assertGreater(len(examples), 8)
+        for number, row in examples:
+            with self.subTest(line=number):
+                length = lent(row)
+                work, answer, steps = (bytearray([FILL]) * length[word] for word in ("work", "answer", "steps"))
+                said = bradovusc.steps(in_bytes(row["Sheet"]), work, answer, steps)
+                found = said.answer
+                count, place, written = (getattr(found, word, 0) for word in ("count", "place", "written"))
+                self.assertEqual([f"{said.number} {count} {place} {written} {len(said.records)}"], quoted(row["Steps told"]))
+                self.assertEqual(said.records, in_bytes(row["Way"]))
+                self.assertEqual(steps, said.records + bytes([FILL]) * (length["steps"] - len(said.records)))
+                self.assertEqual(answer[written:], bytearray([FILL]) * (length["answer"] - written))
+                self.assertEqual(set(work), set() if not work else {FILL if isinstance(found, Refused) else 0})
+
+    def test_the_player(self):
+        examples = list(rows("Player tells"))
+        self.assertGreater(len(examples), 20)
+        for number, row in examples:
+            with self.subTest(line=number):
+                answer = bytearray([FILL]) * lent(row)["answer"]
+                said = bradovusc.play(in_bytes(row["Sheet"]), in_bytes(row["Way"]), answer)
+                count, place, written = (getattr(said, word, 0) for word in ("count", "place", "written"))
+                self.assertEqual([f"{said.number} {count} {place} {written}"], quoted(row["Player tells"]))
+                self.assertEqual(answer[:written], in_bytes(row["Texts"]))
+                self.assertEqual(answer[written:], bytearray([FILL]) * (len(answer) - written))
+
     def test_sheets_without_lent_buffers(self):
         small = [(number, row) for number, row in rows("Prints") if not row.get("Lent") and len(row["Sheet"]) < 200]
         for number, row in small:

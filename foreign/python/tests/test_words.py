@@ -59,6 +59,8 @@ class Words(unittest.TestCase):
             "RULE_BYTES": bradovusc.RULE_BYTES,
             "PAIR_BYTES": bradovusc.PAIR_BYTES,
             "PLAIN_BYTES": bradovusc.PLAIN_BYTES,
+            "STEP_RECORD": bradovusc.STEP_RECORD,
+            "MOST_STEPS": bradovusc.MOST_STEPS,
             "DECIDED_PAIR_BYTES": bradovusc.DECIDED_PAIR_BYTES,
         }
         self.assertEqual({name: int(defined(name)) for name in plain}, plain)
@@ -70,6 +72,7 @@ class Words(unittest.TestCase):
         self.assertEqual(bradovusc.list_bytes(), 2_480)
         self.assertEqual([bradovusc.decided_list_bytes(rules) for rules in (0, 1, 2, 3, 32)], [0, 0, 7, 21, 3_472])
         self.assertEqual(bradovusc.decided_list_bytes(), 3_472)
+        self.assertEqual([bradovusc.steps_bytes(room) for room in (0, 1, 2, 356)], [0, 0, 4, 1_420])
 
     def test_signs(self):
         self.assertEqual(re.search(r'bradovusc_signs\[.*\] = "(.*)";', HEADER)[1], bradovusc.SIGNS)

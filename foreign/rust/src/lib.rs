@@ -41,6 +41,28 @@
 //! assert_eq!(texts, ["0", "0"]);
 //! ```
 //!
+//! [`steps`](crate::steps()) writes the way to a clash too, step by step, so that it can be followed
+//! by hand; [`play`] goes any such way and gives the texts at its end.
+//!
+//! ```
+//! use bradovusc::{answer_bytes, play, steps, steps_bytes, way, Played, Step, SITUATION_BYTES};
+//!
+//! // Field 0, any digits, is the left side; field 1, the digit 4, the right one.
+//! let sheet = b"PA\x00\x04\x44\x41\x00\x09PA\x01\x01\x04LE\x01\x40RI\x01\x41";
+//! let mut work = [0; 356 * SITUATION_BYTES];
+//! let mut answer = [0; answer_bytes(356)];
+//! let mut records = [0; steps_bytes(356)];
+//! let given = steps(sheet, &mut work, &mut answer, &mut records);
+//! let records = &records[..given.steps()];
+//! let found: Vec<Step> = way(records).collect();
+//! // 4 is put before both fields, which are then struck; behind them stand the hidden fields.
+//! let (left, right) = (Step::StrikeLeft, Step::StrikeRight);
+//! assert_eq!(found, [Step::Put(4), left, left, right, right]);
+//! assert_eq!(play(sheet, records, &mut answer), Played::Finished { written: 12 });
+//! // Field 1 holds one character, so it can't be struck first.
+//! assert_eq!(play(sheet, b"ST\x01", &mut answer), Played::StepNotAllowed);
+//! ```
+//!
 //! Where no field stands more than once, [`plain()`] says clash or no clash in a small buffer of bits,
 //! and [`plain_bytes`] says how many bytes it needs.
 //!
@@ -205,6 +227,7 @@ mod deciding;
 mod plain;
 mod scripts;
 mod spelling;
+mod steps;
 mod writing;
 
 pub use carrying::{
@@ -222,6 +245,7 @@ pub use deciding::{decide, Decision};
 pub use plain::{plain, plain_bytes, Plain, PlainBytes, PLAIN_BYTES};
 pub use scripts::{script, Scripted, SCRIPT_BYTES};
 pub use spelling::{read_spelt, spell, spelt_bytes, Spelt};
+pub use steps::{play, steps, steps_bytes, way, Played, Step, Stepped, Way, MOST_STEPS};
 pub use writing::{write, Written};
 
 use std::error::Error;

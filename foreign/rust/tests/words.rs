@@ -3,9 +3,9 @@
 use bradovusc::{
     catalogue_bytes, decided_list_bytes, list_bytes, recheck, recheck_decided, sign, spelt_bytes,
     texts, value, Added, AddedDecided, Answer, CarriedOver, DecidedPair, Fault, Pair, Plain,
-    PlainBytes, Rechecked, RecheckedDecided, Scripted, Spelt, SpeltOpen, Text, Withdrawn, Written,
-    DECIDED_PAIR_BYTES, MOST_RULES, PAIR_BYTES, PLAIN_BYTES, RULE_BYTES, RULE_FIELDS, SCRIPT_BYTES,
-    SHEET_BYTES, SIGNS, VERSION,
+    PlainBytes, Played, Rechecked, RecheckedDecided, Scripted, Spelt, SpeltOpen, Stepped, Text,
+    Withdrawn, Written, DECIDED_PAIR_BYTES, MOST_RULES, MOST_STEPS, PAIR_BYTES, PLAIN_BYTES,
+    RULE_BYTES, RULE_FIELDS, SCRIPT_BYTES, SHEET_BYTES, SIGNS, VERSION,
 };
 
 const HEADER: &str = include_str!("../../c/bradovusc.h");
@@ -29,6 +29,10 @@ const OTHERS: [Answer; 5] = [
     Answer::AnswerTooShort { count: 7 },
 ];
 
+/// What is wrong with a way that is played.
+const PLAYED: [Played; 4] =
+    [Played::WrongStep, Played::StepNotAllowed, Played::NotFinished, Played::TooManySteps];
+
 const NOT_APART: Added = Added::NotApart { rule: 5, pair: Answer::NoRoom { count: 7 } };
 
 /// The number and the text that the header has behind each `case`.
@@ -47,7 +51,7 @@ fn header_texts() -> Vec<(u32, &'static str)> {
 #[test]
 fn answers_in_words() {
     let expected = header_texts();
-    assert_eq!(expected.len(), 24);
+    assert_eq!(expected.len(), 29);
     let faults = FAULTS.map(|fault| (fault.number(), fault.to_string()));
     let others = OTHERS.map(|answer| (answer.number(), answer.to_string()));
     let added = [Added::ForeignField, Added::Full, Added::NoCatalogue]
@@ -62,7 +66,11 @@ fn answers_in_words() {
     let further = [(NOT_APART.number(), not_apart), no_rule, short, no_script, no_sheet];
     let plain =
         [Plain::NotPlain, Plain::BitsTooShort].map(|plain| (plain.number(), plain.to_string()));
-    let mut ours = [&faults[..], &others, &added, &further, &plain, &spelt].concat();
+    let played = PLAYED.map(|played| (played.number(), played.to_string()));
+    let short = Stepped::StepsTooShort { count: 7 };
+    let stepped = [(short.number(), short.to_string())];
+    let mut ours =
+        [&faults[..], &others, &added, &further, &plain, &spelt, &played, &stepped].concat();
     ours.sort();
     assert!(ours.iter().map(|(number, text)| (*number, text.as_str())).eq(expected));
 }
@@ -189,6 +197,40 @@ fn plain_rules_in_words() {
 }
 
 #[test]
+fn steps_in_words() {
+    for fault in FAULTS {
+        let played = Played::Refused { fault, place: 13 };
+        assert_eq!(played.to_string(), format!("{fault}, at offset 13"));
+        assert_eq!((played.number(), played.place(), played.written()), (fault.number(), 13, 0));
+        assert_eq!(played.clashes(), None);
+    }
+    for played in PLAYED {
+        assert_eq!((played.place(), played.written(), played.clashes()), (0, 0, None));
+    }
+    let answers = OTHERS.map(|answer| Stepped::Answered { answer, steps: 5 });
+    for (stepped, answer) in answers.into_iter().zip(OTHERS) {
+        assert_eq!((stepped.number(), stepped.count()), (answer.number(), 7));
+        assert_eq!((stepped.written(), stepped.steps()), (answer.written(), 5));
+        assert_eq!(
+            (stepped.to_string(), stepped.clashes()),
+            (answer.to_string(), answer.clashes())
+        );
+    }
+    let short = Stepped::StepsTooShort { count: 7 };
+    assert_eq!((short.count(), short.written(), short.steps()), (7, 0, 0));
+    assert_eq!(short.clashes(), Some(true));
+    // those that a search gives too
+    let [clash, _, _, long, short] = OTHERS;
+    let finished = Played::Finished { written: 9 };
+    assert_eq!((finished.number(), finished.to_string()), (clash.number(), clash.to_string()));
+    assert_eq!((finished.written(), finished.clashes()), (9, Some(true)));
+    let (played, other) = (Played::SideTooLong, Played::AnswerTooShort);
+    assert_eq!((played.number(), played.to_string()), (long.number(), long.to_string()));
+    assert_eq!((other.number(), other.to_string()), (short.number(), short.to_string()));
+    assert_eq!((played.clashes(), other.clashes()), (None, Some(true)));
+}
+
+#[test]
 fn carrying_over_in_words() {
     for fault in FAULTS {
         let spelt = SpeltOpen::Refused { fault, place: 13 };
@@ -263,6 +305,7 @@ fn lengths_of_buffers() {
     defined("SCRIPT_BYTES", SCRIPT_BYTES);
     defined("SHEET_BYTES", SHEET_BYTES);
     defined("PLAIN_BYTES", PLAIN_BYTES);
+    defined("MOST_STEPS", MOST_STEPS);
     assert_eq!(catalogue_bytes(MOST_RULES), 26_016);
     assert_eq!([0, 1, 2, 3, MOST_RULES].map(list_bytes), [0, 0, 5, 15, 2_480]);
     assert_eq!([0, 1, 2, 3, MOST_RULES].map(decided_list_bytes), [0, 0, 7, 21, 3_472]);

@@ -1,6 +1,8 @@
 //! Asks the library whether two rules make the same label, in room that grows.
 
-use bradovusc::{answer_bytes, Answer, Written, MOST_SITUATIONS, SITUATION_BYTES};
+use bradovusc::{
+    answer_bytes, steps_bytes, Answer, Step, Written, MOST_SITUATIONS, SITUATION_BYTES,
+};
 
 use crate::sides::{sheet, texts, Side, Text};
 
@@ -102,6 +104,16 @@ impl Buffers {
             debug_assert_eq!(shared.label, right.label(&shared.right));
         }
         asked
+    }
+
+    /// The way to a clash that the library's first search finds in this room; none where it does not.
+    pub fn way(&mut self, left: &Side, right: &Side, room: usize) -> Option<Vec<Step>> {
+        let sheet = sheet(left, right).ok()?;
+        let mut answer = vec![0; answer_bytes(room)];
+        let mut records = vec![0; steps_bytes(room)];
+        let stepped = bradovusc::steps(&sheet, self.work(room), &mut answer, &mut records);
+        let records = records.get(..stepped.steps()).unwrap_or_default();
+        (stepped.clashes() == Some(true)).then(|| bradovusc::way(records).collect())
     }
 
     fn ask_once(&mut self, sheet: &[u8], room: usize) -> Asked {

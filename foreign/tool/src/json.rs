@@ -29,6 +29,16 @@ impl Object {
         self.raw(key, &object.done())
     }
 
+    pub fn list(self, key: &str, objects: Vec<Object>) -> Object {
+        let objects: Vec<String> = objects.into_iter().map(Object::done).collect();
+        self.raw(key, &format!("[{}]", objects.join(",")))
+    }
+
+    /// What is not there.
+    pub fn nothing(self, key: &str) -> Object {
+        self.raw(key, "null")
+    }
+
     fn raw(mut self, key: &str, value: &str) -> Object {
         if !self.inside.is_empty() {
             self.inside.push(',');
@@ -71,5 +81,12 @@ mod tests {
         let object = Object::new().text("a\"b", "c\\d\ne\u{1}é").number("n", 7).truth("t", true);
         let object = object.object("o", Object::new());
         assert_eq!(object.done(), r#"{"a\"b":"c\\d\ne\u0001é","n":7,"t":true,"o":{}}"#);
+    }
+
+    #[test]
+    fn lists_of_objects() {
+        let objects = vec![Object::new().number("n", 7), Object::new()];
+        let object = Object::new().list("l", objects).list("e", Vec::new()).nothing("x");
+        assert_eq!(object.done(), r#"{"l":[{"n":7},{}],"e":[],"x":null}"#);
     }
 }

@@ -1,7 +1,7 @@
 //! The tool `bradovusc`: can two label rules of a storeroom make the same label?
 //!
 //! It reads a file of rules ([`notation`]), turns each rule into the bytes that the proved library
-//! takes ([`compile`]), asks the library ([`ask`]) and says what the library said ([`report`]).
+//! takes ([`compile`]), asks the library ([`ask`]) and says what the library said ([`report`], [`way`]).
 //! docs/NOTATION.md has the notation, the commands, the JSON and the exit statuses.
 
 pub mod ask;
@@ -19,4 +19,5 @@ pub mod run;
 pub mod sides;
 pub mod source;
 pub mod status;
+pub mod way;
 pub mod words;

@@ -24,6 +24,7 @@ use crate::report::{
 use crate::sides::{sheet, Side, Title};
 use crate::source::Source;
 use crate::status::{Problem, Status};
+use crate::way::{follow, way_objects, way_words, Row};
 use crate::words::{self, Command, Options, USAGE};
 
 /// Where a command reads and writes.
@@ -36,6 +37,9 @@ pub struct Streams<'a> {
 }
 
 type Outcome = Result<Status, Problem>;
+
+/// The search of the library that writes its steps.
+const FIRST_SEARCH: u8 = 1;
 
 /// A file of rules may have so many bytes.
 const MOST_FILE: u64 = 16 << 20;
@@ -197,7 +201,18 @@ impl Run<'_> {
     fn pair(&mut self, path: &Path, left: &str, right: &str) -> Outcome {
         let [left, right] = self.two(path, left, right)?;
         let asked = self.ask_one(&left, &right)?;
-        self.say(&pair_words(&left, &right, &asked), || pair_object(&left, &right, &asked))?;
+        let (mut words, mut object) =
+            (pair_words(&left, &right, &asked), pair_object(&left, &right, &asked));
+        if self.options.steps && asked.answer.clashes() == Some(true) {
+            (words, object) = match way(&left, &right, &asked) {
+                Some(rows) => {
+                    let object = object.list("steps", way_objects(&left, &right, &rows));
+                    (words + &way_words(&left, &right, &rows), object)
+                }
+                None => (words + &no_way_words(asked.search), object.nothing("steps")),
+            };
+        }
+        self.say(&words, || object)?;
         Ok(status_of(asked.answer))
     }
 
@@ -406,12 +421,29 @@ impl Run<'_> {
     }
 }
 
-/// The status of one answer.
+/// The way to the clash, if the library's first search has found it.
+fn way(left: &Side, right: &Side, asked: &Asked) -> Option<Vec<Row>> {
+    if asked.search != FIRST_SEARCH {
+        return None;
+    }
+    let steps = Buffers::new().way(left, right, asked.room)?;
+    follow(left, right, &steps)
+}
+
+/// That there is no way to show.
+fn no_way_words(search: u8) -> String {
+    format!(
+        "There is no way to show: search {search} has found the clash, and only search \
+         {FIRST_SEARCH} writes its steps down.\n"
+    )
+}
+
 /// An answer of the library that ends a command, with its place if it has one.
 fn library_says(answer: impl fmt::Display) -> Problem {
     Problem::Fault(format!("the library says: {answer}"))
 }
 
+/// The status of one answer.
 fn status_of(answer: Answer) -> Status {
     let mut tally = Tally::default();
     tally.count(answer);

@@ -80,7 +80,7 @@ impl Side {
     }
 
     /// The tokens, with so much added to each field's number.
-    fn renamed(&self, first: u8) -> Vec<u8> {
+    pub fn renamed(&self, first: u8) -> Vec<u8> {
         let renamed = |&token: &u8| if token < FIELD { token } else { token.saturating_add(first) };
         self.tokens.iter().map(renamed).collect()
     }

@@ -23,6 +23,7 @@ bradovusc: can two label rules make the same label?
 FILE is a file of rules, or - for standard input. Options:
 
     --json        prints one JSON object a line
+    --steps       pair: the way to the clash, step by step
     --room N      room for N situations, 1 to 65,535; else it grows from 356 to 65,535
     --threads N   so many threads; else as many as there are processors
     --new         add: the catalogue is begun; without it the file must be there
@@ -55,12 +56,20 @@ pub struct Options {
     pub room: Room,
     pub threads: Option<usize>,
     pub new: bool,
+    pub steps: bool,
     pub bytes: Option<usize>,
 }
 
 impl Default for Options {
     fn default() -> Options {
-        Options { json: false, room: Room::Growing, threads: None, new: false, bytes: None }
+        Options {
+            json: false,
+            room: Room::Growing,
+            threads: None,
+            new: false,
+            steps: false,
+            bytes: None,
+        }
     }
 }
 
@@ -138,6 +147,10 @@ fn sort(
                 options.new = true;
                 "--new"
             }
+            "--steps" => {
+                options.steps = true;
+                "--steps"
+            }
             "--help" | "-h" => "--help",
             "--version" => "--version",
             _ => return Err(format!("{name} is no option; {TRY}")),
@@ -155,7 +168,7 @@ fn command(plain: &[OsString], given: &Given) -> Result<Command, String> {
     let text = |index: usize| words[index].to_string_lossy().into_owned();
     let (form, options): (&str, &[&str]) = match &*name {
         "check" => ("FILE", &["--room", "--threads"]),
-        "pair" => ("FILE A B", &["--room"]),
+        "pair" => ("FILE A B", &["--room", "--steps"]),
         "add" => ("CATALOGUE FILE RULE", &["--room", "--new", "--bytes"]),
         "withdraw" => ("CATALOGUE NUMBER", &["--bytes"]),
         "list" => ("CATALOGUE", &["--bytes"]),

@@ -30,6 +30,10 @@
 //! - `second --plain --lines`: a stream of cases, what `plain` prints for each
 //! - `second --ascii`: a stream of texts to be spelt and spelt texts to be read
 //!   back, a line for each
+//! - `second --steps [--scan]`: a stream of cases of the steps, a line for each
+//! - `second --steps --lines`: a stream of cases of the steps, what `steps` prints
+//!   for each
+//! - `second --play`: a stream of cases of the player, a line for each
 
 use std::io::{self, BufWriter, Read, Write};
 use std::process::ExitCode;
@@ -40,7 +44,7 @@ use second::catalogue::{Searcher, HASHING, SCANNING};
 use second::decide::{self, SEARCHES};
 use second::fault::Fault;
 use second::smt::{compare, output, Told};
-use second::{full_ascii, sheet, shown, spell_open, writer};
+use second::{full_ascii, sheet, shown, spell_open, steps, writer};
 use second::{ANSWER_BUFFER_TOO_SHORT, CLASH, NO_CLASH, NO_ROOM, SIDE_TOO_LONG};
 
 /// "the program's 65,520 hold 356; it reads 2,048 bytes of input", and lends
@@ -66,6 +70,12 @@ fn main() -> ExitCode {
         ["--plain"] => many(|case| case.plain_line() + "\n"),
         ["--plain", "--lines"] => many(Case::plain_lines),
         ["--ascii"] => each(full_ascii::Case::read, |case| case.line() + "\n"),
+        ["--steps"] => each(steps::Case::read, |case| case.run(steps::steps).line() + "\n"),
+        ["--steps", "--scan"] => {
+            each(steps::Case::read, |case| case.run(second::scan::steps).line() + "\n")
+        }
+        ["--steps", "--lines"] => each(steps::Case::read, |case| case.run(steps::steps).lines()),
+        ["--play"] => each(steps::Played::read, |case| case.line() + "\n"),
         ["--spelt"] => many(|case| case.spelt() + "\n"),
         ["--spell-open"] => return spelt(spell_open::sheet),
         ["--spell-open-rule"] => return spelt(spell_open::rule),
@@ -99,6 +109,7 @@ fn usage() -> ExitCode {
     eprintln!("       second --scripts STREAM | second --script SHEET");
     eprintln!("       second --spell-open | second --spell-open-rule | second --spelt");
     eprintln!("       second --write | second --plain [--lines] | second --ascii");
+    eprintln!("       second --steps [--scan | --lines] | second --play");
     ExitCode::from(2)
 }
 

@@ -10,6 +10,9 @@
 //! - `sheets --plain-pairs SEED NUMBER`: so many of the pairs of rules as
 //!   storerooms write them in which no field stands twice, each with just the bit
 //!   buffer that it needs
+//! - `sheets --steps SEED NUMBER`: so many cases of the steps, made from the seed
+//! - `sheets --play SEED NUMBER`: so many cases of the player, made from the seed
+//! - `sheets --play-each`: every damage of every record of a few short ways
 //! - `sheets --growing`: 16 plain sheets that grow: 1 to 4 fields of 63 leaves a
 //!   side, and 0, 5, 10 or 20 characters
 //! - `sheets --growing N`: the sheet alone of the N-th of these
@@ -31,7 +34,7 @@ use std::io::{self, Write};
 use std::process::ExitCode;
 
 use second::cases::Case;
-use second::make::{ascii, case, decided, long, pairs, plainly, spelt, written, Dice};
+use second::make::{ascii, case, decided, long, pairs, plainly, spelt, ways, written, Dice};
 use second::{printed, storeroom, MOST_ROOM};
 
 fn main() -> ExitCode {
@@ -68,6 +71,19 @@ fn main() -> ExitCode {
                 None => usage(),
             };
         }
+        ["--steps", seed, number] => {
+            return match made(seed, number, ways::case) {
+                Some(cases) => put_all(&cases, |case, stream| case.write(stream)),
+                None => usage(),
+            };
+        }
+        ["--play", seed, number] => {
+            return match made(seed, number, ways::played) {
+                Some(cases) => put_all(&cases, |case, stream| case.write(stream)),
+                None => usage(),
+            };
+        }
+        ["--play-each"] => return put_all(&ways::each(), |case, stream| case.write(stream)),
         ["--pairs", seed, number, ref rest @ ..] => match paired(seed, number, rest) {
             Some(cases) => cases,
             None => return usage(),
@@ -153,6 +169,7 @@ fn usage() -> ExitCode {
     eprintln!(
         "usage: sheets [--spelt | --write | --plain | --plain-pairs] SEED NUMBER | sheets --growing [N]"
     );
+    eprintln!("       sheets --steps SEED NUMBER | sheets --play SEED NUMBER | sheets --play-each");
     eprintln!("       sheets --long ROOM [N] | sheets --printed [N] | sheets --decide SEED NUMBER");
     eprintln!("       sheets --pairs [SEED NUMBER [--twice] [--room ROOM]]");
     eprintln!("       sheets --ascii [SEED NUMBER]");

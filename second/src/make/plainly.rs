@@ -161,6 +161,11 @@ fn planted(dice: &mut Dice) -> Vec<Record> {
     with_patterns(dice, &alphabet, Sides { sides, texts })
 }
 
+/// The sheet of such sides.
+pub(super) fn planted_sheet(dice: &mut Dice) -> Vec<u8> {
+    write_out(&planted(dice))
+}
+
 /// A side that makes this label: the fields hold parts of it, often of no or of
 /// one character.
 fn cut(dice: &mut Dice, label: &[u8], fields: Vec<u8>, texts: &mut Vec<(u8, Vec<u8>)>) -> Vec<u8> {

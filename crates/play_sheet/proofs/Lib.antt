@@ -1,0 +1,2 @@
+pub mod PlayAnswered
+pub mod OnePlay

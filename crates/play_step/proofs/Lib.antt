@@ -1,0 +1,2 @@
+pub mod StepShort
+pub mod StepAgrees

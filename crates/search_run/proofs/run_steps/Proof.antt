@@ -1,0 +1,83 @@
+-- `run_steps` meets its contract. Each part hands its promise to the next: the first situation, the search over slots, its end with the way, the
+-- cleared buffer. Follows from the laws of `Ending` and `StepsConcluding`.
+use mathlib.Core.Path.{_≡_, ap, _∙_}
+use lib.ListN.{length, replicate}
+use borrow.Author.Needs.{needs}
+use Rattle.paper.specs.Numbers.{longest-side}
+use Rattle.base_codes.specs.Inner.{tokens}
+use Rattle.base_codes.specs.Coded.{Coded, Short}
+use Rattle.search_trim.specs.Trimming.{question-coded}
+use Rattle.search_run.specs.Ended.{Search-over}
+use Rattle.search_run.specs.Lent.{tables}
+use Rattle.search_run.proofs.Ending.{first-short, over}
+use Rattle.search_run.proofs.StepsConcluding.{ended-with-steps}
+use Rattle.search_run.proofs.run_steps.Statement.{statement}
+use Rattle.search_run.proofs.run_steps.Tie as tie
+
+question-requires : tie.Need-question-requires
+question-requires c κs = search needs
+
+room-for-requires : tie.Need-room-for-requires
+room-for-requires c κs = search needs
+
+search-requires : tie.Need-search-requires
+search-requires c κs = search needs
+
+-- the first situation, by inner codes
+abbrev first : tie.Start → Coded
+first c = question-coded (tokens (c .args .left)) (tokens (c .args .right))
+
+short : (c : tie.Start) → Short (first c)
+short c =
+    let l : length (c .args .left) ≡ longest-side = search needs in
+    let r : length (c .args .right) ≡ longest-side = search needs in
+    first-short (c .args .left) (c .args .right) l r
+
+-- the search in the lent buffer is over
+abbrev is-over : (c : tie.After-search) → Search-over (c .search .last .0) (c .search .result)
+is-over c =
+    let room = c .before .before .before .before in
+    let p = room .before .before .before .before .before in
+    over (tables (p .args .t3) (p .args .t4) (p .args .last)) (room .room-for .result) (first p)
+    (c .search .ensures .lent (first p) (room .before .question .ensures) (short p))
+
+conclude-steps-requires : tie.Need-conclude-steps-requires
+conclude-steps-requires c κs = is-over (c .before .before .before .before .before .before)
+
+clear-requires : tie.Need-clear-requires
+clear-requires c κs = search needs
+
+same-length : tie.Need-same-length
+same-length c = search needs
+
+same-length-2 : tie.Need-same-length-2
+same-length-2 c = search needs
+
+same-length-3 : tie.Need-same-length-3
+same-length-3 c = search needs
+
+returns : tie.Need-returns
+returns c =
+    let cleared = c .before .before in
+    let end = cleared .before .before .before .before .before .before in
+    let s = end .before .before .before .before .before .before .before in
+    let room = s .before .before .before .before in
+    let q = room .before .question in
+    let p = room .before .before .before .before .before in
+    let e = ended-with-steps (tables (p .args .t3) (p .args .t4) (p .args .last)) (room .room-for .result) (first p) (q .result) (p .args .answer .now) (p .args .steps .now) _ (q .ensures) (end .conclude-steps .ensures (is-over s)) (is-over s .lent .entered) in
+    let n = room .room-for .ensures in
+    (rw n at e, cleared .clear .ensures ∙ ap (λ n. replicate n 0) (s .search .kept .0))
+
+pub run-steps-spec : {M : Type 1} → statement M
+run-steps-spec =
+    tie.close
+    (tie.spec
+    question-requires
+    room-for-requires
+    search-requires
+    conclude-steps-requires
+    clear-requires
+    same-length
+    same-length-2
+    same-length-3
+    returns)

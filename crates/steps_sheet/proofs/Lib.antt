@@ -1,0 +1,2 @@
+pub mod StepsAnswering
+pub mod OneStepsResult

@@ -1,0 +1,212 @@
+//! The steps on paper: known ways, each refusal of the player, buffers around the right lengths; and
+//! many generated cases, on which the library and the crate `second` agree: every number, and the
+//! buffers to the last byte. Every way that the library writes is played.
+
+use std::collections::BTreeMap;
+
+use bradovusc::{
+    answer_bytes, clash, play, steps, steps_bytes, way, Answer, Fault, Played, Step, Stepped,
+    MOST_STEPS, SITUATION_BYTES,
+};
+use second::make::{pairs, ways, Dice};
+use second::steps::STEPS_FILL;
+use second::Outcome;
+
+const ANSWER_FILL: u8 = 165;
+
+/// Field 0, any digits, is the left side; field 1, the digit 4, the right one.
+const SHEET: &[u8] = b"PA\x00\x04\x44\x41\x00\x09PA\x01\x01\x04LE\x01\x40RI\x01\x41";
+const TEXTS: &[u8] = b"VA\x00\x01\x00\x04VA\x01\x01\x00\x04";
+const WAY: &[u8] = b"ST\x02\x04ST\x00ST\x00ST\x01ST\x01";
+
+fn records(steps: &[Step]) -> Vec<u8> {
+    let mut records = Vec::new();
+    steps.iter().for_each(|step| step.write(&mut records));
+    records
+}
+
+/// What is answered in buffers of these lengths, and what they then hold.
+fn stepped(room: usize, answer: usize, lent: usize) -> (Stepped, Vec<u8>, Vec<u8>) {
+    let mut work = vec![90; room * SITUATION_BYTES];
+    let mut answer = vec![ANSWER_FILL; answer];
+    let mut lent = vec![STEPS_FILL; lent];
+    let given = steps(SHEET, &mut work, &mut answer, &mut lent);
+    assert!(work.iter().all(|&byte| byte == 0));
+    (given, answer, lent)
+}
+
+#[test]
+fn a_way() {
+    let (given, answer, lent) = stepped(13, 15, 20);
+    let clash = Answer::Clash { count: 13, written: 12 };
+    assert_eq!(given, Stepped::Answered { answer: clash, steps: 16 });
+    assert_eq!(answer, [TEXTS, &[ANSWER_FILL; 3]].concat());
+    assert_eq!(lent, [WAY, &[STEPS_FILL; 4]].concat());
+    let (left, right) = (Step::StrikeLeft, Step::StrikeRight);
+    assert!(way(WAY).eq([Step::Put(4), left, left, right, right]));
+    assert_eq!(records(&[Step::Put(4), left, left, right, right]), WAY);
+}
+
+#[test]
+fn short_buffers() {
+    for answer in 0..14 {
+        for lent in 0..18 {
+            let (given, answered, kept) = stepped(13, answer, lent);
+            match (answer < 12, lent < 16) {
+                (true, _) => {
+                    let answer = Answer::AnswerTooShort { count: 13 };
+                    assert_eq!(given, Stepped::Answered { answer, steps: 0 });
+                }
+                (false, true) => assert_eq!(given, Stepped::StepsTooShort { count: 13 }),
+                (false, false) => assert_eq!((given.written(), given.steps()), (12, 16)),
+            }
+            assert!(answered[given.written()..].iter().all(|&byte| byte == ANSWER_FILL));
+            assert!(kept[given.steps()..].iter().all(|&byte| byte == STEPS_FILL));
+        }
+    }
+    let answer = Answer::NoRoom { count: 12 };
+    assert_eq!(stepped(12, 12, 16).0, Stepped::Answered { answer, steps: 0 });
+    let refused = steps(b"LE\x00RI\x00X", &mut [], &mut [], &mut []);
+    let answer = Answer::Refused { fault: Fault::WrongMark, place: 6 };
+    assert_eq!(refused, Stepped::Answered { answer, steps: 0 });
+}
+
+/// Played into a filled buffer of this length, which is unchanged behind what is written.
+fn played(sheet: &[u8], records: &[u8], length: usize) -> (Played, Vec<u8>) {
+    let mut answer = vec![ANSWER_FILL; length];
+    let given = play(sheet, records, &mut answer);
+    assert!(answer[given.written()..].iter().all(|&byte| byte == ANSWER_FILL));
+    answer.truncate(given.written());
+    (given, answer)
+}
+
+#[test]
+fn the_player() {
+    assert_eq!(played(SHEET, WAY, 12), (Played::Finished { written: 12 }, TEXTS.to_vec()));
+    for length in 0..12 {
+        assert_eq!(played(SHEET, WAY, length).0, Played::AnswerTooShort);
+    }
+    let refused = |records: &[u8], answer: Played| {
+        for length in [0, 12, 40] {
+            assert_eq!(played(SHEET, records, length).0, answer);
+        }
+    };
+    refused(b"", Played::NotFinished);
+    refused(&WAY[..4], Played::NotFinished);
+    refused(&WAY[..5], Played::WrongStep);
+    for wrong in [&b"SU\x00"[..], b"ST\x03", b"ST\x02\x2b", b"X", b"ST\x02"] {
+        refused(wrong, Played::WrongStep);
+        refused(&[WAY, wrong].concat(), Played::WrongStep);
+    }
+    for wrong in [&b"ST\x01"[..], b"ST\x02\x0a"] {
+        refused(wrong, Played::StepNotAllowed);
+    }
+    refused(&[WAY, b"ST\x00"].concat(), Played::StepNotAllowed);
+    let (fault, place) = (Fault::CutShort, 0);
+    assert_eq!(played(b"", b"X", 9).0, Played::Refused { fault, place });
+    // 24 times field 0, which has no pattern
+    let long = [&b"LE\x18"[..], &[64; 24], b"RI\x01\x41"].concat();
+    let puts = records(&[Step::Put(10), Step::Put(10)]);
+    assert_eq!(played(&long, &puts[..4], 9).0, Played::NotFinished);
+    assert_eq!(played(&long, &puts, 9).0, Played::SideTooLong);
+}
+
+#[test]
+fn the_most_steps() {
+    let endless = b"LE\x01\x40RI\x01\x41";
+    let puts = b"ST\x02\x0a".repeat(MOST_STEPS + 1);
+    let most = &puts[..4 * MOST_STEPS];
+    assert_eq!(played(endless, most, 0).0, Played::NotFinished);
+    assert_eq!(played(endless, &puts, 0).0, Played::TooManySteps);
+    assert_eq!(played(endless, &[most, b"X"].concat(), 0).0, Played::TooManySteps);
+    let (left, right) = (Step::StrikeLeft, Step::StrikeRight);
+    let end = records(&[left, right, left, right]);
+    let whole = [&puts[..4 * (MOST_STEPS - 4)], &end].concat();
+    let written = 2 * (5 + MOST_STEPS - 4);
+    assert_eq!(played(endless, &whole, written).0, Played::Finished { written });
+}
+
+#[test]
+fn generated_steps() {
+    let mut dice = Dice::new(39);
+    let mut seen = BTreeMap::new();
+    for _ in 0..2000 {
+        let case = ways::case(&mut dice);
+        let theirs = case.run(second::steps::steps);
+        let mut work = vec![90; case.case.work as usize];
+        let mut answer = vec![ANSWER_FILL; case.case.answer as usize];
+        let mut lent = vec![STEPS_FILL; case.steps.into()];
+        let given = steps(&case.case.sheet, &mut work, &mut answer, &mut lent);
+        let Outcome { number, count, written, .. } = theirs.told.outcome;
+        assert_eq!((given.number() as u8, given.count()), (number, count), "{case:?}");
+        assert_eq!((given.written(), given.steps()), (written, theirs.told.bytes), "{case:?}");
+        assert_eq!((work, answer, lent), (theirs.work, theirs.answer, theirs.steps), "{case:?}");
+        *seen.entry(number).or_insert(0) += 1;
+    }
+    for number in [0, 1, 11, 12, 18, 20, 51] {
+        assert!(seen.get(&number).is_some_and(|&times| times > 8), "{seen:?}");
+    }
+}
+
+#[test]
+fn generated_ways_that_are_played() {
+    let mut dice = Dice::new(40);
+    let mut seen = BTreeMap::new();
+    let made = (0..2000).map(|_| ways::played(&mut dice));
+    for case in made.chain(ways::each()) {
+        let (told, theirs) = case.run();
+        let mut ours = vec![ANSWER_FILL; case.case.answer as usize];
+        let given = play(&case.case.sheet, &case.steps, &mut ours);
+        let (number, place) = (given.number() as u8, given.place());
+        assert_eq!(Outcome { number, count: 0, place, written: given.written() }, told, "{case:?}");
+        assert_eq!(ours, theirs, "{case:?}");
+        *seen.entry(number).or_insert(0) += 1;
+    }
+    for number in [0, 12, 19, 20, 47, 48, 49] {
+        assert!(seen.get(&number).is_some_and(|&times| times > 8), "{seen:?}");
+    }
+}
+
+/// Each way that the search writes is played, with the same answer buffer, and gives the same bytes;
+/// and all else is as without the steps.
+#[test]
+fn ways_of_the_search() {
+    let mut dice = Dice::new(41);
+    let mut ways_found = 0;
+    for _ in 0..1000 {
+        let sheet = pairs::case(&mut dice, false, 356).sheet;
+        let mut work = vec![0; 356 * SITUATION_BYTES];
+        let (mut plain, mut answer) = (vec![0; answer_bytes(356)], vec![0; answer_bytes(356)]);
+        let mut lent = vec![0; steps_bytes(356)];
+        let given = steps(&sheet, &mut work, &mut answer, &mut lent);
+        let clash = clash(&sheet, &mut work, &mut plain);
+        let found = given.steps();
+        assert_eq!(given, Stepped::Answered { answer: clash, steps: found });
+        assert_eq!(answer, plain);
+        if given.clashes() == Some(true) {
+            let mut all = way(&lent[..found]);
+            let number = all.by_ref().count();
+            assert!(all.rest().is_empty() && number < given.count());
+            let (by_player, texts) = played(&sheet, &lent[..found], answer.len());
+            assert_eq!(by_player, Played::Finished { written: given.written() });
+            assert_eq!(texts, answer[..given.written()]);
+            ways_found += 1;
+        }
+    }
+    assert!(ways_found > 100, "{ways_found}");
+}
+
+#[test]
+fn records_that_are_none() {
+    for end in 0..WAY.len() {
+        let whole = (0..=end).rev().find(|&end| end == 0 || (end >= 4 && (end - 4) % 3 == 0));
+        let mut part = way(&WAY[..end]);
+        part.by_ref().count();
+        assert_eq!(part.rest(), &WAY[whole.unwrap()..end]);
+    }
+    for wrong in [&b"SU\x00"[..], b"ST\x03", b"ST\x02\x2b", b"ST\x02", b"X", b""] {
+        assert_eq!(way(wrong).next(), None);
+    }
+    assert_eq!([0, 1, 2, 356].map(steps_bytes), [0, 0, 4, 1_420]);
+    assert_eq!(steps_bytes(65_535), 4 * MOST_STEPS);
+}

@@ -1,0 +1,66 @@
+//! The way to a clash, followed as a person would: it ends at the label that the library told, with
+//! nothing left to be read, and its fields have read their texts.
+
+mod common;
+
+use std::fs;
+
+use bradovusc_tool::ask::{Asked, Buffers, Room, Shared};
+use bradovusc_tool::run::judged;
+use bradovusc_tool::sides::{Side, FIELD, RIGHT};
+use bradovusc_tool::source::Source;
+use bradovusc_tool::way::{follow, way_objects, way_words, Done, Row};
+
+use common::{files, golden};
+
+/// What a field has read on the way.
+fn read(rows: &[Row], field: u8) -> String {
+    let read = rows.iter().filter_map(|row| match row.done {
+        Done::Read { character, fields } if fields.contains(&Some(field)) => Some(character),
+        _ => None,
+    });
+    read.map(|value| bradovusc::sign(value).unwrap()).collect()
+}
+
+fn look(left: &Side, right: &Side, asked: &Asked, shared: &Shared) {
+    let steps = Buffers::new().way(left, right, asked.room).unwrap();
+    let rows = follow(left, right, &steps).unwrap();
+    assert_eq!(rows.len(), steps.len() + 1);
+    let last = rows.last().unwrap();
+    assert!(last.sides.iter().all(Vec::is_empty));
+    assert_eq!(last.label.trim_end_matches(' '), shared.label);
+    for (first, texts) in [(FIELD, &shared.left), (FIELD + RIGHT, &shared.right)] {
+        for text in texts {
+            assert_eq!(read(&rows, first + text.field), text.signs);
+        }
+    }
+    // the label only grows
+    assert!(rows.windows(2).all(|two| two[1].label.starts_with(&two[0].label)));
+    assert_eq!(way_words(left, right, &rows).lines().count(), rows.len() + 3);
+    assert_eq!(way_objects(left, right, &rows).len(), rows.len());
+}
+
+#[test]
+fn ways_of_all_files() {
+    let example = golden("../../examples/storeroom.rules");
+    let (mut followed, mut by_another) = (0, 0);
+    for path in files(&golden("files"), "rules").into_iter().chain([example]) {
+        let source = Source::new(path.display().to_string(), &fs::read(&path).unwrap());
+        // a file with a mistake is among them
+        let Ok(rules) = judged(source) else { continue };
+        for (number, left) in rules.iter().enumerate() {
+            for right in &rules[number..] {
+                let asked = Buffers::new().ask(left, right, Room::Fixed(1_000));
+                match &asked.shared {
+                    Some(shared) if asked.search == 1 => {
+                        look(left, right, &asked, shared);
+                        followed += 1;
+                    }
+                    Some(_) => by_another += 1,
+                    None => (),
+                }
+            }
+        }
+    }
+    assert!(followed > 20 && by_another > 0, "{followed} {by_another}");
+}
