@@ -10,26 +10,27 @@
  * A catalogue has up to 32 rules in one buffer. A rule is added only if it clashes with none that is there; it can be withdrawn. One
  * that was kept can be checked again, pair by pair. A pair is asked by one search, or by up to four, which enter more rules.
  * A sheet can be written out as a script for string solvers, in SMT-LIB 2.6.
- * A text of Full ASCII, 128 characters, can be spelt in the 43 of Code 39, and read back.
+ * A text of Full ASCII, 128 characters, can be spelt in the 43 of Code 39, and read back. A sheet may be one of Full ASCII: then
+ * its rules have these 128 characters, and the texts of a clash can be spelt.
  * Up to version 0.5 a field without a pattern could be empty. Since 0.6 it holds one character or more. Sheets, rules and catalogues
  * from before can be carried over: they then mean what they meant.
  * Up to version 0.6 a pattern had at most 96 bytes and 31 leaves. Since 0.7 it may have 192 bytes and 63 leaves, and a situation
  * takes 184 bytes where it took 144. What was good before is good and means the same.
  *
- * The static library libexported.a, for x86-64 Linux, defines eighteen functions: bradovusc_clash, bradovusc_decide, bradovusc_steps,
- * bradovusc_play, bradovusc_plain, bradovusc_plain_bytes, bradovusc_write, bradovusc_spell, bradovusc_read_spelt, bradovusc_script,
- * bradovusc_add, bradovusc_add_decided, bradovusc_withdraw, bradovusc_recheck, bradovusc_recheck_decided, bradovusc_spell_open,
- * bradovusc_spell_open_rule and bradovusc_spell_open_catalogue. They keep nothing from one call to the next, ask for no memory, and
- * touch nothing but what they are lent, so calls in several threads don't meet. bradovusc_add_decided takes at most about 125 KiB of
- * stack, bradovusc_recheck_decided about 120, bradovusc_decide about 105, bradovusc_spell_open_catalogue about 90, the others about
- * 80; 120, 113, 100, 85 and 74 were measured. So a thread with 96 KiB is enough for all but the first three, and one with 160 KiB for
- * these. All else is in this header: bradovusc_ask, bradovusc_settle, bradovusc_find_steps, bradovusc_play_steps,
- * bradovusc_ask_plain, bradovusc_measure_plain, bradovusc_write_sheet, bradovusc_spell_text, bradovusc_read_back,
- * bradovusc_write_script, bradovusc_enter, bradovusc_enter_decided, bradovusc_remove, bradovusc_check_again,
- * bradovusc_check_again_decided, bradovusc_carry_sheet, bradovusc_carry_rule and bradovusc_carry_catalogue call them with any
- * buffers, bradovusc_text and bradovusc_catalogue_text say a number in words, bradovusc_next walks the texts of a clash,
- * bradovusc_next_step the steps of its way, bradovusc_next_pair the pairs that were listed, bradovusc_sign and bradovusc_value go
- * between values and signs.
+ * The static library libexported.a, for x86-64 Linux, defines nineteen functions: bradovusc_clash, bradovusc_decide,
+ * bradovusc_steps, bradovusc_play, bradovusc_plain, bradovusc_plain_bytes, bradovusc_write, bradovusc_write_edition,
+ * bradovusc_spell, bradovusc_read_spelt, bradovusc_script, bradovusc_add, bradovusc_add_decided, bradovusc_withdraw,
+ * bradovusc_recheck, bradovusc_recheck_decided, bradovusc_spell_open, bradovusc_spell_open_rule and bradovusc_spell_open_catalogue.
+ * They keep nothing from one call to the next, ask for no memory, and touch nothing but what they are lent, so calls in several
+ * threads don't meet. bradovusc_add_decided takes at most about 125 KiB of stack, bradovusc_recheck_decided about 120,
+ * bradovusc_decide about 105, bradovusc_spell_open_catalogue about 90, the others about 80; 120, 113, 100, 85 and 74 were measured.
+ * So a thread with 96 KiB is enough for all but the first three, and one with 160 KiB for these. All else is in this header:
+ * bradovusc_ask, bradovusc_settle, bradovusc_find_steps, bradovusc_play_steps, bradovusc_ask_plain, bradovusc_measure_plain,
+ * bradovusc_write_sheet, bradovusc_write_sheet_edition, bradovusc_spell_text, bradovusc_read_back, bradovusc_write_script,
+ * bradovusc_enter, bradovusc_enter_decided, bradovusc_remove, bradovusc_check_again, bradovusc_check_again_decided,
+ * bradovusc_carry_sheet, bradovusc_carry_rule and bradovusc_carry_catalogue call them with any buffers, bradovusc_text and
+ * bradovusc_catalogue_text say a number in words, bradovusc_next walks the texts of a clash, bradovusc_next_step the steps of its
+ * way, bradovusc_next_pair the pairs that were listed, bradovusc_sign and bradovusc_value go between values and signs.
  *
  * The header is C99 and C++11. The rules in full: docs/RULES.md.
  */
@@ -50,7 +51,7 @@ extern "C" {
 #endif
 
 /*
- * The number of an answer.
+ * The number of an answer. What is said of 11 to 17 for a sheet holds for 44 too, which says that its edition is none.
  *
  * Of a sheet, 0 and 1 settle the question. So does 20: the rules clash, but the texts couldn't be written. 18 and 19 are
  * neither yes nor no. 11 to 17 say what is wrong with the sheet: the first fault met, whose byte is told as its place.
@@ -63,8 +64,8 @@ extern "C" {
  *
  * Of a catalogue's call, 0 is success. 11 to 17 say what is wrong with the rule that was to be added, 30 to 35 why it can't be done.
  *
- * Of a sheet that is to be written, 0 is success, 11 and 13 to 17 say what is wrong with a pattern or a side, and 41 that the sheet
- * doesn't fit.
+ * Of a sheet that is to be written, 0 is success, 44 says that its edition is none, 11 and 13 to 17 what is wrong with a pattern or a
+ * side, and 41 that the sheet doesn't fit.
  *
  * Of a script, 0 is success, 11 to 17 say what is wrong with the sheet, and 40 that the script doesn't fit.
  *
@@ -82,7 +83,7 @@ enum bradovusc_number {
     /* The sheet, or the rule, ends too early: a mark, a field byte, a length byte or a body is not all there. Of a sheet that is to be
      * written: a pattern has fewer bytes than its length says. */
     BRADOVUSC_CUT_SHORT = 11,
-    /* A mark is not PA, LE or RI, in a rule not RU, PA or LE, or stands where it isn't allowed; or bytes follow the last side. */
+    /* A mark is not ED, PA, LE or RI, in a rule not RU, PA or LE, or stands where it isn't allowed; or bytes follow the last side. */
     BRADOVUSC_WRONG_MARK = 12,
     /* A pattern's field is above 7, or not above the field of the pattern before it. */
     BRADOVUSC_WRONG_FIELD = 13,
@@ -129,6 +130,9 @@ enum bradovusc_number {
     BRADOVUSC_NOT_PLAIN = 42,
     /* The bit buffer is too short for the pairs of standings. Lend a longer one; BRADOVUSC_PLAIN_BYTES are always enough. */
     BRADOVUSC_BITS_TOO_SHORT = 43,
+
+    /* The byte behind ED, or the edition of a sheet that is to be written, is none. A rule has no ED, and never gets this. */
+    BRADOVUSC_WRONG_EDITION = 44,
 
     /* A byte that is to be spelt is above 127, or a spelt text is none that the table of Full ASCII gives. */
     BRADOVUSC_NOT_IN_TABLE = 45,
@@ -194,6 +198,8 @@ static inline const char *bradovusc_text(uint32_t number) {
         return "a field stands more than once";
     case BRADOVUSC_BITS_TOO_SHORT:
         return "the bit buffer is too short";
+    case BRADOVUSC_WRONG_EDITION:
+        return "a wrong edition";
     case BRADOVUSC_NOT_IN_TABLE:
         return "not in the table of Full ASCII";
     case BRADOVUSC_SPELT_TOO_SHORT:
@@ -219,7 +225,7 @@ static inline const char *bradovusc_catalogue_text(uint32_t number) {
     return number == BRADOVUSC_DONE ? "done" : bradovusc_text(number);
 }
 
-/* The signs of the 43 characters, by value. */
+/* The signs of the 43 characters of Code 39, by value. */
 #define BRADOVUSC_CHARACTERS 43
 static const char bradovusc_signs[BRADOVUSC_CHARACTERS + 1] = "0123456789ABCDEFGHIJKLMNOPQRSTUVWXYZ-. $/+%";
 
@@ -242,6 +248,7 @@ static inline int bradovusc_value(int sign) {
 /*
  * The sheet. Every record begins with a mark of two letters:
  *
+ *   ED  2                                                the edition, in front of all else: a sheet of Full ASCII; or none
  *   PA  field 0 to 7, length 1 to 192, that many bytes   the pattern of a field; none, one or several, fields rising
  *   LE  length 0 to 24, that many tokens                 the left side: one rule
  *   RI  length 0 to 24, that many tokens                 the right side: the other rule; the sheet ends behind it
@@ -249,13 +256,23 @@ static inline int bradovusc_value(int sign) {
  * A token is a character, 0 to 42 (the digits, A to Z, then - . space $ / + %), or 64 to 71, field 0 to 7.
  * A pattern is written operator first: 0 to 42 that character; 64 the empty text; 65 lo hi one character from lo to hi;
  * 66 A B first A then B; 67 A B one of the two; 68 A any number of A, none included. A field without a pattern holds any text of one
- * character or more; one that may be empty too has the pattern 68 65 0 42. A good sheet has at most so many bytes.
+ * character or more; one that may be empty too has the pattern 68 65 0 42.
  *
- * Labels are compared without the spaces, 38, at their ends; a space elsewhere is a character like the others. So each side is
- * searched as if one hidden field, of any number of spaces, stood at its end: field 8 on the left, field 9 on the right. It is not
- * written, 72 and 73 are no tokens, it does not count among the 24, and it has no text in the answer.
+ * Behind ED 2 the characters are those of Full ASCII, 0 to 127, in patterns too. A token is a character or 192 to 199, field 0 to
+ * 7. In a pattern 192 to 196 stand for 64 to 68, and lo and hi go to 127; a field that may be empty too has the pattern 196 193 0
+ * 127. A field without a pattern holds characters of the sheet's edition. All else is the same in both. A good sheet has at most so
+ * many bytes, three fewer without ED. A rule of a catalogue has no edition: its characters are those of Code 39.
+ *
+ * Labels are compared without the spaces, 38 and behind ED 32, at their ends; a space elsewhere is a character like the others. So
+ * each side is searched as if one hidden field, of any number of spaces, stood at its end: field 8 on the left, field 9 on the
+ * right. It is not written, 72 and 73, behind ED 200 and 201, are no tokens, it does not count among the 24, and it has no text in
+ * the answer.
  */
-#define BRADOVUSC_SHEET_BYTES 1622
+#define BRADOVUSC_SHEET_BYTES 1625
+
+/* The editions: of a sheet without ED, and of one with it. No edition has more characters than so many. */
+enum bradovusc_edition { BRADOVUSC_CODE_39 = 0, BRADOVUSC_FULL_ASCII = 2 };
+#define BRADOVUSC_MOST_CHARACTERS 128
 
 /*
  * The working buffer. A situation of the search takes 184 bytes. Room is counted in whole situations, at most 65,535; bytes beyond
@@ -272,9 +289,10 @@ static inline int bradovusc_value(int sign) {
  * The answer buffer. A clash writes, for each field that stands in a side of the sheet, by rising number, one record directly behind
  * the other:
  *
- *   VA  field, length in two bytes (low first), that many characters 0 to 42
+ *   VA  field, length in two bytes (low first), that many characters, 0 to 42 or behind ED 0 to 127
  *
- * A text has fewer characters than the search has situations, and there are at most 8 fields: so many bytes are always enough.
+ * Those of a sheet with ED are a text of Full ASCII; bradovusc_spell_text gives the values of Code 39 that stand on a label. A text
+ * has fewer characters than the search has situations, and there are at most 8 fields: so many bytes are always enough.
  */
 #define BRADOVUSC_FIELDS 8
 #define BRADOVUSC_RECORD_HEAD 5
@@ -329,17 +347,18 @@ static inline int bradovusc_next(struct bradovusc_records *records) {
 }
 
 /*
- * The place of a fault, 11 to 17: an offset in the sheet, or in the rule from its RU, or in the sheet that would be written. It shows
+ * The place of a fault, 11 to 17 or 44: an offset in the sheet, or in the rule from its RU, or in the sheet that would be written. It shows
  * the byte itself.
  *
  *   11   the length of the sheet, or of the rule's bytes
  *   12   the first byte of the mark, or the first byte behind the last side
  *   13   the field byte
  *   14   the length byte
- *   15   read from left to right: the first byte that is no code; the lo byte if lo is above 42, else the hi byte if that is above
- *        42 or below lo; the first byte left over; where the code runs out, the offset behind the pattern's last byte
+ *   15   read from left to right: the first byte that is no code; the lo byte if lo is no character, else the hi byte if that is no
+ *        character or below lo; the first byte left over; where the code runs out, the offset behind the pattern's last byte
  *   16   the first byte of the 64th leaf
  *   17   the first byte that is no token
+ *   44   the edition byte, 2
  *
  * It is never above the length. With 11 it is the length, and with 15 it can be, if the code runs out where the bytes end: no byte
  * stands there then, so look at the length before taking the byte.
@@ -458,7 +477,7 @@ static inline struct bradovusc_decision bradovusc_settle(const uint8_t *sheet, s
  *
  *   ST  0           the left front, a field, was struck everywhere
  *   ST  1           the right front, a field, was struck everywhere
- *   ST  2  value    the character 0 to 42 was put before each front field, or is a front itself
+ *   ST  2  value    the character, 0 to 42 or behind ED 0 to 127, was put before each front field, or is a front itself
  *
  * A way has a step less than the search has situations, or fewer: so many bytes are always enough, which is proved. In room for none
  * there is no way. A row of such records from anywhere can be played, with at most so many records.
@@ -506,7 +525,7 @@ static inline int bradovusc_next_step(struct bradovusc_way *way) {
     }
     if (record[2] == BRADOVUSC_CHARACTER) {
         length = BRADOVUSC_STEP_RECORD;
-        if (way->rest_length < length || record[3] >= BRADOVUSC_CHARACTERS) {
+        if (way->rest_length < length || record[3] >= BRADOVUSC_MOST_CHARACTERS) {
             return 0;
         }
     }
@@ -616,7 +635,7 @@ static inline struct bradovusc_played bradovusc_play_steps(const uint8_t *sheet,
 
 /*
  * Plain rules: no field stands more than once in the two sides together. For them a small engine says clash or no clash, without
- * situations and without texts: it takes one bit for each pair of a left and a right standing. A standing is how far a side is read,
+ * situations and without texts: it is lent one bit for each pair of a left and a right standing. A standing is how far a side is read,
  * with one place of the field in front. A side has one standing for its end, one for each character and, for each field, one for
  * each of its places: its leaves and the start, or two for a field without a pattern; the hidden field at its end has two. So with L
  * standings on the left and R on the right L * R bits are needed. Four fields of 63 leaves and 20 characters a side make 279
@@ -698,13 +717,14 @@ static inline struct bradovusc_plain_needs bradovusc_measure_plain(const uint8_t
 }
 
 /*
- * A sheet that is written. The two sides are handed over as their tokens. `patterns` are the bytes of all patterns, one behind the
- * other, by rising field, and `lengths` says how many of them each field has: lengths[0] of them are the pattern of field 0. A field
- * has no pattern where its length is 0, and where no length is there for it. Bytes behind the last pattern are not looked at.
+ * A sheet that is written. Its edition is one of bradovusc_edition. The two sides are handed over as their tokens. `patterns` are
+ * the bytes of all patterns, one behind the other, by rising field, and `lengths` says how many of them each field has: lengths[0]
+ * of them are the pattern of field 0. A field has no pattern where its length is 0, and where no length is there for it. Bytes
+ * behind the last pattern are not looked at.
  *
- * The sheet that is written has a PA for each field with a pattern, then LE, then RI. It is proved that reading it gives the same sides
- * and the same patterns, byte for byte, and that writing what was read from a good sheet gives the same bytes. BRADOVUSC_SHEET_BYTES
- * are always enough, which is proved too.
+ * The sheet that is written has ED and its byte, if its edition has them, a PA for each field with a pattern, then LE, then RI. It
+ * is proved that reading it gives the same edition, the same sides and the same patterns, byte for byte, and that writing what was
+ * read from a good sheet gives the same bytes. BRADOVUSC_SHEET_BYTES are always enough, which is proved too.
  */
 
 /*
@@ -713,12 +733,14 @@ static inline struct bradovusc_plain_needs bradovusc_measure_plain(const uint8_t
  *
  *   number            output buffer
  *   0                 the sheet, the rest unchanged
- *   11, 13 to 17      unchanged
+ *   11, 13 to 17, 44  unchanged
  *   41                unchanged: the sheet is longer
  *
- * The faults are those of the sheet that would be written, by what is wrong, the first one that reading it would meet. So the patterns
- * come first, by rising field, then the left side, then the right one; 41 comes last. The place is an offset in that sheet:
+ * The faults are those of the sheet that would be written, by what is wrong, the first one that reading it would meet. So the
+ * edition comes first, then the patterns, by rising field, then the left side, then the right one; 41 comes last. The place is an
+ * offset in that sheet:
  *
+ *   44   an edition that is neither 0 nor 2: the edition byte, 2
  *   11   a pattern has fewer bytes than its length says: the offset behind those that it has
  *   13   a length that is not 0 for a field above 7: the field byte
  *   14   a pattern's length above 192, or a side above 24 tokens: the length byte
@@ -729,6 +751,11 @@ static inline struct bradovusc_plain_needs bradovusc_measure_plain(const uint8_t
  * Any bytes, any lengths of patterns and any lengths of buffers are taken, 0 included. Each pointer must be that of so many elements,
  * and not null, also where the length is 0; the output buffer and `told` must overlap neither each other nor one of the rest.
  */
+uint32_t bradovusc_write_edition(size_t edition, const uint8_t *patterns, size_t patterns_length, const uint64_t *lengths,
+                                 size_t lengths_length, const uint8_t *left, size_t left_length, const uint8_t *right,
+                                 size_t right_length, uint8_t *out, size_t out_length, uint64_t *told, size_t told_length);
+
+/* The same with the edition 0: the sheet has no ED. */
 uint32_t bradovusc_write(const uint8_t *patterns, size_t patterns_length, const uint64_t *lengths, size_t lengths_length,
                          const uint8_t *left, size_t left_length, const uint8_t *right, size_t right_length, uint8_t *out,
                          size_t out_length, uint64_t *told, size_t told_length);
@@ -739,22 +766,33 @@ struct bradovusc_sheet_written {
     uint64_t place, written;
 };
 
-/* bradovusc_write with all three numbers at once, and each pointer may be null where its length is 0. This is the one to call. */
+/* bradovusc_write_edition with all three numbers at once, and each pointer may be null where its length is 0. This is the one to call. */
+static inline struct bradovusc_sheet_written bradovusc_write_sheet_edition(size_t edition, const uint8_t *patterns,
+                                                                           size_t patterns_length, const uint64_t *lengths,
+                                                                           size_t lengths_length, const uint8_t *left,
+                                                                           size_t left_length, const uint8_t *right,
+                                                                           size_t right_length, uint8_t *out, size_t out_length) {
+    uint8_t no_patterns = 0, no_left = 0, no_right = 0, no_out = 0;
+    uint64_t no_lengths = 0, told[BRADOVUSC_TOLD] = {0, 0, 0};
+    struct bradovusc_sheet_written written;
+    written.number =
+        bradovusc_write_edition(edition, patterns == NULL && patterns_length == 0 ? &no_patterns : patterns, patterns_length,
+                                lengths == NULL && lengths_length == 0 ? &no_lengths : lengths, lengths_length,
+                                left == NULL && left_length == 0 ? &no_left : left, left_length,
+                                right == NULL && right_length == 0 ? &no_right : right, right_length,
+                                out == NULL && out_length == 0 ? &no_out : out, out_length, told, BRADOVUSC_TOLD);
+    written.place = told[BRADOVUSC_PLACE];
+    written.written = told[BRADOVUSC_WRITTEN];
+    return written;
+}
+
+/* The same for a sheet without ED. */
 static inline struct bradovusc_sheet_written bradovusc_write_sheet(const uint8_t *patterns, size_t patterns_length,
                                                                    const uint64_t *lengths, size_t lengths_length,
                                                                    const uint8_t *left, size_t left_length, const uint8_t *right,
                                                                    size_t right_length, uint8_t *out, size_t out_length) {
-    uint8_t no_patterns = 0, no_left = 0, no_right = 0, no_out = 0;
-    uint64_t no_lengths = 0, told[BRADOVUSC_TOLD] = {0, 0, 0};
-    struct bradovusc_sheet_written written;
-    written.number = bradovusc_write(patterns == NULL && patterns_length == 0 ? &no_patterns : patterns, patterns_length,
-                                     lengths == NULL && lengths_length == 0 ? &no_lengths : lengths, lengths_length,
-                                     left == NULL && left_length == 0 ? &no_left : left, left_length,
-                                     right == NULL && right_length == 0 ? &no_right : right, right_length,
-                                     out == NULL && out_length == 0 ? &no_out : out, out_length, told, BRADOVUSC_TOLD);
-    written.place = told[BRADOVUSC_PLACE];
-    written.written = told[BRADOVUSC_WRITTEN];
-    return written;
+    return bradovusc_write_sheet_edition(BRADOVUSC_CODE_39, patterns, patterns_length, lengths, lengths_length, left, left_length, right,
+                                         right_length, out, out_length);
 }
 
 /*
@@ -804,7 +842,7 @@ static inline struct bradovusc_scripted bradovusc_write_script(const uint8_t *sh
 /*
  * The catalogue. A rule's record begins with a mark, as those of a sheet do:
  *
- *   RU  then PA records as in a sheet, of fields 0 to 3, and one LE; the record ends behind it
+ *   RU  then PA records as in a sheet without ED, of fields 0 to 3, and one LE; the record ends behind it
  *
  * A rule's fields are its own: field 0 of another rule is another field. In the buffer the records stand one behind the other from
  * the first byte on, at most 32 of them, and all bytes behind the last one are zero. A rule's number is its place in that order,
@@ -1080,11 +1118,11 @@ static inline int bradovusc_next_pair(struct bradovusc_pairs *pairs) {
 }
 
 /*
- * Carrying over. Up to version 0.5 a field without a pattern held any text, the empty one included. Since 0.6 it holds one character
- * or more. What relied on the old meaning must have the pattern 68 65 0 42 for each such field. The three functions below put it in,
- * for each field that stands in a side and has no pattern: eight bytes for each of them. All else stays byte for byte as it was. It
- * is proved that the new sheet's question has exactly the solutions that the old meaning gave the old sheet, that each rule makes the
- * labels that it made before, and that what has nothing to add comes out unchanged.
+ * Carrying over. Up to version 0.5 a field without a pattern held any text, the empty one included. Since 0.6 it holds one
+ * character or more. What relied on the old meaning must have the pattern 68 65 0 42, behind ED 196 193 0 127, for each such field.
+ * The three functions below put it in, for each field that stands in a side and has no pattern: eight bytes for each of them. All
+ * else stays byte for byte as it was. It is proved that the new sheet's question has exactly the solutions that the old meaning
+ * gave the old sheet, that each rule makes the labels that it made before, and that what has nothing to add comes out unchanged.
  *
  * Carry over what is from before 0.6 once, and a catalogue before any rule is added to it. Nothing in the bytes says for which
  * version they were written: what was written for 0.6 would get another meaning. A catalogue from before 0.6 that is not carried over

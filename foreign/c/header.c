@@ -16,7 +16,7 @@
 #define bradovusc_play watched_play
 #define bradovusc_plain watched_plain
 #define bradovusc_plain_bytes watched_plain_bytes
-#define bradovusc_write watched_write
+#define bradovusc_write_edition watched_write_edition
 #define bradovusc_script watched_script
 #define bradovusc_add watched_add
 #define bradovusc_withdraw watched_withdraw
@@ -35,7 +35,7 @@
 #undef bradovusc_play
 #undef bradovusc_plain
 #undef bradovusc_plain_bytes
-#undef bradovusc_write
+#undef bradovusc_write_edition
 #undef bradovusc_script
 #undef bradovusc_add
 #undef bradovusc_withdraw
@@ -62,9 +62,9 @@ uint32_t bradovusc_play(const uint8_t *sheet, size_t sheet_length, const uint8_t
 uint32_t bradovusc_plain(const uint8_t *sheet, size_t sheet_length, uint8_t *bits, size_t bits_length, uint64_t *told,
                          size_t told_length);
 uint32_t bradovusc_plain_bytes(const uint8_t *sheet, size_t sheet_length, uint64_t *told, size_t told_length);
-uint32_t bradovusc_write(const uint8_t *patterns, size_t patterns_length, const uint64_t *lengths, size_t lengths_length,
-                         const uint8_t *left, size_t left_length, const uint8_t *right, size_t right_length, uint8_t *out,
-                         size_t out_length, uint64_t *told, size_t told_length);
+uint32_t bradovusc_write_edition(size_t edition, const uint8_t *patterns, size_t patterns_length, const uint64_t *lengths,
+                                 size_t lengths_length, const uint8_t *left, size_t left_length, const uint8_t *right,
+                                 size_t right_length, uint8_t *out, size_t out_length, uint64_t *told, size_t told_length);
 uint32_t bradovusc_script(const uint8_t *sheet, size_t sheet_length, uint8_t *script, size_t script_length, uint64_t *told,
                           size_t told_length);
 uint32_t bradovusc_add(uint8_t *catalogue, size_t catalogue_length, const uint8_t *rule, size_t rule_length, uint8_t *work,
@@ -150,17 +150,17 @@ uint32_t watched_plain_bytes(const uint8_t *sheet, size_t sheet_length, uint64_t
     return bradovusc_plain_bytes(sheet, sheet_length, told, told_length);
 }
 
-uint32_t watched_write(const uint8_t *patterns, size_t patterns_length, const uint64_t *lengths, size_t lengths_length,
-                       const uint8_t *left, size_t left_length, const uint8_t *right, size_t right_length, uint8_t *out,
-                       size_t out_length, uint64_t *told, size_t told_length) {
+uint32_t watched_write_edition(size_t edition, const uint8_t *patterns, size_t patterns_length, const uint64_t *lengths,
+                               size_t lengths_length, const uint8_t *left, size_t left_length, const uint8_t *right,
+                               size_t right_length, uint8_t *out, size_t out_length, uint64_t *told, size_t told_length) {
     check(patterns != NULL, "the patterns' pointer is not null", (long)patterns_length);
     check(lengths != NULL, "the lengths' pointer is not null", (long)lengths_length);
     check(left != NULL, "the left side's pointer is not null", (long)left_length);
     check(right != NULL, "the right side's pointer is not null", (long)right_length);
     check(out != NULL, "the output buffer's pointer is not null", (long)out_length);
     check(told != NULL, "the pointer of what is told is not null", (long)told_length);
-    return bradovusc_write(patterns, patterns_length, lengths, lengths_length, left, left_length, right, right_length, out, out_length,
-                           told, told_length);
+    return bradovusc_write_edition(edition, patterns, patterns_length, lengths, lengths_length, left, left_length, right, right_length,
+                                   out, out_length, told, told_length);
 }
 
 uint32_t watched_script(const uint8_t *sheet, size_t sheet_length, uint8_t *script, size_t script_length, uint64_t *told,
@@ -277,6 +277,7 @@ static const struct {
     {41, "the output buffer is too short for the sheet or the rule"},
     {42, "a field stands more than once"},
     {43, "the bit buffer is too short"},
+    {44, "a wrong edition"},
     {45, "not in the table of Full ASCII"},
     {46, "the output buffer is too short for the text"},
     {47, "a wrong record of a step"},
@@ -299,7 +300,7 @@ static void try_texts(void) {
         expected = number == 0 ? "done" : expected;
         check(strcmp(bradovusc_catalogue_text(number), expected) == 0, "the text of a catalogue's number", (long)number);
     }
-    check(next == 29, "29 numbers have a text", (long)next);
+    check(next == 30, "30 numbers have a text", (long)next);
     check(strcmp(bradovusc_text(UINT32_MAX), none) == 0, "the greatest number has no text", -1);
 }
 
@@ -543,6 +544,15 @@ static const struct {
     {{'P', 'A', 0, 1, 68, 'L'}, 6, 15, 5},   /* the code runs out, and the sheet goes on */
     {{'L', 'E', 3, 10, 72, 43}, 6, 17, 4},
     {{'L', 'E', 0, 'R', 'I', 1, 73}, 7, 17, 6}, /* the token of a hidden field */
+    {{'E', 'D'}, 2, 11, 2},
+    {{'E', 'D', 2}, 3, 11, 3},
+    {{'E', 'D', 1}, 3, 44, 2}, /* whatever follows */
+    {{'E', 'D', 0, 'L', 'E', 0, 'X'}, 7, 44, 2},
+    {{'E', 'D', 2, 'E', 'D', 2}, 6, 12, 3}, /* it stands once, and in front */
+    {{'L', 'E', 0, 'E', 'D', 2}, 6, 12, 3},
+    {{'E', 'D', 2, 'L', 'E', 1, 128}, 7, 17, 6}, /* neither a character nor a field */
+    {{'E', 'D', 2, 'L', 'E', 1, 200}, 7, 17, 6}, /* the token of a hidden field */
+    {{'E', 'D', 2, 'P', 'A', 0, 1, 197}, 8, 15, 7},
 };
 
 static void try_places(void) {
@@ -554,6 +564,45 @@ static void try_places(void) {
     }
     memset(leaves + 4, 66, 63); /* and then 64 times the character 0 */
     check(is(bradovusc_ask(leaves, sizeof leaves, work, sizeof work, answer, sizeof answer), 16, 0, 130, 0), "the 64th leaf", 16);
+}
+
+/* ---- a sheet of Full ASCII */
+
+/* x, any number of a to z, then @; and b@ with a space */
+static const uint8_t ascii_sheet[] = {'E', 'D', 2, 'P', 'A', 0, 4, 196, 193, 'a', 'z', 'L', 'E', 2, 192, '@', 'R', 'I', 3, 'b', '@', ' '};
+static const uint8_t ascii_texts[] = {'V', 'A', 0, 1, 0, 'b'};
+
+static void try_full_ascii(void) {
+    static const uint8_t spelt_b[] = {41, 11}, rule[] = {'R', 'U', 'E', 'D', 2, 'L', 'E', 0};
+    uint8_t wrong[sizeof ascii_sheet], steps[64], bits[64], to[64], catalogue[16] = {0};
+    size_t length = sizeof ascii_sheet;
+    struct bradovusc_records found;
+    struct bradovusc_stepped stepped;
+    struct bradovusc_way way;
+    struct bradovusc_spelt spelt;
+    struct bradovusc_added added;
+    memset(answer, 7, sizeof answer);
+    check(bradovusc_ask(ascii_sheet, length, work, sizeof work, answer, sizeof answer).written == 6, "a clash", 0);
+    check(memcmp(answer, ascii_texts, 6) == 0 && answer[6] == 7, "its text", 6);
+    found = bradovusc_records_in(answer, 6);
+    check(bradovusc_next(&found) && found.length == 1 && found.values[0] == 'b', "by the walk", 1);
+    spelt = bradovusc_spell_text(found.values, found.length, to, sizeof to);
+    check(spelt.number == 0 && spelt.written == 2 && memcmp(to, spelt_b, 2) == 0, "spelt +B", 2);
+    stepped = bradovusc_find_steps(ascii_sheet, length, work, sizeof work, answer, sizeof answer, steps, sizeof steps);
+    way = bradovusc_way_in(steps, (size_t)stepped.steps);
+    check(stepped.number == 0 && bradovusc_next_step(&way) && way.value == 'b', "its first step", 0);
+    check(bradovusc_play_steps(ascii_sheet, length, steps, (size_t)stepped.steps, answer, sizeof answer).number == 0, "played", 0);
+    check(bradovusc_ask_plain(ascii_sheet, length, bits, sizeof bits).number == 0, "by the engine for plain rules", 0);
+    check(bradovusc_carry_sheet(ascii_sheet, length, to, sizeof to).written == length, "carried over", (long)length);
+
+    memcpy(wrong, ascii_sheet, length);
+    wrong[2] = 3;
+    memset(answer, 7, sizeof answer);
+    check(is(bradovusc_ask(wrong, length, work, sizeof work, answer, sizeof answer), 44, 0, 2, 0), "another edition", 44);
+    check(answer[0] == 7, "no byte changed", 44);
+    check(bradovusc_ask_plain(wrong, length, bits, sizeof bits).number == 44, "of the engine too", 44);
+    added = bradovusc_enter(catalogue, sizeof catalogue, rule, sizeof rule, work, sizeof work);
+    check(added.number == 12 && added.place == 2, "a rule has none", 12);
 }
 
 /* ---- the script of a sheet */
@@ -1015,6 +1064,36 @@ static void try_write(void) {
     check(memcmp(out, written_sheet, length) == 0 && out[length] == 7, "the same bytes", (long)length);
 }
 
+/* A sheet with its edition. */
+static void try_write_edition(void) {
+    static const uint64_t four[] = {4};
+    const uint8_t *pattern = ascii_sheet + 7, *on_left = ascii_sheet + 14, *on_right = ascii_sheet + 19;
+    size_t length = sizeof ascii_sheet, i;
+    static const size_t none[] = {1, 3, 255, 256, 258, (size_t)-1};
+    uint64_t told[BRADOVUSC_TOLD];
+    memset(out, 7, sizeof out);
+    check(is_written(bradovusc_write_sheet_edition(BRADOVUSC_FULL_ASCII, pattern, 4, four, 1, on_left, 2, on_right, 3, out, length - 1), 41, 0,
+                     0),
+          "a byte too few", 41);
+    for (i = 0; i < sizeof none / sizeof *none; i++) {
+        check(is_written(bradovusc_write_sheet_edition(none[i], NULL, 0, four, 1, on_left, 2, on_right, 3, NULL, 0), 44, 2, 0),
+              "another edition", (long)i);
+    }
+    check(out[0] == 7 && out[length - 1] == 7, "no byte changed", 44);
+    check(is_written(bradovusc_write_sheet_edition(BRADOVUSC_FULL_ASCII, pattern, 4, four, 1, on_left, 2, on_right, 3, out, length), 0, 0,
+                     length),
+          "just enough", (long)length);
+    check(memcmp(out, ascii_sheet, length) == 0 && out[length] == 7, "the sheet's bytes, and no more", (long)length);
+    check(is_written(bradovusc_write_sheet_edition(BRADOVUSC_FULL_ASCII, left, 1, four, 1, NULL, 0, NULL, 0, NULL, 0), 11, 8, 0), "cut", 11);
+    check(is_written(bradovusc_write_sheet_edition(BRADOVUSC_FULL_ASCII, NULL, 0, NULL, 0, on_left, 2, pattern, 1, NULL, 0), 41, 0, 0),
+          "196 is field 4", 41);
+    check(is_written(bradovusc_write_sheet_edition(BRADOVUSC_CODE_39, pattern, 4, four, 1, NULL, 0, NULL, 0, NULL, 0), 15, 4, 0),
+          "196 is no code without ED", 15);
+    check(bradovusc_write(patterns, 5, lengths, 8, left, 3, right, 1, out, sizeof out, told, BRADOVUSC_TOLD) == 0 &&
+              told[BRADOVUSC_WRITTEN] == sizeof written_sheet && memcmp(out, written_sheet, sizeof written_sheet) == 0,
+          "bradovusc_write is the edition 0", 0);
+}
+
 /* told in so many elements */
 static void try_write_told(void) {
     size_t length, i;
@@ -1074,6 +1153,19 @@ static void try_longest_sheet(void) {
           "just enough", 1622);
     check(out[1622] == 7, "no byte behind it", 1622);
     given = bradovusc_ask(out, 1622, NULL, 0, NULL, 0);
+    check(given.number == BRADOVUSC_NO_ROOM, "it is a good sheet", (long)given.number);
+    for (i = 0; i < sizeof all_patterns; i++) {
+        all_patterns[i] = all_patterns[i] == 68 ? 196 : 10;
+    }
+    memset(tokens, 192, sizeof tokens);
+    check(is_written(bradovusc_write_sheet_edition(2, all_patterns, sizeof all_patterns, each, 8, tokens, 24, tokens, 24, out, 1624), 41, 0,
+                     0),
+          "a byte too few", 41);
+    check(is_written(bradovusc_write_sheet_edition(2, all_patterns, sizeof all_patterns, each, 8, tokens, 24, tokens, 24, out, 1625), 0, 0,
+                     1625),
+          "just enough with ED", 1625);
+    check(out[1625] == 7, "no byte behind it", 1625);
+    given = bradovusc_ask(out, 1625, NULL, 0, NULL, 0);
     check(given.number == BRADOVUSC_NO_ROOM, "it is a good sheet", (long)given.number);
 }
 
@@ -1227,7 +1319,7 @@ static void try_most_steps(void) {
 /* A walk over steps, and over what is none. */
 static void try_walk_over_steps(void) {
     static const unsigned kinds[] = {2, 0, 0, 1, 1};
-    uint8_t bytes[] = {'S', 'T', 2, 42, 'S', 'T', 2, 43};
+    uint8_t bytes[] = {'S', 'T', 2, 127, 'S', 'T', 2, 128};
     struct bradovusc_way way = bradovusc_way_in(stepped_way, sizeof stepped_way);
     size_t i;
     for (i = 0; i < 5; i++) {
@@ -1241,7 +1333,7 @@ static void try_walk_over_steps(void) {
         check(!bradovusc_next_step(&way), "a part of a record", (long)i);
     }
     way = bradovusc_way_in(bytes, sizeof bytes);
-    check(bradovusc_next_step(&way) && way.value == 42 && !bradovusc_next_step(&way), "a value that is no character", 43);
+    check(bradovusc_next_step(&way) && way.value == 127 && !bradovusc_next_step(&way), "a value that is no character", 128);
     bytes[2] = 3;
     way = bradovusc_way_in(bytes, sizeof bytes);
     check(!bradovusc_next_step(&way), "a kind above 2", 3);
@@ -1524,7 +1616,7 @@ int main(void) {
     check(BRADOVUSC_CATALOGUE_BYTES(32) == 26016, "a catalogue of 32 rules", 32);
     check(BRADOVUSC_LIST_BYTES(32) == 2480, "a list of their pairs", 32);
     check(BRADOVUSC_SCRIPT_BYTES == 280000, "a script", 280000);
-    check(BRADOVUSC_SHEET_BYTES == BRADOVUSC_FIELDS * (4 + 192) + 2 * (3 + 24), "a sheet", 1622);
+    check(BRADOVUSC_SHEET_BYTES == 3 + BRADOVUSC_FIELDS * (4 + 192) + 2 * (3 + 24), "a sheet", 1625);
     check(BRADOVUSC_PLAIN_BYTES == (279 * 279 + 7) / 8, "a bit buffer", 9731);
     check(BRADOVUSC_RULE_BYTES == 2 + BRADOVUSC_RULE_FIELDS * (4 + 192) + (3 + 24), "a rule", 813);
     check(BRADOVUSC_DECIDED_LIST_BYTES(32) == 3472 && BRADOVUSC_DECIDED_LIST_BYTES(2) == 7, "a list of decided pairs", 32);
@@ -1537,6 +1629,7 @@ int main(void) {
     try_null();
     try_decide();
     try_places();
+    try_full_ascii();
     try_script();
     try_longest_script();
     try_catalogue();
@@ -1552,6 +1645,7 @@ int main(void) {
     try_recheck_serials();
     try_longest_decided_list();
     try_write();
+    try_write_edition();
     try_write_told();
     try_write_places();
     try_longest_sheet();

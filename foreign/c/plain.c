@@ -8,7 +8,9 @@
  */
 #include "streams.h"
 
-static bool is_fault(uint32_t number) { return number >= BRADOVUSC_CUT_SHORT && number <= BRADOVUSC_WRONG_TOKEN; }
+static bool is_fault(uint32_t number) {
+    return (number >= BRADOVUSC_CUT_SHORT && number <= BRADOVUSC_WRONG_TOKEN) || number == BRADOVUSC_WRONG_EDITION;
+}
 
 /* Whether a bit buffer of so many bytes is answered with this number and this place, and is then as it must be. */
 static bool gives(const struct stream_case *given, size_t length, uint32_t number, uint64_t place) {

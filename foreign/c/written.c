@@ -1,7 +1,8 @@
 /*
- * Writes the sheet of each case of a stream on standard input, as the program `second --write` does.
+ * Writes the sheet of each case of a stream on standard input, as the program `second --write` does; with the word --edition as `second
+ * --write-edition` does.
  *
- * A case is the number of lengths in one byte, each length in eight; the patterns, the left side and the right one, each with its length in
+ * A case is, with that word, the edition in eight bytes; the number of lengths in one byte, each length in eight; the patterns, the left side and the right one, each with its length in
  * two bytes before it; the length of the output buffer in two bytes. In each number the low byte is first. The line of a case is number,
  * count, place and written length, and every byte of the output buffer: those written one by one, the others in a word where they are as
  * they were lent, and one by one where not. A line says so where other lengths of the buffer give something else: just enough bytes, one
@@ -19,10 +20,15 @@ struct part {
 static struct part patterns, left, right;
 static uint64_t lengths[MOST_LENGTHS];
 static size_t lengths_length;
+/* Whether each case has its edition in front, and that. */
+static bool with_edition;
+static uint64_t edition;
 
 static uint32_t write_into(uint8_t *out, size_t out_length, uint64_t *told) {
-    return bradovusc_write(patterns.bytes, patterns.length, lengths, lengths_length, left.bytes, left.length, right.bytes,
-                           right.length, out, out_length, told, BRADOVUSC_TOLD);
+    return with_edition ? bradovusc_write_edition((size_t)edition, patterns.bytes, patterns.length, lengths, lengths_length, left.bytes,
+                                                  left.length, right.bytes, right.length, out, out_length, told, BRADOVUSC_TOLD)
+                        : bradovusc_write(patterns.bytes, patterns.length, lengths, lengths_length, left.bytes, left.length, right.bytes,
+                                          right.length, out, out_length, told, BRADOVUSC_TOLD);
 }
 
 /* Whether a buffer of so many bytes is answered with these numbers, and these bytes at its front, the rest unchanged. */
@@ -84,8 +90,12 @@ static bool take_part(struct part *part) {
     return take(part->bytes, part->length);
 }
 
-/* The rest of a case, behind its first byte. */
 static bool take_case(uint64_t *out_length) {
+    uint64_t several;
+    if ((with_edition && !take_number(sizeof edition, &edition)) || !take_number(1, &several)) {
+        return false;
+    }
+    lengths_length = (size_t)several;
     for (size_t field = 0; field < lengths_length; field++) {
         if (!take_number(sizeof *lengths, &lengths[field])) {
             return false;
@@ -94,11 +104,16 @@ static bool take_case(uint64_t *out_length) {
     return take_part(&patterns) && take_part(&left) && take_part(&right) && take_number(2, out_length);
 }
 
-int main(void) {
+int main(int count, char **words) {
     int first;
+    with_edition = count == 2 && strcmp(words[1], "--edition") == 0;
+    if (count != 1 && !with_edition) {
+        fputs("usage: written [--edition]\n", stderr);
+        return 2;
+    }
     while ((first = getchar()) != EOF) {
         uint64_t out_length;
-        lengths_length = (size_t)first;
+        ungetc(first, stdin);
         if (!take_case(&out_length)) {
             fputs("written: the stream stops inside a case\n", stderr);
             return EXIT_FAILURE;

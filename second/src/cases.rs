@@ -6,9 +6,10 @@
 
 use crate::catalogue::RULE;
 use crate::decide::{self, By, Decided};
+use crate::edition::{Edition, FIRST};
 use crate::plain::{plain, plain_bytes, Needs, Told};
 use crate::spell_open::{rule_into, sheet_into, Spelt};
-use crate::Outcome;
+use crate::{sheet, Outcome};
 
 /// The bytes with which the buffers are filled before each case.
 pub const WORK_FILL: u8 = 90;
@@ -27,9 +28,15 @@ pub struct Case {
 /// A function like `crate::answer`.
 pub type Answerer = fn(&[u8], &mut [u8], &mut [u8]) -> Outcome;
 
+/// The edition of a good sheet. What is printed of another has no text.
+pub fn edition_of(sheet: &[u8]) -> Edition {
+    sheet::read(sheet).map_or(FIRST, |question| question.edition)
+}
+
 /// An outcome and what the two buffers hold afterwards.
 #[derive(Clone, Debug, PartialEq, Eq)]
 pub struct After {
+    pub edition: Edition,
     pub outcome: Outcome,
     pub answer: Vec<u8>,
     pub work: Vec<u8>,
@@ -41,7 +48,7 @@ impl Case {
         let mut work = vec![WORK_FILL; self.work as usize];
         let mut answer = vec![ANSWER_FILL; self.answer as usize];
         let outcome = answerer(&self.sheet, &mut work, &mut answer);
-        After { outcome, answer, work }
+        After { edition: edition_of(&self.sheet), outcome, answer, work }
     }
 
     /// Decides the case on two freshly filled buffers.
@@ -49,7 +56,9 @@ impl Case {
         let mut work = vec![WORK_FILL; self.work as usize];
         let mut answer = vec![ANSWER_FILL; self.answer as usize];
         let decided = decide::decide(&self.sheet, &mut work, &mut answer, by);
-        AfterDecided { decided, after: After { outcome: decided.outcome, answer, work } }
+        let edition = edition_of(&self.sheet);
+        let after = After { edition, outcome: decided.outcome, answer, work };
+        AfterDecided { decided, after }
     }
 
     /// Carries the sheet over into a buffer of the answer buffer's length, or
@@ -122,7 +131,7 @@ impl After {
 
     /// What the program `clash` prints.
     pub fn lines(&self) -> String {
-        crate::lines(&self.outcome, &self.answer)
+        crate::lines(self.edition, &self.outcome, &self.answer)
     }
 }
 
@@ -141,7 +150,7 @@ impl AfterDecided {
 
     /// What the program `decide` prints.
     pub fn lines(&self) -> String {
-        decide::lines(&self.decided, &self.after.answer)
+        decide::lines(self.after.edition, &self.decided, &self.after.answer)
     }
 }
 

@@ -3,6 +3,7 @@
 
 use std::ops::Range;
 
+use crate::edition::FIRST;
 use crate::fault::Fault;
 use crate::pattern::Allowed;
 use crate::sheet::{Cursor, Question, Token, FIELDS, LEFT};
@@ -79,7 +80,7 @@ impl Rule {
 
 /// "In a pair the present rule is the left side, the new one the right, with
 /// its fields as 4 to 7." Both rules' own fields are 0 to 3; the hidden ones
-/// stand as in a sheet.
+/// stand as in a sheet. A rule never has `ED`.
 pub fn question(present: &Rule, new: &Rule) -> Question {
     let renumbered = |token: &Token| match *token {
         Token::Field(field) => Token::Field(field + RULE_FIELDS as u8),
@@ -89,7 +90,8 @@ pub fn question(present: &Rule, new: &Rule) -> Question {
         None => present.allowed[field].clone(),
         Some(own) => new.allowed[own].clone(),
     });
-    Question::of(present.side.clone(), new.side.iter().map(renumbered).collect(), allowed)
+    let (left, right) = (present.side.clone(), new.side.iter().map(renumbered).collect());
+    Question::of(FIRST, left, right, allowed)
 }
 
 /// A rule of the catalogue and where its bytes stand.

@@ -16,7 +16,8 @@
 //! the sheet's (untrimmed) sides"; the room is the same for every search.
 
 use crate::catalogue::{Asked, Searcher};
-use crate::pattern::{characters, Allowed, CharacterSet, CHARACTERS};
+use crate::edition::Edition;
+use crate::pattern::{characters, Allowed, CharacterSet};
 use crate::sheet::{self, Question, Token, ALL_FIELDS, FIELDS};
 use crate::{scan, Outcome, NO_CLASH, NO_ROOM, SIDE_TOO_LONG};
 
@@ -153,7 +154,7 @@ pub fn least_alike(question: &Question) -> CharacterSet {
             && standing.iter().all(|field| field.leaves_taking(a) == field.leaves_taking(b))
     };
     let least = |&character: &u8| !(0..character).any(|smaller| alike(smaller, character));
-    (0..CHARACTERS).filter(least).fold(0, |set, character| set | 1 << character)
+    (0..question.edition.characters).filter(least).fold(0, |set, character| set | 1 << character)
 }
 
 /// Some of the least ones: "for each leaf (fields rising, leaves in their order)
@@ -205,8 +206,8 @@ pub fn each_apart(question: &Question) -> Option<Question> {
 
 /// What the program `decide` prints: what `clash` prints, "the search's number at
 /// the end of the first line".
-pub fn lines(decided: &Decided, answer: &[u8]) -> String {
-    let lines = crate::lines(&decided.outcome, answer);
+pub fn lines(edition: Edition, decided: &Decided, answer: &[u8]) -> String {
+    let lines = crate::lines(edition, &decided.outcome, answer);
     let end = lines.find('\n').unwrap_or(lines.len());
     format!("{} {}{}", &lines[..end], decided.search, &lines[end..])
 }

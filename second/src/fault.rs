@@ -12,12 +12,14 @@ pub const WRONG_LENGTH: u8 = 14;
 /// "For 15, read left to right, it is the first byte that is no code, or the lo
 /// byte if lo is above 42, else the hi byte if that is above 42 or below lo;
 /// where bytes are left over, the first of them; where the code runs out, the
-/// offset after the pattern's last byte."
+/// offset after the pattern's last byte." In the second edition 42 is 127.
 pub const NOT_ONE_PATTERN: u8 = 15;
 /// "16 now points at the 64th leaf", at its first byte.
 pub const TOO_MANY_LEAVES: u8 = 16;
 /// "for 17 the token"
 pub const WRONG_TOKEN: u8 = 17;
+/// "44 for an edition byte other than 2, its place that byte"
+pub const WRONG_EDITION: u8 = 44;
 
 /// "The first fault met decides." Its place is counted from the first of the
 /// bytes that are read: a sheet's, a rule's from `RU` on, or a pattern's.

@@ -33,7 +33,11 @@
 //! `full_ascii::into` spells a text of Full ASCII in Code 39 values, and reads it
 //! back.
 //!
-//! `smt` reads scripts for other solvers and compares them with their sheets.
+//! "A sheet may begin with a record `ED` and the byte 2": `edition` has what is
+//! different then, and all of these take it as a value.
+//!
+//! `smt` reads scripts for other solvers and compares them with their sheets, and
+//! writes them too.
 //!
 //! Sentences in quotation marks in the comments are those of the text in which
 //! the rules were first given, or of the requests that changed them;
@@ -43,6 +47,7 @@ pub mod calls;
 pub mod cases;
 pub mod catalogue;
 pub mod decide;
+pub mod edition;
 pub mod fault;
 pub mod full_ascii;
 pub mod make;
@@ -62,6 +67,7 @@ pub mod storeroom;
 pub mod write;
 pub mod writer;
 
+use edition::Edition;
 use fault::Fault;
 use search::{Ending, Texts};
 use sheet::Question;
@@ -176,17 +182,16 @@ fn records(texts: &Texts) -> Vec<u8> {
 
 /// What the program `clash` prints: "Its first line is answer, count and place
 /// in decimal, one space between; after answer 0 comes a line for each `VA`:
-/// field number, a space, the text as characters."
-pub fn lines(outcome: &Outcome, answer: &[u8]) -> String {
+/// field number, a space, the text as characters." A text of the second edition
+/// is spelt: "spell a text into plain Code 39 (`clash` prints it so)".
+pub fn lines(edition: Edition, outcome: &Outcome, answer: &[u8]) -> String {
     let mut lines = format!("{} {} {}\n", outcome.number, outcome.count, outcome.place);
     let mut rest = &answer[..outcome.written];
     while rest.len() >= ANSWER_RECORD_HEAD {
         let field = rest[2];
         let length = usize::from(u16::from_le_bytes([rest[3], rest[4]]));
         let (text, behind) = rest[ANSWER_RECORD_HEAD..].split_at(length);
-        lines.push_str(&format!("{field} "));
-        lines.extend(text.iter().map(|&value| char::from(CODE_39[usize::from(value)])));
-        lines.push('\n');
+        lines.push_str(&format!("{field} {}\n", edition.printed(text)));
         rest = behind;
     }
     lines

@@ -5,14 +5,16 @@
 //! rules as storerooms write them, `decided` cases to decide, `written` what is
 //! handed to the writer of sheets, `plainly` sheets for the engine for plain
 //! rules, `ascii` texts to be spelt and read back, `ways` cases of the steps and
-//! of the player.
+//! of the player. `said` says what is made in the second edition.
 
 pub mod ascii;
 pub mod calls;
 mod damages;
 pub mod decided;
+pub mod editions;
 pub mod pairs;
 pub mod plainly;
+mod said;
 mod spaces;
 pub mod spelt;
 pub mod ways;
@@ -21,22 +23,35 @@ pub mod written;
 use std::ops::Range;
 
 use self::damages::{damaged, random_bytes};
+use self::said::said;
 use crate::cases::Case;
-use crate::pattern::{CHARACTERS, MOST_LEAVES, SPACE};
+use crate::edition::{Edition, FIRST};
+use crate::pattern::MOST_LEAVES;
 use crate::sheet::{FIELDS, LEFT, MOST_PATTERN, MOST_SIDE, PATTERN, RIGHT};
 use crate::storeroom::{by_first_letter, FINISHES};
 use crate::write::{self, choice, field, row, tokens};
 use crate::{spell_open, ANSWER_BUFFER_TOO_SHORT, CLASH, SITUATION_BYTES};
 
-/// A small deterministic generator (xorshift with a multiplication).
-pub struct Dice(u64);
+/// All is made in the bytes of the first edition; `said` says it in another.
+const CHARACTERS: u8 = FIRST.characters;
+const SPACE: u8 = FIRST.space;
+
+/// A small deterministic generator (xorshift with a multiplication), and the
+/// edition of the sheets that are made with it.
+pub struct Dice {
+    state: u64,
+    edition: Edition,
+}
 
 impl Dice {
+    /// For sheets of the first edition.
     pub fn new(seed: u64) -> Dice {
-        let mut dice = Dice(seed.wrapping_mul(0x9E37_79B9_7F4A_7C15) ^ 0x2545_F491_4F6C_DD1D);
-        if dice.0 == 0 {
-            dice.0 = 1;
-        }
+        Dice::of(seed, FIRST)
+    }
+
+    pub fn of(seed: u64, edition: Edition) -> Dice {
+        let state = seed.wrapping_mul(0x9E37_79B9_7F4A_7C15) ^ 0x2545_F491_4F6C_DD1D;
+        let mut dice = Dice { state: state.max(1), edition };
         for _ in 0..4 {
             dice.next();
         }
@@ -44,10 +59,10 @@ impl Dice {
     }
 
     fn next(&mut self) -> u64 {
-        self.0 ^= self.0 >> 12;
-        self.0 ^= self.0 << 25;
-        self.0 ^= self.0 >> 27;
-        self.0.wrapping_mul(0x2545_F491_4F6C_DD1D) >> 16
+        self.state ^= self.state >> 12;
+        self.state ^= self.state << 25;
+        self.state ^= self.state >> 27;
+        self.state.wrapping_mul(0x2545_F491_4F6C_DD1D) >> 16
     }
 
     /// A number below n.
@@ -127,7 +142,8 @@ pub fn case(dice: &mut Dice) -> Case {
         let sheet = damaged(dice, &[], 2, records);
         return with_any_buffers(dice, sheet);
     }
-    with_chosen_buffers(dice, write_out(&records))
+    let sheet = said(dice, &records);
+    with_chosen_buffers(dice, sheet)
 }
 
 // ---------------------------------------------------------------- buffers
@@ -195,6 +211,12 @@ fn with_chosen_buffers(dice: &mut Dice, sheet: Vec<u8>) -> Case {
 }
 
 // ------------------------------------------------------------ good sheets
+
+/// A good sheet written out.
+fn good_sheet(dice: &mut Dice) -> Vec<u8> {
+    let records = good(dice);
+    said(dice, &records)
+}
 
 /// A good sheet.
 fn good(dice: &mut Dice) -> Vec<Record> {

@@ -1,26 +1,27 @@
 //! Patterns and their places.
 
+use crate::edition::{Edition, MOST_CHARACTERS};
 use crate::fault::{Fault, NOT_ONE_PATTERN, TOO_MANY_LEAVES};
 
 /// "Allow 63 leaves, which with the start make 64 places".
 pub const MOST_LEAVES: usize = 63;
 /// The leaves and the start.
 const PLACES: usize = MOST_LEAVES + 1;
-/// Characters are the values 0 to 42.
-pub const CHARACTERS: u8 = 43;
-/// "38 space"
-pub const SPACE: u8 = 38;
 
 /// A set of characters: bit c is the character c.
-pub type CharacterSet = u64;
-
-/// All of them.
-pub const ALL_CHARACTERS: CharacterSet = (1 << CHARACTERS) - 1;
+pub type CharacterSet = u128;
 
 /// The characters of a set, rising.
 pub fn characters(set: CharacterSet) -> impl Iterator<Item = u8> {
-    (0..CHARACTERS).filter(move |&character| set & (1 << character) != 0)
+    (0..MOST_CHARACTERS).filter(move |&character| set & (1 << character) != 0)
 }
+
+/// The pattern codes, from an edition's first on: "192 to 196 stand for 64 to 68".
+pub const EMPTY: u8 = 0;
+pub const RANGE: u8 = 1;
+pub const THEN: u8 = 2;
+pub const OR: u8 = 3;
+pub const MANY: u8 = 4;
 
 /// A set of places: bit 0 is the start, bit k the k-th leaf of the pattern. A
 /// field without a pattern has one place beside the start: bit 1, after a
@@ -32,7 +33,8 @@ pub const ONLY_START: PlaceSet = 1;
 /// The other of the "two reachable place sets" of a field without a pattern.
 pub const AFTER_A_CHARACTER: PlaceSet = 2;
 
-/// A pattern as a tree.
+/// A pattern as a tree, with the codes of the first edition in its comments: "192
+/// to 196 stand for 64 to 68; a range's ends go to 127".
 #[derive(Clone, Debug, PartialEq, Eq)]
 pub enum Pattern {
     /// "64: the empty text"
@@ -52,8 +54,8 @@ impl Pattern {
     /// "The n bytes after the length byte are judged by themselves, as exactly
     /// one pattern that uses them all." A fault's place is counted from the
     /// first of them.
-    pub fn read(bytes: &[u8]) -> Result<Pattern, Fault> {
-        let mut reader = Reader { bytes, offset: 0, leaves: Vec::new() };
+    pub fn read(edition: Edition, bytes: &[u8]) -> Result<Pattern, Fault> {
+        let mut reader = Reader { edition, bytes, offset: 0, leaves: Vec::new() };
         let pattern = reader.pattern()?;
         // "where bytes are left over, the first of them"
         if reader.offset < bytes.len() {
@@ -71,6 +73,7 @@ impl Pattern {
 /// The bytes of a pattern and how far they are read. Where they turn out not to
 /// be one pattern, the offset is the fault's place.
 struct Reader<'a> {
+    edition: Edition,
     bytes: &'a [u8],
     offset: usize,
     /// The first byte of each leaf read so far.
@@ -80,21 +83,23 @@ struct Reader<'a> {
 impl Reader<'_> {
     /// One pattern, "written operator first".
     fn pattern(&mut self) -> Result<Pattern, Fault> {
-        let first = self.offset;
+        let (edition, first) = (self.edition, self.offset);
+        let operator = |code: u8| code.checked_sub(edition.codes).filter(|&of| of <= MANY);
         // "the first byte that is no code"
-        match self.byte(|code| matches!(code, 0..=42 | 64..=68))? {
-            64 => Ok(Pattern::Empty),
-            65 => {
+        let code = self.byte(|code| edition.has(code) || operator(code).is_some())?;
+        match operator(code) {
+            None => Ok(self.leaf(first, code, code)),
+            Some(EMPTY) => Ok(Pattern::Empty),
+            Some(RANGE) => {
                 // "the lo byte if lo is above 42, else the hi byte if that is
                 // above 42 or below lo"
-                let lo = self.byte(|lo| lo < CHARACTERS)?;
-                let hi = self.byte(|hi| lo <= hi && hi < CHARACTERS)?;
+                let lo = self.byte(|lo| edition.has(lo))?;
+                let hi = self.byte(|hi| lo <= hi && edition.has(hi))?;
                 Ok(self.leaf(first, lo, hi))
             }
-            66 => Ok(Pattern::Then(self.part()?, self.part()?)),
-            67 => Ok(Pattern::Or(self.part()?, self.part()?)),
-            68 => Ok(Pattern::AnyTimes(self.part()?)),
-            character => Ok(self.leaf(first, character, character)),
+            Some(THEN) => Ok(Pattern::Then(self.part()?, self.part()?)),
+            Some(OR) => Ok(Pattern::Or(self.part()?, self.part()?)),
+            Some(_) => Ok(Pattern::AnyTimes(self.part()?)),
         }
     }
 
@@ -132,7 +137,7 @@ pub struct Places {
     /// For each place, the places that may follow it.
     follow: [PlaceSet; PLACES],
     /// For each character, the leaves that take it.
-    takes: [PlaceSet; CHARACTERS as usize],
+    takes: [PlaceSet; MOST_CHARACTERS as usize],
     /// The places that "may be the last one of a text (the start may, if the
     /// pattern takes the empty text)".
     last: PlaceSet,
@@ -151,7 +156,8 @@ struct Part {
 impl Places {
     /// The places of a pattern with at most 63 leaves.
     pub fn of(pattern: &Pattern) -> Places {
-        let mut places = Places { follow: [0; PLACES], takes: [0; CHARACTERS as usize], last: 0 };
+        let takes = [0; MOST_CHARACTERS as usize];
+        let mut places = Places { follow: [0; PLACES], takes, last: 0 };
         let mut leaves = 0;
         let whole = places.part(pattern, &mut leaves);
         places.follow[0] = whole.first;
@@ -220,20 +226,21 @@ fn members(set: PlaceSet) -> impl Iterator<Item = usize> {
 pub enum Allowed {
     /// "A field without a pattern shall now hold one character or more. It then
     /// has two reachable place sets": the start, at which it may not end, and
-    /// after a character, where it may.
-    Open,
+    /// after a character, where it may. It takes these characters, those of its
+    /// edition.
+    Open(CharacterSet),
     /// A field with a pattern.
     Pattern(Box<Places>),
 }
 
 impl Allowed {
     /// "After a character c it holds each leaf that may follow some place of
-    /// the set and that takes c." A field without a pattern takes every
-    /// character from both its sets.
+    /// the set and that takes c." A field without a pattern takes every character
+    /// of its edition from both its sets.
     pub fn after(&self, set: PlaceSet, character: u8) -> PlaceSet {
         match self {
-            Allowed::Open if set == 0 => 0,
-            Allowed::Open => AFTER_A_CHARACTER,
+            Allowed::Open(_) if set == 0 => 0,
+            Allowed::Open(_) => self.leaves_taking(character),
             Allowed::Pattern(places) => {
                 let following = members(set).fold(0, |all, place| all | places.follow[place]);
                 following & places.takes[usize::from(character)]
@@ -242,20 +249,22 @@ impl Allowed {
     }
 
     /// The leaves that take the character. A field without a pattern has one
-    /// leaf, which takes every character.
+    /// leaf, which takes every character of its edition.
     pub fn leaves_taking(&self, character: u8) -> PlaceSet {
         match self {
-            Allowed::Open => AFTER_A_CHARACTER,
+            Allowed::Open(characters) if characters & (1 << character) == 0 => 0,
+            Allowed::Open(_) => AFTER_A_CHARACTER,
             Allowed::Pattern(places) => places.takes[usize::from(character)],
         }
     }
 
     /// The characters that each leaf takes, the leaves in their order.
     pub fn leaves(&self) -> Vec<CharacterSet> {
-        let all = (0..CHARACTERS).fold(0, |all, character| all | self.leaves_taking(character));
+        let characters = 0..MOST_CHARACTERS;
+        let all = characters.clone().fold(0, |all, one| all | self.leaves_taking(one));
         let taken = |leaf: usize| {
             let takes = |character: &u8| self.leaves_taking(*character) & (1 << leaf) != 0;
-            (0..CHARACTERS).filter(takes).fold(0, |set, character| set | 1 << character)
+            characters.clone().filter(takes).fold(0, |set, character| set | 1 << character)
         };
         members(all).map(taken).collect()
     }
@@ -263,7 +272,7 @@ impl Allowed {
     /// "The set may end if some place in it may be the last one of a text".
     pub fn may_end(&self, set: PlaceSet) -> bool {
         match self {
-            Allowed::Open => set & AFTER_A_CHARACTER != 0,
+            Allowed::Open(_) => set & AFTER_A_CHARACTER != 0,
             Allowed::Pattern(places) => set & places.last != 0,
         }
     }

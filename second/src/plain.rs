@@ -10,7 +10,7 @@ use std::collections::HashSet;
 
 use crate::catalogue::DONE;
 use crate::fault::Fault;
-use crate::pattern::{Allowed, CHARACTERS};
+use crate::pattern::Allowed;
 use crate::sheet::{self, Question, Token, FIELDS};
 use crate::{CLASH, NO_CLASH};
 
@@ -155,7 +155,7 @@ fn clashes(question: &Question) -> bool {
         let mut next: Vec<(Standing, Standing)> = Vec::new();
         next.extend(l.left(question, left).map(|l| (l, r)));
         next.extend(r.left(question, right).map(|r| (l, r)));
-        for character in 0..CHARACTERS {
+        for character in 0..question.edition.characters {
             let rights = r.after(question, right, character);
             for l in l.after(question, left, character) {
                 next.extend(rights.iter().map(|&r| (l, r)));

@@ -1,7 +1,10 @@
 //! Cases whose lines tell wrong printers apart: the stored cases of a part
-//! of the crate `test_sheets`, and as the first one the stored sheet of `clash`.
+//! of the crate `test_sheets`, and as the first one the stored sheet of `clash`;
+//! and those of the second edition, whose texts are printed spelt.
 
 use crate::cases::Case;
+use crate::edition::SECOND;
+use crate::pattern::{MOST_LEAVES, THEN};
 use crate::write::{field, many, patterns, row, sheet, text, values};
 use crate::SITUATION_BYTES;
 
@@ -57,6 +60,64 @@ pub fn cases() -> Vec<Case> {
         plain(sheet(&[(0, full(0, 9)), (7, row(vec![vec![A]; 64]))], &[], &[])),
         plain(sheet(&seven[..1], &[], &[43])),
     ]
+}
+
+/// The cases of the second edition.
+pub fn second_cases() -> Vec<Case> {
+    let of = |left: &[u8], right: &[u8]| second_sheet(&[], left, right);
+    let x = SECOND.field(0);
+    let mut cases = vec![
+        // every character
+        plain(every_character()),
+        // texts with shift signs, small letters, control characters, spaces at their
+        // ends, and the empty one
+        plain(of(&[x], b"Part 7")),
+        plain(of(&[x], b"$%/+")),
+        plain(of(&[x], b"+A/B%C$D")),
+        plain(of(&[x], b"\x00\x1b\x1f!:;?@[_`a{\x7e\x7f")),
+        plain(second_sheet(&[(0, row_of(b"a  "))], &[x], b"a")),
+        plain(second_sheet(&[(0, vec![SECOND.codes])], &[x, b'Z'], b"Z")),
+        // two fields, the later one first
+        plain(of(&[SECOND.field(7), b'#', x], b"h#i")),
+        // no field; no clash; no room; too short an answer buffer
+        plain(of(b"LT4", b"LT4 ")),
+        plain(of(b"LT4", b"LT4&")),
+        plain(of(&[x, b'A'], &[b'B', SECOND.field(1), x])),
+        case(2, ANSWER, of(&[x], b"a")),
+        case(ROOM, 5, of(&[x], b"a")),
+        case(ROOM, 6, of(&[x], b"a")),
+    ];
+    // 11 at 1, 2 and 3; 12 at 3; 44; 15 at 7; 17 at 6
+    let record = SECOND.record;
+    for faulty in [&record[..1], &record[..2], record, b"ED\x02ED\x02", b"ED\x01LE\x00RI\x00"] {
+        cases.push(plain(faulty.to_vec()));
+    }
+    cases.push(plain(second_sheet(&[(0, vec![128])], &[x], b"a")));
+    cases.push(plain(of(&[200], b"a")));
+    cases
+}
+
+fn second_sheet(patterns: &[(u8, Vec<u8>)], left: &[u8], right: &[u8]) -> Vec<u8> {
+    [SECOND.record, &sheet(patterns, left, right)].concat()
+}
+
+/// The pattern of just these characters.
+fn row_of(characters: &[u8]) -> Vec<u8> {
+    let operators = vec![SECOND.codes + THEN; characters.len() - 1];
+    [&operators[..], characters].concat()
+}
+
+/// Both sides are all characters one behind the other: on the left two fields have
+/// as many as a pattern has leaves and the third has the rest, on the right the
+/// first has the rest.
+fn every_character() -> Vec<u8> {
+    let all: Vec<u8> = (0..SECOND.characters).collect();
+    let left = all.chunks(MOST_LEAVES);
+    let right = all.rchunks(MOST_LEAVES).rev();
+    let patterns: Vec<(u8, Vec<u8>)> = (0..).zip(left.chain(right).map(row_of)).collect();
+    let fields: Vec<u8> = patterns.iter().map(|(field, _)| SECOND.field(*field)).collect();
+    let (left, right) = fields.split_at(fields.len() / 2);
+    second_sheet(&patterns, left, right)
 }
 
 /// x is `+` 39 times and `%`, any number of times, then 14 times `+`; w is

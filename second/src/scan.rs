@@ -37,6 +37,9 @@ const LEFT_STRUCK: u8 = 253;
 const RIGHT_STRUCK: u8 = 254;
 const NO_STEP: u8 = 255;
 
+/// The token of field 0 in a slot, whatever the edition: above every character.
+const FIELD: u8 = 192;
+
 /// The part of a slot that is the situation.
 type Key = [u8; KEY_BYTES];
 
@@ -155,9 +158,17 @@ struct Way {
     before: [Option<usize>; 2],
 }
 
-/// The field of a token, if it is one.
+/// A token as it stands in a slot.
+fn inner(token: Token) -> u8 {
+    match token {
+        Token::Character(character) => character,
+        Token::Field(field) => FIELD + field,
+    }
+}
+
+/// The field of such a token, if it is one.
 fn field(token: u8) -> Option<usize> {
-    (token >= 64).then(|| usize::from(token - 64))
+    (token >= FIELD).then(|| usize::from(token - FIELD))
 }
 
 /// A token list, long enough for a child that is not yet trimmed: no token
@@ -210,7 +221,7 @@ impl Side {
     fn put(&self, character: u8, left_front: u8, right_front: u8) -> Side {
         let mut side = Side::empty();
         for &token in self.tokens() {
-            if token >= 64 && (token == left_front || token == right_front) {
+            if token >= FIELD && (token == left_front || token == right_front) {
                 side.push(character);
             }
             side.push(token);
@@ -231,10 +242,10 @@ impl Flat {
     fn of(question: &Question) -> Flat {
         let mut start = Flat { left: Side::empty(), right: Side::empty(), sets: [0; ALL_FIELDS] };
         for &token in &question.left {
-            start.left.push(token.byte());
+            start.left.push(inner(token));
         }
         for &token in &question.right {
-            start.right.push(token.byte());
+            start.right.push(inner(token));
         }
         for &token in question.left.iter().chain(&question.right) {
             if let Token::Field(field) = token {
@@ -246,7 +257,7 @@ impl Flat {
 
     fn trim(&mut self) {
         while let (Some(left), Some(right)) = (self.left.front(), self.right.front()) {
-            if left != right || left >= 64 {
+            if left != right || left >= FIELD {
                 break;
             }
             self.left.from += 1;
@@ -260,7 +271,7 @@ impl Flat {
 
     /// Not finished, and no field in front of either side.
     fn dead(&self) -> bool {
-        let is_field = |front: Option<u8>| front.is_some_and(|token| token >= 64);
+        let is_field = |front: Option<u8>| front.is_some_and(|token| token >= FIELD);
         !self.finished() && !is_field(self.left.front()) && !is_field(self.right.front())
     }
 

@@ -2,8 +2,10 @@
 
 use std::ops::RangeInclusive;
 
-use crate::fault::{Fault, CUT_SHORT, WRONG_FIELD, WRONG_LENGTH, WRONG_MARK, WRONG_TOKEN};
-use crate::pattern::{Allowed, CharacterSet, Pattern, Places, ALL_CHARACTERS, SPACE};
+use crate::edition::{self, Edition, EDITION_BYTE, FIRST, SECOND, SECOND_BYTE};
+use crate::fault::{Fault, CUT_SHORT, WRONG_EDITION, WRONG_FIELD};
+use crate::fault::{WRONG_LENGTH, WRONG_MARK, WRONG_TOKEN};
+use crate::pattern::{Allowed, CharacterSet, Pattern, Places};
 
 /// Fields 0 to 7, which may stand in a sheet.
 pub const FIELDS: usize = 8;
@@ -31,7 +33,9 @@ pub const SIDE_HEAD: usize = 3;
 const SIDE_LENGTHS: RangeInclusive<u8> = 0..=MOST_SIDE as u8;
 
 /// "A token is 0 to 42 (a character) or 64 to 71 (field 0 to 7)." The hidden
-/// fields have "tokens 72 and 73, never allowed in a sheet".
+/// fields have "tokens 72 and 73, never allowed in a sheet". In the second edition
+/// "Characters are then 0 to 127, field tokens 192 to 199, hidden ones 200 and
+/// 201".
 #[derive(Clone, Copy, Debug, PartialEq, Eq, Hash)]
 pub enum Token {
     Character(u8),
@@ -40,18 +44,18 @@ pub enum Token {
 
 impl Token {
     /// The token of a sheet's byte.
-    pub fn of_byte(byte: u8) -> Option<Token> {
-        match byte {
-            0..=42 => Some(Token::Character(byte)),
-            64..=71 => Some(Token::Field(byte - 64)),
-            _ => None,
+    pub fn of_byte(edition: Edition, byte: u8) -> Option<Token> {
+        if edition.has(byte) {
+            return Some(Token::Character(byte));
         }
+        let field = byte.checked_sub(edition.codes)?;
+        (usize::from(field) < FIELDS).then_some(Token::Field(field))
     }
 
-    pub fn byte(self) -> u8 {
+    pub fn byte(self, edition: Edition) -> u8 {
         match self {
             Token::Character(character) => character,
-            Token::Field(field) => 64 + field,
+            Token::Field(field) => edition.field(field),
         }
     }
 }
@@ -59,51 +63,59 @@ impl Token {
 /// A sheet that passed all checks, or a pair of rules, with the hidden fields.
 #[derive(Clone, Debug)]
 pub struct Question {
+    pub edition: Edition,
     pub left: Vec<Token>,
     pub right: Vec<Token>,
     /// What each field may stand for.
     pub allowed: [Allowed; ALL_FIELDS],
-    /// No place takes a character that is none of these: all of them, but for
-    /// the later searches of `decide`.
+    /// No place takes a character that is none of these: all of the edition's,
+    /// but for the later searches of `decide`.
     pub characters: CharacterSet,
 }
 
 impl Question {
     /// "Each side is to be read as if one hidden field, of any number of
     /// spaces, stood at its end".
-    pub fn of(mut left: Vec<Token>, mut right: Vec<Token>, allowed: [Allowed; FIELDS]) -> Question {
+    pub fn of(
+        edition: Edition,
+        mut left: Vec<Token>,
+        mut right: Vec<Token>,
+        allowed: [Allowed; FIELDS],
+    ) -> Question {
         left.push(Token::Field(HIDDEN_LEFT));
         right.push(Token::Field(HIDDEN_RIGHT));
-        let space = Pattern::Leaf { lo: SPACE, hi: SPACE };
+        let space = Pattern::Leaf { lo: edition.space, hi: edition.space };
         let spaces = Places::of(&Pattern::AnyTimes(Box::new(space)));
         let hidden = || Allowed::Pattern(Box::new(spaces.clone()));
         let mut allowed = allowed.into_iter();
         let allowed = std::array::from_fn(|_| allowed.next().unwrap_or_else(hidden));
-        Question { left, right, allowed, characters: ALL_CHARACTERS }
+        Question { edition, left, right, allowed, characters: edition.all() }
     }
 }
 
-/// Reads and judges a whole sheet: "no, one or several `PA`, field numbers
-/// rising; one `LE`; one `RI`; the end".
+/// Reads and judges a whole sheet: no or one `ED`, then "no, one or several `PA`,
+/// field numbers rising; one `LE`; one `RI`; the end".
 pub fn read(sheet: &[u8]) -> Result<Question, Fault> {
     let mut cursor = Cursor::new(sheet);
+    cursor.edition()?;
     let allowed = cursor.patterns()?;
     let left = cursor.side(LEFT)?;
     let right = cursor.side(RIGHT)?;
     cursor.end()?;
-    Ok(Question::of(left, right, allowed))
+    Ok(Question::of(cursor.edition, left, right, allowed))
 }
 
 /// Bytes and how far they are read: "Reading goes on from where the last
-/// record ended."
+/// record ended." The edition is the first one unless a record `ED` is read.
 pub struct Cursor<'a> {
     bytes: &'a [u8],
     place: usize,
+    edition: Edition,
 }
 
 impl<'a> Cursor<'a> {
     pub fn new(bytes: &'a [u8]) -> Cursor<'a> {
-        Cursor { bytes, place: 0 }
+        Cursor { bytes, place: 0, edition: FIRST }
     }
 
     /// The offset at which the next record's mark stands or should stand.
@@ -152,11 +164,26 @@ impl<'a> Cursor<'a> {
         Ok(())
     }
 
+    /// "A sheet may begin with a record `ED` and the byte 2": 11 where the byte is
+    /// missing, "44 for an edition byte other than 2, its place that byte, right
+    /// after its missing-byte check". Other bytes in front are the next record's
+    /// affair.
+    fn edition(&mut self) -> Result<(), Fault> {
+        if self.bytes.starts_with(edition::MARK) {
+            if self.head(EDITION_BYTE + 1)?[EDITION_BYTE] != SECOND_BYTE {
+                return Err(self.fault(WRONG_EDITION, EDITION_BYTE));
+            }
+            self.edition = SECOND;
+            self.place += SECOND.record.len();
+        }
+        Ok(())
+    }
+
     /// "no, one or several `PA`, field numbers rising": what each field may
     /// stand for. A pattern of a field that stands nowhere stays there unused:
     /// it "is read, judged and then ignored".
     pub fn patterns(&mut self) -> Result<[Allowed; FIELDS], Fault> {
-        let mut allowed = std::array::from_fn(|_| Allowed::Open);
+        let mut allowed = std::array::from_fn(|_| Allowed::Open(self.edition.all()));
         let mut before = None;
         while self.head(2)? == PATTERN {
             let (field, pattern) = self.pattern(before)?;
@@ -177,7 +204,7 @@ impl<'a> Cursor<'a> {
         let body = self.body(PATTERN_HEAD, PATTERN_LENGTHS)?;
         // "then for a pattern 15, then 16"
         let pass_on = |fault: Fault| fault.passed_on(self.place + PATTERN_HEAD);
-        let pattern = Pattern::read(body).map_err(pass_on)?;
+        let pattern = Pattern::read(self.edition, body).map_err(pass_on)?;
         self.place += PATTERN_HEAD + body.len();
         Ok((field, pattern))
     }
@@ -188,7 +215,7 @@ impl<'a> Cursor<'a> {
         let body = self.body(SIDE_HEAD, SIDE_LENGTHS)?;
         // "for a side 17"; "for 17 the token", the first that is none
         let token = |(number, &byte)| {
-            Token::of_byte(byte).ok_or(self.fault(WRONG_TOKEN, SIDE_HEAD + number))
+            Token::of_byte(self.edition, byte).ok_or(self.fault(WRONG_TOKEN, SIDE_HEAD + number))
         };
         let tokens = body.iter().enumerate().map(token).collect::<Result<Vec<Token>, Fault>>()?;
         self.place += SIDE_HEAD + body.len();

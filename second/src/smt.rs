@@ -5,7 +5,7 @@
 //! memberships have the same texts." The reader goes from bytes to lexemes, to
 //! expressions, to a script, and compares it with the question that the sheet
 //! asks. It knows SMT-LIB and the theory, and nothing of how a script is laid
-//! out.
+//! out. `write` alone knows that.
 
 pub mod compare;
 pub mod expressions;
@@ -15,6 +15,7 @@ pub mod literal;
 pub mod output;
 pub mod regular;
 pub mod script;
+pub mod write;
 
 /// What was read, or what is wrong, in words.
 pub type Told<T> = Result<T, String>;

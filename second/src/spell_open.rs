@@ -6,18 +6,26 @@
 //! standing fields without a pattern."
 
 use crate::catalogue::{self, Rule, DOES_NOT_FIT, DONE, NOT_OF_THIS_FORM};
+use crate::edition::{Edition, FIRST};
 use crate::fault::Fault;
+use crate::pattern::{MANY, RANGE};
 use crate::sheet::{self, Token, FIELDS, PATTERN, PATTERN_HEAD};
 
-/// "68 65 0 42": any characters, any number of them, none included.
-pub const OLD_MEANING: [u8; 4] = [68, 65, 0, 42];
+/// "68 65 0 42": any characters, any number of them, none included. Behind `ED` it
+/// is 196 193 0 127.
+pub const fn old_meaning(edition: Edition) -> [u8; 4] {
+    let Edition { codes, characters, .. } = edition;
+    [codes + MANY, codes + RANGE, 0, characters - 1]
+}
 /// The output buffer is too short.
 pub const TOO_SHORT: u8 = 41;
 
 /// The sheet with the old meaning written out.
 pub fn sheet(sheet: &[u8]) -> Result<Vec<u8>, Fault> {
     let question = sheet::read(sheet)?;
-    Ok(spelt(sheet, &[&question.left, &question.right]))
+    let (front, records) = sheet.split_at(question.edition.record.len());
+    let spelt = spelt(question.edition, records, &[&question.left, &question.right]);
+    Ok([front, &spelt].concat())
 }
 
 /// The rule with the old meaning written out: the rule's own refusals, then 31.
@@ -46,13 +54,14 @@ pub fn catalogue(catalogue: &mut [u8]) -> u8 {
 /// A rule that is read already. The fields of its side are its own, 0 to 3.
 fn spelt_rule(bytes: &[u8], rule: &Rule) -> Vec<u8> {
     let (mark, records) = bytes.split_at(catalogue::RULE.len());
-    [mark, &spelt(records, &[rule.side()])].concat()
+    [mark, &spelt(FIRST, records, &[rule.side()])].concat()
 }
 
 /// Records that passed the checks, those of patterns first, and the sides among
 /// them: a record more for each field that stands and has none, where the field
 /// numbers are still rising. Everything else stays as it is.
-fn spelt(records: &[u8], sides: &[&[Token]]) -> Vec<u8> {
+fn spelt(edition: Edition, records: &[u8], sides: &[&[Token]]) -> Vec<u8> {
+    let old_meaning = old_meaning(edition);
     let mut spelt = Vec::new();
     let mut rest = records;
     for field in 0..FIELDS as u8 {
@@ -62,8 +71,8 @@ fn spelt(records: &[u8], sides: &[&[Token]]) -> Vec<u8> {
             rest = behind;
         } else if sides.iter().any(|side| side.contains(&Token::Field(field))) {
             spelt.extend_from_slice(PATTERN);
-            spelt.extend([field, OLD_MEANING.len() as u8]);
-            spelt.extend(OLD_MEANING);
+            spelt.extend([field, old_meaning.len() as u8]);
+            spelt.extend(old_meaning);
         }
     }
     spelt.extend_from_slice(rest);
@@ -84,7 +93,7 @@ fn pattern_of(field: u8, records: &[u8]) -> Option<usize> {
 #[derive(Clone, Copy, Debug, PartialEq, Eq)]
 pub struct Spelt {
     pub number: u8,
-    /// With 11 to 17, the fault's place.
+    /// With 11 to 17 and 44, the fault's place.
     pub place: usize,
     /// The bytes written; 0 for a refusal.
     pub written: usize,

@@ -4,14 +4,14 @@
 //! A record is "mark `ST`, a kind byte (0 left front struck, 1 right front
 //! struck, 2 a character) and for kind 2 its value".
 
-use crate::cases::{self, push_answer_lent, ANSWER_FILL, WORK_FILL};
+use crate::cases::{self, edition_of, push_answer_lent, ANSWER_FILL, WORK_FILL};
+use crate::edition::Edition;
 use crate::fault::Fault;
-use crate::pattern::CHARACTERS;
 use crate::search::{self, Ending, Texts};
 use crate::sheet::{self, Question};
 use crate::situation::{Situation, State, Step};
 use crate::{records, room, Outcome};
-use crate::{ANSWER_BUFFER_TOO_SHORT, CLASH, CODE_39, MOST_TOKENS, SIDE_TOO_LONG};
+use crate::{ANSWER_BUFFER_TOO_SHORT, CLASH, MOST_TOKENS, SIDE_TOO_LONG};
 
 /// "47 for one cut short, with another mark, a kind above 2 or a value that is
 /// no character"
@@ -71,12 +71,12 @@ impl Record {
 
     /// The record in front, and the bytes behind it; none where it is "cut
     /// short, with another mark, a kind above 2 or a value that is no
-    /// character".
-    pub fn read(bytes: &[u8]) -> Option<(Record, &[u8])> {
+    /// character" of the edition.
+    pub fn read(edition: Edition, bytes: &[u8]) -> Option<(Record, &[u8])> {
         match bytes.strip_prefix(STEP)? {
             [LEFT_STRUCK, behind @ ..] => Some((Record::LeftStruck, behind)),
             [RIGHT_STRUCK, behind @ ..] => Some((Record::RightStruck, behind)),
-            [A_CHARACTER, value, behind @ ..] if *value < CHARACTERS => {
+            [A_CHARACTER, value, behind @ ..] if edition.has(*value) => {
                 Some((Record::Character(*value), behind))
             }
             _ => None,
@@ -173,7 +173,7 @@ fn played(question: &Question, bytes: &[u8]) -> Result<Texts, u8> {
         if made.len() == MOST_STEPS {
             return Err(TOO_MANY_STEPS);
         }
-        let (record, behind) = Record::read(rest).ok_or(NO_RECORD)?;
+        let (record, behind) = Record::read(question.edition, rest).ok_or(NO_RECORD)?;
         let (child, step) = child(question, &situation, record).ok_or(NOT_ALLOWED)?;
         // "The 48-token limit holds"
         if child.left.len() > MOST_TOKENS || child.right.len() > MOST_TOKENS {
@@ -226,6 +226,7 @@ pub struct Case {
 /// What is told, and what the three buffers hold afterwards.
 #[derive(Clone, Debug, PartialEq, Eq)]
 pub struct After {
+    pub edition: Edition,
     pub told: Told,
     pub answer: Vec<u8>,
     pub work: Vec<u8>,
@@ -239,7 +240,7 @@ impl Case {
         let mut answer = vec![ANSWER_FILL; self.case.answer as usize];
         let mut steps = vec![STEPS_FILL; self.steps.into()];
         let told = stepper(&self.case.sheet, &mut work, &mut answer, &mut steps);
-        After { told, answer, work, steps }
+        After { edition: edition_of(&self.case.sheet), told, answer, work, steps }
     }
 
     /// Writes the case behind the stream: that of `answer`, then the length of
@@ -263,7 +264,7 @@ impl After {
     /// steps buffer.
     pub fn line(&self) -> String {
         let (outcome, answer, work) = (self.told.outcome, self.answer.clone(), self.work.clone());
-        let mut line = cases::After { outcome, answer, work }.line();
+        let mut line = cases::After { edition: self.edition, outcome, answer, work }.line();
         line += &format!(", steps {}", self.told.bytes);
         push_answer_lent(&mut line, &self.steps, self.told.bytes, STEPS_FILL);
         line
@@ -274,15 +275,13 @@ impl After {
     /// What the program `steps` prints: the lines of `clash`, and a line for each
     /// step.
     pub fn lines(&self) -> String {
-        let mut lines = crate::lines(&self.told.outcome, &self.answer);
+        let mut lines = crate::lines(self.edition, &self.told.outcome, &self.answer);
         let mut rest = &self.steps[..self.told.bytes];
-        while let Some((record, behind)) = Record::read(rest) {
+        while let Some((record, behind)) = Record::read(self.edition, rest) {
             lines += &match record {
                 Record::LeftStruck => "left\n".to_string(),
                 Record::RightStruck => "right\n".to_string(),
-                Record::Character(value) => {
-                    format!("put {}\n", char::from(CODE_39[usize::from(value)]))
-                }
+                Record::Character(value) => format!("put {}\n", self.edition.printed(&[value])),
             };
             rest = behind;
         }

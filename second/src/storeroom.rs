@@ -28,7 +28,8 @@
 
 use crate::calls::{Operation, WORK};
 use crate::cases::Case;
-use crate::spell_open::OLD_MEANING;
+use crate::edition::FIRST;
+use crate::spell_open::old_meaning;
 use crate::write::{choice, many, patterns, row, rule, sheet, text, tokens};
 use crate::SITUATION_BYTES;
 
@@ -337,7 +338,7 @@ fn carried_over() -> Vec<Row> {
 
 /// The bytes that a field without a pattern gets.
 fn added_record() -> usize {
-    patterns(&[(A, OLD_MEANING.to_vec())]).len()
+    patterns(&[(A, old_meaning(FIRST).to_vec())]).len()
 }
 
 // ------------------------------------------------------- a full catalogue

@@ -4,10 +4,12 @@
 //! And streams of cases for it. A case is the number of lengths in one byte, each
 //! length in eight bytes, then the patterns, the left side and the right side,
 //! each with its length in two bytes before it, then the length of the output
-//! buffer in two bytes; all numbers low byte first.
+//! buffer in two bytes; all numbers low byte first. Where the edition belongs to a
+//! case it stands in front, in eight bytes.
 
 use crate::cases::{push_answer, ANSWER_FILL};
 use crate::catalogue::DONE;
+use crate::edition::{Edition, NONE, SECOND};
 use crate::fault::{Fault, CUT_SHORT, WRONG_FIELD, WRONG_LENGTH, WRONG_TOKEN};
 use crate::pattern::Pattern;
 use crate::sheet::{Token, FIELDS, FIELD_BYTE, LEFT, MOST_PATTERN, MOST_SIDE, PATTERN, RIGHT};
@@ -15,11 +17,13 @@ use crate::sheet::{PATTERN_HEAD, SIDE_HEAD};
 use crate::spell_open::TOO_SHORT;
 use crate::Outcome;
 
-/// The longest sheet: 1,622 bytes.
+/// The longest sheet without `ED`: 1,622 bytes.
 pub const MOST_SHEET: usize = FIELDS * (PATTERN_HEAD + MOST_PATTERN) + 2 * (SIDE_HEAD + MOST_SIDE);
+/// "1,625 bytes are always enough"
+pub const ALWAYS_ENOUGH: usize = SECOND.record.len() + MOST_SHEET;
 
-/// Writes the sheet with these sides and these patterns, which stand one behind
-/// the other. `lengths` says by field number how many bytes a field's pattern
+/// Writes the sheet of this edition, 0 for one without `ED`, with these sides and
+/// these patterns, which stand one behind the other. `lengths` says by field number how many bytes a field's pattern
 /// has; with 0, and behind the last length, a field has none. Bytes behind the
 /// last pattern are not looked at.
 ///
@@ -27,13 +31,14 @@ pub const MOST_SHEET: usize = FIELDS * (PATTERN_HEAD + MOST_PATTERN) + 2 * (SIDE
 /// would meet them, then 41 if the buffer is too short." A refusal changes no
 /// byte.
 pub fn write(
+    edition: u64,
     patterns: &[u8],
     lengths: &[u64],
     left: &[u8],
     right: &[u8],
     output: &mut [u8],
 ) -> Outcome {
-    let sheet = match sheet(patterns, lengths, left, right) {
+    let sheet = match sheet(edition, patterns, lengths, left, right) {
         Ok(sheet) => sheet,
         Err(Fault { number, place }) => return Outcome { number, count: 0, place, written: 0 },
     };
@@ -46,28 +51,31 @@ pub fn write(
     }
 }
 
-/// The sheet: "a `PA` record for each field that has a pattern, fields rising,
-/// then `LE`, then `RI`".
+/// The sheet: the edition's record, then "a `PA` record for each field that has a
+/// pattern, fields rising, then `LE`, then `RI`".
 pub fn sheet(
+    edition: u64,
     patterns: &[u8],
     lengths: &[u64],
     left: &[u8],
     right: &[u8],
 ) -> Result<Vec<u8>, Fault> {
-    let mut sheet = Vec::new();
+    let edition = Edition::asked_for(edition)?;
+    let mut sheet = edition.record.to_vec();
     let mut rest = patterns;
     for (field, &length) in lengths.iter().enumerate() {
         if length > 0 {
-            rest = put_pattern(&mut sheet, field, length, rest)?;
+            rest = put_pattern(edition, &mut sheet, field, length, rest)?;
         }
     }
-    put_side(&mut sheet, LEFT, left)?;
-    put_side(&mut sheet, RIGHT, right)?;
+    put_side(edition, &mut sheet, LEFT, left)?;
+    put_side(edition, &mut sheet, RIGHT, right)?;
     Ok(sheet)
 }
 
 /// A record with the first so many of these bytes; what is left of them.
 fn put_pattern<'a>(
+    edition: Edition,
     sheet: &mut Vec<u8>,
     field: usize,
     length: u64,
@@ -88,7 +96,7 @@ fn put_pattern<'a>(
         .split_at_checked(length)
         .ok_or(Fault { number: CUT_SHORT, place: body + bytes.len() })?;
     // "then for a pattern 15, then 16"
-    Pattern::read(pattern).map_err(|fault| fault.passed_on(body))?;
+    Pattern::read(edition, pattern).map_err(|fault| fault.passed_on(body))?;
     sheet.extend_from_slice(PATTERN);
     sheet.extend([field as u8, length as u8]);
     sheet.extend_from_slice(pattern);
@@ -96,12 +104,17 @@ fn put_pattern<'a>(
 }
 
 /// A side's record: "length out of its range 14", "for a side 17".
-fn put_side(sheet: &mut Vec<u8>, mark: &[u8; 2], tokens: &[u8]) -> Result<(), Fault> {
+fn put_side(
+    edition: Edition,
+    sheet: &mut Vec<u8>,
+    mark: &[u8; 2],
+    tokens: &[u8],
+) -> Result<(), Fault> {
     let place = sheet.len();
     if tokens.len() > MOST_SIDE {
         return Err(Fault { number: WRONG_LENGTH, place: place + SIDE_HEAD - 1 });
     }
-    if let Some(at) = tokens.iter().position(|&byte| Token::of_byte(byte).is_none()) {
+    if let Some(at) = tokens.iter().position(|&byte| Token::of_byte(edition, byte).is_none()) {
         return Err(Fault { number: WRONG_TOKEN, place: place + SIDE_HEAD + at });
     }
     sheet.extend_from_slice(mark);
@@ -113,6 +126,7 @@ fn put_side(sheet: &mut Vec<u8>, mark: &[u8; 2], tokens: &[u8]) -> Result<(), Fa
 /// What is handed to `write`, and the length of its output buffer.
 #[derive(Clone, Debug, Default, PartialEq, Eq)]
 pub struct Case {
+    pub edition: u64,
     pub lengths: Vec<u64>,
     pub patterns: Vec<u8>,
     pub left: Vec<u8>,
@@ -124,7 +138,8 @@ impl Case {
     /// Writes into a freshly filled buffer: what is told, and the buffer.
     pub fn run(&self) -> (Outcome, Vec<u8>) {
         let mut output = vec![ANSWER_FILL; self.output.into()];
-        let told = write(&self.patterns, &self.lengths, &self.left, &self.right, &mut output);
+        let Case { edition, patterns, lengths, left, right, .. } = self;
+        let told = write(*edition, patterns, lengths, left, right, &mut output);
         (told, output)
     }
 
@@ -136,7 +151,7 @@ impl Case {
         line
     }
 
-    /// Writes the case behind the stream. There are at most 255 lengths, and at
+    /// Writes the case behind the stream, without its edition. There are at most 255 lengths, and at
     /// most 65,535 bytes of each kind.
     pub fn write(&self, stream: &mut Vec<u8>) {
         stream.push(self.lengths.len() as u8);
@@ -146,6 +161,19 @@ impl Case {
             stream.extend_from_slice(bytes);
         }
         stream.extend_from_slice(&self.output.to_le_bytes());
+    }
+
+    /// The same with the edition in front, in eight bytes.
+    pub fn write_edition(&self, stream: &mut Vec<u8>) {
+        stream.extend(self.edition.to_le_bytes());
+        self.write(stream);
+    }
+
+    /// Reads a case with its edition in front.
+    pub fn read_edition(stream: &[u8]) -> Option<(Case, &[u8])> {
+        let (&edition, rest) = stream.split_first_chunk()?;
+        let (case, rest) = Case::read(rest)?;
+        Some((Case { edition: u64::from_le_bytes(edition), ..case }, rest))
     }
 
     /// Reads a case from the front of a stream and hands back the rest; none
@@ -159,7 +187,7 @@ impl Case {
         let (left, rest) = bytes(rest)?;
         let (right, rest) = bytes(rest)?;
         let (output, rest) = two_bytes(rest)?;
-        Some((Case { lengths, patterns, left, right, output }, rest))
+        Some((Case { edition: NONE, lengths, patterns, left, right, output }, rest))
     }
 }
 

@@ -7,6 +7,7 @@ use std::collections::{BTreeMap, BTreeSet};
 
 use second::calls::{After, Call, Calls, Operation};
 use second::catalogue::HASHING;
+use second::edition::{Edition, FIRST, SECOND};
 use second::make::calls::operations;
 use second::make::{spelt, Dice};
 use second::write;
@@ -280,7 +281,11 @@ fn pairs_have_the_old_meaning_afterwards() {
 /// The faults of the sheets and rules that are made, looked for once more.
 #[test]
 fn each_byte_that_shows_a_fault_comes_up() {
-    let mut dice = Dice::new(42);
+    [FIRST, SECOND].into_iter().for_each(each_byte_that_shows_a_fault_of);
+}
+
+fn each_byte_that_shows_a_fault_of(edition: Edition) {
+    let mut dice = Dice::of(42, edition);
     let mut seen = BTreeMap::new();
     for _ in 0..40_000 {
         let case = spelt::case(&mut dice);

@@ -5,8 +5,9 @@ use std::collections::{BTreeMap, BTreeSet};
 
 use second::cases::{AfterDecided, Case};
 use second::decide::{each_apart, few, least_alike, HASHING, SCANNING};
+use second::edition::{Edition, FIRST, SECOND};
 use second::make::{case, decided, pairs, Dice};
-use second::pattern::{characters, Pattern};
+use second::pattern::{characters, CharacterSet, Pattern};
 use second::sheet::{read, Question, Token};
 use second::write::{choice, many, row, sheet, text, tokens};
 use second::{CODE_39, SITUATION_BYTES};
@@ -43,7 +44,7 @@ fn question(sheet: &[u8]) -> Question {
     read(sheet).unwrap()
 }
 
-fn signs(set: u64) -> String {
+fn signs(set: CharacterSet) -> String {
     characters(set).map(|character| char::from(CODE_39[usize::from(character)])).collect()
 }
 
@@ -105,7 +106,7 @@ fn the_few() {
 fn each_standing_apart() {
     let twice = sheet(&[(Y, digit())], &tokens("bAb"), &tokens("ab"));
     let apart = each_apart(&question(&twice)).unwrap();
-    let bytes = |side: &[Token]| side.iter().map(|token| token.byte()).collect::<Vec<u8>>();
+    let bytes = |side: &[Token]| side.iter().map(|token| token.byte(FIRST)).collect::<Vec<u8>>();
     assert_eq!(bytes(&apart.left), [64, 10, 65, 72]);
     assert_eq!(bytes(&apart.right), [66, 67, 73]);
     // 0, 1 and 3 are digits, 2 is open.
@@ -248,15 +249,24 @@ fn the_buffers() {
 
 // -------------------------------------------------------------- made cases
 
-fn made(seed: u64, number: usize, case: impl Fn(&mut Dice) -> Case) -> Vec<Case> {
-    let mut dice = Dice::new(seed);
+fn of_edition(
+    edition: Edition,
+    seed: u64,
+    number: usize,
+    case: impl Fn(&mut Dice) -> Case,
+) -> Vec<Case> {
+    let mut dice = Dice::of(seed, edition);
     (0..number).map(|_| case(&mut dice)).collect()
 }
 
 #[test]
 fn all_kinds_come_up() {
+    [FIRST, SECOND].into_iter().for_each(all_kinds_come_up_in);
+}
+
+fn all_kinds_come_up_in(edition: Edition) {
     let mut seen = BTreeMap::new();
-    for case in made(1, 1200, decided::case) {
+    for case in of_edition(edition, 1, 1200, decided::case) {
         let decided = decide(&case).decided;
         *seen.entry((decided.outcome.number, decided.search)).or_insert(0) += 1;
     }
@@ -275,11 +285,15 @@ fn all_kinds_come_up() {
 /// `clash` gives it." Otherwise 18 and 19 are its own.
 #[test]
 fn what_the_first_search_says_stands() {
-    for case in made(2, 600, decided::case).into_iter().chain(made(3, 3000, case)) {
+    let made = |edition| {
+        let decided = of_edition(edition, 2, 600, decided::case);
+        [decided, of_edition(edition, 3, 3000, case)].concat()
+    };
+    for case in [FIRST, SECOND].map(made).concat() {
         let (first, after) = (case.run(second::answer), case.decide(HASHING));
         let search = match first.outcome.number {
             0 | 1 | 20 => 1,
-            11..=17 => 0,
+            11..=17 | 44 => 0,
             _ => {
                 assert_ne!(after.decided.search, 1, "{case:?}");
                 assert_eq!(after.decided.spent[0], first.outcome.count, "{case:?}");
@@ -308,10 +322,13 @@ fn texts_of(records: &[u8]) -> Texts {
     texts
 }
 
-fn label(side: &[u8], texts: &Texts) -> Vec<u8> {
-    let of = |&token: &u8| if token < 43 { vec![token] } else { texts[&(token - 64)].clone() };
+fn label(edition: Edition, side: &[u8], texts: &Texts) -> Vec<u8> {
+    let of = |&token: &u8| match token.checked_sub(edition.codes) {
+        None => vec![token],
+        Some(field) => texts[&field].clone(),
+    };
     let mut label: Vec<u8> = side.iter().flat_map(of).collect();
-    while label.last() == Some(&38) {
+    while label.last() == Some(&edition.space) {
         label.pop();
     }
     label
@@ -346,11 +363,14 @@ fn takes(pattern: &Pattern, text: &[u8]) -> bool {
 
 /// Each text is one that its field may hold, and both sides become one label.
 fn solve(sheet: &[u8], texts: &Texts) -> bool {
+    let (edition, mut rest) = match sheet.strip_prefix(b"ED\x02") {
+        Some(behind) => (SECOND, behind),
+        None => (FIRST, sheet),
+    };
     let mut patterns = BTreeMap::new();
-    let mut rest = sheet;
     while rest.starts_with(b"PA") {
         let (record, behind) = rest.split_at(4 + usize::from(rest[3]));
-        patterns.insert(record[2], Pattern::read(&record[4..]).unwrap());
+        patterns.insert(record[2], Pattern::read(edition, &record[4..]).unwrap());
         rest = behind;
     }
     let (left, rest) = rest[3..].split_at(usize::from(rest[2]));
@@ -358,7 +378,8 @@ fn solve(sheet: &[u8], texts: &Texts) -> bool {
         Some(pattern) => takes(pattern, text),
         None => !text.is_empty(),
     };
-    texts.iter().all(held) && label(left, texts) == label(&rest[3..], texts)
+    let [left, right] = [left, &rest[3..]].map(|side| label(edition, side, texts));
+    texts.iter().all(held) && left == right
 }
 
 /// Whatever search decides, its texts solve the question.
@@ -366,10 +387,11 @@ fn solve(sheet: &[u8], texts: &Texts) -> bool {
 fn the_texts_solve_the_question() {
     let mut seen = BTreeMap::new();
     let roomy = |case: Case| Case { answer: 4096, ..case };
-    let all = made(4, 1000, decided::case)
-        .into_iter()
-        .chain(made(5, 1000, |dice| pairs::case(dice, true, 40)));
-    for case in all.map(roomy) {
+    let all = [FIRST, SECOND].map(|edition| {
+        let twice = of_edition(edition, 5, 1000, |dice| pairs::case(dice, true, 40));
+        [of_edition(edition, 4, 1000, decided::case), twice].concat()
+    });
+    for case in all.concat().into_iter().map(roomy) {
         let after = case.decide(HASHING);
         if after.decided.outcome.number == 0 {
             let texts = texts_of(&after.after.answer[..after.decided.outcome.written]);
@@ -385,10 +407,11 @@ fn the_texts_solve_the_question() {
 #[test]
 fn all_searches_agree() {
     let mut seen = BTreeMap::new();
-    let all = made(6, 500, decided::case)
-        .into_iter()
-        .chain(made(7, 800, |dice| pairs::case(dice, true, 30)));
-    for case in all {
+    let all = [FIRST, SECOND].map(|edition| {
+        let twice = of_edition(edition, 7, 800, |dice| pairs::case(dice, true, 30));
+        [of_edition(edition, 6, 500, decided::case), twice].concat()
+    });
+    for case in all.concat() {
         let decided = case.decide(HASHING).decided;
         if decided.search < 2 {
             continue;
@@ -418,7 +441,7 @@ fn small_questions_are_decided_as_all_their_texts_say() {
         (choice(vec![text("A "), text("A")]), &["A ", "A"]),
     ];
     for (pattern, texts) in &holds {
-        let read = Pattern::read(pattern).unwrap();
+        let read = Pattern::read(FIRST, pattern).unwrap();
         assert!(texts.iter().all(|held| takes(&read, &second::write::values(held))));
     }
     let mut state = 1u64;
@@ -455,7 +478,7 @@ fn small_questions_are_decided_as_all_their_texts_say() {
             };
             ways = ways.iter().flat_map(longer).collect();
         }
-        let clash = ways.iter().any(|way| label(&left, way) == label(&right, way));
+        let clash = ways.iter().any(|way| label(FIRST, &left, way) == label(FIRST, &right, way));
         let decided = decide(&with_room(&sheet, 1 + below(40), 4096)).decided;
         match decided.outcome.number {
             0 => assert!(clash, "{sheet:?}"),

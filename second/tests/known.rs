@@ -7,6 +7,7 @@ use std::io::Write;
 use std::process::{Command, Stdio};
 
 use second::cases::{After, Case, ANSWER_FILL};
+use second::edition::FIRST;
 use second::storeroom::by_first_letter;
 use second::write::tokens;
 use second::{lines, Outcome, SITUATION_BYTES};
@@ -83,7 +84,7 @@ fn x_and_the_empty_side() {
     // x is one space: xh|k, xh|, x'h|k', h|k', x'h|, |k', h|, h'|k', |
     check_at_least_room(&sheet(&[X], &[]), 0, 9, &record(&[SPACE]));
     let printed = run(&sheet(&[X], &[]), 356, 4096);
-    assert_eq!(lines(&printed.outcome, &printed.answer), "0 9 0\n0  \n");
+    assert_eq!(lines(FIRST, &printed.outcome, &printed.answer), "0 9 0\n0  \n");
     // h|xk, |xk, h'|x'k, |x'k, h'|k, |k, h'|, h'|k', |
     check_at_least_room(&sheet(&[], &[X]), 0, 9, &record(&[SPACE]));
 }
@@ -238,14 +239,14 @@ fn sheet_s() {
 #[test]
 fn sheet_s_as_printed() {
     let After { outcome, answer, .. } = run(&SHEET_S, 356, 4096);
-    assert_eq!(lines(&outcome, &answer), "0 13 0\n0 4\n1 4\n");
+    assert_eq!(lines(FIRST, &outcome, &answer), "0 13 0\n0 4\n1 4\n");
 }
 
 #[test]
 fn characters_as_printed() {
     let all: Vec<u8> = (19..43).collect();
     let After { outcome, answer, .. } = run(&sheet(&[X, Y], &all), 356, 4096);
-    let printed = lines(&outcome, &answer);
+    let printed = lines(FIRST, &outcome, &answer);
     // x is struck as soon as it may be, so y is the rest of the label.
     assert_eq!(printed, format!("0 {} 0\n0 J\n1 KLMNOPQRSTUVWXYZ-. $/+%\n", outcome.count));
 }
@@ -336,7 +337,7 @@ fn a_text_that_ends_in_a_space() {
     let with_a = [&a_space[..], &sheet(&[X], &[A])].concat();
     check_at_least_room(&with_a, 0, 10, &record(&[A, SPACE]));
     let printed = run(&with_a, 356, 4096);
-    assert_eq!(lines(&printed.outcome, &printed.answer), "0 10 0\n0 A \n");
+    assert_eq!(lines(FIRST, &printed.outcome, &printed.answer), "0 10 0\n0 A \n");
     // It is no longer at the end: xBh|Ak, x'Bh|k, x'Bh|, x''Bh|k', Bh|k', x''Bh|
     check_at_least_room(&[&a_space[..], &sheet(&[X, B], &[A])].concat(), 1, 6, &[]);
 }
@@ -434,7 +435,7 @@ fn forty_finishes() {
     // `KP`x and `KPGD`: xh|GDk, x'h|Dk, x''h|k, h|k, x''h|, |k, h|, h'|k', |
     check_at_least_room(&keypad(&tokens("GD")), 0, 9, &record(&tokens("GD")));
     let printed = run(&keypad(&tokens("ZP")), 356, 4096);
-    assert_eq!(lines(&printed.outcome, &printed.answer), "0 9 0\n0 ZP\n");
+    assert_eq!(lines(FIRST, &printed.outcome, &printed.answer), "0 9 0\n0 ZP\n");
     // `KP`x and `KPS`y, y open: xh|Syk, x'h|yk, then for each of five codes
     // x''h|y'k; h|y'k, five x''h|k, |y'k, h|k, h'|y'k, five x''h|, |k, h|,
     // h'|k', h'|k, |

@@ -5,44 +5,57 @@ mod table;
 use std::collections::BTreeMap;
 
 use second::cases::{After, Case};
+use second::edition::{Edition, FIRST, SECOND};
 use second::make::{case, long, Dice};
 use second::storeroom::{by_first_letter, FINISHES};
 use second::{printed, Outcome, CODE_39};
 
 fn cases(seed: u64, number: usize) -> Vec<Case> {
-    let mut dice = Dice::new(seed);
+    of_edition(FIRST, seed, number)
+}
+
+fn of_edition(edition: Edition, seed: u64, number: usize) -> Vec<Case> {
+    let mut dice = Dice::of(seed, edition);
     (0..number).map(|_| case(&mut dice)).collect()
 }
 
 #[test]
 fn the_two_modules_agree() {
-    for case in cases(1, 6000) {
+    for case in [cases(1, 6000), of_edition(SECOND, 1, 6000)].concat() {
         assert_eq!(case.run(second::answer), case.run(second::scan::answer), "{case:?}");
     }
 }
 
 #[test]
 fn all_answers_come_up() {
-    let mut seen = BTreeMap::new();
-    for case in cases(2, 6000) {
-        *seen.entry(case.run(second::scan::answer).outcome.number).or_insert(0) += 1;
-    }
-    for number in [0, 1, 11, 12, 13, 14, 15, 16, 17, 18, 19, 20] {
-        assert!(seen.get(&number).is_some_and(|&times| times >= 40), "{number}: {seen:?}");
+    for edition in [FIRST, SECOND] {
+        let mut seen = BTreeMap::new();
+        for case in of_edition(edition, 2, 6000) {
+            *seen.entry(case.run(second::scan::answer).outcome.number).or_insert(0) += 1;
+        }
+        for number in [0, 1, 11, 12, 13, 14, 15, 16, 17, 18, 19, 20] {
+            assert!(seen.get(&number).is_some_and(|&times| times >= 40), "{number}: {seen:?}");
+        }
+        let wrong_edition = seen.get(&44).copied().unwrap_or(0);
+        assert!(if edition == FIRST { wrong_edition == 0 } else { wrong_edition >= 40 });
     }
 }
 
 #[test]
 fn each_byte_that_shows_a_fault_comes_up() {
+    [FIRST, SECOND].into_iter().for_each(each_byte_that_shows_a_fault_of);
+}
+
+fn each_byte_that_shows_a_fault_of(edition: Edition) {
     let mut seen = BTreeMap::new();
-    for case in cases(7, 20_000) {
+    for case in of_edition(edition, 7, 20_000) {
         let outcome = case.run(second::answer).outcome;
         match table::met(&case.sheet, b"", &[b"LE", b"RI"]) {
             Some(met) => {
                 assert_eq!((outcome.number, outcome.place), (met.number, met.place), "{case:?}");
                 *seen.entry((met.shown, met.later)).or_insert(0) += 1;
             }
-            None => assert!(!(11..=17).contains(&outcome.number), "{case:?}"),
+            None => assert!(matches!(outcome.number, 0 | 1 | 18..=20), "{case:?}"),
         }
     }
     table::all_come_up(&seen, 10);
@@ -50,11 +63,13 @@ fn each_byte_that_shows_a_fault_comes_up() {
 
 #[test]
 fn long_patterns_come_up() {
-    let mut seen = BTreeMap::new();
-    for case in cases(8, 6000) {
-        table::sizes(&case.sheet, b"", &mut seen);
+    for edition in [FIRST, SECOND] {
+        let mut seen = BTreeMap::new();
+        for case in of_edition(edition, 8, 6000) {
+            table::sizes(&case.sheet, edition.record, &mut seen);
+        }
+        table::all_sizes_come_up(&seen, 60, 15);
     }
-    table::all_sizes_come_up(&seen, 60, 15);
 }
 
 /// The keypad maker's 40 finishes, in sheets that clash and in sheets that do
@@ -134,7 +149,7 @@ fn cases_are_read_as_written() {
 fn a_line_has_every_byte() {
     let line = |number, written, answer: &[u8], work: &[u8]| {
         let outcome = Outcome { number, count: 3, place: 0, written };
-        After { outcome, answer: answer.to_vec(), work: work.to_vec() }.line()
+        After { edition: FIRST, outcome, answer: answer.to_vec(), work: work.to_vec() }.line()
     };
     assert_eq!(
         line(0, 2, &[86, 10, 165, 165], &[0, 0]),

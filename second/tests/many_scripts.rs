@@ -6,6 +6,7 @@ mod plain;
 
 use plain::{parts, regular, script, takes, Layout, LAYOUTS};
 use second::cases::Case;
+use second::edition::{FIRST, SECOND};
 use second::make::{case, Dice};
 use second::pattern::{Allowed, Pattern, Places, MOST_LEAVES};
 use second::sheet;
@@ -15,9 +16,10 @@ use second::smt::output::{check, Checked};
 use second::smt::script::read;
 use second::{storeroom, write, CODE_39};
 
+/// Half of them of the first edition, half of the second.
 fn cases(seed: u64, number: usize) -> Vec<Case> {
-    let mut dice = Dice::new(seed);
-    (0..number).map(|_| case(&mut dice)).collect()
+    let mut dice = [FIRST, SECOND].map(|edition| Dice::of(seed, edition));
+    (0..number).map(|of| case(&mut dice[of % 2])).collect()
 }
 
 fn good(seed: u64, number: usize) -> Vec<Vec<u8>> {
@@ -144,7 +146,7 @@ fn read_back(pattern: &Pattern, layout: Layout) -> second::smt::regular::Regular
     let script = format!(
         "(set-logic QF_S) (declare-const f0 String) (assert (= f0 f0))
          (assert (str.in_re f0 {})) (check-sat)",
-        regular(pattern, layout)
+        regular(FIRST, pattern, layout)
     );
     read(script.as_bytes()).unwrap().memberships.remove(0).1
 }
@@ -164,7 +166,7 @@ fn memberships_differ_as_their_short_texts_do() {
         let membership = read_back(&written, LAYOUTS[number % LAYOUTS.len()]);
         let differs = |text: &&Vec<u8>| takes(&held, text) != takes(&written, text);
         let first = texts.iter().find(differs);
-        match difference(&membership, &allowed) {
+        match difference(FIRST, &membership, &allowed) {
             None => {
                 assert_eq!(first, None, "{held:?} {written:?}");
                 same += 1;

@@ -2,6 +2,7 @@
 //! right length, and the full search wherever that decides.
 
 use second::cases::Case;
+use second::edition::{Edition, FIRST, SECOND};
 use second::make::{pairs, plainly, Dice};
 use second::plain::{plain, plain_bytes, standings, stands_twice, Needs, Told};
 use second::sheet::read;
@@ -164,9 +165,14 @@ fn searched(sheet: &[u8]) -> u8 {
 
 #[test]
 fn it_agrees_with_the_search() {
+    it_agrees_with_the_search_in(FIRST, 6_000);
+    it_agrees_with_the_search_in(SECOND, 1_500);
+}
+
+fn it_agrees_with_the_search_in(edition: Edition, cases: usize) {
     let (mut clashes, mut none, mut given_up) = (0, 0, 0);
-    let mut dice = Dice::new(21);
-    for number in 0..6_000 {
+    let mut dice = Dice::of(21, edition);
+    for number in 0..cases {
         let case = match number % 3 {
             0 => pairs::plain_case(&mut dice),
             _ => plainly::case(&mut dice),
@@ -188,7 +194,8 @@ fn it_agrees_with_the_search() {
             fault => assert_eq!(fault, search),
         }
     }
-    assert!(clashes > 1_000 && none > 1_000 && given_up < 10, "{clashes} {none} {given_up}");
+    let many = cases / 6;
+    assert!(clashes > many && none > many && given_up < 10, "{clashes} {none} {given_up}");
 }
 
 #[test]

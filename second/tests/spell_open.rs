@@ -8,6 +8,7 @@ use std::process::{Command, Stdio};
 use second::calls::{Calls, Operation};
 use second::cases::{Case, ANSWER_FILL};
 use second::catalogue::{recheck, HASHING};
+use second::edition::FIRST;
 use second::fault::Fault;
 use second::make::calls::operations;
 use second::make::{case, spelt, Dice};
@@ -279,9 +280,9 @@ fn refusals_are_the_sheets() {
 fn old_question(sheet: &[u8]) -> sheet::Question {
     let mut question = sheet::read(sheet).unwrap();
     let any = Pattern::AnyTimes(Box::new(Pattern::Leaf { lo: 0, hi: 42 }));
-    assert_eq!(Pattern::read(&[68, 65, 0, 42]), Ok(any.clone()));
+    assert_eq!(Pattern::read(FIRST, &[68, 65, 0, 42]), Ok(any.clone()));
     for allowed in &mut question.allowed {
-        if matches!(allowed, Allowed::Open) {
+        if matches!(allowed, Allowed::Open(_)) {
             *allowed = Allowed::Pattern(Box::new(Places::of(&any)));
         }
     }

@@ -7,6 +7,7 @@ mod plain;
 use std::collections::BTreeMap;
 
 use plain::{parts, takes};
+use second::edition::{Edition, FIRST, SECOND};
 use second::make::{pairs, ways, Dice};
 use second::steps::{enough, play, steps, Case, Played, Record, Told, MOST_STEPS};
 use second::write::{many, row, sheet, tokens};
@@ -227,14 +228,18 @@ fn both(case: &Case) -> Told {
     let unchanged = |bytes: &[u8], fill: u8| bytes.iter().all(|&byte| byte == fill);
     assert!(unchanged(&after.answer[told.outcome.written..], FILL));
     assert!(unchanged(&after.steps[told.bytes..], second::steps::STEPS_FILL));
-    let fault = (11..=17).contains(&told.outcome.number);
+    let fault = matches!(told.outcome.number, 11..=17 | 44);
     assert!(unchanged(&after.work, if fault { 90 } else { 0 }));
     told
 }
 
 #[test]
 fn every_way_is_played() {
-    let mut dice = Dice::new(33);
+    [FIRST, SECOND].into_iter().for_each(every_way_is_played_in);
+}
+
+fn every_way_is_played_in(edition: Edition) {
+    let mut dice = Dice::of(33, edition);
     let (mut ways_played, mut longest) = (0, 0);
     for number in 0..3_000 {
         let case = match number % 3 {
@@ -296,7 +301,11 @@ fn the_order_of_20_and_51() {
 
 #[test]
 fn the_cases_of_the_steps_have_everything() {
-    let mut dice = Dice::new(10);
+    [FIRST, SECOND].into_iter().for_each(the_cases_of_the_steps_in);
+}
+
+fn the_cases_of_the_steps_in(edition: Edition) {
+    let mut dice = Dice::of(10, edition);
     let mut by_number: BTreeMap<u8, usize> = BTreeMap::new();
     let (mut just, mut one_less) = (0, 0);
     for _ in 0..800 {
@@ -318,9 +327,13 @@ fn the_cases_of_the_steps_have_everything() {
 
 #[test]
 fn the_cases_of_the_player_have_everything() {
-    let mut dice = Dice::new(11);
+    [FIRST, SECOND].into_iter().for_each(the_cases_of_the_player_in);
+}
+
+fn the_cases_of_the_player_in(edition: Edition) {
+    let mut dice = Dice::of(11, edition);
     let mut cases: Vec<Played> = (0..600).map(|_| ways::played(&mut dice)).collect();
-    let each = ways::each();
+    let each = ways::each(edition);
     println!("{} one by one", each.len());
     assert!((250..=450).contains(&each.len()));
     cases.extend(each);
@@ -345,17 +358,17 @@ fn the_cases_of_the_player_have_everything() {
 }
 
 /// What a side becomes with these texts, without the spaces at its end.
-fn label(side: &[u8], texts: &BTreeMap<u8, Vec<u8>>) -> Vec<u8> {
+fn label(edition: Edition, side: &[u8], texts: &BTreeMap<u8, Vec<u8>>) -> Vec<u8> {
     let mut label = Vec::new();
     for &token in side {
-        match token.checked_sub(64) {
+        match token.checked_sub(edition.codes) {
             None => label.push(token),
             // the hidden fields, which hold spaces
             Some(8 | 9) => {}
             Some(field) => label.extend_from_slice(&texts[&field]),
         }
     }
-    let end = label.iter().rposition(|&value| value != 38).map_or(0, |last| last + 1);
+    let end = label.iter().rposition(|&value| value != edition.space).map_or(0, |last| last + 1);
     label.truncate(end);
     label
 }
@@ -364,7 +377,11 @@ fn label(side: &[u8], texts: &BTreeMap<u8, Vec<u8>>) -> Vec<u8> {
 /// it is.
 #[test]
 fn texts_of_any_way_solve_the_question() {
-    let mut dice = Dice::new(12);
+    [FIRST, SECOND].into_iter().for_each(texts_of_any_way_solve_the_question_in);
+}
+
+fn texts_of_any_way_solve_the_question_in(edition: Edition) {
+    let mut dice = Dice::of(12, edition);
     let (mut accepted, mut not_its_own) = (0, 0);
     for _ in 0..4_000 {
         let mut case = ways::played(&mut dice);
@@ -383,7 +400,9 @@ fn texts_of_any_way_solve_the_question() {
             rest = &rest[5 + length..];
         }
         let parts = parts(&case.case.sheet);
-        assert_eq!(label(&parts.left, &texts), label(&parts.right, &texts), "{case:?}");
+        let [left, right] =
+            [&parts.left, &parts.right].map(|side| label(parts.edition, side, &texts));
+        assert_eq!(left, right, "{case:?}");
         for (field, text) in &texts {
             let may_hold = match parts.patterns.get(field) {
                 Some(pattern) => takes(pattern, text),

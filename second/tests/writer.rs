@@ -6,11 +6,12 @@ mod table;
 
 use std::collections::BTreeMap;
 
+use second::edition::{self, Edition, FIRST, SECOND};
 use second::make::written::case;
 use second::make::{self, Dice};
 use second::pattern::{Allowed, Pattern, Places};
 use second::sheet::{read, Token};
-use second::writer::{self, Case, MOST_SHEET};
+use second::writer::{self, Case, ALWAYS_ENOUGH, MOST_SHEET};
 use second::Outcome;
 
 const FILL: u8 = 165;
@@ -23,7 +24,7 @@ fn told(number: u8, place: usize, written: usize) -> Outcome {
 fn writes(patterns: &[u8], lengths: &[u64], left: &[u8], right: &[u8], sheet: &[u8]) {
     for length in 0..sheet.len() + 3 {
         let mut output = vec![FILL; length];
-        let outcome = writer::write(patterns, lengths, left, right, &mut output);
+        let outcome = writer::write(edition::NONE, patterns, lengths, left, right, &mut output);
         if length < sheet.len() {
             assert_eq!(outcome, told(41, 0, 0));
             assert!(output.iter().all(|&byte| byte == FILL));
@@ -39,7 +40,8 @@ fn writes(patterns: &[u8], lengths: &[u64], left: &[u8], right: &[u8], sheet: &[
 fn refuses(patterns: &[u8], lengths: &[u64], sides: [&[u8]; 2], number: u8, place: usize) {
     for length in [0, 1, 30, 1_622, 2_000] {
         let mut output = vec![FILL; length];
-        let outcome = writer::write(patterns, lengths, sides[0], sides[1], &mut output);
+        let outcome =
+            writer::write(edition::NONE, patterns, lengths, sides[0], sides[1], &mut output);
         assert_eq!(outcome, told(number, place, 0), "{patterns:?} {lengths:?}");
         assert!(output.iter().all(|&byte| byte == FILL));
     }
@@ -74,12 +76,13 @@ fn the_longest_sheet() {
     let pattern = [vec![68; 191], vec![0]].concat();
     let (patterns, lengths) = (pattern.repeat(8), [192; 8]);
     let mut output = vec![FILL; MOST_SHEET];
-    let outcome = writer::write(&patterns, &lengths, &[71; 24], &[42; 24], &mut output);
+    let outcome =
+        writer::write(edition::NONE, &patterns, &lengths, &[71; 24], &[42; 24], &mut output);
     assert_eq!(outcome, told(0, 0, 1_622));
     assert!(read(&output).is_ok());
     output.fill(FILL);
     let short = &mut output[..1_621];
-    let outcome = writer::write(&patterns, &lengths, &[71; 24], &[42; 24], short);
+    let outcome = writer::write(edition::NONE, &patterns, &lengths, &[71; 24], &[42; 24], short);
     assert_eq!(outcome, told(41, 0, 0));
     assert!(output.iter().all(|&byte| byte == FILL));
 }
@@ -156,7 +159,10 @@ fn faults_of_patterns_and_tokens() {
 /// The sheet that would be written, put together without a look at it: it ends
 /// where a pattern's bytes do; and a length that no byte holds is 255 there.
 fn blindly(case: &Case) -> Vec<u8> {
-    let mut sheet = Vec::new();
+    let mut sheet = match case.edition {
+        0 => Vec::new(),
+        edition => vec![b'E', b'D', edition.min(255) as u8],
+    };
     let mut rest = &case.patterns[..];
     for (field, &length) in case.lengths.iter().enumerate().filter(|(_, &length)| length > 0) {
         sheet.extend_from_slice(b"PA");
@@ -178,7 +184,11 @@ fn blindly(case: &Case) -> Vec<u8> {
 
 #[test]
 fn refused_as_reading_refuses_the_sheet() {
-    let mut dice = Dice::new(1);
+    [FIRST, SECOND].into_iter().for_each(refused_as_reading_refuses_the_sheet_of);
+}
+
+fn refused_as_reading_refuses_the_sheet_of(edition: Edition) {
+    let mut dice = Dice::of(1, edition);
     let mut seen = BTreeMap::new();
     for _ in 0..20_000 {
         let case = case(&mut dice);
@@ -192,7 +202,7 @@ fn refused_as_reading_refuses_the_sheet() {
         assert_eq!(outcome, expected, "{case:?}");
         // By counting, too.
         let met = table::met(&sheet, &[], &[b"LE", b"RI"]);
-        let faulty = (11..=17).contains(&outcome.number);
+        let faulty = matches!(outcome.number, 11..=17 | 44);
         assert_eq!(
             met.map(|met| (met.number, met.place)),
             faulty.then_some((outcome.number, outcome.place))
@@ -230,6 +240,8 @@ fn refused_as_reading_refuses_the_sheet() {
             assert!(times >= 8, "{shown} {later}: {times}");
         }
     }
+    let editions = seen.remove(&("EditionByte".to_string(), false)).unwrap_or(0);
+    assert!(if edition == FIRST { editions == 0 } else { editions > 500 });
     for number in ["41 None", "0 Some(0)", "0 Some(1)", "0 Some(2)"] {
         let times = seen.remove(&(number.to_string(), false)).unwrap_or(0);
         assert!(times >= 200, "{number}: {times}");
@@ -266,14 +278,20 @@ fn lengths_and_fields_of_all_kinds_come_up() {
 /// field may hold.
 #[test]
 fn reading_gives_what_was_written() {
-    let mut dice = Dice::new(3);
+    [FIRST, SECOND].into_iter().for_each(reading_gives_what_was_written_in);
+}
+
+fn reading_gives_what_was_written_in(edition: Edition) {
+    let mut dice = Dice::of(3, edition);
     let mut good = 0;
     for _ in 0..6_000 {
         let case = case(&mut dice);
         let (Outcome { number: 0, written, .. }, output) = case.run() else { continue };
         let question = read(&output[..written]).unwrap();
+        let edition = question.edition;
+        assert_eq!(edition.number(), case.edition);
         let side = |tokens: &[u8], hidden| {
-            let tokens = tokens.iter().map(|&byte| Token::of_byte(byte).unwrap());
+            let tokens = tokens.iter().map(|&byte| Token::of_byte(edition, byte).unwrap());
             tokens.chain([Token::Field(hidden)]).collect::<Vec<Token>>()
         };
         assert_eq!(question.left, side(&case.left, 8));
@@ -284,8 +302,11 @@ fn reading_gives_what_was_written() {
             let (body, behind) = rest.split_at(length);
             rest = behind;
             let expected = match length {
-                0 => Allowed::Open,
-                _ => Allowed::Pattern(Box::new(Places::of(&Pattern::read(body).unwrap()))),
+                0 => Allowed::Open(edition.all()),
+                _ => {
+                    let pattern = Pattern::read(edition, body).unwrap();
+                    Allowed::Pattern(Box::new(Places::of(&pattern)))
+                }
             };
             assert_eq!(format!("{:?}", question.allowed[field]), format!("{expected:?}"));
         }
@@ -297,14 +318,17 @@ fn reading_gives_what_was_written() {
 /// "writing what was read from a good sheet gives the same bytes"
 #[test]
 fn writing_what_was_read_gives_the_same_bytes() {
-    let mut dice = Dice::new(4);
+    [FIRST, SECOND].into_iter().for_each(writing_what_was_read_gives_the_same_bytes_in);
+}
+
+fn writing_what_was_read_gives_the_same_bytes_in(edition: Edition) {
+    let mut dice = Dice::of(4, edition);
     let mut good = 0;
     for _ in 0..10_000 {
         let sheet = make::case(&mut dice).sheet;
-        if read(&sheet).is_err() {
-            continue;
-        }
-        let (mut patterns, mut lengths, mut rest) = (Vec::new(), [0; 8], &sheet[..]);
+        let Ok(question) = read(&sheet) else { continue };
+        let records = &sheet[question.edition.record.len()..];
+        let (mut patterns, mut lengths, mut rest) = (Vec::new(), [0; 8], records);
         while rest.starts_with(b"PA") {
             let (record, behind) = rest.split_at(4 + usize::from(rest[3]));
             patterns.extend_from_slice(&record[4..]);
@@ -312,8 +336,9 @@ fn writing_what_was_read_gives_the_same_bytes() {
             rest = behind;
         }
         let (left, behind) = rest[3..].split_at(usize::from(rest[2]));
-        let mut output = [FILL; MOST_SHEET];
-        let outcome = writer::write(&patterns, &lengths, left, &behind[3..], &mut output);
+        let mut output = [FILL; ALWAYS_ENOUGH];
+        let (number, right) = (question.edition.number(), &behind[3..]);
+        let outcome = writer::write(number, &patterns, &lengths, left, right, &mut output);
         assert_eq!(outcome, told(0, 0, sheet.len()));
         assert_eq!(output[..sheet.len()], sheet);
         good += 1;
@@ -323,24 +348,30 @@ fn writing_what_was_read_gives_the_same_bytes() {
 
 #[test]
 fn cases_are_read_as_written() {
-    let mut dice = Dice::new(5);
-    let cases: Vec<Case> = (0..300).map(|_| case(&mut dice)).collect();
-    let mut stream = Vec::new();
-    cases.iter().for_each(|case| case.write(&mut stream));
-    let mut rest = &stream[..];
-    for case in &cases {
-        let (read, behind) = Case::read(rest).unwrap();
-        assert_eq!(read, *case);
-        let used = rest.len() - behind.len();
-        assert_eq!(Case::read(&rest[..used - 1]), None);
-        rest = behind;
+    type Form = (fn(&Case, &mut Vec<u8>), fn(&[u8]) -> Option<(Case, &[u8])>);
+    let forms: [(Edition, Form); 2] =
+        [(FIRST, (Case::write, Case::read)), (SECOND, (Case::write_edition, Case::read_edition))];
+    for (edition, (write, read)) in forms {
+        let mut dice = Dice::of(5, edition);
+        let cases: Vec<Case> = (0..300).map(|_| case(&mut dice)).collect();
+        let mut stream = Vec::new();
+        cases.iter().for_each(|case| write(case, &mut stream));
+        let mut rest = &stream[..];
+        for case in &cases {
+            let (of_stream, behind) = read(rest).unwrap();
+            assert_eq!(of_stream, *case);
+            let used = rest.len() - behind.len();
+            assert_eq!(read(&rest[..used - 1]), None);
+            rest = behind;
+        }
+        assert!(rest.is_empty());
     }
-    assert!(rest.is_empty());
 }
 
 #[test]
 fn a_case_and_its_line() {
     let case = Case {
+        edition: edition::NONE,
         lengths: vec![0, 1],
         patterns: vec![64, 255],
         left: vec![10],
@@ -356,6 +387,13 @@ fn a_case_and_its_line() {
     assert_eq!(case.line(), format!("0 0 0 13, written {written}, rest unchanged"));
     let short = Case { output: 12, ..case.clone() };
     assert_eq!(short.line(), "41 0 0 0, written, rest unchanged");
-    let cut = Case { patterns: vec![], ..case };
+    let cut = Case { patterns: vec![], ..case.clone() };
     assert_eq!(cut.line(), "11 0 4 0, written, rest unchanged");
+    // The edition in front, and the same bytes behind it.
+    let other = Case { edition: 258, ..case };
+    let mut with_edition = Vec::new();
+    other.write_edition(&mut with_edition);
+    assert_eq!(with_edition, [&[2, 1, 0, 0, 0, 0, 0, 0], &stream[..]].concat());
+    assert_eq!(Case::read_edition(&with_edition), Some((other.clone(), &[][..])));
+    assert_eq!(other.line(), "44 0 2 0, written, rest unchanged");
 }

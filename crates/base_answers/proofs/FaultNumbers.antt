@@ -1,14 +1,16 @@
 -- An answer can be told from its numbers, so two answers that tell the same outcome are the same. And how large the numbers are. Follows by cases.
 use Prim.Native.Nat.{ℕ, _<_}
 use mathlib.Core.Path.{_≡_, refl, sym, ap, _∙_}
-use mathlib.Core.Bool.{cond, _&&_}
+use mathlib.Core.Bool.{cond}
 use mathlib.Core.List.{List}
-use lib.Dec.{leb, eqb, lit<}
+use lib.Dec.{eqb, lit<}
+use Rattle.paper.specs.Lists.{member}
+use Rattle.paper.specs.Buffers.{sheet-numbers}
 use Rattle.paper.specs.Outcome.{Outcome}
 use Rattle.paper.specs.Sheet as Paper
 use Rattle.base_answers.specs.Faults.{fault-of}
 use Rattle.base_answers.specs.AnswerNumbers.{how-number, number-in-pair, as-numbers, told}
-use Rattle.base_answers.specs.declared.Fault.the-variants.{CutShort, WrongMark, WrongField, WrongLength, NotOnePattern, TooManyLeaves, WrongToken}
+use Rattle.base_answers.specs.declared.Fault.the-variants.{CutShort, WrongMark, WrongField, WrongLength, NotOnePattern, TooManyLeaves, WrongToken, WrongEdition}
 use Rattle.base_answers.specs.declared.How.{How}
 use Rattle.base_answers.specs.declared.How.the-variants.{Clash, NoClash, NoRoom, SideTooLong, AnswerTooShort}
 use Rattle.base_answers.specs.declared.Answer.{Answer}
@@ -26,7 +28,7 @@ how-from n written =
 -- the answer with these numbers
 answer-from : Outcome → Answer
 answer-from o =
-    cond (leb 11 (o .number) && leb (o .number) 17) (Refused (fault-from (o .number)) (o .place))
+    cond (member (o .number) sheet-numbers) (Refused (fault-from (o .number)) (o .place))
     (Searched (record { how = how-from (o .number) (o .written); count = o .count }))
 
 module _ (answer work : List ℕ) where
@@ -49,12 +51,13 @@ module _ (answer work : List ℕ) where
   answer-told (Refused NotOnePattern at) = refl
   answer-told (Refused TooManyLeaves at) = refl
   answer-told (Refused WrongToken at) = refl
+  answer-told (Refused WrongEdition at) = refl
 
 -- two answers that tell the same are the same
 pub one-answer : (r r′ : Answer) (a a′ w w′ : List ℕ) → told r a w ≡ told r′ a′ w′ → r ≡ r′
 one-answer r r′ a a′ w w′ same = sym (answer-told a w r) ∙ ap answer-from same ∙ answer-told a′ w′ r′
 
-pub fault-below : (x : Paper.Fault) → Paper.fault-number x < 21
+pub fault-below : (x : Paper.Fault) → Paper.fault-number x < 45
 fault-below Paper.cut-short = lit< tt
 fault-below Paper.wrong-mark = lit< tt
 fault-below Paper.wrong-field = lit< tt
@@ -62,16 +65,17 @@ fault-below Paper.wrong-length = lit< tt
 fault-below Paper.not-one-pattern = lit< tt
 fault-below Paper.too-many-leaves = lit< tt
 fault-below Paper.wrong-token = lit< tt
+fault-below Paper.wrong-edition = lit< tt
 
-how-below : (how : How) → how-number how < 21
+how-below : (how : How) → how-number how < 45
 how-below (Clash written) = lit< tt
 how-below NoClash = lit< tt
 how-below NoRoom = lit< tt
 how-below SideTooLong = lit< tt
 how-below AnswerTooShort = lit< tt
 
--- 20 is the last of a sheet's numbers
-pub number-below : (a : Answer) → as-numbers a .number < 21
+-- 44 is the last of a sheet's numbers
+pub number-below : (a : Answer) → as-numbers a .number < 45
 number-below (Searched e) = how-below (e .how)
 number-below (Refused x at) = fault-below (fault-of x)
 

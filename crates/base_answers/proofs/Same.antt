@@ -6,7 +6,7 @@ use lib.Dec.{eqb}
 use Rattle.paper.specs.Sheet as Paper
 use Rattle.base_answers.specs.Faults.{fault-of, as-fault}
 use Rattle.base_answers.specs.declared.Fault.{Fault}
-use Rattle.base_answers.specs.declared.Fault.the-variants.{CutShort, WrongMark, WrongField, WrongLength, NotOnePattern, TooManyLeaves, WrongToken}
+use Rattle.base_answers.specs.declared.Fault.the-variants.{CutShort, WrongMark, WrongField, WrongLength, NotOnePattern, TooManyLeaves, WrongToken, WrongEdition}
 
 pub same-fault : (x : Fault) → as-fault (fault-of x) ≡ x
 same-fault CutShort = refl
@@ -16,6 +16,7 @@ same-fault WrongLength = refl
 same-fault NotOnePattern = refl
 same-fault TooManyLeaves = refl
 same-fault WrongToken = refl
+same-fault WrongEdition = refl
 
 pub same-paper : (x : Paper.Fault) → fault-of (as-fault x) ≡ x
 same-paper Paper.cut-short = refl
@@ -25,6 +26,7 @@ same-paper Paper.wrong-length = refl
 same-paper Paper.not-one-pattern = refl
 same-paper Paper.too-many-leaves = refl
 same-paper Paper.wrong-token = refl
+same-paper Paper.wrong-edition = refl
 
 unfoldable pub fault-from : ℕ → Fault
 fault-from n =
@@ -33,4 +35,5 @@ fault-from n =
     (cond (eqb n 13) WrongField
     (cond (eqb n 14) WrongLength
     (cond (eqb n 15) NotOnePattern
-    (cond (eqb n 16) TooManyLeaves WrongToken)))))
+    (cond (eqb n 16) TooManyLeaves
+    (cond (eqb n 17) WrongToken WrongEdition))))))

@@ -13,6 +13,7 @@ pub enum Fault {
     NotOnePattern,
     TooManyLeaves,
     WrongToken,
+    WrongEdition,
 }
 
 // The fault's number.
@@ -27,6 +28,7 @@ pub fn number(x: Fault) -> u8
         Fault::NotOnePattern => 15,
         Fault::TooManyLeaves => 16,
         Fault::WrongToken => 17,
+        Fault::WrongEdition => 44,
     }
 }
 
@@ -59,7 +61,7 @@ pub struct Ended {
 // The answer to a sheet. specs/Told.antt gives each its number, count, place and written length.
 pub enum Answer {
     Searched { ended: Ended },
-    // 11 to 17: the sheet is at fault
+    // 11 to 17, and 44: the sheet is at fault
     Refused { fault: Fault, place: usize },
 }
 

@@ -56,6 +56,30 @@ one-above (suc k) x h l =
 abbrev pub steps-to-next : ℕ → ℕ → ℕ
 steps-to-next m n = trailingZeros places (m / 2 ^ n)
 
+module _ (m : ℕ) where
+  -- no place of the set stands before the next one, nor behind the last one
+  pub not-between : (n j : ℕ) → j < steps-to-next m n → in-mask m (n + j) ≡ false
+  unfolding in-mask
+  not-between n j h = ap (λ (x : ℕ). eqb (x % 2) 1) (sym (shr-shr m n j)) ∙ ap (λ (x : ℕ). eqb x 1) (zeros-below places (m / 2 ^ n) j h)
+
+  pub not-behind : (n j : ℕ) → m / 2 ^ n ≡ 0 → n ≤ j → in-mask m j ≡ false
+  not-behind n j h l = in-mask-out n m j (below-power n m h) l
+
+  -- the next one stands, and is one of the places
+  pub stands-next : (n : ℕ) → m < 2 ^ places → (m / 2 ^ n ≡ 0 → ⊥) → in-mask m (n + steps-to-next m n) ≡ true
+  unfolding in-mask
+  stands-next n l h =
+      let some : 0 < m / 2 ^ n = omega arith in
+      let below : m / 2 ^ n < 2 ^ places = lt-of-le-of-lt (shr-le m n) l in
+      ap (λ (x : ℕ). eqb (x % 2) 1) (sym (shr-shr m n (steps-to-next m n)))
+      ∙ ap (λ (x : ℕ). eqb x 1) (one-above places (m / 2 ^ n) some below)
+
+  pub next-below : (n : ℕ) → m < 2 ^ places → (m / 2 ^ n ≡ 0 → ⊥) → n + steps-to-next m n < places
+  next-below n l h =
+      by-bool (ltb (n + steps-to-next m n) places)
+      (λ e. ltb-true (n + steps-to-next m n) places e)
+      (λ e. absurd (true-false (stands-next n l h) (in-mask-out places m (n + steps-to-next m n) l (ltb-false (n + steps-to-next m n) places e))))
+
 module _ (masks : List ℕ) (m : ℕ) where
   -- may q follow the place i, and does i stand in the set?
   abbrev through : ℕ → ℕ → Bool
@@ -101,38 +125,20 @@ module _ (masks : List ℕ) (m : ℕ) where
       ∙ gathered-between n k (λ (j : ℕ) (l : j < k). h j (omega arith))
 
   -- nor behind its last place
-  gathered-last : (n k : ℕ) → m < 2 ^ n → gathered (n + k) ≡ gathered n
-  gathered-last n k h = gathered-between n k (λ (j : ℕ) (l : j < k). in-mask-out n m (n + j) h (omega arith))
-
-  not-between : (n j : ℕ) → j < steps-to-next m n → in-mask m (n + j) ≡ false
-  unfolding in-mask
-  not-between n j h = ap (λ (x : ℕ). eqb (x % 2) 1) (sym (shr-shr m n j)) ∙ ap (λ (x : ℕ). eqb x 1) (zeros-below places (m / 2 ^ n) j h)
-
-  stands-next : (n : ℕ) → m < 2 ^ places → (m / 2 ^ n ≡ 0 → ⊥) → in-mask m (n + steps-to-next m n) ≡ true
-  unfolding in-mask
-  stands-next n l h =
-      let some : 0 < m / 2 ^ n = omega arith in
-      let below : m / 2 ^ n < 2 ^ places = lt-of-le-of-lt (shr-le m n) l in
-      ap (λ (x : ℕ). eqb (x % 2) 1) (sym (shr-shr m n (steps-to-next m n)))
-      ∙ ap (λ (x : ℕ). eqb x 1) (one-above places (m / 2 ^ n) some below)
-
-  pub next-below : (n : ℕ) → m < 2 ^ places → (m / 2 ^ n ≡ 0 → ⊥) → n + steps-to-next m n < places
-  next-below n l h =
-      by-bool (ltb (n + steps-to-next m n) places)
-      (λ e. ltb-true (n + steps-to-next m n) places e)
-      (λ e. absurd (true-false (stands-next n l h) (in-mask-out places m (n + steps-to-next m n) l (ltb-false (n + steps-to-next m n) places e))))
+  gathered-last : (n k : ℕ) → m / 2 ^ n ≡ 0 → gathered (n + k) ≡ gathered n
+  gathered-last n k h = gathered-between n k (λ (j : ℕ) (l : j < k). not-behind m n (n + j) h (omega arith))
 
   -- the followers of the next place of the set
   pub gathered-next : (n : ℕ) → m < 2 ^ places → (m / 2 ^ n ≡ 0 → ⊥) → getD masks (n + steps-to-next m n) 0 < 2 ^ places
       → bitOr (gathered n) (getD masks (n + steps-to-next m n) 0) ≡ gathered (n + steps-to-next m n + 1)
   gathered-next n l h f =
-      ap₂ bitOr (sym (gathered-between n (steps-to-next m n) (not-between n)))
-      (ap (λ (b : Bool). cond b (getD masks (n + steps-to-next m n) 0) 0) (sym (stands-next n l h)))
+      ap₂ bitOr (sym (gathered-between n (steps-to-next m n) (not-between m n)))
+      (ap (λ (b : Bool). cond b (getD masks (n + steps-to-next m n) 0) 0) (sym (stands-next m n l h)))
       ∙ gathered-more (n + steps-to-next m n) f
 
   pub gathered-rest : (n : ℕ) → n ≤ places → m / 2 ^ n ≡ 0 → gathered n ≡ gathered places
   gathered-rest n l h =
-      sym (gathered-last n (places - n) (below-power n m h)) ∙ ap gathered (let e : n + (places - n) ≡ places = omega arith in e)
+      sym (gathered-last n (places - n) h) ∙ ap gathered (let e : n + (places - n) ≡ places = omega arith in e)
 
   pub gathered-all : gathered places ≡ followers-of masks m
   unfolding gathered followers-of

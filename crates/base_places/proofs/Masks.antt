@@ -15,7 +15,7 @@ use lib.Bits.{bitAnd}
 use lib.ListN.{getD}
 use lib.Pow.{pow-pos}
 use Rattle.paper.specs.Lists.{from, upto, any, only, keep, member}
-use Rattle.paper.specs.Numbers.{most-leaves, characters}
+use Rattle.paper.specs.Numbers.{most-leaves, most-characters}
 use Rattle.paper.specs.Pattern.{Held, some-text, pattern}
 use Rattle.paper.specs.Places.{leaves, leaf-takes, follows, ends-at, PlaceSet, leaf-places, first-set, set-after, may-end, is-empty}
 use Rattle.paper.proofs.base.Listed.{any-same, keep-same, keep-none}
@@ -185,6 +185,6 @@ mask-after h s c f m =
     ∙ sym (mask-is (set-after h s c) (masked-after h s c f m))
 
 -- what a character lets through, in the table
-pub taking-at : (h : Held) (c : ℕ) → c < characters → getD (taking-masks h) c 0 ≡ taking-mask h c
+pub taking-at : (h : Held) (c : ℕ) → c < most-characters → getD (taking-masks h) c 0 ≡ taking-mask h c
 unfolding taking-masks
-taking-at h = getD-table (λ (c : ℕ). taking-mask h c) characters
+taking-at h = getD-table (λ (c : ℕ). taking-mask h c) most-characters

@@ -4,12 +4,12 @@
 -- Masks are sums of powers of two, so that these definitions compute. The laws that lead from masks back to place sets are in
 -- proofs/Masks.antt.
 use Prim.Native.Nat.{ℕ, suc, _+_, _/_, _%_, _^_}
-use mathlib.Core.Bool.{Bool, true, _&&_}
+use mathlib.Core.Bool.{Bool, true, cond, _&&_}
 use mathlib.Core.List.{List, [], _∷_, map}
-use lib.Dec.{eqb}
+use lib.Dec.{leb, eqb}
 use lib.ListN.{getD}
 use Rattle.paper.specs.Lists.{upto, any, keep}
-use Rattle.paper.specs.Numbers.{characters, most-leaves}
+use Rattle.paper.specs.Numbers.{most-characters, most-leaves}
 use Rattle.paper.specs.Pattern.{Held, some-text, pattern}
 use Rattle.paper.specs.Places.{leaf-takes, follows, ends-at, PlaceSet}
 
@@ -56,8 +56,9 @@ follow-masks h = masks (λ (i q : ℕ). comes-next h i q) places
 unfoldable pub taking-mask : Held → ℕ → ℕ
 taking-mask h c = mask-of (λ (q : ℕ). takes-at h q c)
 
+-- There is room for the characters of Full ASCII (request K10).
 unfoldable pub taking-masks : Held → List ℕ
-taking-masks h = table (λ (c : ℕ). taking-mask h c) characters
+taking-masks h = table (λ (c : ℕ). taking-mask h c) most-characters
 
 -- the places that may be the last one of a text
 unfoldable pub last-mask : Held → ℕ
@@ -66,3 +67,7 @@ last-mask h = mask-of (λ (i : ℕ). ends-at h i)
 -- The places that may follow some place of the set with the mask m, by any list of masks. (The set after c is what of these takes c.)
 unfoldable pub followers-of : List ℕ → ℕ → ℕ
 followers-of masks m = mask-of (λ (q : ℕ). any (λ (i : ℕ). in-mask m i && in-mask (getD masks i 0) q) (upto places))
+
+-- no more characters than a table has room for
+unfoldable pub within : ℕ → ℕ
+within n = cond (leb n most-characters) n most-characters

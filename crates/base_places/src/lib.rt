@@ -1,18 +1,19 @@
 // Places: a place set is a 64-bit mask. Its lowest bit is the start, the others are the leaves in the order of reading.
 ghost use mathlib.Core.Path.{_≡_};
 ghost use mathlib.Core.Bool.{cond};
-ghost use Prim.Native.Nat.{ℕ, _^_, _<_};
+ghost use Prim.Native.Nat.{ℕ, _^_, _≤_, _<_};
 ghost use lib.Bits.{bitOr};
 ghost use lib.Dec.{eqb};
 ghost use Rattle.paper.specs.Pattern.{some-text};
-ghost use Rattle.base_places.specs.Masks.{places, mask-of, in-mask, followers-of};
+ghost use Rattle.paper.specs.Numbers.{most-characters};
+ghost use Rattle.base_places.specs.Masks.{places, mask-of, in-mask, followers-of, within};
 ghost use Rattle.base_places.specs.WorkedOut.{worked-out};
 
 // "63 leaves, which with the start make 64 places".
 pub const PLACES: usize = 64;
 
-// "Code 39, by value": 0 to 42.
-pub const CHARACTERS: usize = 43;
+// How many characters a table has room for: those of Full ASCII, 0 to 127. Code 39 has 43 of them, 0 to 42.
+pub const CHARACTERS: usize = 128;
 
 // A place set: bit i is the place i.
 pub type PlaceSet = u64;
@@ -56,6 +57,13 @@ fn joined(one: PlaceSet, other: PlaceSet) -> PlaceSet
     ensures { λ r. ⌜ (r ≡ bitOr one other) × (other < 2 ^ places) ⌝ }
 {
     one | other
+}
+
+// No more characters than a table has room for.
+pub fn within(n: usize) -> usize
+    ensures { λ r. ⌜ (r ≡ within n) × (r ≤ most-characters) ⌝ }
+{
+    if n <= CHARACTERS { n } else { CHARACTERS }
 }
 
 // All places that may follow some place of the set. The set after a character is what of these takes it. Only the places of the set are looked at:

@@ -1,10 +1,12 @@
-// The question: both sides, what is worked out of each field's pattern, and where that pattern stands.
+// The question: its alphabet, both sides, what is worked out of each field's pattern, and where that pattern stands.
 use base_codes::CodedSide;
 use base_codes::FIELD_CODE;
 use base_codes::FIELDS;
 use base_codes::LONGEST_SIDE;
 use base_codes::NO_TOKEN;
 use base_codes::SHEET_FIELDS;
+use base_editions::Alphabet;
+use base_editions::Edition;
 use base_places::PlaceTables;
 ghost use mathlib.Core.Path.{_≡_};
 ghost use Prim.Native.Nat.{_≤_};
@@ -26,6 +28,7 @@ pub struct Body {
 // What is asked. A sheet asks it, or a pair of rules, or a question with each standing apart; where the patterns stand in no one sheet there are no
 // bodies.
 pub struct Question {
+    pub alphabet: Alphabet,
     pub left: CodedSide,
     pub right: CodedSide,
     pub fields: [PlaceTables; SHEET_FIELDS],
@@ -43,14 +46,16 @@ pub fn no_bodies() -> [Body; SHEET_FIELDS]
     [none; SHEET_FIELDS]
 }
 
-// Nothing is asked: no tokens, and every field is open.
+// Nothing is asked: no tokens, and every field is open. The alphabet is Code 39.
 pub fn no_question() -> Question
     ensures { λ r. ⌜ r ≡ no-question ⌝ }
 {
     let open = base_places::open_tables();
     let fields = [open; SHEET_FIELDS];
     let bodies = no_bodies();
+    let alphabet = base_editions::alphabet_of(Edition::First);
     Question {
+        alphabet,
         left: [NO_TOKEN; LONGEST_SIDE],
         right: [NO_TOKEN; LONGEST_SIDE],
         fields,

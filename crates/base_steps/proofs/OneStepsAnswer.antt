@@ -5,9 +5,11 @@ use mathlib.Core.Path.{_≡_, refl, sym, ap, _∙_}
 use mathlib.Core.Bool.{cond, _&&_}
 use mathlib.Core.List.{List}
 use lib.Dec.{leb, eqb, lit<}
+use Rattle.paper.specs.Lists.{member}
+use Rattle.paper.specs.Buffers.{sheet-numbers}
 use Rattle.paper_steps.specs.StepsOutcome.{StepsOutcome}
 use Rattle.base_answers.specs.Faults.{fault-of}
-use Rattle.base_answers.specs.declared.Fault.the-variants.{CutShort, WrongMark, WrongField, WrongLength, NotOnePattern, TooManyLeaves, WrongToken}
+use Rattle.base_answers.specs.declared.Fault.the-variants.{CutShort, WrongMark, WrongField, WrongLength, NotOnePattern, TooManyLeaves, WrongToken, WrongEdition}
 use Rattle.base_answers.proofs.Same.{fault-from}
 use Rattle.base_answers.proofs.FaultNumbers.{fault-below}
 use Rattle.base_steps.specs.StepsNumbered.{end-numbers, steps-numbers, told-steps}
@@ -28,7 +30,7 @@ how-from n written steps =
 -- the answer with these numbers
 answer-from : StepsOutcome → StepsAnswer
 answer-from o =
-    cond (leb 11 (o .number) && leb (o .number) 17) (Refused (fault-from (o .number)) (o .place))
+    cond (member (o .number) sheet-numbers) (Refused (fault-from (o .number)) (o .place))
     (Searched (record { how = how-from (o .number) (o .written) (o .step-bytes); count = o .count }))
 
 module _ (answer work steps : List ℕ) where
@@ -52,6 +54,7 @@ module _ (answer work steps : List ℕ) where
   answer-told (Refused NotOnePattern at) = refl
   answer-told (Refused TooManyLeaves at) = refl
   answer-told (Refused WrongToken at) = refl
+  answer-told (Refused WrongEdition at) = refl
 
 -- Two answers that tell the same are the same.
 pub one-steps-answer : (r r′ : StepsAnswer) (a a′ w w′ s s′ : List ℕ) → told-steps r a w s ≡ told-steps r′ a′ w′ s′ → r ≡ r′

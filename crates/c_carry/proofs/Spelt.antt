@@ -18,8 +18,8 @@ use Rattle.carry_open.specs.declared.CarriedOver.the-variants.{Done, Full, NoCa
 use Rattle.c_tell.specs.ToldNumbers.{with-numbers}
 use Rattle.c_carry.specs.Carried.{telling-spelt}
 
--- 41 is the last of request K5's numbers
-pub spelt-below : (s : SpeltOpen) → spelt-numbers s .number < 42
+-- 44 is the last of them
+pub spelt-below : (s : SpeltOpen) → spelt-numbers s .number < 45
 spelt-below (Written bytes) = lit< tt
 spelt-below (Refused x at) = let (low, high) = fault-between (fault-of x) in omega arith
 spelt-below ForeignField = lit< tt

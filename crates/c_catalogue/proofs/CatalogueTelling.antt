@@ -22,8 +22,8 @@ use Rattle.catalogue_numbers.specs.declared.Totals.{Totals}
 use Rattle.c_catalogue.specs.Catalogued.{telling-numbers, telling-added, telling-totals, telling-rechecked}
 use Rattle.base_answers.proofs.FaultNumbers.{fault-below}
 
--- 34 is the last of request K1's numbers
-pub added-below : (a : Added) → numbers-of-added a .number < 35
+-- 34 is the last of request K1's numbers; a fault's is below 45
+pub added-below : (a : Added) → numbers-of-added a .number < 45
 added-below Entered = lit< tt
 added-below (Refused x at) = omega (arith, fault-below (fault-of x))
 added-below (NotApart i p) = lit< tt

@@ -16,15 +16,15 @@ use Rattle.plain_answer.specs.declared.Needed.the-variants as Of
 use Rattle.c_tell.specs.ToldNumbers.{with-numbers}
 use Rattle.c_plain.specs.EngineTelling.{telling-plain, telling-numbers, telling-needs}
 
--- 43 is the last of request K9's numbers
-pub plain-below : (a : PlainAnswer) → plain-numbers a .number < 44
+-- 44 is the last number, of a sheet of a wrong edition
+pub plain-below : (a : PlainAnswer) → plain-numbers a .number < 45
 plain-below Clash = lit< tt
 plain-below NoClash = lit< tt
 plain-below StandsTwice = lit< tt
 plain-below BitsTooFew = lit< tt
 plain-below (Refused x at) = let low = fault-below (fault-of x) in omega arith
 
-pub needed-below : (n : Needed) → needed-numbers n .number < 44
+pub needed-below : (n : Needed) → needed-numbers n .number < 45
 needed-below (Of.Bytes bytes) = lit< tt
 needed-below Of.StandsTwice = lit< tt
 needed-below (Of.Refused x at) = let low = fault-below (fault-of x) in omega arith

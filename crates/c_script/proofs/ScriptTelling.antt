@@ -15,8 +15,8 @@ use Rattle.c_tell.specs.ToldNumbers.{with-numbers}
 use Rattle.c_script.specs.Scripted.{telling-scripted}
 use Rattle.base_answers.proofs.FaultNumbers.{fault-below}
 
--- 40 is the last of request K4's numbers
-pub scripted-below : (s : Scripted) → scripted-numbers s .number < 41
+-- 44, for a wrong edition, is the last of its numbers
+pub scripted-below : (s : Scripted) → scripted-numbers s .number < 45
 scripted-below (Written bytes) = lit< tt
 scripted-below (Refused x at) = omega (arith, fault-below (fault-of x))
 scripted-below TooShort = lit< tt

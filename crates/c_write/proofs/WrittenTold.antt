@@ -14,8 +14,8 @@ use Rattle.write_sheet.specs.declared.Written.the-variants.{Sheet, Refused, Too
 use Rattle.c_tell.specs.ToldNumbers.{with-numbers}
 use Rattle.c_write.specs.WrittenNumbers.{telling-written}
 
--- 41 is the last of request K8's numbers
-pub written-below : (w : Written) → written-numbers w .number < 42
+-- 44 is the last of them
+pub written-below : (w : Written) → written-numbers w .number < 45
 written-below (Sheet bytes) = lit< tt
 written-below (Refused x at) = let (low, high) = fault-between (fault-of x) in omega arith
 written-below TooShort = lit< tt

@@ -6,7 +6,7 @@ use mathlib.Core.List.{List}
 use lib.Dec.{eqb}
 use Rattle.paper_carry.specs.Spelling.{Spelling}
 use Rattle.paper_carry.specs.Spelling as Spelling
-use Rattle.base_answers.specs.declared.Fault.the-variants.{CutShort, WrongMark, WrongField, WrongLength, NotOnePattern, TooManyLeaves, WrongToken}
+use Rattle.base_answers.specs.declared.Fault.the-variants.{CutShort, WrongMark, WrongField, WrongLength, NotOnePattern, TooManyLeaves, WrongToken, WrongEdition}
 use Rattle.base_answers.proofs.Same.{fault-from}
 use Rattle.carry_open.specs.CarriedOver.{told-spelt, carried-number, told-carried}
 use Rattle.carry_open.specs.declared.SpeltOpen.{SpeltOpen}
@@ -30,6 +30,7 @@ spelt-back (Refused WrongLength at) out = refl
 spelt-back (Refused NotOnePattern at) out = refl
 spelt-back (Refused TooManyLeaves at) out = refl
 spelt-back (Refused WrongToken at) out = refl
+spelt-back (Refused WrongEdition at) out = refl
 spelt-back ForeignField out = refl
 spelt-back TooShort out = refl
 

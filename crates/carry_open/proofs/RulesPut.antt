@@ -7,6 +7,7 @@ use mathlib.Core.Path.{_≡_, refl, sym, ap, _∙_, subst}
 use mathlib.Core.List.{List, [], _++_, append-assoc, append-nil}
 use lib.ListN.{length, take, drop, drop-of-length-le}
 use lib.Seq.{length-take-le}
+use Rattle.paper.specs.Alphabet.{edition-1}
 use Rattle.paper_catalogue.specs.Catalogue.{Present}
 use Rattle.paper_catalogue.specs.Calls.{rule-at}
 use Rattle.paper_catalogue.proofs.Local.{rule-bounds}
@@ -72,12 +73,12 @@ module _ {catalogue : List ℕ} {kept : Kept} (x : Of-form catalogue kept) (i : 
         omega (arith, ap length e, length-take-le (present .bytes) there (omega (arith, b, high)), b)
 
     pub put-one : (counts : List ℕ) → counts ≡ standing-times (present .side) (padded [])
-        → put-whole part 2 (present .bodies) counts ≡ rule-open (rule-at (x .rules-present) i)
+        → put-whole edition-1 part 2 (present .bodies) counts ≡ rule-open (rule-at (x .rules-present) i)
     put-one counts c =
         let r = rule-at (x .rules-present) i in
         let good = standing-good x i h in
         rule-whole r good part
         (rule-said-back there (standing-reads x i h) ∙ sym (e ∙ ap (λ (n : ℕ). take n there) (standing-bytes x i h present p)))
         (present .side) (standing-side x i h present p) (present .bodies)
-        (have-bytes there (r .fields .held) (present .bodies) (good .held .each-field) (standing-bodies x i h present p))
+        (have-bytes edition-1 there (r .fields .held) (present .bodies) (good .held .each-field) (standing-bodies x i h present p))
         counts c

@@ -2,6 +2,7 @@
 use Prim.Native.Nat.{ℕ}
 use mathlib.Core.List.{List, _++_}
 use lib.ListN.{take}
+use Rattle.paper.specs.Alphabet.{Edition, edition-1, edition-2}
 use Rattle.paper.specs.Sheet.{fault-number}
 use Rattle.paper_carry.specs.Spelling.{Spelling, spelling-told}
 use Rattle.paper_carry.specs.Spelling as Spelling
@@ -31,6 +32,11 @@ carried-number NoCatalogue = 34
 abbrev pub told-carried : CarriedOver → List ℕ → Spelling.CarriedOver
 told-carried c catalogue = record { number = carried-number c; catalogue = catalogue }
 
--- the bytes in front of the patterns, then the records with 68 65 0 42 written out
-abbrev pub put-whole : List ℕ → ℕ → List Body → List ℕ → List ℕ
-put-whole s from bodies counts = take from s ++ opened-from s from bodies counts
+-- where the records of a sheet begin: behind `ED` and its byte
+abbrev pub records-from : Edition → ℕ
+records-from edition-1 = 0
+records-from edition-2 = 3
+
+-- the bytes in front of the patterns, then the records with 68 65 0 42, behind `ED` 196 193 0 127, written out
+abbrev pub put-whole : Edition → List ℕ → ℕ → List Body → List ℕ → List ℕ
+put-whole e s from bodies counts = take from s ++ opened-from e s from bodies counts

@@ -1,4 +1,5 @@
-// Old sheets, rules and catalogues carried over: "Sheets and catalogue rules that relied on the old meaning must carry 68 65 0 42 written out".
+// Old sheets, rules and catalogues carried over: "Sheets and catalogue rules that relied on the old meaning must carry 68 65 0 42 written out", behind
+// `ED` "196 193 0 127" (request K10).
 use base_answers::CATALOGUE_FULL;
 use base_answers::FOREIGN_FIELD;
 use base_answers::Fault;
@@ -11,6 +12,7 @@ use base_codes::FIELDS;
 use base_codes::LONGEST_SIDE;
 use base_codes::NO_TOKEN;
 use base_codes::SHEET_FIELDS;
+use base_editions::Edition;
 use base_put::put_all;
 use base_question::Body;
 use catalogue_form::CATALOGUE_RULES;
@@ -20,11 +22,12 @@ ghost use mathlib.Core.List.{[]};
 ghost use Prim.Native.Nat.{_≤_};
 ghost use lib.ListN.{length, replicate};
 ghost use Rattle.base_codes.specs.Inner.{padded};
+ghost use Rattle.base_editions.specs.Editions.{paper-edition};
 ghost use Rattle.base_put.specs.Counted.{last-place, Counted};
 ghost use Rattle.base_question.specs.Standings.{standing-times};
 ghost use Rattle.catalogue_form.specs.Kept.{Of-form};
 ghost use Rattle.paper_carry.specs.Spelling.{put-into, spelling, rule-spelling, rules-open, carrying-over, longest-rules, CarryPromised, RulePromised, CataloguePromised};
-ghost use Rattle.carry_open.specs.CarriedOver.{spelt-numbers, told-spelt, carried-number, told-carried, put-whole};
+ghost use Rattle.carry_open.specs.CarriedOver.{spelt-numbers, told-spelt, carried-number, told-carried, records-from, put-whole};
 
 // "the mark `RU`"
 const RULE_MARK: usize = 2;
@@ -36,7 +39,7 @@ const LONGEST_RULES: usize = CATALOGUE_RULES * (RULE_MARK + 4 * 196 + 27);
 pub enum SpeltOpen {
     // 0: so many bytes stand in front of the buffer
     Written { bytes: usize },
-    // 11 to 17: the sheet or the rule is at fault
+    // 11 to 17, and 44: the sheet or the rule is at fault
     Refused { fault: Fault, place: usize },
     // 31: the rule names a field above 3
     ForeignField,
@@ -54,7 +57,7 @@ pub enum CarriedOver {
     NoCatalogue,
 }
 
-// Writes the sheet with 68 65 0 42 for every standing field without a pattern.
+// Writes the sheet, in its edition, with 68 65 0 42, behind `ED` 196 193 0 127, for every standing field without a pattern.
 pub fn sheet(sheet: &[u8], out: &mut [u8]) -> SpeltOpen
     ensures whole { λ r. ⌜ told-spelt r (now (out .exit)) ≡ spelling (now (sheet .entry)) (now (out .entry)) ⌝ }
     ensures promised { λ r. ⌜ CarryPromised (now (sheet .entry)) (now (out .entry)) (told-spelt r (now (out .exit))) ⌝ }
@@ -72,7 +75,9 @@ pub fn sheet(sheet: &[u8], out: &mut [u8]) -> SpeltOpen
     let right = question.right;
     let bodies = question.bodies;
     let counts = base_question::standings(left, right);
-    write_out(sheet, 0, bodies, counts, out)
+    let edition = read.edition;
+    let from = records_from(edition);
+    write_out(sheet, from, bodies, counts, edition, out)
 }
 
 // Writes the rule likewise.
@@ -95,7 +100,7 @@ pub fn rule(rule: &[u8], out: &mut [u8]) -> SpeltOpen
     let side = read.side;
     let bodies = read.bodies;
     let counts = rule_counts(side);
-    write_out(rule, RULE_MARK, bodies, counts, out)
+    write_out(rule, RULE_MARK, bodies, counts, Edition::First, out)
 }
 
 // Carries every rule of the catalogue over, in its own buffer.
@@ -160,7 +165,17 @@ pub fn number(c: CarriedOver) -> usize
     }
 }
 
-// The bytes in front of the patterns, then the records: as far as there is room, and the place behind them.
+// Where the records of a sheet begin: behind `ED` and its byte.
+fn records_from(edition: Edition) -> usize
+    ensures { λ r. ⌜ r ≡ records-from (paper-edition edition) ⌝ }
+{
+    match edition {
+        Edition::First => 0,
+        Edition::Second => 3,
+    }
+}
+
+// The bytes in front of the patterns, then the records of an edition: as far as there is room, and the place behind them.
 fn put_whole(
     out: &mut [u8],
     at: usize,
@@ -168,12 +183,13 @@ fn put_whole(
     from: usize,
     bodies: [Body; SHEET_FIELDS],
     counts: [usize; FIELDS],
+    edition: Edition,
 ) -> usize
     requires { ⌜ from ≤ length (now s) ⌝ }
-    ensures { λ r. ⌜ Counted (now (out .entry)) (now (out .exit)) at r (put-whole (now (s .entry)) from bodies counts) ⌝ }
+    ensures { λ r. ⌜ Counted (now (out .entry)) (now (out .exit)) at r (put-whole (paper-edition edition) (now (s .entry)) from bodies counts) ⌝ }
 {
     let behind = put_all(out, at, &s[0..from]);
-    carry_records::put_from(out, behind, s, from, bodies, counts)
+    carry_records::put_from(out, behind, s, from, bodies, counts, edition)
 }
 
 // Puts them into the buffer, if they fit.
@@ -182,16 +198,17 @@ fn write_out(
     from: usize,
     bodies: [Body; SHEET_FIELDS],
     counts: [usize; FIELDS],
+    edition: Edition,
     out: &mut [u8],
 ) -> SpeltOpen
-    requires { ⌜ (from ≤ length (now s)) × (length (put-whole (now s) from bodies counts) ≤ last-place) ⌝ }
-    ensures { λ r. ⌜ told-spelt r (now (out .exit)) ≡ put-into (put-whole (now (s .entry)) from bodies counts) (now (out .entry)) ⌝ }
+    requires { ⌜ (from ≤ length (now s)) × (length (put-whole (paper-edition edition) (now s) from bodies counts) ≤ last-place) ⌝ }
+    ensures { λ r. ⌜ told-spelt r (now (out .exit)) ≡ put-into (put-whole (paper-edition edition) (now (s .entry)) from bodies counts) (now (out .entry)) ⌝ }
 {
-    let length = put_whole(&mut out[0..0], 0, s, from, bodies, counts);
+    let length = put_whole(&mut out[0..0], 0, s, from, bodies, counts, edition);
     if out.len() < length {
         return SpeltOpen::TooShort;
     }
-    let bytes = put_whole(out, 0, s, from, bodies, counts);
+    let bytes = put_whole(out, 0, s, from, bodies, counts, edition);
     SpeltOpen::Written { bytes }
 }
 
@@ -229,7 +246,15 @@ fn put_rules(catalogue: &[u8], kept: Kept, bytes: &mut [u8]) -> usize
         let side = present.side;
         let bodies = present.bodies;
         let counts = rule_counts(side);
-        end = put_whole(bytes, end, &catalogue[at..next], RULE_MARK, bodies, counts);
+        end = put_whole(
+            bytes,
+            end,
+            &catalogue[at..next],
+            RULE_MARK,
+            bodies,
+            counts,
+            Edition::First,
+        );
         i += 1;
     }
     end

@@ -21,7 +21,7 @@ const MOST: usize = 65536;
 const INPUT: usize = MOST + 1;
 
 // No sheet and no rule is longer: `enough`, which `carry_open::sheet` and `carry_open::rule` promise.
-const LONGEST: usize = 1622;
+const LONGEST: usize = 1625;
 
 fn main() {
     let mut input = [0u8; INPUT];

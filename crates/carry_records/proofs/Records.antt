@@ -11,6 +11,7 @@ use mathlib.Core.List.{List, [], _++_, append-assoc}
 use lib.Dec.{ltb, eqb}
 use lib.ListN.{length, getD, drop}
 use Rattle.paper.specs.Numbers.{fields}
+use Rattle.paper.specs.Alphabet.{Edition}
 use Rattle.paper.specs.Sheet.{bytes-left}
 use Rattle.paper.proofs.base.Tests.{cond-by, ltb-false}
 use Rattle.base_put.specs.Counted.{Counted}
@@ -29,33 +30,33 @@ record-within s at n =
     (λ there z. omega (arith, ltb-false (bytes-left s at) (4 + n) there)))
 
 -- the fields before f are put, and what is put for the others comes behind
-pub record Going (before out : List ℕ) (at end : ℕ) (s : List ℕ) (from next f : ℕ) (bodies : List Body) (counts : List ℕ) : Type 0 where
+pub record Going (e : Edition) (before out : List ℕ) (at end : ℕ) (s : List ℕ) (from next f : ℕ) (bodies : List Body) (counts : List ℕ) : Type 0 where
   pub put : List ℕ
   pub counted : Counted before out at end put
-  pub left : (n : ℕ) → n + f ≡ fields → put ++ from-field n s next f bodies counts ≡ opened-from s from bodies counts
+  pub left : (n : ℕ) → n + f ≡ fields → put ++ from-field e n s next f bodies counts ≡ opened-from e s from bodies counts
 
-pub going-start : (out : List ℕ) (at : ℕ) (s : List ℕ) (from : ℕ) (bodies : List Body) (counts : List ℕ) → Going out out at at s from from 0 bodies counts
+pub going-start : (e : Edition) (out : List ℕ) (at : ℕ) (s : List ℕ) (from : ℕ) (bodies : List Body) (counts : List ℕ) → Going e out out at at s from from 0 bodies counts
 unfolding opened-from
-going-start out at s from bodies counts =
+going-start e out at s from bodies counts =
     record {
       put = [];
       counted = counted-none;
-      left = λ n e. ap (λ (k : ℕ). from-field k s from 0 bodies counts) (sym (add-zero n) ∙ e);
+      left = λ n k. ap (λ (m : ℕ). from-field e m s from 0 bodies counts) (sym (add-zero n) ∙ k);
     }
 
-module _ {before out : List ℕ} {at end : ℕ} {s : List ℕ} {from next f : ℕ} {bodies : List Body} {counts : List ℕ} (g : Going before out at end s from next f bodies counts) where
-  pub going-on : (after : List ℕ) (behind further : ℕ) → Counted out after end behind (field-put s next f (bytes-of bodies f) (getD counts f 0))
-      → further ≡ next + record-length s next (bytes-of bodies f) → Going before after at behind s from further (f + 1) bodies counts
-  going-on after behind further c e =
-      let one = field-put s next f (bytes-of bodies f) (getD counts f 0) in
+module _ {e : Edition} {before out : List ℕ} {at end : ℕ} {s : List ℕ} {from next f : ℕ} {bodies : List Body} {counts : List ℕ} (g : Going e before out at end s from next f bodies counts) where
+  pub going-on : (after : List ℕ) (behind further : ℕ) → Counted out after end behind (field-put e s next f (bytes-of bodies f) (getD counts f 0))
+      → further ≡ next + record-length s next (bytes-of bodies f) → Going e before after at behind s from further (f + 1) bodies counts
+  going-on after behind further c h =
+      let one = field-put e s next f (bytes-of bodies f) (getD counts f 0) in
       record {
         put = g .put ++ one;
         counted = counted-then (g .counted) c;
         left = λ n k.
-            rw (e, add-one f) (append-assoc (g .put) one (from-field n s (next + record-length s next (bytes-of bodies f)) (suc f) bodies counts) ∙ g .left (suc n) (omega arith));
+            rw (h, add-one f) (append-assoc (g .put) one (from-field e n s (next + record-length s next (bytes-of bodies f)) (suc f) bodies counts) ∙ g .left (suc n) (omega arith));
       }
 
   pub going-ends : f ≡ fields → (after : List ℕ) (behind : ℕ) → Counted out after end behind (drop next s)
-      → Counted before after at behind (opened-from s from bodies counts)
-  going-ends e after behind c =
+      → Counted before after at behind (opened-from e s from bodies counts)
+  going-ends h after behind c =
       subst (Counted before after at behind) (g .left 0 (omega arith)) (counted-then (g .counted) c)

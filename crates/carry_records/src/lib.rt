@@ -1,6 +1,7 @@
-// Records put with 68 65 0 42 written out for each standing field without a pattern. Everything else is put byte for byte.
+// Records put with 68 65 0 42, behind `ED` 196 193 0 127, written out for each standing field without a pattern. Everything else is put byte for byte.
 use base_codes::FIELDS;
 use base_codes::SHEET_FIELDS;
+use base_editions::Edition;
 use base_put::put;
 use base_put::put_all;
 use base_question::Body;
@@ -8,11 +9,19 @@ ghost use mathlib.Core.Path.{_≡_};
 ghost use Prim.Native.Nat.{_<_, _+_};
 ghost use lib.ListN.{drop};
 ghost use Rattle.paper.specs.Numbers.{fields};
+ghost use Rattle.base_editions.specs.Editions.{paper-edition};
 ghost use Rattle.base_put.specs.Counted.{Counted};
-ghost use Rattle.carry_records.specs.Opening.{record-length, missing, field-put, opened-from};
+ghost use Rattle.carry_records.specs.Opening.{record-length, out-bytes, missing, field-put, opened-from};
 
-// "68 65 0 42", behind its length
-const WRITTEN_OUT: [u8; 5] = [4, 68, 65, 0, 42];
+// "68 65 0 42", behind `ED` "196 193 0 127", and its length in front
+fn written_out(edition: Edition) -> [u8; 5]
+    ensures { λ r. ⌜ r ≡ out-bytes (paper-edition edition) ⌝ }
+{
+    match edition {
+        Edition::First => [4, 68, 65, 0, 42],
+        Edition::Second => [4, 196, 193, 0, 127],
+    }
+}
 
 // How many bytes the record of a pattern of so many has, if they are there from the offset on; 0 where there is no pattern.
 fn record_at(s: &[u8], at: usize, length: usize) -> usize
@@ -35,17 +44,17 @@ fn record_at(s: &[u8], at: usize, length: usize) -> usize
 }
 
 // The record that is added for a field which stands.
-fn put_missing(out: &mut [u8], at: usize, f: usize, count: usize) -> usize
+fn put_missing(out: &mut [u8], at: usize, f: usize, count: usize, edition: Edition) -> usize
     requires { ⌜ f < fields ⌝ }
-    ensures { λ r. ⌜ Counted (now (out .entry)) (now (out .exit)) at r (missing f count) ⌝ }
+    ensures { λ r. ⌜ Counted (now (out .entry)) (now (out .exit)) at r (missing (paper-edition edition) f count) ⌝ }
 {
     if count == 0 {
         return at;
     }
     let marked = put_all(out, at, b"PA");
     let named = put(out, marked, f as u8);
-    let code = WRITTEN_OUT;
-    put_all(out, named, &code[0..5])
+    let code = written_out(edition);
+    put_all(out, named, &code)
 }
 
 // The place behind what was put, and the offset behind what was read.
@@ -63,15 +72,16 @@ fn put_field(
     f: usize,
     length: usize,
     count: usize,
+    edition: Edition,
 ) -> Placed
     requires { ⌜ f < fields ⌝ }
     ensures next { λ r. ⌜ r .next ≡ from + record-length (now (s .entry)) from length ⌝ }
-    ensures put { λ r. ⌜ Counted (now (out .entry)) (now (out .exit)) at (r .end) (field-put (now (s .entry)) from f length count) ⌝ }
+    ensures put { λ r. ⌜ Counted (now (out .entry)) (now (out .exit)) at (r .end) (field-put (paper-edition edition) (now (s .entry)) from f length count) ⌝ }
 {
     let n = record_at(s, from, length);
     if n == 0 {
         return Placed {
-            end: put_missing(out, at, f, count),
+            end: put_missing(out, at, f, count, edition),
             next: from,
         };
     }
@@ -82,7 +92,7 @@ fn put_field(
     }
 }
 
-// The records from an offset on, by where each field's pattern stands, and by how often each field does.
+// The records of an edition, from an offset on, by where each field's pattern stands, and by how often each field does.
 pub fn put_from(
     out: &mut [u8],
     at: usize,
@@ -90,8 +100,9 @@ pub fn put_from(
     from: usize,
     bodies: [Body; SHEET_FIELDS],
     counts: [usize; FIELDS],
+    edition: Edition,
 ) -> usize
-    ensures { λ r. ⌜ Counted (now (out .entry)) (now (out .exit)) at r (opened-from (now (s .entry)) from bodies counts) ⌝ }
+    ensures { λ r. ⌜ Counted (now (out .entry)) (now (out .exit)) at r (opened-from (paper-edition edition) (now (s .entry)) from bodies counts) ⌝ }
 {
     let mut end = at;
     let mut next = from;
@@ -99,7 +110,7 @@ pub fn put_from(
     while f < SHEET_FIELDS {
         let body = bodies[f];
         let length = body.length;
-        let placed = put_field(out, end, s, next, f, length, counts[f]);
+        let placed = put_field(out, end, s, next, f, length, counts[f], edition);
         end = placed.end;
         next = placed.next;
         f += 1;

@@ -10,6 +10,7 @@ use native.Mathlib.Omega.{arith}
 use mathlib.Core.Path.{_≡_, refl, sym, ap, _∙_, subst}
 use mathlib.Core.List.{List, [], _∷_, map}
 use lib.ListN.{length, getD, drop}
+use Rattle.paper.specs.Alphabet.{edition-1}
 use Rattle.paper.specs.Sheet.{records}
 use Rattle.paper.specs.Rule.{rule-front}
 use Rattle.paper_catalogue.specs.Catalogue.{Present}
@@ -20,6 +21,7 @@ use Rattle.paper_catalogue.proofs.GoodRule.{GoodRule, rule-good}
 use Rattle.base_codes.specs.Inner.{side-code, padded}
 use Rattle.base_places.specs.WorkedOut.{worked-out}
 use Rattle.base_question.specs.declared.Body.{Body}
+use Rattle.paper.specs.Alphabet.{edition-1}
 use Rattle.read_fields.proofs.PatternsStanding.{AllStand}
 use Rattle.read_rule.specs.RuleRead.{rule-bodies, rule-of}
 use Rattle.read_rule.specs.declared.Rule.{Rule}
@@ -76,9 +78,9 @@ module _ {catalogue : List ℕ} {kept : Kept} (x : Of-form catalogue kept) where
       pub standing-bytes : present .bytes ≡ present-at l i .bytes
       standing-bytes = ap (λ (r : Rule). r .bytes) standing-is
 
-      pub standing-bodies : AllStand (drop its-begin catalogue) (present .bodies) (rule-at l i .fields .held)
+      pub standing-bodies : AllStand edition-1 (drop its-begin catalogue) (present .bodies) (rule-at l i .fields .held)
       standing-bodies =
-          subst (λ (b : List Body). AllStand (drop its-begin catalogue) b (rule-at l i .fields .held)) (sym (ap (λ (r : Rule). r .bodies) standing-is))
+          subst (λ (b : List Body). AllStand edition-1 (drop its-begin catalogue) b (rule-at l i .fields .held)) (sym (ap (λ (r : Rule). r .bodies) standing-is))
           (front-stands (drop its-begin catalogue) standing-reads)
 
     -- where the next one begins

@@ -5,7 +5,7 @@ use native.Mathlib.Omega.{arith}
 use mathlib.Core.Path.{_≡_, ap, _∙_}
 use mathlib.Core.List.{List, []}
 use lib.ListN.{length}
-use Rattle.paper.specs.Numbers.{characters}
+use Rattle.paper.specs.Numbers.{most-characters}
 use Rattle.paper.specs.Rule.{Rule, pair}
 use Rattle.paper.specs.Outcome.{room-of}
 use Rattle.paper_catalogue.proofs.GoodRule.{GoodRule}
@@ -47,5 +47,5 @@ told-in-room how {r} {s} {left} {right} {first} {second} a b work lent e p is =
 
 pub answer-byte : (how : Asking) (q : Code.Question) (bytes : ℕ) → pair-by how q bytes .answer < 256
 unfolding searched-pair decided-pair
-answer-byte Search q bytes = omega (arith, pair-below (ended-over (listed-by every characters) q bytes [] .how))
+answer-byte Search q bytes = omega (arith, pair-below (ended-over (listed-by every most-characters) q bytes [] .how))
 answer-byte Decide q bytes = omega (arith, pair-below (settled-coded q bytes [] .ended .how))

@@ -8,7 +8,7 @@ use mathlib.Core.Bool.{not}
 use mathlib.Core.List.{List, []}
 use lib.Dec.{leb}
 use lib.ListN.{length}
-use Rattle.paper.specs.Numbers.{characters}
+use Rattle.paper.specs.Numbers.{most-characters}
 use Rattle.paper.specs.Places.{PlaceSet}
 use Rattle.paper.specs.Search.{End, found, used-up, no-room, too-long}
 use Rattle.paper.specs.Situation.{Situation, Move}
@@ -21,7 +21,6 @@ use Rattle.paper_catalogue.specs.PairAsking.{pair-number, pair-answer, pair-cou
 use Rattle.paper_catalogue.proofs.GoodRule.{GoodRule}
 use Rattle.paper_catalogue_decide.specs.DecidedPairs.{pair-decided, by-deciding}
 use Rattle.paper.proofs.base.Tests.{by-bool}
-use Rattle.paper.proofs.sheets.Asked.{left-39, right-39}
 use Rattle.paper.proofs.sheets.Hidden.{hidden-searchable}
 use Rattle.paper_chosen.specs.Chosen.{every}
 use Rattle.base_question.specs.Asked.{question-of}
@@ -51,12 +50,12 @@ module _ (q : Question) (n : ℕ) (work answer : List ℕ) where
 module _ (r s : Rule) (g : GoodRule r) (h : GoodRule s) (question : Code.Question) (is : question ≡ question-of (pair r s) no-bodies)
     (work : List ℕ) where
   told : let st = searched (hidden (pair r s)) (room-of work) in
-      told-end (ended-over (listed-by every characters) question (length work) []) (buffer-over (listed-by every characters) question (length work) []) (cleared work)
+      told-end (ended-over (listed-by every most-characters) question (length work) []) (buffer-over (listed-by every most-characters) question (length work) []) (cleared work)
       ≡ answered (hidden (pair r s)) (count-of st) (how-of st) work []
   told =
       let good = pair-good r s g h in
-      search-told-every (pair r s) (good .alphabet) (left-39 good) (right-39 good) (hidden-searchable (pair r s) good) no-bodies
-      question is work [] _ (cleared work) _ (listed-by every characters) refl (refl, (refl, refl))
+      search-told-every (pair r s) (good .left) (good .right) (hidden-searchable (pair r s) good) no-bodies
+      question is work [] _ (cleared work) _ (listed-by every most-characters) refl (refl, (refl, refl))
 
   pub search-tells : told-pair (searched-pair question (length work)) ≡ by-search .asks r s (room-of work)
   unfolding searched-pair pair-answer pair-count

@@ -1,7 +1,7 @@
 -- What a pair's question is answered, for all questions and lengths of a working buffer, with no room for an answer.
 use Prim.Native.Nat.{ℕ}
 use mathlib.Core.List.{[]}
-use Rattle.paper.specs.Numbers.{characters}
+use Rattle.paper.specs.Numbers.{most-characters}
 use Rattle.paper_chosen.specs.Chosen.{every}
 use Rattle.base_question.specs.declared.Question.{Question}
 use Rattle.base_answers.specs.AnswerNumbers.{number-in-pair}
@@ -15,7 +15,7 @@ use Rattle.catalogue_question.specs.declared.Pair.{Pair}
 -- by 01's search, over every character
 unfoldable pub searched-pair : Question → ℕ → Pair
 searched-pair q bytes =
-    let e = ended-over (listed-by every characters) q bytes [] in
+    let e = ended-over (listed-by every most-characters) q bytes [] in
     record { answer = number-in-pair (e .how); count = e .count; search = 1 }
 
 -- by up to four searches

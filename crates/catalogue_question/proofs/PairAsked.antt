@@ -5,6 +5,7 @@ use mathlib.Core.Path.{_≡_, refl, sym, ap, ap₂, _∙_}
 use mathlib.Core.List.{List, [], _∷_, _++_, map, List·Memᴰ, List·Memᴰ·head, List·Memᴰ·tail}
 use lib.ListN.{length, take, replicate, length-map}
 use Rattle.paper.specs.Numbers.{rule-fields, longest-side}
+use Rattle.paper.specs.Alphabet.{code-39}
 use Rattle.paper.specs.Equation.{Token, chr, fld, Side}
 use Rattle.paper.specs.Rule.{Rule, moved-up, pair}
 use Rattle.paper.proofs.base.Tests.{le-leb, lt-leb, lt-ltb}
@@ -15,6 +16,7 @@ use Rattle.base_places.specs.WorkedOut.{worked-out}
 use Rattle.base_places.specs.declared.PlaceTables.{PlaceTables}
 use Rattle.base_places.proofs.ByNumber.{by-number}
 use Rattle.base_codes.specs.Inner.{field-code, no-token, token-code, side-code, padded}
+use Rattle.base_editions.specs.Editions.{alphabet-code}
 use Rattle.base_question.specs.Asked.{question-of}
 use Rattle.base_question.specs.Bodies.{no-bodies}
 use Rattle.catalogue_question.specs.PairCoded.{moved-code, joined, pair-question}
@@ -69,7 +71,7 @@ module _ (r s : Rule) (g : GoodRule r) (h : GoodRule s) where
   unfolding pair pair-question
   asked-is =
       let fields = joins ∙ by-number (pair r s .held) (pair-good .held .each-field) in
-      λ i. record { left = padded (side-code (r .side)); right = moved-padded (s .side) (h .tokens) i; fields = fields i; bodies = no-bodies }
+      λ i. record { alphabet = alphabet-code code-39; left = padded (side-code (r .side)); right = moved-padded (s .side) (h .tokens) i; fields = fields i; bodies = no-bodies }
 
 pub pair-is : {r s : Rule} {left right : List ℕ} {first second : List PlaceTables} → Code-of r left first → Code-of s right second
     → pair-question left right first second ≡ question-of (pair r s) no-bodies

@@ -5,6 +5,7 @@ use base_codes::CodedSide;
 use base_codes::FIELD_CODE;
 use base_codes::LONGEST_SIDE;
 use base_codes::SHEET_FIELDS;
+use base_editions::Edition;
 use base_places::PlaceTables;
 use base_question::Question;
 use read_rule::RULE_FIELDS;
@@ -31,7 +32,8 @@ pub struct Pair {
 // The codes from that of field 0 on whose field can be moved up.
 const MOVABLE: u8 = 251;
 
-// What the pair asks: the two rules' sides by inner codes, and what is worked out of their fields' patterns, which stand in no one sheet.
+// What the pair asks: the two rules' sides by inner codes, and what is worked out of their fields' patterns, which stand in no one sheet. A rule is of
+// the first edition, so a pair is in Code 39.
 pub fn asked(
     left: CodedSide,
     right: CodedSide,
@@ -43,7 +45,9 @@ pub fn asked(
     let moved = moved_up(right);
     let fields = joined(first, second);
     let bodies = base_question::no_bodies();
+    let alphabet = base_editions::alphabet_of(Edition::First);
     Question {
+        alphabet,
         left,
         right: moved,
         fields,

@@ -10,7 +10,6 @@ use lib.Dec.{eqb}
 use lib.ListN.{length, getD, drop}
 use lib.Seq.{drop-cons}
 use Rattle.paper.specs.Lists.{upto, any, all, member}
-use Rattle.paper.specs.Numbers.{characters}
 use Rattle.paper.proofs.base.Tests.{true-false, not-true, both-true, both-false, eq-eqb, neq-eqb}
 use Rattle.paper.proofs.base.Lists.{any-append, all-append, all-true, mem-any, upto-mem}
 use Rattle.paper.proofs.base.Listed.{upto-snoc}
@@ -76,9 +75,9 @@ module _ (t : ℕ → Bool) (a : ℕ) where
   unfolding first-from
   first-none = refl
 
-pub first-of-all : (among : List Bool) (row : List ℕ) (p n : ℕ) → n + 0 ≡ characters → first-taken among row p ≡ first-from (taken-coded among row p) 0 n
+pub first-of-all : (many : ℕ) (among : List Bool) (row : List ℕ) (p n : ℕ) → n + 0 ≡ many → first-taken many among row p ≡ first-from (taken-coded among row p) 0 n
 unfolding first-taken
-first-of-all among row p n e = let same : n ≡ characters = omega arith in rw same
+first-of-all many among row p n e = let same : n ≡ many = omega arith in rw same
 
 -- one step more
 module _ {A : Type 0} (step : ℕ → A → A) (x : A) where
@@ -94,11 +93,3 @@ module _ {A : Type 0} (step : ℕ → A → A) (x : A) where
 pub one-told : (b : Bool) → eqb (cond b 1 0) 1 ≡ b
 one-told true = refl
 one-told false = refl
-
--- some of a list of tests passes, from i on
-module _ (l : List Bool) (i : ℕ) (h : i < length l) where
-  pub some-here : getD l i false ≡ true → any (λ (b : Bool). b) (drop i l) ≡ true
-  some-here e = rw (drop-cons l i false h, e)
-
-  pub some-behind : getD l i false ≡ false → any (λ (b : Bool). b) (drop i l) ≡ any (λ (b : Bool). b) (drop (i + 1) l)
-  some-behind e = rw (add-one i, drop-cons l i false h, e)

@@ -1,17 +1,19 @@
 -- The first number that passes a test, as a list of one or none, and as a test of whether there is one:
 --   first-kept  : take 1 (keep t (from a n)) ≡ only (ltb (first-from t a n) (a + n)) (first-from t a n)
 --   first-any   : any t (from a n) ≡ ltb (first-from t a n) (a + n)
+--   kept-first, any-first : the same of the numbers below n
 --   first-same  : of tests that say the same
 --   first-of-two : the first of two lists, one behind the other
 -- Follows from the definitions by induction on n.
 use Prim.Native.Nat.{ℕ, zero, suc, _+_, _<_}
+use native.Mathlib.Nat.{zero-add}
 use native.Mathlib.Omega.{arith}
 use mathlib.Core.Path.{_≡_, refl, sym, ap, ap₂, _∙_}
 use mathlib.Core.Bool.{Bool, true, false, cond, _&&_}
 use mathlib.Core.List.{List, [], _∷_, _++_}
 use lib.Dec.{ltb}
 use lib.ListN.{take}
-use Rattle.paper.specs.Lists.{from, any, only, keep}
+use Rattle.paper.specs.Lists.{from, upto, any, only, keep}
 use Rattle.paper.proofs.base.Tests.{by-bool, lt-ltb, le-ltb}
 use Rattle.decide_alike.specs.AlikeCoded.{first-from}
 
@@ -19,7 +21,7 @@ add-over : (a n : ℕ) → suc a + n ≡ a + suc n
 add-over a n = omega arith
 
 module _ (t : ℕ → Bool) where
-  pub first-kept : (a n : ℕ) → take 1 (keep t (from a n)) ≡ only (ltb (first-from t a n) (a + n)) (first-from t a n)
+  first-kept : (a n : ℕ) → take 1 (keep t (from a n)) ≡ only (ltb (first-from t a n) (a + n)) (first-from t a n)
   unfolding first-from
   first-kept a zero = rw (le-ltb a (a + 0) (omega arith))
   first-kept a (suc n) =
@@ -27,13 +29,20 @@ module _ (t : ℕ → Bool) where
       (λ e. rw (e, lt-ltb a (a + suc n) (omega arith)))
       (λ e. rw e (first-kept (suc a) n ∙ ap (λ (m : ℕ). only (ltb (first-from t (suc a) n) m) (first-from t (suc a) n)) (add-over a n)))
 
-  pub first-any : (a n : ℕ) → any t (from a n) ≡ ltb (first-from t a n) (a + n)
+  first-any : (a n : ℕ) → any t (from a n) ≡ ltb (first-from t a n) (a + n)
   unfolding first-from
   first-any a zero = sym (le-ltb a (a + 0) (omega arith))
   first-any a (suc n) =
       by-bool (t a)
       (λ e. rw (e, lt-ltb a (a + suc n) (omega arith)))
       (λ e. rw e (first-any (suc a) n ∙ ap (ltb (first-from t (suc a) n)) (add-over a n)))
+
+  -- from 0 on
+  pub kept-first : (n : ℕ) → take 1 (keep t (upto n)) ≡ only (ltb (first-from t 0 n) n) (first-from t 0 n)
+  kept-first n = first-kept 0 n ∙ ap (λ (m : ℕ). only (ltb (first-from t 0 n) m) (first-from t 0 n)) (zero-add n)
+
+  pub any-first : (n : ℕ) → any t (upto n) ≡ ltb (first-from t 0 n) n
+  any-first n = first-any 0 n ∙ ap (ltb (first-from t 0 n)) (zero-add n)
 
 module _ {A : Type 0} where
   pub first-of-two : (b : Bool) (x : A) (l m : List A) → take 1 l ≡ only b x → take 1 (l ++ m) ≡ cond b (x ∷ []) (take 1 m)

@@ -3,7 +3,7 @@
 --   fixed-read, standing-read, mask-read : the marks and the tables of a question say what its tokens and leaves do
 --   is-least-read : is-least-coded .. c ≡ is-least q c, of a character c of a question that can be searched
 -- Follows from the laws of masks, and from the codes of known tokens being different.
-use Prim.Native.Nat.{ℕ, _+_, _<_}
+use Prim.Native.Nat.{ℕ, _+_, _≤_, _<_}
 use native.Mathlib.Omega.{arith}
 use mathlib.Core.Path.{_≡_, refl, sym, ap, ap₂, _∙_}
 use mathlib.Core.Bool.{Bool, true, false, not, _&&_, _||_}
@@ -11,7 +11,7 @@ use mathlib.Core.List.{List, [], _∷_, _++_, List·Memᴰ, List·Memᴰ·head, 
 use lib.Dec.{eqb}
 use lib.ListN.{getD}
 use Rattle.paper.specs.Lists.{upto, any, all, only, keep, member}
-use Rattle.paper.specs.Numbers.{characters, set-fields}
+use Rattle.paper.specs.Numbers.{most-characters, set-fields}
 use Rattle.paper.specs.Pattern.{Pattern, Held, some-text, pattern}
 use Rattle.paper.specs.Places.{leaves, leaf-takes, leaf-places}
 use Rattle.paper.specs.Equation.{chr, fld, Side, stands-in}
@@ -32,6 +32,7 @@ use Rattle.search_children.proofs.CodedQuestion.{stands-coded, known-append}
 use Rattle.decide_alike.specs.AlikeCoded.{fixed-coded, standing-coded, mask-at, same-in, same-places, alike-coded, is-least-coded}
 use Rattle.search_tables.proofs.CutOver.{mask-held}
 use Rattle.search_tables.proofs.Listed.{getD-listed}
+use Rattle.decide_alike.proofs.Marks.{marked-at}
 
 -- both or neither
 same-both : (x y : Bool) → x ≡ y → both-or-neither x y ≡ true
@@ -54,7 +55,7 @@ unfolding taking-mask
 in-taking some-text p c b = in-mask-of (λ (q : ℕ). true) p b
 in-taking (pattern r) p c b = in-mask-of (λ (q : ℕ). leaf-takes r 1 q c) p b
 
-module _ (p : Pattern) (good : GoodHeld characters (pattern p)) (a b : ℕ) where
+module _ (n : ℕ) (p : Pattern) (good : GoodHeld n (pattern p)) (a b : ℕ) where
   abbrev both : ℕ → Bool
   both i = both-or-neither (leaf-takes p 1 i a) (leaf-takes p 1 i b)
 
@@ -79,16 +80,16 @@ module _ (p : Pattern) (good : GoodHeld characters (pattern p)) (a b : ℕ) wher
       (λ t. both-right (leaf-takes p 1 i a) (leaf-takes p 1 i b) (at-leaf e i a t) t)
       (λ t. both-left (leaf-takes p 1 i a) (leaf-takes p 1 i b) (at-leaf e i b t) t))
 
-pub alike-masks : (h : Held) → GoodHeld characters h → (a b : ℕ) → eqb (taking-mask h a) (taking-mask h b) ≡ alike-in h a b
+pub alike-masks : (n : ℕ) (h : Held) → GoodHeld n h → (a b : ℕ) → eqb (taking-mask h a) (taking-mask h b) ≡ alike-in h a b
 unfolding alike-in taking-mask
-alike-masks some-text good a b = eqb-same (mask-of (λ (q : ℕ). true))
-alike-masks (pattern p) good a b =
-    same-tests (eqb (taking-mask (pattern p) a) (taking-mask (pattern p) b)) (all (both p good a b) (leaf-places p))
-    (λ e. equal-both p good a b (eqb-true (taking-mask (pattern p) a) (taking-mask (pattern p) b) e))
-    (λ e. eq-eqb (taking-mask (pattern p) a) (taking-mask (pattern p) b) (both-equal p good a b e))
+alike-masks n some-text good a b = eqb-same (mask-of (λ (q : ℕ). true))
+alike-masks n (pattern p) good a b =
+    same-tests (eqb (taking-mask (pattern p) a) (taking-mask (pattern p) b)) (all (both n p good a b) (leaf-places p))
+    (λ e. equal-both n p good a b (eqb-true (taking-mask (pattern p) a) (taking-mask (pattern p) b) e))
+    (λ e. eq-eqb (taking-mask (pattern p) a) (taking-mask (pattern p) b) (both-equal n p good a b e))
 
 -- a fixed character stands where its code does
-fixed-codes : (c : ℕ) (side : Side) → c < characters → member c (side-code side) ≡ any (is-character c) side
+fixed-codes : (c : ℕ) (side : Side) → c < most-characters → member c (side-code side) ≡ any (is-character c) side
 fixed-codes c [] h = refl
 fixed-codes c (chr a ∷ side) h = ap (λ (b : Bool). eqb c a || b) (fixed-codes c side h)
 fixed-codes c (fld f ∷ side) h = rw (neq-eqb c (field-code + f) (λ e. omega arith)) (fixed-codes c side h)
@@ -114,14 +115,14 @@ module _ (q : Question) where
   codes-joined : side-code (q .left ++ q .right) ≡ codes-of q
   codes-joined = map-append token-code (q .left) (q .right)
 
-  pub fixed-read : (c : ℕ) → c < characters → getD (fixed-coded (codes-of q)) c false ≡ fixed q c
+  pub fixed-read : (n c : ℕ) → c < n → c < most-characters → getD (fixed-coded n (codes-of q)) c false ≡ fixed q c
   unfolding fixed-coded fixed
-  fixed-read c h =
-      getD-listed (λ (c : ℕ). member c (codes-of q)) characters false c h
+  fixed-read n c b h =
+      marked-at (λ (c : ℕ). member c (codes-of q)) n c b h
       ∙ ap (member c) (sym codes-joined) ∙ fixed-codes c (q .left ++ q .right) h
 
   -- the mask of a character in a field's row
-  pub mask-read : (f c : ℕ) → f < set-fields → c < characters → mask-at (taking-of q) f c ≡ taking-mask (held-by q f) c
+  pub mask-read : (f c : ℕ) → f < set-fields → c < most-characters → mask-at (taking-of q) f c ≡ taking-mask (held-by q f) c
   unfolding tables-of
   mask-read = mask-held (held-by q)
 
@@ -135,7 +136,16 @@ module _ (q : Question) (good : Searchable q) where
       getD-listed (λ (f : ℕ). member (field-code + f) (codes-of q)) set-fields false f h
       ∙ ap (member (field-code + f)) (sym (codes-joined q)) ∙ stands-coded f (q .left ++ q .right) known
 
-  module _ (a b : ℕ) (h : a < characters) (k : b < characters) where
+  abbrev many : ℕ
+  many = q .alphabet .characters
+
+  module _ (a b : ℕ) (h : a < many) (k : b < many) where
+    abbrev room-a : a < most-characters
+    room-a = omega (arith, good .most)
+
+    abbrev room-b : b < most-characters
+    room-b = omega (arith, good .most)
+
     same-places-read : same-places (standing-coded (codes-of q)) (taking-of q) a b ≡ all (λ (f : ℕ). alike-in (held-by q f) a b) (fields-standing q)
     unfolding same-places fields-standing
     same-places-read =
@@ -144,16 +154,16 @@ module _ (q : Question) (good : Searchable q) where
         (λ f d.
         let l = mem-upto set-fields d in
         ap₂ (λ (x y : Bool). not x || y) (standing-read f l)
-        (ap₂ eqb (mask-read q f a l h) (mask-read q f b l k) ∙ alike-masks (held-by q f) (good .held f) a b))
+        (ap₂ eqb (mask-read q f a l room-a) (mask-read q f b l room-b) ∙ alike-masks many (held-by q f) (good .held f) a b))
 
-    alike-read : (a ≡ b → ⊥) → alike-coded (fixed-coded (codes-of q)) (standing-coded (codes-of q)) (taking-of q) a b ≡ alike q a b
+    alike-read : (a ≡ b → ⊥) → alike-coded (fixed-coded many (codes-of q)) (standing-coded (codes-of q)) (taking-of q) a b ≡ alike q a b
     unfolding alike-coded alike
-    alike-read n = rw (neq-eqb a b n, fixed-read q a h, fixed-read q b k, same-places-read)
+    alike-read n = rw (neq-eqb a b n, fixed-read q many a h room-a, fixed-read q many b k room-b, same-places-read)
 
-  pub is-least-read : (c : ℕ) → c < characters
-      → is-least-coded (fixed-coded (codes-of q)) (standing-coded (codes-of q)) (taking-of q) c ≡ is-least q c
+  pub is-least-read : (c : ℕ) → c < many
+      → is-least-coded (fixed-coded many (codes-of q)) (standing-coded (codes-of q)) (taking-of q) c ≡ is-least q c
   unfolding is-least-coded is-least
   is-least-read c h =
       ap not
-      (any-same (λ (a : ℕ). alike-coded (fixed-coded (codes-of q)) (standing-coded (codes-of q)) (taking-of q) a c) (λ (a : ℕ). alike q a c) (upto c)
+      (any-same (λ (a : ℕ). alike-coded (fixed-coded many (codes-of q)) (standing-coded (codes-of q)) (taking-of q) a c) (λ (a : ℕ). alike q a c) (upto c)
       (λ a d. let l = mem-upto c d in alike-read a c (omega arith) h (λ e. omega arith)))

@@ -1,18 +1,17 @@
 -- The choice for every place is that for the leaves alone:
---   walked-all : chosen-in q h l (upto places) ≡ chosen-in q h l (leaves-of h), of what a field of a question in Code 39 may hold
+--   walked-all : chosen-in q h l (upto places) ≡ chosen-in q h l (leaves-of h), of what a field of a question may hold that has some character
 -- A place that is no leaf takes nothing, so nothing is chosen for it. Of an open field every place takes every character: one choice is made, by
 -- which all of them take one that is chosen.
-use Prim.Native.Nat.{ℕ, zero, suc, _+_, _-_, _≤_}
+use Prim.Native.Nat.{ℕ, zero, suc, _+_, _-_, _≤_, _<_}
 use native.Mathlib.Omega.{arith}
 use mathlib.Core.Path.{_≡_, refl, sym, ap, _∙_}
 use mathlib.Core.Bool.{false, not, _&&_}
 use mathlib.Core.List.{List, [], _∷_, _++_, append-nil, List·Memᴰ, List·Memᴰ·head, List·Memᴰ·tail}
 use lib.ListN.{take}
 use Rattle.paper.specs.Lists.{from, upto, keep}
-use Rattle.paper.specs.Numbers.{characters, most-leaves}
+use Rattle.paper.specs.Numbers.{most-leaves}
 use Rattle.paper.specs.Pattern.{Pattern, Held, some-text, pattern}
 use Rattle.paper.specs.Places.{leaves, leaf-takes, leaf-places}
-use Rattle.paper.specs.Alphabet.{Alphabet, code-39}
 use Rattle.paper.specs.Question.{Question}
 use Rattle.paper.proofs.base.Tests.{not-true, left-false}
 use Rattle.paper.proofs.base.Lists.{cons-eq, none-any, mem-from}
@@ -80,39 +79,43 @@ module _ (q : Question) where
   unfolding is-least
   least-first n = refl
 
-  -- in Code 39 they are among its characters
-  pub least-39 : q .alphabet ≡ code-39 → least-ones q ≡ keep (is-least q) (upto characters)
-  unfolding least-ones
-  least-39 in-39 = ap (λ (a : Alphabet). keep (is-least q) (upto (a .characters))) in-39
+  abbrev many : ℕ
+  many = q .alphabet .characters
 
   -- the least of all is 0
-  pub first-least : q .alphabet ≡ code-39 → take 1 (least-ones q) ≡ 0 ∷ []
-  first-least in-39 = ap (take 1) (least-39 in-39 ∙ least-first (characters - 1))
+  least-cons : 0 < many → least-ones q ≡ 0 ∷ keep (is-least q) (from 1 (many - 1))
+  unfolding least-ones
+  least-cons some =
+      let e : many ≡ suc (many - 1) = omega arith in
+      ap (λ (n : ℕ). keep (is-least q) (upto n)) e ∙ least-first (many - 1)
+
+  pub first-least : 0 < many → take 1 (least-ones q) ≡ 0 ∷ []
+  first-least some = ap (take 1) (least-cons some)
 
   some-first : (k : List ℕ) (y : ℕ) (m : List ℕ) → (x : ℕ) × (take 1 (k ++ y ∷ m) ≡ x ∷ [])
   some-first [] y m = (y, refl)
   some-first (x ∷ k) y m = (x, refl)
 
-  open-choice : q .alphabet ≡ code-39 → (i : ℕ) → (x : ℕ) × (leaf-choice q some-text i ≡ x ∷ [])
+  open-choice : 0 < many → (i : ℕ) → (x : ℕ) × (leaf-choice q some-text i ≡ x ∷ [])
   unfolding leaf-choice
-  open-choice in-39 i =
+  open-choice some i =
       let free = keep (λ (c : ℕ). leaf-takes-it some-text i c && not (fixed q c)) (least-ones q) in
-      let rest = keep (leaf-takes-it some-text i) (keep (is-least q) (from 1 (characters - 1))) in
+      let rest = keep (leaf-takes-it some-text i) (keep (is-least q) (from 1 (many - 1))) in
       let s = some-first free 0 rest in
-      (s .0, ap (λ (l : List ℕ). take 1 (free ++ keep (leaf-takes-it some-text i) l)) (least-39 in-39 ∙ least-first (characters - 1)) ∙ s .1)
+      (s .0, ap (λ (l : List ℕ). take 1 (free ++ keep (leaf-takes-it some-text i) l)) (least-cons some) ∙ s .1)
 
   -- its places are all the same
   same-choice : (i j : ℕ) → leaf-choice q some-text i ≡ leaf-choice q some-text j
   unfolding leaf-choice
   same-choice i j = refl
 
-  walked-open : q .alphabet ≡ code-39 → (l : List ℕ) (n : ℕ) → chosen-in q some-text l (upto (suc n)) ≡ chosen-for q some-text l 1
+  walked-open : 0 < many → (l : List ℕ) (n : ℕ) → chosen-in q some-text l (upto (suc n)) ≡ chosen-for q some-text l 1
   unfolding chosen-for
-  walked-open in-39 [] n =
-      let s = open-choice in-39 0 in
+  walked-open some [] n =
+      let s = open-choice some 0 in
       ap (λ (m : List ℕ). chosen-in q some-text m (from 1 n)) (s .1) ∙ stays (s .0) [] (from 1 n) ∙ sym (s .1) ∙ same-choice 0 1
-  walked-open in-39 (x ∷ l) n = stays x l (from 1 n)
+  walked-open some (x ∷ l) n = stays x l (from 1 n)
 
-  pub walked-all : q .alphabet ≡ code-39 → (h : Held) → GoodHeld characters h → (l : List ℕ) → chosen-in q h l (upto places) ≡ chosen-in q h l (leaves-of h)
-  walked-all in-39 some-text good l = walked-open in-39 l most-leaves
-  walked-all in-39 (pattern p) good l = walked-pattern p l most-leaves (good .1)
+  pub walked-all : 0 < many → (h : Held) → GoodHeld many h → (l : List ℕ) → chosen-in q h l (upto places) ≡ chosen-in q h l (leaves-of h)
+  walked-all some some-text good l = walked-open some l most-leaves
+  walked-all some (pattern p) good l = walked-pattern p l most-leaves (good .1)

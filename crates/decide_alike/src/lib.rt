@@ -1,4 +1,5 @@
-// Which characters of a question are searched: the least ones of those alike, and a few of these.
+// Which characters of a question are searched: the least ones of those alike, and a few of these. The characters are those of its alphabet, of which
+// there are n (request K10: Code 39 has 43, Full ASCII has 128).
 use base_codes::CodedSide;
 use base_codes::FIELD_CODE;
 use base_codes::FIELDS;
@@ -8,14 +9,15 @@ use base_places::CHARACTERS;
 use base_places::PLACES;
 use base_places::PlaceSet;
 use base_places::when_holds;
+use base_places::within;
 use base_question::Question;
 ghost use mathlib.Core.Bool.{cond, _&&_, _||_, not};
 ghost use mathlib.Core.List.{_++_};
 ghost use mathlib.Core.Path.{_≡_};
-ghost use Prim.Native.Nat.{_<_};
+ghost use Prim.Native.Nat.{_≤_, _<_};
 ghost use lib.Dec.{eqb};
 ghost use Rattle.paper.specs.Lists.{member};
-ghost use Rattle.paper.specs.Numbers.{characters};
+ghost use Rattle.paper.specs.Numbers.{most-characters};
 ghost use Rattle.base_places.specs.Masks.{in-mask};
 ghost use Rattle.base_codes.specs.Inner.{tokens};
 ghost use Rattle.decide_alike.specs.AlikeCoded.{fixed-coded, standing-coded, same-places, alike-coded, is-least-coded, least-from, least-coded};
@@ -50,12 +52,13 @@ fn stands_in_either(left: CodedSide, right: CodedSide, token: u8) -> bool
 }
 
 // The characters that stand fixed in a side.
-fn fixed_ones(left: CodedSide, right: CodedSide) -> [bool; CHARACTERS]
-    ensures { λ r. ⌜ r ≡ fixed-coded (tokens left ++ tokens right) ⌝ }
+fn fixed_ones(left: CodedSide, right: CodedSide, n: usize) -> [bool; CHARACTERS]
+    requires { ⌜ n ≤ most-characters ⌝ }
+    ensures { λ r. ⌜ r ≡ fixed-coded n (tokens left ++ tokens right) ⌝ }
 {
     let mut fixed = [false; CHARACTERS];
     let mut c: usize = 0;
-    while c < CHARACTERS {
+    while c < n {
         fixed[c] = stands_in_either(left, right, c as u8);
         c += 1;
     }
@@ -89,7 +92,7 @@ fn same_places(
     a: usize,
     b: usize,
 ) -> bool
-    requires { ⌜ (a < characters) × (b < characters) ⌝ }
+    requires { ⌜ (a < most-characters) × (b < most-characters) ⌝ }
     ensures { λ r. ⌜ r ≡ same-places standing (now (taking .entry)) a b ⌝ }
 {
     let mut field: usize = 0;
@@ -110,7 +113,7 @@ fn alike(
     a: usize,
     b: usize,
 ) -> bool
-    requires { ⌜ (a < characters) × (b < characters) ⌝ }
+    requires { ⌜ (a < most-characters) × (b < most-characters) ⌝ }
     ensures { λ r. ⌜ r ≡ alike-coded fixed standing (now (taking .entry)) a b ⌝ }
 {
     if fixed[a] {
@@ -129,7 +132,7 @@ fn is_least(
     taking: &[[PlaceSet; CHARACTERS]; FIELDS],
     c: usize,
 ) -> bool
-    requires { ⌜ c < characters ⌝ }
+    requires { ⌜ c < most-characters ⌝ }
     ensures { λ r. ⌜ r ≡ is-least-coded fixed standing (now (taking .entry)) c ⌝ }
 {
     let mut a: usize = 0;
@@ -146,12 +149,14 @@ fn least_from(
     fixed: [bool; CHARACTERS],
     standing: [bool; FIELDS],
     taking: &[[PlaceSet; CHARACTERS]; FIELDS],
+    n: usize,
 ) -> [bool; CHARACTERS]
-    ensures { λ r. ⌜ r ≡ least-from fixed standing (now (taking .entry)) ⌝ }
+    requires { ⌜ n ≤ most-characters ⌝ }
+    ensures { λ r. ⌜ r ≡ least-from n fixed standing (now (taking .entry)) ⌝ }
 {
     let mut least = [false; CHARACTERS];
     let mut c: usize = 0;
-    while c < CHARACTERS {
+    while c < n {
         least[c] = is_least(fixed, standing, taking, c);
         c += 1;
     }
@@ -174,10 +179,11 @@ pub fn least_ones(question: Question) -> LeastOnes
     let left = whole.left;
     let right = whole.right;
     let fields = whole.fields;
+    let n = within(whole.characters);
     let taking = search_tables::taking_sets(fields);
-    let fixed = fixed_ones(left, right);
+    let fixed = fixed_ones(left, right, n);
     let standing = standing_fields(left, right);
-    let least = least_from(fixed, standing, &taking);
+    let least = least_from(fixed, standing, &taking, n);
     LeastOnes {
         fixed,
         standing,
@@ -197,11 +203,12 @@ fn is_taken(among: bool, mask: PlaceSet, p: usize) -> bool
 }
 
 // The first of these that the place p takes; behind the last character, where it takes none.
-fn first_taken(among: [bool; CHARACTERS], row: [PlaceSet; CHARACTERS], p: usize) -> usize
-    ensures { λ r. ⌜ r ≡ first-taken among row p ⌝ }
+fn first_taken(among: [bool; CHARACTERS], row: [PlaceSet; CHARACTERS], p: usize, n: usize) -> usize
+    requires { ⌜ n ≤ most-characters ⌝ }
+    ensures { λ r. ⌜ r ≡ first-taken n among row p ⌝ }
 {
     let mut c: usize = 0;
-    while c < CHARACTERS {
+    while c < n {
         if is_taken(among[c], row[c], p) {
             return c;
         }
@@ -217,12 +224,13 @@ fn is_free(least: bool, fixed: bool) -> bool
 }
 
 // The least ones that stand fixed in no side.
-fn free_ones(fixed: [bool; CHARACTERS], least: [bool; CHARACTERS]) -> [bool; CHARACTERS]
-    ensures { λ r. ⌜ r ≡ free-coded fixed least ⌝ }
+fn free_ones(fixed: [bool; CHARACTERS], least: [bool; CHARACTERS], n: usize) -> [bool; CHARACTERS]
+    requires { ⌜ n ≤ most-characters ⌝ }
+    ensures { λ r. ⌜ r ≡ free-coded n fixed least ⌝ }
 {
     let mut free = [false; CHARACTERS];
     let mut c: usize = 0;
-    while c < CHARACTERS {
+    while c < n {
         free[c] = is_free(least[c], fixed[c]);
         c += 1;
     }
@@ -235,14 +243,16 @@ fn choice(
     least: [bool; CHARACTERS],
     row: [PlaceSet; CHARACTERS],
     p: usize,
+    n: usize,
 ) -> usize
-    ensures { λ r. ⌜ r ≡ choice-coded free least row p ⌝ }
+    requires { ⌜ n ≤ most-characters ⌝ }
+    ensures { λ r. ⌜ r ≡ choice-coded n free least row p ⌝ }
 {
-    let c = first_taken(free, row, p);
-    if c < CHARACTERS {
+    let c = first_taken(free, row, p, n);
+    if c < n {
         return c;
     }
-    first_taken(least, row, p)
+    first_taken(least, row, p, n)
 }
 
 // "for each leaf .. that takes none chosen so far"
@@ -251,16 +261,18 @@ fn chosen_at(
     least: [bool; CHARACTERS],
     row: [PlaceSet; CHARACTERS],
     p: usize,
+    n: usize,
     mut chosen: [bool; CHARACTERS],
 ) -> [bool; CHARACTERS]
-    ensures { λ r. ⌜ r ≡ chosen-at free least row p chosen ⌝ }
+    requires { ⌜ n ≤ most-characters ⌝ }
+    ensures { λ r. ⌜ r ≡ chosen-at n free least row p chosen ⌝ }
 {
-    let has = first_taken(chosen, row, p);
-    if has < CHARACTERS {
+    let has = first_taken(chosen, row, p, n);
+    if has < n {
         return chosen;
     }
-    let c = choice(free, least, row, p);
-    if c < CHARACTERS {
+    let c = choice(free, least, row, p, n);
+    if c < n {
         chosen[c] = true;
     }
     chosen
@@ -271,14 +283,16 @@ fn chosen_within(
     free: [bool; CHARACTERS],
     least: [bool; CHARACTERS],
     row: [PlaceSet; CHARACTERS],
+    n: usize,
     earlier: [bool; CHARACTERS],
 ) -> [bool; CHARACTERS]
-    ensures { λ r. ⌜ r ≡ chosen-within free least row earlier ⌝ }
+    requires { ⌜ n ≤ most-characters ⌝ }
+    ensures { λ r. ⌜ r ≡ chosen-within n free least row earlier ⌝ }
 {
     let mut chosen = earlier;
     let mut p: usize = 0;
     while p < PLACES {
-        let with_more = chosen_at(free, least, row, p, chosen);
+        let with_more = chosen_at(free, least, row, p, n, chosen);
         chosen = with_more;
         p += 1;
     }
@@ -291,12 +305,14 @@ fn chosen_of(
     least: [bool; CHARACTERS],
     stands: bool,
     row: [PlaceSet; CHARACTERS],
+    n: usize,
     chosen: [bool; CHARACTERS],
 ) -> [bool; CHARACTERS]
-    ensures { λ r. ⌜ r ≡ cond stands (chosen-within free least row chosen) chosen ⌝ }
+    requires { ⌜ n ≤ most-characters ⌝ }
+    ensures { λ r. ⌜ r ≡ cond stands (chosen-within n free least row chosen) chosen ⌝ }
 {
     if stands {
-        return chosen_within(free, least, row, chosen);
+        return chosen_within(free, least, row, n, chosen);
     }
     chosen
 }
@@ -306,14 +322,16 @@ fn chosen_ones(
     least: [bool; CHARACTERS],
     standing: [bool; FIELDS],
     taking: &[[PlaceSet; CHARACTERS]; FIELDS],
+    n: usize,
 ) -> [bool; CHARACTERS]
-    ensures { λ r. ⌜ r ≡ chosen-coded free least standing (now (taking .entry)) ⌝ }
+    requires { ⌜ n ≤ most-characters ⌝ }
+    ensures { λ r. ⌜ r ≡ chosen-coded n free least standing (now (taking .entry)) ⌝ }
 {
     let mut chosen = [false; CHARACTERS];
     let mut f: usize = 0;
     while f < FIELDS {
         let row = taking[f];
-        let with_more = chosen_of(free, least, standing[f], row, chosen);
+        let with_more = chosen_of(free, least, standing[f], row, n, chosen);
         chosen = with_more;
         f += 1;
     }
@@ -321,11 +339,12 @@ fn chosen_ones(
 }
 
 // "where nothing is chosen, the least of all"
-fn some(mut chosen: [bool; CHARACTERS]) -> [bool; CHARACTERS]
-    ensures { λ r. ⌜ r ≡ some-coded chosen ⌝ }
+fn some(mut chosen: [bool; CHARACTERS], n: usize) -> [bool; CHARACTERS]
+    requires { ⌜ n ≤ most-characters ⌝ }
+    ensures { λ r. ⌜ r ≡ some-coded n chosen ⌝ }
 {
     let mut c: usize = 0;
-    while c < CHARACTERS {
+    while c < n {
         if chosen[c] {
             return chosen;
         }
@@ -341,11 +360,12 @@ pub fn few(question: Question, ones: LeastOnes) -> [bool; CHARACTERS]
 {
     let whole = search_hidden::question(question);
     let fields = whole.fields;
+    let n = within(whole.characters);
     let taking = search_tables::taking_sets(fields);
     let fixed = ones.fixed;
     let standing = ones.standing;
     let least = ones.least;
-    let free = free_ones(fixed, least);
-    let chosen = chosen_ones(free, least, standing, &taking);
-    some(chosen)
+    let free = free_ones(fixed, least, n);
+    let chosen = chosen_ones(free, least, standing, &taking, n);
+    some(chosen, n)
 }

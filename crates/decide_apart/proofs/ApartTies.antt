@@ -10,14 +10,14 @@ use mathlib.Core.List.{List, [], _∷_, _++_, map, map-map, List·Memᴰ, List·
 use lib.Dec.{leb, ltb}
 use lib.ListN.{length, getD, replicate, length-append, length-map, length-replicate, List·getD-eq-default}
 use Rattle.paper.specs.Lists.{upto}
-use Rattle.paper.specs.Numbers.{characters, fields, longest-side}
+use Rattle.paper.specs.Numbers.{most-characters, fields, longest-side}
 use Rattle.paper.specs.Pattern.{Held, some-text}
 use Rattle.paper.specs.Equation.{Token, chr, fld, Side}
 use Rattle.paper.specs.Question.{Question, held-by}
 use Rattle.paper.proofs.base.Tests.{by-bool, both-true, le-leb, lt-leb, lt-ltb, leb-true, ltb-true, ltb-false}
 use Rattle.paper.proofs.base.Lists.{cons-eq, map-append, length-from}
 use Rattle.paper.proofs.base.Listed.{getD-map-upto}
-use Rattle.paper.proofs.sheets.Asked.{InRange, GoodSide, GoodQuestion, left-39, right-39}
+use Rattle.paper.proofs.sheets.Asked.{InRange, GoodSide, GoodQuestion, good-most}
 use Rattle.paper_decide.specs.Apart.{standing-list, numbered-from, apart, few-standings}
 use Rattle.paper_decide.proofs.Apart.{standings-append, length-numbered}
 use Rattle.base_codes.specs.Inner.{field-code, no-token, is-field-code, token-code, side-code, padded}
@@ -31,11 +31,11 @@ use Rattle.decide_apart.specs.ApartCoded.{standings-coded, numbered-code
 use Rattle.decide_apart.specs.declared.Apart.{Apart}
 
 -- the code of a token that is in range
-char-no-field : (c : ℕ) → InRange characters (chr c) → is-field-code c ≡ false
-char-no-field c h = rw (lt-leb field-code c (omega arith))
+char-no-field : (n : ℕ) → n ≤ most-characters → (c : ℕ) → InRange n (chr c) → is-field-code c ≡ false
+char-no-field n most c h = rw (lt-leb field-code c (omega arith))
 
-field-is-field : (f : ℕ) → InRange characters (fld f) → is-field-code (field-code + f) ≡ true
-field-is-field f h =
+field-is-field : (n f : ℕ) → InRange n (fld f) → is-field-code (field-code + f) ≡ true
+field-is-field n f h =
     both-true (le-leb field-code (field-code + f) (omega arith)) (lt-ltb (field-code + f) no-token (omega arith))
 
 -- no token stands behind the side
@@ -47,34 +47,35 @@ behind-same : (k n : ℕ) → numbered-coded k (replicate n no-token) ≡ replic
 behind-same k zero = refl
 behind-same k (suc n) = cons-eq refl (behind-same k n)
 
-module _ (n : ℕ) where
-  standings-same : (side : Side) → ((t : Token) → List·Memᴰ t side → InRange characters t)
-      → standings-coded (side-code side ++ replicate n no-token) ≡ standing-list side
-  standings-same [] h = behind-none n
+-- n is how many characters there are, k how many bytes stand behind the side
+module _ (n : ℕ) (most : n ≤ most-characters) (k : ℕ) where
+  standings-same : (side : Side) → ((t : Token) → List·Memᴰ t side → InRange n t)
+      → standings-coded (side-code side ++ replicate k no-token) ≡ standing-list side
+  standings-same [] h = behind-none k
   standings-same (chr c ∷ side) h =
-      rw (char-no-field c (h (chr c) (List·Memᴰ·head refl))) (standings-same side (λ t d. h t (List·Memᴰ·tail d)))
+      rw (char-no-field n most c (h (chr c) (List·Memᴰ·head refl))) (standings-same side (λ t d. h t (List·Memᴰ·tail d)))
   standings-same (fld f ∷ side) h =
-      rw (field-is-field f (h (fld f) (List·Memᴰ·head refl)))
+      rw (field-is-field n f (h (fld f) (List·Memᴰ·head refl)))
       (cons-eq (let e : field-code + f - field-code ≡ f = omega arith in e) (standings-same side (λ t d. h t (List·Memᴰ·tail d))))
 
-  numbered-same : (k : ℕ) (side : Side) → ((t : Token) → List·Memᴰ t side → InRange characters t)
-      → numbered-coded k (side-code side ++ replicate n no-token) ≡ side-code (numbered-from k side) ++ replicate n no-token
-  numbered-same k [] h = behind-same k n
-  numbered-same k (chr c ∷ side) h =
-      rw (char-no-field c (h (chr c) (List·Memᴰ·head refl))) (cons-eq refl (numbered-same k side (λ t d. h t (List·Memᴰ·tail d))))
-  numbered-same k (fld f ∷ side) h =
-      rw (field-is-field f (h (fld f) (List·Memᴰ·head refl))) (cons-eq refl (numbered-same (suc k) side (λ t d. h t (List·Memᴰ·tail d))))
+  numbered-same : (first : ℕ) (side : Side) → ((t : Token) → List·Memᴰ t side → InRange n t)
+      → numbered-coded first (side-code side ++ replicate k no-token) ≡ side-code (numbered-from first side) ++ replicate k no-token
+  numbered-same first [] h = behind-same first k
+  numbered-same first (chr c ∷ side) h =
+      rw (char-no-field n most c (h (chr c) (List·Memᴰ·head refl))) (cons-eq refl (numbered-same first side (λ t d. h t (List·Memᴰ·tail d))))
+  numbered-same first (fld f ∷ side) h =
+      rw (field-is-field n f (h (fld f) (List·Memᴰ·head refl))) (cons-eq refl (numbered-same (suc first) side (λ t d. h t (List·Memᴰ·tail d))))
 
 -- a good side in its 48 bytes
-module _ (side : Side) (g : GoodSide characters side) where
+module _ (n : ℕ) (most : n ≤ most-characters) (side : Side) (g : GoodSide n side) where
   pub standings-read : standings-coded (padded (side-code side)) ≡ standing-list side
-  standings-read = standings-same (longest-side - length (side-code side)) side (g .tokens)
+  standings-read = standings-same n most (longest-side - length (side-code side)) side (g .tokens)
 
   pub numbered-read : (k : ℕ) → numbered-coded k (padded (side-code side)) ≡ padded (side-code (numbered-from k side))
   numbered-read k =
       let l : length (side-code (numbered-from k side)) ≡ length (side-code side) =
       length-map (numbered-from k side) token-code ∙ length-numbered k side ∙ sym (length-map side token-code) in
-      rw l (numbered-same (longest-side - length (side-code side)) k side (g .tokens))
+      rw l (numbered-same n most (longest-side - length (side-code side)) k side (g .tokens))
 
 -- what is worked out of what the fields may hold, in their order, and behind it of open fields: by their numbers it is the same
 replicate-held : (n : ℕ) → map worked-out (replicate n some-text) ≡ replicate n (worked-out some-text)
@@ -100,6 +101,12 @@ filled-up held h =
     ∙ (λ i. map (λ (f : ℕ). worked-out (open-behind held n f i)) (upto fields))
 
 module _ (q : Question) (g : GoodQuestion q) where
+  abbrev many : ℕ
+  many = q .alphabet .characters
+
+  abbrev most : many ≤ most-characters
+  most = good-most g
+
   abbrev its : List ℕ
   its = standing-list (q .left ++ q .right)
 
@@ -123,7 +130,7 @@ module _ (q : Question) (g : GoodQuestion q) where
 
   standings-are : standings-coded (padded (side-code (q .left))) ++ standings-coded (padded (side-code (q .right))) ≡ its
   standings-are =
-      ap₂ _++_ (standings-read (q .left) (left-39 g)) (standings-read (q .right) (right-39 g)) ∙ sym (standings-append (q .left) (q .right))
+      ap₂ _++_ (standings-read many most (q .left) (g .left)) (standings-read many most (q .right) (g .right)) ∙ sym (standings-append (q .left) (q .right))
 
   module _ (bodies : List Body) where
     pub few-read : apart-coded (question-of q bodies) .few ≡ few-standings q
@@ -137,4 +144,4 @@ module _ (q : Question) (g : GoodQuestion q) where
     pub apart-read : few-standings q ≡ true → apart-coded (question-of q bodies) ≡ record { few = true; question = question-of (apart q) no-bodies }
     unfolding apart-coded few-standings apart
     apart-read e =
-        rw (standings-are, e, numbered-read (q .left) (left-39 g) 0, standings-read (q .left) (left-39 g), numbered-read (q .right) (right-39 g) (length (standing-list (q .left))), tables-read (leb-true (length its) fields e))
+        rw (standings-are, e, numbered-read many most (q .left) (g .left) 0, standings-read many most (q .left) (g .left), numbered-read many most (q .right) (g .right) (length (standing-list (q .left))), tables-read (leb-true (length its) fields e))

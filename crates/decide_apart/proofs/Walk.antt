@@ -126,7 +126,7 @@ module _ (own : Question) where
       → (l r : List ℕ) (all : List PlaceTables) (bodies : List Body)
       → l ≡ numbered-coded 0 (own .left) → r ≡ numbered-coded (length left) (own .right)
       → all ≡ tables-apart (own .fields) (left ++ right) → bodies ≡ no-bodies
-      → _≡_ {A = Apart} (record { few = true; question = record { left = l; right = r; fields = all; bodies = bodies } }) (apart-coded own)
+      → _≡_ {A = Apart} (record { few = true; question = record { alphabet = own .alphabet; left = l; right = r; fields = all; bodies = bodies } }) (apart-coded own)
   unfolding apart-coded
   each-apart h l r all bodies a b c d =
       rw (le-leb (length (left ++ right)) fields (omega (arith, length-append left right)), a, b, c, d)

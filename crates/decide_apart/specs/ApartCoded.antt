@@ -40,7 +40,7 @@ tables-at own f = getD own f (worked-out some-text)
 abbrev pub tables-apart : List PlaceTables → List ℕ → List PlaceTables
 tables-apart own fs = map (tables-at own) fs ++ replicate (fields - length fs) (worked-out some-text)
 
--- "if there are at most 8 standings": otherwise the question is as it was
+-- "if there are at most 8 standings": otherwise the question is as it was. The alphabet is kept.
 unfoldable pub apart-coded : Question → Apart
 apart-coded s =
     let its = standings-coded (s .left) ++ standings-coded (s .right) in
@@ -49,6 +49,7 @@ apart-coded s =
       few = true;
       question =
           record {
+            alphabet = s .alphabet;
             left = numbered-coded 0 (s .left);
             right = numbered-coded (length (standings-coded (s .left))) (s .right);
             fields = tables-apart (s .fields) its;

@@ -31,6 +31,7 @@ pub struct Apart {
 pub fn standings(own: Question) -> Apart
     ensures { λ r. ⌜ r ≡ apart-coded own ⌝ }
 {
+    let alphabet = own.alphabet;
     let own_left = own.left;
     let own_right = own.right;
     let own_fields = own.fields;
@@ -49,6 +50,7 @@ pub fn standings(own: Question) -> Apart
     let right = numbered(own_right, of_left);
     let bodies = base_question::no_bodies();
     let question = Question {
+        alphabet,
         left,
         right,
         fields,

@@ -2,18 +2,19 @@
 --   settled-told : of the struct of a good question, wherever its patterns stand, and any buffers
 -- A sheet that is read asks a good question (`sheet-good`), and so does a pair of good rules (`pair-asks`). Follows from `search-told`, the ties of the
 -- characters and of each standing apart, and the laws of `Concluding`.
-use Prim.Native.Nat.{ℕ, suc, _+_}
+use Prim.Native.Nat.{ℕ, suc, _+_, _<_}
+use native.Mathlib.Omega.{arith}
 use mathlib.Core.Path.{_≡_, refl, sym, ap, ap₂, _∙_}
 use mathlib.Core.Bool.{Bool, true, false}
 use mathlib.Core.List.{List, [], _∷_}
-use lib.ListN.{length, drop}
+use lib.ListN.{length, getD, drop}
 use Rattle.paper.specs.Lists.{only}
-use Rattle.paper.specs.Numbers.{characters}
+use Rattle.paper.specs.Numbers.{most-characters}
 use Rattle.paper.specs.Question.{Question, hidden}
 use Rattle.paper.specs.Sheet.{asked}
 use Rattle.paper.specs.Outcome.{room-of, searched, cleared, answered, count-of, how-of}
 use Rattle.paper.proofs.base.Tests.{by-bool}
-use Rattle.paper.proofs.sheets.Asked.{GoodQuestion, left-39, right-39}
+use Rattle.paper.proofs.sheets.Asked.{GoodQuestion, good-most}
 use Rattle.paper.proofs.sheets.Hidden.{hidden-searchable}
 use Rattle.paper_chosen.specs.Chosen.{every}
 use Rattle.paper_decide.specs.Alike.{is-least}
@@ -28,6 +29,7 @@ use Rattle.base_question.specs.Bodies.{no-bodies}
 use Rattle.base_question.specs.declared.Body.{Body}
 use Rattle.base_question.specs.declared.Question as Code
 use Rattle.search_tables.specs.Cut.{listed-by}
+use Rattle.search_tables.proofs.Listed.{getD-listed}
 use Rattle.search_run.specs.Ended.{told-end}
 use Rattle.search_question.specs.Over.{ended-over, buffer-over}
 use Rattle.search_question.proofs.Searched.{search-told, search-told-every}
@@ -83,7 +85,7 @@ module _ (q : Question) (good : GoodQuestion q) (bodies : List Body) (s : Code.Q
       by-bool (attempt-decides t (length work) answer) (λ d. decided first end k n t p ts ps x d) (λ d. undecided first end k n t p ts ps x d on)
 
   -- a search of the question over the characters that pass a test
-  over : (test : ℕ → Bool) (no-clash : Bool) (among : List Bool) → among ≡ listed-by test characters
+  over : (test : ℕ → Bool) (no-clash : Bool) (among : List Bool) → ((c : ℕ) → c < q .alphabet .characters → getD among c false ≡ test c)
       → Same (record { question = s; among = among; clash = true; «no_clash» = no-clash })
       (record { asks = hidden q; among = test; clash-decides = true; no-clash-decides = no-clash })
   unfolding made-coded buffer-made
@@ -95,22 +97,24 @@ module _ (q : Question) (good : GoodQuestion q) (bodies : List Body) (s : Code.Q
         no-clash = refl;
         made =
             made-with-texts (record { asks = hidden q; among = test; clash-decides = true; no-clash-decides = no-clash }) work answer after e
-            (search-told q (good .alphabet) (left-39 good) (right-39 good) (hidden-searchable q good) bodies s is work answer after (cleared work) e test among marks (refl, (refl, refl)))
+            (search-told q (good .left) (good .right) (hidden-searchable q good) bodies s is work answer after (cleared work) e test among marks (refl, (refl, refl)))
             q refl;
       }
 
   own-same : Same (own-attempt s) (own-search q)
-  own-same = over every true (listed-by every characters) refl
+  own-same =
+      over every true (listed-by every most-characters)
+      (λ c h. getD-listed every most-characters false c (omega (arith, good-most good)))
 
   alike-same : Same (alike-attempt s (least-coded s)) (alike-search q)
   alike-same =
       over (is-least (hidden q)) true (least-coded s .least)
-      (least-read q (good .alphabet) (left-39 good) (right-39 good) (hidden-searchable q good) bodies s is (least-coded s) refl)
+      (least-read q (good .left) (good .right) (hidden-searchable q good) bodies s is (least-coded s) refl)
 
   few-same : Same (few-attempt s (least-coded s)) (few-search q)
   few-same =
       over (is-few (hidden q)) false (few-coded s (least-coded s))
-      (few-read q (good .alphabet) (left-39 good) (right-39 good) (hidden-searchable q good) bodies s is (least-coded s) refl)
+      (few-read q (good .left) (good .right) (hidden-searchable q good) bodies s is (least-coded s) refl)
 
   -- each standing apart: no text is written
   apart-same : few-standings q ≡ true → Same (apart-attempt (apart-coded s .question)) (apart-search q)
@@ -121,7 +125,7 @@ module _ (q : Question) (good : GoodQuestion q) (bodies : List Body) (s : Code.Q
       let own = apart-coded s .question in
       let among = least-coded own .least in
       let own-is = ap (λ (z : Apart). z .question) (ap apart-coded is ∙ Apart-ties.apart-read q good bodies f) in
-      let marks = least-read (apart q) (its .alphabet) (left-39 its) (right-39 its) able no-bodies own own-is (least-coded own) refl in
+      let marks = least-read (apart q) (its .left) (its .right) able no-bodies own own-is (least-coded own) refl in
       let e = ended-over among own (length work) [] in
       let none = buffer-over among own (length work) [] in
       record {
@@ -129,7 +133,7 @@ module _ (q : Question) (good : GoodQuestion q) (bodies : List Body) (s : Code.Q
         no-clash = refl;
         made =
             made-without (apart-search q) work [] none e
-            (search-told (apart q) (its .alphabet) (left-39 its) (right-39 its) able no-bodies own own-is work [] none (cleared work) e (is-least (hidden (apart q))) among marks (refl, (refl, refl)))
+            (search-told (apart q) (its .left) (its .right) able no-bodies own own-is work [] none (cleared work) e (is-least (hidden (apart q))) among marks (refl, (refl, refl)))
             q refl refl answer;
       }
 
@@ -155,8 +159,8 @@ module _ (q : Question) (good : GoodQuestion q) (bodies : List Body) (s : Code.Q
       ≡ answered (hidden q) (count-of (searched (hidden q) (room-of work))) (how-of (searched (hidden q) (room-of work))) work answer
   unfolding made-coded buffer-made
   own-end =
-      let all = listed-by every characters in
-      search-told-every q (good .alphabet) (left-39 good) (right-39 good) (hidden-searchable q good) bodies s is work answer
+      let all = listed-by every most-characters in
+      search-told-every q (good .left) (good .right) (hidden-searchable q good) bodies s is work answer
       (buffer-over all s (length work) answer) (cleared work) (ended-over all s (length work) answer) all refl (refl, (refl, refl))
 
   pub settled-told : told-settled (settled-coded s (length work) answer) (settled-buffer s (length work) answer) (cleared work) ≡ decision-of (asked q) work answer

@@ -12,7 +12,7 @@ use mathlib.Core.Path.{_≡_, refl, sym, ap, _∙_, subst}
 use mathlib.Core.Bool.{Bool, true, false}
 use mathlib.Core.List.{List, [], _∷_}
 use lib.ListN.{length, drop, replicate, length-replicate}
-use Rattle.paper.specs.Numbers.{characters, most-room}
+use Rattle.paper.specs.Numbers.{most-characters, most-room}
 use Rattle.paper.specs.Lists.{only}
 use Rattle.paper_chosen.specs.Chosen.{every}
 use Rattle.base_answers.specs.declared.Ended.{Ended}
@@ -184,7 +184,7 @@ module _ {s : Code.Question} {first : Ended} {entered : ℕ} {lent lent-answer :
       )
 
 -- The first search.
-module _ (s : Code.Question) (all : List Bool) (m : all ≡ listed-by every characters) (work answer after worked : List ℕ) (e : Ended)
+module _ (s : Code.Question) (all : List Bool) (m : all ≡ listed-by every most-characters) (work answer after worked : List ℕ) (e : Ended)
     (p : Searched all s work answer after worked e) where
   first-end : e ≡ made-coded (own-attempt s) (length work) answer
   unfolding made-coded

@@ -5,7 +5,7 @@ use mathlib.Core.Bool.{Bool, true, false, cond}
 use mathlib.Core.List.{List, [], _∷_}
 use lib.Dec.{eqb}
 use Rattle.paper.specs.Lists.{only}
-use Rattle.paper.specs.Numbers.{characters}
+use Rattle.paper.specs.Numbers.{most-characters}
 use Rattle.paper_chosen.specs.Chosen.{every}
 use Rattle.base_question.specs.declared.Question.{Question}
 use Rattle.search_tables.specs.Cut.{listed-by}
@@ -19,7 +19,7 @@ use Rattle.decide_question.specs.declared.Attempt.{Attempt}
 
 -- "1. 01's search."
 abbrev pub own-attempt : Question → Attempt
-own-attempt s = record { question = s; among = listed-by every characters; clash = true; «no_clash» = true }
+own-attempt s = record { question = s; among = listed-by every most-characters; clash = true; «no_clash» = true }
 
 -- "2. Characters alike.", of a question whose least ones these are
 abbrev pub alike-attempt : Question → LeastOnes → Attempt

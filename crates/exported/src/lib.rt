@@ -224,15 +224,33 @@ pub extern "C" fn bradovusc_write(
     out: &mut [u8],
     told: &mut [u64],
 ) -> u32
-    ensures number { λ r. ⌜ r ≡ writing (given (now (patterns .entry)) (now (lengths .entry)) (now (left .entry)) (now (right .entry))) (now (out .entry)) .number ⌝ }
-    ensures told { λ _. ⌜ now (told .exit) ≡ telling-written (now (told .entry)) (writing (given (now (patterns .entry)) (now (lengths .entry)) (now (left .entry)) (now (right .entry))) (now (out .entry))) ⌝ }
-    ensures out { λ _. ⌜ now (out .exit) ≡ writing (given (now (patterns .entry)) (now (lengths .entry)) (now (left .entry)) (now (right .entry))) (now (out .entry)) .out ⌝ }
+    ensures number { λ r. ⌜ r ≡ writing (given 0 (now (patterns .entry)) (now (lengths .entry)) (now (left .entry)) (now (right .entry))) (now (out .entry)) .number ⌝ }
+    ensures told { λ _. ⌜ now (told .exit) ≡ telling-written (now (told .entry)) (writing (given 0 (now (patterns .entry)) (now (lengths .entry)) (now (left .entry)) (now (right .entry))) (now (out .entry))) ⌝ }
+    ensures out { λ _. ⌜ now (out .exit) ≡ writing (given 0 (now (patterns .entry)) (now (lengths .entry)) (now (left .entry)) (now (right .entry))) (now (out .entry)) .out ⌝ }
 {
     c_write::sheet(patterns, lengths, left, right, out, told)
 }
 
-// Can the two rules of the sheet make the same label? Only clash or no clash, for a sheet in which no field stands twice, with one bit for each pair of
-// a left and a right standing. Returns request K9's number; count (which is 0) and place go into the first two elements of `told`, as many as there is
+// The same in an edition: 0 for none, 2 for `ED` and 2 in front; 44 at place 2 for any other.
+#[no_mangle]
+pub extern "C" fn bradovusc_write_edition(
+    edition: usize,
+    patterns: &[u8],
+    lengths: &[u64],
+    left: &[u8],
+    right: &[u8],
+    out: &mut [u8],
+    told: &mut [u64],
+) -> u32
+    ensures number { λ r. ⌜ r ≡ writing (given edition (now (patterns .entry)) (now (lengths .entry)) (now (left .entry)) (now (right .entry))) (now (out .entry)) .number ⌝ }
+    ensures told { λ _. ⌜ now (told .exit) ≡ telling-written (now (told .entry)) (writing (given edition (now (patterns .entry)) (now (lengths .entry)) (now (left .entry)) (now (right .entry))) (now (out .entry))) ⌝ }
+    ensures out { λ _. ⌜ now (out .exit) ≡ writing (given edition (now (patterns .entry)) (now (lengths .entry)) (now (left .entry)) (now (right .entry))) (now (out .entry)) .out ⌝ }
+{
+    c_write::sheet_in(edition, patterns, lengths, left, right, out, told)
+}
+
+// Can the two rules of the sheet make the same label? Only clash or no clash, for a sheet in which no field stands twice; it is lent one bit for each
+// pair of a left and a right standing. Returns request K9's number; count (which is 0) and place go into the first two elements of `told`, as many as there is
 // room for.
 #[no_mangle]
 pub extern "C" fn bradovusc_plain(sheet: &[u8], bits: &mut [u8], told: &mut [u64]) -> u32

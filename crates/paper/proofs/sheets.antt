@@ -1,3 +1,4 @@
+pub mod Editions
 pub mod Asked
 pub mod FaultPlaces
 pub mod Hidden

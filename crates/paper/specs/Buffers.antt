@@ -15,7 +15,7 @@ abbrev pub search-numbers : List ℕ
 search-numbers = 0 ∷ 1 ∷ 18 ∷ 19 ∷ 20 ∷ []
 
 abbrev pub sheet-numbers : List ℕ
-sheet-numbers = 11 ∷ 12 ∷ 13 ∷ 14 ∷ 15 ∷ 16 ∷ 17 ∷ []
+sheet-numbers = 11 ∷ 12 ∷ 13 ∷ 14 ∷ 15 ∷ 16 ∷ 17 ∷ 44 ∷ []
 
 -- rows 0, 1 and 18 to 20
 pub record AfterSearch (work : List ℕ) (o : Outcome) : Type 0 where

@@ -22,6 +22,7 @@ use Rattle.paper.specs.Plain.{plain, plain-bound}
 use Rattle.paper.specs.Question.{Question, held-by, Solution, hidden, acceptor}
 use Rattle.paper.specs.Sheet.{Fault, Reading, refused, asked}
 use Rattle.paper.specs.Outcome.{Outcome, room-of, searched, standing, value-record, how-of}
+use Rattle.paper.specs.Buffers.{sheet-numbers}
 
 -- a good reading, and what it asks
 abbrev pub Good : Reading → Question → Type 0
@@ -147,7 +148,7 @@ pub record Demand2 (r : Reading) (work answer : List ℕ) (o : Outcome) : Type 0
   pub too-long : o .number ≡ 19 → TooLong r work
   pub too-short : o .number ≡ 20 → TooShort r work answer
   -- A reading that is not good gets none of these numbers, and no situation is entered.
-  pub not-good : (x : Fault) (at : ℕ) → r ≡ refused x at → (11 ≤ o .number) × (o .number ≤ 17) × (o .count ≡ 0)
+  pub not-good : (x : Fault) (at : ℕ) → r ≡ refused x at → (member (o .number) sheet-numbers ≡ true) × (o .count ≡ 0)
   -- Whatever the reading, the count is never above the room.
   pub count-within : o .count ≤ room-of work
 

@@ -25,25 +25,33 @@ set-fields = 10
 abbrev pub space : ℕ
 space = 38
 
--- "A token is 0 to 42 (a character) or 64 to 71 (field 0 to 7)": the token of field 0
+-- "Characters are then 0 to 127": Full ASCII has the most (request K10)
+abbrev pub most-characters : ℕ
+most-characters = 128
+
+-- What a byte of a pattern or of a side says, as one code for both editions (`Alphabet.code`): a character is its value, and the others are 192 to
+-- 199, in 01's order; any other byte is 255. "A token is 0 to 42 (a character) or 64 to 71 (field 0 to 7)": the code of field 0
 abbrev pub field-token : ℕ
-field-token = 64
+field-token = 192
+
+abbrev pub not-a-code : ℕ
+not-a-code = 255
 
 -- the codes of a pattern, operator first: "64: the empty text", 65 a range, 66 A then B, 67 A or B, 68 A any number of times
 abbrev pub empty-code : ℕ
-empty-code = 64
+empty-code = 192
 
 abbrev pub range-code : ℕ
-range-code = 65
+range-code = 193
 
 abbrev pub then-code : ℕ
-then-code = 66
+then-code = 194
 
 abbrev pub or-code : ℕ
-or-code = 67
+or-code = 195
 
 abbrev pub many-code : ℕ
-many-code = 68
+many-code = 196
 
 -- "a pattern length up to 192" (request K7)
 abbrev pub pattern-bytes : ℕ

@@ -9,7 +9,7 @@ use Rattle.paper.specs.Lists.{any}
 use Rattle.paper.specs.Numbers.{characters, rule-fields}
 use Rattle.paper.specs.Pattern.{Held, some-text, Holds}
 use Rattle.paper.specs.Equation.{Token, chr, fld, Side, stands-in, Texts, label, Over}
-use Rattle.paper.specs.Alphabet.{code-39}
+use Rattle.paper.specs.Alphabet.{code-39, edition-1}
 use Rattle.paper.specs.Question.{Question}
 use Rattle.paper.specs.Sheet.{Checked, fault, read, cut-short, wrong-mark, LE, RU, marked, marked-side, Records, faulty, records, Fields, open-fields, read-patterns}
 
@@ -30,19 +30,19 @@ pub record Makes (r : Rule) (l : List ℕ) : Type 0 where
   pub made : label texts (r .side) ≡ l
 
 -- "the mark `RU`, the `PA` records of its own fields .. and one `LE`, its end as `RI` is a sheet's; 01's checks read it, offsets from `RU`":
--- the rule at the front of the bytes
+-- the rule at the front of the bytes. "A rule never has `ED`" (request K10).
 abbrev pub with-side : Fields → Checked Side → Records Rule
 with-side fs (fault x at) = faulty x at
 with-side fs (read side next) = records (record { side = side; fields = fs }) next
 
 abbrev pub side-read : List ℕ → Records Fields → Records Rule
 side-read s (faulty x at) = faulty x at
-side-read s (records fs at) = with-side fs (marked-side LE s at)
+side-read s (records fs at) = with-side fs (marked-side edition-1 LE s at)
 
 unfoldable pub rule-front : List ℕ → Records Rule
 rule-front s =
     cond (ltb (length s) 2) (faulty cut-short (length s))
-    (cond (marked RU s 0) (side-read s (read-patterns (suc (length s)) s 2 open-fields)) (faulty wrong-mark 0))
+    (cond (marked RU s 0) (side-read s (read-patterns edition-1 (suc (length s)) s 2 open-fields)) (faulty wrong-mark 0))
 
 -- a rule by itself: behind it any byte left gives 12, as behind `RI`
 abbrev pub rule-end : List ℕ → Records Rule → Records Rule

@@ -6,12 +6,12 @@ use mathlib.Core.List.{List, map}
 use lib.Dec.{leb, ltb, eqb}
 use lib.ListN.{length, getD, take, drop, set, replicate}
 use Rattle.paper.specs.Lists.{all, leading}
-use Rattle.paper.specs.Numbers.{characters, fields, field-token, pattern-bytes, sheet-side}
+use Rattle.paper.specs.Numbers.{most-characters, fields, field-token, pattern-bytes, sheet-side}
 use Rattle.paper.specs.Pattern.{Pattern, Held, some-text, pattern}
 use Rattle.paper.specs.Written.{Judged, judged, judge}
 use Rattle.paper.specs.Written as Written
 use Rattle.paper.specs.Equation.{Token, chr, fld, Side}
-use Rattle.paper.specs.Alphabet.{code-39}
+use Rattle.paper.specs.Alphabet.{Edition, edition-1, edition-2, alphabet-of, codes}
 use Rattle.paper.specs.Question.{Question}
 
 -- the faults of a sheet
@@ -23,8 +23,9 @@ pub data Fault : Type 0 where
   not-one-pattern : Fault
   too-many-leaves : Fault
   wrong-token : Fault
+  wrong-edition : Fault
 
--- 01's numbers for them
+-- 01's numbers for them, and K10's for the last
 abbrev pub fault-number : Fault → ℕ
 fault-number cut-short = 11
 fault-number wrong-mark = 12
@@ -33,6 +34,7 @@ fault-number wrong-length = 14
 fault-number not-one-pattern = 15
 fault-number too-many-leaves = 16
 fault-number wrong-token = 17
+fault-number wrong-edition = 44
 
 -- what a check on a record finds: the fault and its place, or what the record says and the offset at which it ends
 pub data Checked (A : Type 0) : Type 0 where
@@ -54,24 +56,31 @@ bytes-left s at = length s - at
 abbrev pub body : List ℕ → ℕ → ℕ → List ℕ
 body s at n = take n (drop at s)
 
--- "Every record begins with a two-byte mark": `PA`, `LE`, `RI`, and `RU` for a rule of a catalogue
+-- the codes of bytes of a pattern or of a side
+abbrev pub body-codes : Edition → List ℕ → ℕ → ℕ → List ℕ
+body-codes e s at n = codes e (body s at n)
+
+-- "Every record begins with a two-byte mark": `PA`, `LE`, `RI`, `RU` for a rule of a catalogue, and `ED` for the edition
 pub data Mark : Type 0 where
   PA : Mark
   LE : Mark
   RI : Mark
   RU : Mark
+  ED : Mark
 
 abbrev pub first-letter : Mark → ℕ
 first-letter PA = 80
 first-letter LE = 76
 first-letter RI = 82
 first-letter RU = 82
+first-letter ED = 69
 
 abbrev pub second-letter : Mark → ℕ
 second-letter PA = 65
 second-letter LE = 69
 second-letter RI = 73
 second-letter RU = 85
+second-letter ED = 68
 
 unfoldable pub marked : Mark → List ℕ → ℕ → Bool
 marked m s at = eqb (byte-at s at) (first-letter m) && eqb (byte-at s (at + 1)) (second-letter m)
@@ -85,30 +94,30 @@ pattern-judged (judged p) start f next = read (record { field = f; its = p }) ne
 -- A record `PA` at the offset, field numbers allowed from `least` on: "missing field or length byte 11; field above 7 or not above the
 -- field before it 13; length out of its range 14; missing body 11; then for a pattern 15, then 16". "The place should be the byte itself: for 11
 -- the sheet's length; .. for 13 the field byte; for 14 the length byte".
-unfoldable pub pattern-record : List ℕ → ℕ → ℕ → Checked FieldPattern
-pattern-record s at least =
+unfoldable pub pattern-record : Edition → List ℕ → ℕ → ℕ → Checked FieldPattern
+pattern-record e s at least =
     cond (ltb (bytes-left s at) 4) (fault cut-short (length s))
     (cond (leb fields (byte-at s (at + 2)) || ltb (byte-at s (at + 2)) least) (fault wrong-field (at + 2))
     (cond (eqb (byte-at s (at + 3)) 0 || ltb pattern-bytes (byte-at s (at + 3))) (fault wrong-length (at + 3))
     (cond (ltb (bytes-left s at) (4 + byte-at s (at + 3))) (fault cut-short (length s))
-    (pattern-judged (judge (body s (at + 4) (byte-at s (at + 3)))) (at + 4) (byte-at s (at + 2)) (at + (4 + byte-at s (at + 3)))))))
+    (pattern-judged (judge (body-codes e s (at + 4) (byte-at s (at + 3)))) (at + 4) (byte-at s (at + 2)) (at + (4 + byte-at s (at + 3)))))))
 
--- "A token is 0 to 42 (a character) or 64 to 71 (field 0 to 7)."
+-- "A token is 0 to 42 (a character) or 64 to 71 (field 0 to 7)": by its code
 abbrev pub is-token : ℕ → Bool
-is-token b = ltb b characters || (leb field-token b && ltb b (field-token + fields))
+is-token c = ltb c most-characters || (leb field-token c && ltb c (field-token + fields))
 
 abbrev pub token : ℕ → Token
-token b = cond (ltb b characters) (chr b) (fld (b - field-token))
+token c = cond (ltb c most-characters) (chr c) (fld (c - field-token))
 
 -- A side at the offset: "missing .. length byte 11; .. length out of its range 14; missing body 11; .. for a side 17", whose place is "the token".
-unfoldable pub side-record : List ℕ → ℕ → Checked Side
-side-record s at =
+unfoldable pub side-record : Edition → List ℕ → ℕ → Checked Side
+side-record e s at =
     cond (ltb (bytes-left s at) 3) (fault cut-short (length s))
     (cond (ltb sheet-side (byte-at s (at + 2))) (fault wrong-length (at + 2))
     (cond (ltb (bytes-left s at) (3 + byte-at s (at + 2))) (fault cut-short (length s))
-    (cond (all is-token (body s (at + 3) (byte-at s (at + 2))))
-    (read (map token (body s (at + 3) (byte-at s (at + 2)))) (at + (3 + byte-at s (at + 2))))
-    (fault wrong-token (at + 3 + leading is-token (body s (at + 3) (byte-at s (at + 2))))))))
+    (cond (all is-token (body-codes e s (at + 3) (byte-at s (at + 2))))
+    (read (map token (body-codes e s (at + 3) (byte-at s (at + 2)))) (at + (3 + byte-at s (at + 2))))
+    (fault wrong-token (at + 3 + leading is-token (body-codes e s (at + 3) (byte-at s (at + 2))))))))
 
 -- the mark stands at the offset
 unfoldable pub next-is : Mark → List ℕ → ℕ → Bool
@@ -116,9 +125,9 @@ next-is m s at = cond (ltb (bytes-left s at) 2) false (marked m s at)
 
 -- A side behind its mark: "fewer than two bytes left give 11; an unknown mark or one not allowed here gives 12", "for 12 the first byte of the
 -- mark".
-unfoldable pub marked-side : Mark → List ℕ → ℕ → Checked Side
-marked-side m s at =
-    cond (ltb (bytes-left s at) 2) (fault cut-short (length s)) (cond (marked m s at) (side-record s at) (fault wrong-mark at))
+unfoldable pub marked-side : Edition → Mark → List ℕ → ℕ → Checked Side
+marked-side e m s at =
+    cond (ltb (bytes-left s at) 2) (fault cut-short (length s)) (cond (marked m s at) (side-record e s at) (fault wrong-mark at))
 
 -- What reading records one behind the other gives: the first fault met with its place, or what they say and the offset at which they end.
 pub data Records (A : Type 0) : Type 0 where
@@ -144,10 +153,10 @@ pattern-read fs go-on (read fp next) = go-on next (with-pattern fs fp)
 
 -- "no, one or several `PA`, field numbers rising", up to the first record that is none. Every record has bytes, so as many turns as there
 -- are bytes, and one, are enough.
-abbrev pub read-patterns : ℕ → List ℕ → ℕ → Fields → Records Fields
-read-patterns zero s at fs = faulty cut-short (length s)
-read-patterns (suc n) s at fs =
-    let behind = pattern-read fs (λ (next : ℕ) (more : Fields). read-patterns n s next more) (pattern-record s at (fs .above)) in
+abbrev pub read-patterns : Edition → ℕ → List ℕ → ℕ → Fields → Records Fields
+read-patterns e zero s at fs = faulty cut-short (length s)
+read-patterns e (suc n) s at fs =
+    let behind = pattern-read fs (λ (next : ℕ) (more : Fields). read-patterns e n s next more) (pattern-record e s at (fs .above)) in
     cond (next-is PA s at) behind (records fs at)
 
 -- what reading a sheet gives: the first fault met with its place, or the question
@@ -159,18 +168,30 @@ pub data Reading : Type 0 where
 unfoldable pub read-end : List ℕ → ℕ → Question → Reading
 read-end s at q = cond (ltb at (length s)) (refused wrong-mark at) (asked q)
 
--- "one `LE`; one `RI`; the end": a sheet's question is in Code 39
-abbrev pub right-read : List ℕ → List Held → Side → Checked Side → Reading
-right-read s held l (fault x at) = refused x at
-right-read s held l (read r next) = read-end s next (record { alphabet = code-39; left = l; right = r; held = held })
+-- "one `LE`; one `RI`; the end": a sheet's question is in its edition's characters
+abbrev pub right-read : Edition → List ℕ → List Held → Side → Checked Side → Reading
+right-read e s held l (fault x at) = refused x at
+right-read e s held l (read r next) = read-end s next (record { alphabet = alphabet-of e; left = l; right = r; held = held })
 
-abbrev pub left-read : List ℕ → List Held → Checked Side → Reading
-left-read s held (fault x at) = refused x at
-left-read s held (read l next) = right-read s held l (marked-side RI s next)
+abbrev pub left-read : Edition → List ℕ → List Held → Checked Side → Reading
+left-read e s held (fault x at) = refused x at
+left-read e s held (read l next) = right-read e s held l (marked-side e RI s next)
 
-abbrev pub sides-read : List ℕ → Records Fields → Reading
-sides-read s (faulty x at) = refused x at
-sides-read s (records fs at) = left-read s (fs .held) (marked-side LE s at)
+abbrev pub sides-read : Edition → List ℕ → Records Fields → Reading
+sides-read e s (faulty x at) = refused x at
+sides-read e s (records fs at) = left-read e s (fs .held) (marked-side e LE s at)
+
+-- "A sheet may begin with the record `ED` and the byte 2. .. 11 for the missing byte, then 44 for an edition byte other than 2, its place that byte"
+unfoldable pub edition-front : List ℕ → Checked Edition
+edition-front s =
+    cond (next-is ED s 0)
+    (cond (ltb (length s) 3) (fault cut-short (length s)) (cond (eqb (byte-at s 2) 2) (read edition-2 3) (fault wrong-edition 2)))
+    (read edition-1 0)
+
+-- "all else in 01's order"
+abbrev pub edition-read : List ℕ → Checked Edition → Reading
+edition-read s (fault x at) = refused x at
+edition-read s (read e at) = sides-read e s (read-patterns e (suc (length s)) s at open-fields)
 
 unfoldable pub read-sheet : List ℕ → Reading
-read-sheet s = sides-read s (read-patterns (suc (length s)) s 0 open-fields)
+read-sheet s = edition-read s (edition-front s)

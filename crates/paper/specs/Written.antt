@@ -1,10 +1,12 @@
--- A pattern's bytes (document 01, "A pattern is written operator first"): reading them, 15 and 16, and the byte at fault (request K2).
+-- A pattern's bytes (document 01, "A pattern is written operator first"): reading them, 15 and 16, and the byte at fault (request K2). Each byte
+-- stands here as its code (`Alphabet.code`), which is one for both editions: below 43, behind `ED` below 128, a character, 192 to 196 for 64 to 68, and
+-- 255 where it is neither. So what a byte may be is judged by its code alone.
 use Prim.Native.Nat.{ℕ, zero, suc, _-_}
 use mathlib.Core.Bool.{cond, _&&_}
 use mathlib.Core.List.{List, [], _∷_, _++_}
 use lib.Dec.{leb, ltb, eqb}
 use lib.ListN.{length, getD}
-use Rattle.paper.specs.Numbers.{characters, empty-code, range-code, then-code, or-code, many-code, most-leaves}
+use Rattle.paper.specs.Numbers.{most-characters, empty-code, range-code, then-code, or-code, many-code, most-leaves}
 use Rattle.paper.specs.Pattern.{char, range, Pattern, leaf, empty, then, either, many}
 use Rattle.paper.specs.Places.{leaves}
 
@@ -14,15 +16,16 @@ pub data Part : Type 0 where
   no-pattern : ℕ → Part
   part : Pattern → List ℕ → List ℕ → Part
 
--- "65 lo hi: one character with lo ≤ value ≤ hi ≤ 42": "the lo byte if lo is above 42, else the hi byte if that is above 42 or below lo"
+-- "65 lo hi: one character with lo ≤ value ≤ hi ≤ 42": "the lo byte if lo is above 42, else the hi byte if that is above 42 or below lo"; behind `ED`
+-- "a range's ends go to 127"
 abbrev pub read-hi : ℕ → List ℕ → Part
 read-hi lo [] = no-pattern 0
 read-hi lo (hi ∷ s) =
-    cond (leb lo hi && ltb hi characters) (part (leaf (range lo hi)) (length (range-code ∷ lo ∷ hi ∷ s) ∷ []) s) (no-pattern (length (hi ∷ s)))
+    cond (leb lo hi && ltb hi most-characters) (part (leaf (range lo hi)) (length (range-code ∷ lo ∷ hi ∷ s) ∷ []) s) (no-pattern (length (hi ∷ s)))
 
 abbrev pub read-range : List ℕ → Part
 read-range [] = no-pattern 0
-read-range (lo ∷ s) = cond (ltb lo characters) (read-hi lo s) (no-pattern (length (lo ∷ s)))
+read-range (lo ∷ s) = cond (ltb lo most-characters) (read-hi lo s) (no-pattern (length (lo ∷ s)))
 
 -- "66 A B", "67 A B": the second pattern is read from where the first ended
 abbrev pub second-part : (Pattern → Pattern → Pattern) → Pattern → List ℕ → Part → Part
@@ -47,7 +50,7 @@ read-part (suc n) (b ∷ s) =
     let a = read-part n s in
     let a-then-b = two-parts then a (λ (r : List ℕ). read-part n r) in
     let a-or-b = two-parts either a (λ (r : List ℕ). read-part n r) in
-    cond (ltb b characters) (part (leaf (char b)) (length (b ∷ s) ∷ []) s)
+    cond (ltb b most-characters) (part (leaf (char b)) (length (b ∷ s) ∷ []) s)
     (cond (eqb b empty-code) (part empty [] s)
     (cond (eqb b range-code) (read-range s)
     (cond (eqb b then-code) a-then-b

@@ -17,6 +17,7 @@ use lib.Seq.{drop-at, drop-drop, take-all, length-take-le}
 use Rattle.paper.specs.Lists.{any}
 use Rattle.paper.specs.Numbers.{characters, fields, rule-fields}
 use Rattle.paper.specs.Pattern.{Held, some-text, pattern}
+use Rattle.paper.specs.Alphabet.{edition-1}
 use Rattle.paper.specs.Question.{Question}
 use Rattle.paper.specs.Sheet.{records, asked, read-sheet, LE}
 use Rattle.paper.specs.Rule.{Rule, rule-holds, Makes, rule-front, read-rule, foreign-token, foreign-field}
@@ -25,7 +26,7 @@ use Rattle.paper_catalogue.specs.Catalogue.{Present, rules, form, all-zero, use
 use Rattle.paper_catalogue.specs.Calls.{rule-at}
 use Rattle.paper.proofs.base.Tests.{by-bool, le-ltb, or-right-false}
 use Rattle.paper.proofs.places.Judged.{range-takes}
-use Rattle.paper.proofs.sheets.Asked.{GoodHeld, GoodFields, GoodSide, sheet-good, held-39}
+use Rattle.paper.proofs.sheets.Asked.{GoodHeld, GoodFields, GoodSide, sheet-good, good-space}
 use Rattle.paper.proofs.saying.Saying.{ShortCode, Sayable, reads-back}
 use Rattle.paper.proofs.saying.Sayable.{sheet-sayable}
 use Rattle.paper_catalogue.proofs.Local.{rule-bounds, rule-whole, rule-in-front}
@@ -39,29 +40,31 @@ use Rattle.paper_carry.proofs.SaidBack.{said-back, rule-said-back, rule
 use Rattle.paper_carry.proofs.RuleRead.{rule-reads}
 use Rattle.paper_carry.proofs.Lengths.{sheet-length, rule-length, opened-longer}
 
--- 68 65 0 42 is a good pattern with a short code
-out-good : GoodHeld characters (pattern written-out)
-out-good = (range-takes 0 (characters - 1) (omega arith) (omega arith), omega arith)
+-- the pattern written out is a good one, with a short code
+out-good : (n : ℕ) → 0 < n → GoodHeld n (pattern (written-out n))
+out-good n some = (range-takes n 0 (n - 1) (omega arith) (omega arith), omega arith)
 
-out-short : ShortCode (pattern written-out)
-out-short = omega arith
+out-short : (n : ℕ) → ShortCode (pattern (written-out n))
+out-short n = omega arith
 
 -- Sheets.
 module _ (s : List ℕ) (q : Question) (e : read-sheet s ≡ asked q) where
   new-sayable : Sayable (spelt-open q)
   new-sayable =
       let old = sheet-sayable s q e in
+      let n = q .alphabet .characters in
+      let some = good-space (old .good) in
       record {
         good = record {
           alphabet = old .good .alphabet;
           left = old .good .left;
           right = old .good .right;
           held = record {
-            each-field = opened-length (stands-asked q) (q .held) 0 ∙ old .good .held .each-field;
-            good = rw (old .good .alphabet) (opened-by (stands-asked q) (GoodHeld characters) out-good (q .held) 0 (held-39 (old .good) .good));
+            each-field = opened-length n (stands-asked q) (q .held) 0 ∙ old .good .held .each-field;
+            good = opened-by n (stands-asked q) (GoodHeld n) (out-good n (omega arith)) (q .held) 0 (old .good .held .good);
           };
         };
-        codes = opened-by (stands-asked q) ShortCode out-short (q .held) 0 (old .codes);
+        codes = opened-by n (stands-asked q) ShortCode (out-short n) (q .held) 0 (old .codes);
       }
 
   pub sheet-carried : CarriedSheet q (sheet-saying (spelt-open q))
@@ -79,7 +82,7 @@ module _ (s : List ℕ) (q : Question) (e : read-sheet s ≡ asked q) where
 
   pub sheet-same : NoneOpen (stands-asked q) (q .held) → sheet-saying (spelt-open q) ≡ s
   sheet-same none =
-      let same = opened-same (stands-asked q) (q .held) none in
+      let same = opened-same (q .alphabet .characters) (stands-asked q) (q .held) none in
       ap sheet-saying (λ i. record { alphabet = q .alphabet; left = q .left; right = q .right; held = same i }) ∙ said-back s q e
 
 -- Rules.
@@ -89,17 +92,17 @@ module _ (r : Rule) (good : GoodRule r) where
 
   still-none : (f : ℕ) → rule-fields ≤ f → getD (held-open r) f some-text ≡ some-text
   still-none f h =
-      opened-still (stands-ruled r) (r .fields .held) 0 f (ap (stands-ruled r) (zero-add f) ∙ own-stands f h) (good .not-own f h)
+      opened-still characters (stands-ruled r) (r .fields .held) 0 f (ap (stands-ruled r) (zero-add f) ∙ own-stands f h) (good .not-own f h)
 
   new-fields : GoodFields characters (held-open r)
   new-fields =
       record {
-        each-field = opened-length (stands-ruled r) (r .fields .held) 0 ∙ good .held .each-field;
-        good = opened-by (stands-ruled r) (GoodHeld characters) out-good (r .fields .held) 0 (good .held .good);
+        each-field = opened-length characters (stands-ruled r) (r .fields .held) 0 ∙ good .held .each-field;
+        good = opened-by characters (stands-ruled r) (GoodHeld characters) (out-good characters (omega arith)) (r .fields .held) 0 (good .held .good);
       }
 
   new-short : (f : ℕ) → ShortCode (getD (held-open r) f some-text)
-  new-short = opened-by (stands-ruled r) ShortCode out-short (r .fields .held) 0 (good .codes)
+  new-short = opened-by characters (stands-ruled r) ShortCode (out-short characters) (r .fields .held) 0 (good .codes)
 
   good-side : GoodSide characters (r .side)
   good-side = record { tokens = λ t d. own-in-range t (good .tokens t d); short = good .short }
@@ -132,7 +135,7 @@ pub rule-same : (s : List ℕ) {r : Rule} {n : ℕ} → read-rule s ≡ records 
 unfolding rule-open
 rule-same s {r} {n} e none =
     let (front, all) = rule-whole s e in
-    ap (λ (l : List Held). rule-saying l (r .side)) (opened-same (stands-ruled r) (r .fields .held) none)
+    ap (λ (l : List Held). rule-saying l (r .side)) (opened-same characters (stands-ruled r) (r .fields .held) none)
     ∙ rule-said-back s front ∙ take-all n s (omega (arith, all))
 
 -- A catalogue: its rules one behind the other, then zeros.
@@ -181,9 +184,9 @@ rule-longer s {r} {n} e =
       arith,
       was,
       length-take-le n s high,
-      opened-longer (stands-ruled r) held 0,
-      length-append (patterns-saying 0 held) (side-saying LE (r .side)),
-      length-append (patterns-saying 0 (held-open r)) (side-saying LE (r .side)),
+      opened-longer edition-1 characters (stands-ruled r) held 0,
+      length-append (patterns-saying edition-1 0 held) (side-saying edition-1 LE (r .side)),
+      length-append (patterns-saying edition-1 0 (held-open r)) (side-saying edition-1 LE (r .side)),
     )
 
 rules-longer : {s : List ℕ} {l : List Present} → LaidOut s l → used l ≤ length (rules-open l)

@@ -3,7 +3,8 @@
 --   rule-promised      : RulePromised rule out (rule-spelling rule out)
 --   catalogue-promised : CataloguePromised catalogue (carrying-over catalogue)
 --   carried-apart      : CarriedCatalogue l c → ApartBefore l → Apart c
---   fault-between      : the number of a fault is one of 11 to 17
+--   fault-between      : the number of a fault is one of 11 to 44
+--   fault-not-short    : and not 41
 -- Follows from `Carried`, by what reading gives.
 use Prim.Native.Nat.{ℕ, _≤_, _<_}
 use native.Mathlib.Omega.{arith}
@@ -14,8 +15,8 @@ use lib.Dec.{ltb}
 use lib.ListN.{length, take, drop, length-append, length-drop}
 use lib.Seq.{take-append-seam, drop-append-seam}
 use Rattle.paper.specs.Question.{Question}
-use Rattle.paper.specs.Sheet.{Fault, cut-short, wrong-mark, wrong-field, wrong-length, not-one-pattern, too-many-leaves, wrong-token, fault-number}
-use Rattle.paper.specs.Sheet.{Records, faulty, records, Reading, refused, asked, read-sheet}
+use Rattle.paper.specs.Sheet.{Fault, cut-short, wrong-mark, wrong-field, wrong-length, not-one-pattern, too-many-leaves, wrong-token}
+use Rattle.paper.specs.Sheet.{wrong-edition, fault-number, Records, faulty, records, Reading, refused, asked, read-sheet}
 use Rattle.paper.specs.Rule.{Rule, read-rule, foreign-field}
 use Rattle.paper.specs.Saying.{sheet-saying}
 use Rattle.paper_catalogue.specs.Catalogue.{Present, Form, no-catalogue, rules, form}
@@ -29,8 +30,8 @@ use Rattle.paper_carry.specs.Spelling.{carried-of, carrying-over, longes
 use Rattle.paper_carry.specs.Spelling.{CarriedSheet, CarriedRule, CarriedCatalogue, ApartBefore, CarryPromised, RulePromised, CataloguePromised}
 use Rattle.paper_carry.proofs.Carried.{sheet-carried, sheet-fits, sheet-same, rule-carried, rule-fits, rule-same, rules-carried, rules-fit}
 
--- a fault's number is between 11 and 17
-pub fault-between : (x : Fault) → (11 ≤ fault-number x) × (fault-number x ≤ 17)
+-- a fault's number is between 11 and 44, and not that of a short buffer
+pub fault-between : (x : Fault) → (11 ≤ fault-number x) × (fault-number x ≤ 44)
 fault-between cut-short = (omega arith, omega arith)
 fault-between wrong-mark = (omega arith, omega arith)
 fault-between wrong-field = (omega arith, omega arith)
@@ -38,6 +39,17 @@ fault-between wrong-length = (omega arith, omega arith)
 fault-between not-one-pattern = (omega arith, omega arith)
 fault-between too-many-leaves = (omega arith, omega arith)
 fault-between wrong-token = (omega arith, omega arith)
+fault-between wrong-edition = (omega arith, omega arith)
+
+pub fault-not-short : (x : Fault) → fault-number x ≡ 41 → ⊥
+fault-not-short cut-short h = omega arith
+fault-not-short wrong-mark h = omega arith
+fault-not-short wrong-field h = omega arith
+fault-not-short wrong-length h = omega arith
+fault-not-short not-one-pattern h = omega arith
+fault-not-short too-many-leaves h = omega arith
+fault-not-short wrong-token h = omega arith
+fault-not-short wrong-edition h = omega arith
 
 -- what was read is one thing
 abbrev question-of : Question → Reading → Question
@@ -94,7 +106,7 @@ promised-of sheet out (refused x at) e =
       rest = refl;
       fits = omega arith;
       same-length = refl;
-      enough = λ h (z : fault-number x ≡ 41). omega arith;
+      enough = λ h z. fault-not-short x z;
     }
 promised-of sheet out (asked q) e =
     let bytes = sheet-saying (spelt-open q) in
@@ -125,7 +137,7 @@ rule-promised-of bytes out (faulty x at) e =
       rest = refl;
       fits = omega arith;
       same-length = refl;
-      enough = λ h (z : fault-number x ≡ 41). omega arith;
+      enough = λ h z. fault-not-short x z;
     }
 rule-promised-of bytes out (records q m) e =
     let new = rule-open q in

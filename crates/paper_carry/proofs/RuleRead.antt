@@ -8,6 +8,7 @@ use mathlib.Core.List.{List, [], _++_, append-nil}
 use lib.ListN.{length, getD, length-append}
 use Rattle.paper.specs.Numbers.{characters, fields}
 use Rattle.paper.specs.Pattern.{Held, some-text}
+use Rattle.paper.specs.Alphabet.{edition-1}
 use Rattle.paper.specs.Equation.{Side}
 use Rattle.paper.specs.Sheet.{LE, marked, records, open-fields, read-patterns}
 use Rattle.paper.specs.Rule.{Rule, rule-front, read-rule}
@@ -30,16 +31,16 @@ module _ (held : List Held) (side : Side) (good : GoodFields characters held) (s
   s = rule-saying held side
 
   abbrev its-side-said : List ℕ
-  its-side-said = side-saying LE side
+  its-side-said = side-saying edition-1 LE side
 
-  patterns : Said s held (its-side-said ++ []) (read-patterns (suc (length s)) s 2 open-fields)
+  patterns : Said s held (its-side-said ++ []) (read-patterns edition-1 (suc (length s)) s 2 open-fields)
   patterns =
       let every = good .each-field in
-      let said = patterns-saying 0 held in
+      let said = patterns-saying edition-1 0 held in
       let bytes = length-append said its-side-said in
       let rest = sym (append-nil its-side-said) in
       rw every at
-      (patterns-said held [] (suc (length s)) s 2 0 0 (its-side-said ++ []) (ap (λ (l : List ℕ). said ++ l) rest) (not-marked side [])
+      (patterns-said edition-1 held [] (suc (length s)) s 2 0 0 (its-side-said ++ []) (ap (λ (l : List ℕ). said ++ l) rest) (not-marked edition-1 side [])
       (omega arith) refl (omega arith) (omega arith) (good .good) short)
 
   abbrev end : ℕ
@@ -50,12 +51,12 @@ module _ (held : List Held) (side : Side) (good : GoodFields characters held) (s
 
   front-reads : rule-front s ≡ records read-new end
   unfolding rule-front marked
-  front-reads = rw (le-ltb (length s) 2 (omega arith), patterns .reads, side-said LE s (patterns .next) side [] (patterns .behind) good-side)
+  front-reads = rw (le-ltb (length s) 2 (omega arith), patterns .reads, side-said edition-1 LE s (patterns .next) side [] (patterns .behind) good-side)
 
   reads-to : read-rule s ≡ records read-new end
   unfolding read-rule
   reads-to =
-      let none = left-there s end [] (side-behind LE s (patterns .next) side [] (patterns .behind)) in
+      let none = left-there s end [] (side-behind edition-1 LE s (patterns .next) side [] (patterns .behind)) in
       rw (front-reads, le-ltb end (length s) (omega arith))
 
   pub rule-reads : RuleRead held side s

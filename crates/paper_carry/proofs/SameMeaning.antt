@@ -1,7 +1,7 @@
 -- What was carried over means what the old one meant.
 --   same-solutions : GoodQuestion q → SolutionBefore q texts ↔ Solution (spelt-open q) texts
 --   same-labels    : GoodRule r → of a rule with r's side and `held-open r`: MadeBefore r l ↔ Makes new l
--- Follows from the texts of 68 65 0 42: any over the characters, and no others.
+-- Follows from the texts of the pattern written out: any over the characters, and no others.
 use Prim.Native.Nat.{ℕ, _-_, _<_}
 use native.Mathlib.Nat.{zero-add}
 use native.Mathlib.Omega.{arith}
@@ -21,50 +21,53 @@ use Rattle.paper_catalogue.proofs.GoodRule.{GoodRule, own-field}
 use Rattle.paper_carry.specs.Opened.{written-out, spelt-held, opened, stands-asked, spelt-open, stands-ruled, held-open, HeldBefore, SolutionBefore, MadeBefore}
 use Rattle.paper_carry.proofs.Opening.{opened-at}
 
--- 68 65 0 42 takes every text over the characters
-all-fit : (w : List ℕ) → Over characters w → Fits written-out w
-all-fit [] h = none
-all-fit (c ∷ w) h =
+-- the pattern written out, of n characters, takes every text over them
+all-fit : (n : ℕ) (w : List ℕ) → Over n w → Fits (written-out n) w
+all-fit n [] h = none
+all-fit n (c ∷ w) h =
     let below = h c (List·Memᴰ·head refl) in
-    let taken = both-true (le-leb 0 c (omega arith)) (le-leb c (characters - 1) (omega arith)) in
-    more {u = c ∷ []} {v = w} refl (one taken) (all-fit w (λ a d. h a (List·Memᴰ·tail d)))
+    let taken = both-true (le-leb 0 c (omega arith)) (le-leb c (n - 1) (omega arith)) in
+    more {u = c ∷ []} {v = w} refl (one taken) (all-fit n w (λ a d. h a (List·Memᴰ·tail d)))
 
-to-new : (h : Held) (w : List ℕ) → Over characters w → HeldBefore h w → Holds (spelt-held h) w
-to-new some-text w over t = all-fit w over
-to-new (pattern p) w over f = f
+to-new : (n : ℕ) (h : Held) (w : List ℕ) → Over n w → HeldBefore h w → Holds (spelt-held n h) w
+to-new n some-text w over t = all-fit n w over
+to-new n (pattern p) w over f = f
 
-to-old : (h : Held) (w : List ℕ) → Holds (spelt-held h) w → HeldBefore h w
-to-old some-text w f = tt
-to-old (pattern p) w f = f
+to-old : (n : ℕ) (h : Held) (w : List ℕ) → Holds (spelt-held n h) w → HeldBefore h w
+to-old n some-text w f = tt
+to-old n (pattern p) w f = f
 
 -- what a standing field holds
-held-new : (stands : ℕ → Bool) (held : List Held) (f : ℕ) → f < length held → stands f ≡ true
-    → getD (opened stands 0 held) f some-text ≡ spelt-held (getD held f some-text)
-held-new stands held f k e = opened-at stands held 0 f k ∙ rw (zero-add f, e)
+held-new : (n : ℕ) (stands : ℕ → Bool) (held : List Held) (f : ℕ) → f < length held → stands f ≡ true
+    → getD (opened n stands 0 held) f some-text ≡ spelt-held n (getD held f some-text)
+held-new n stands held f k e = opened-at n stands held 0 f k ∙ rw (zero-add f, e)
 
 module _ (q : Question) (good : GoodQuestion q) where
-  asked-new : (f : ℕ) → stands-asked q f ≡ true → held-by (spelt-open q) f ≡ spelt-held (held-by q f)
-  asked-new f e = held-new (stands-asked q) (q .held) f (omega (arith, fields-known q good f e, good .held .each-field)) e
+  abbrev its : ℕ
+  its = q .alphabet .characters
+
+  asked-new : (f : ℕ) → stands-asked q f ≡ true → held-by (spelt-open q) f ≡ spelt-held its (held-by q f)
+  asked-new f e = held-new its (stands-asked q) (q .held) f (omega (arith, fields-known q good f e, good .held .each-field)) e
 
   pub same-solutions : (texts : Texts) → SolutionBefore q texts ↔ Solution (spelt-open q) texts
   same-solutions texts = (
     λ s. record {
       same-label = s .same-label;
       over = s .over;
-      holds = λ f e. rw (asked-new f e) (to-new (held-by q f) (texts f) (rw (good .alphabet) at (s .over f e)) (s .holds f e));
+      holds = λ f e. rw (asked-new f e) (to-new its (held-by q f) (texts f) (s .over f e) (s .holds f e));
     },
     λ s. record {
       same-label = s .same-label;
       over = s .over;
-      holds = λ f e. to-old (held-by q f) (texts f) (rw (asked-new f e) at (s .holds f e));
+      holds = λ f e. to-old its (held-by q f) (texts f) (rw (asked-new f e) at (s .holds f e));
     },
   )
 
 module _ (r new : Rule) (good : GoodRule r) (side : new .side ≡ r .side) (held : new .fields .held ≡ held-open r) where
-  ruled-new : (f : ℕ) → stands-ruled r f ≡ true → rule-holds new f ≡ spelt-held (rule-holds r f)
+  ruled-new : (f : ℕ) → stands-ruled r f ≡ true → rule-holds new f ≡ spelt-held characters (rule-holds r f)
   ruled-new f e =
       ap (λ (l : List Held). getD l f some-text) held
-      ∙ held-new (stands-ruled r) (r .fields .held) f (omega (arith, own-field r good f e, good .held .each-field)) e
+      ∙ held-new characters (stands-ruled r) (r .fields .held) f (omega (arith, own-field r good f e, good .held .each-field)) e
 
   stood : (f : ℕ) → stands-ruled new f ≡ true → stands-ruled r f ≡ true
   stood f e = ap (λ (s : Side). stands-ruled (record { side = s; fields = r .fields }) f) (sym side) ∙ e
@@ -74,13 +77,13 @@ module _ (r new : Rule) (good : GoodRule r) (side : new .side ≡ r .side) (held
     λ s. record {
       texts = s .texts;
       over = λ f e. s .over f (stood f e);
-      holds = λ f e. rw (ruled-new f (stood f e)) (to-new (rule-holds r f) (s .texts f) (s .over f (stood f e)) (s .holds f (stood f e)));
+      holds = λ f e. rw (ruled-new f (stood f e)) (to-new characters (rule-holds r f) (s .texts f) (s .over f (stood f e)) (s .holds f (stood f e)));
       made = ap (label (s .texts)) side ∙ s .made;
     },
     λ s. record {
       texts = s .texts;
       over = λ f e. s .over f (stands f e);
-      holds = λ f e. to-old (rule-holds r f) (s .texts f) (rw (ruled-new f e) at (s .holds f (stands f e)));
+      holds = λ f e. to-old characters (rule-holds r f) (s .texts f) (rw (ruled-new f e) at (s .holds f (stands f e)));
       made = ap (label (s .texts)) (sym side) ∙ s .made;
     },
   )

@@ -1,5 +1,6 @@
 -- Old sheets and rules carried over (request K5): "Sheets and catalogue rules that relied on the old meaning must carry 68 65 0 42 written out".
--- From what was read to what is written: the same, with 68 65 0 42 for each standing field without a pattern. And the old meaning.
+-- From what was read to what is written: the same, with 68 65 0 42 for each standing field without a pattern, behind `ED` "196 193 0 127" (request
+-- K10). And the old meaning.
 use Prim.Native.Nat.{ℕ, suc, _-_}
 use mathlib.Core.Path.{_≡_}
 use mathlib.Core.Bool.{Bool, true, cond}
@@ -7,42 +8,43 @@ use mathlib.Core.List.{List, [], _∷_, _++_}
 use lib.ListN.{getD}
 use Rattle.paper.specs.Numbers.{characters}
 use Rattle.paper.specs.Pattern.{range, Pattern, leaf, many, Held, some-text, pattern, Fits}
+use Rattle.paper.specs.Alphabet.{edition-1}
 use Rattle.paper.specs.Equation.{Side, stands-in, Texts, label, Same, Over}
 use Rattle.paper.specs.Question.{Question, held-by}
 use Rattle.paper.specs.Sheet.{LE, RU}
 use Rattle.paper.specs.Rule.{Rule, rule-holds}
 use Rattle.paper.specs.Saying.{mark-bytes, patterns-saying, side-saying}
 
--- 68 65 0 42
-abbrev pub written-out : Pattern
-written-out = many (leaf (range 0 (characters - 1)))
+-- Any number of the n characters that there are: 68 65 0 42, and 196 193 0 127 for the 128 of the second edition.
+abbrev pub written-out : ℕ → Pattern
+written-out n = many (leaf (range 0 (n - 1)))
 
 -- what a standing field holds then
-abbrev pub spelt-held : Held → Held
-spelt-held some-text = pattern written-out
-spelt-held (pattern p) = pattern p
+abbrev pub spelt-held : ℕ → Held → Held
+spelt-held n some-text = pattern (written-out n)
+spelt-held n (pattern p) = pattern p
 
 -- "adds it for an old sheet's standing fields without a pattern": what the fields from f on hold then
-abbrev pub opened : (ℕ → Bool) → ℕ → List Held → List Held
-opened stands f [] = []
-opened stands f (h ∷ held) = cond (stands f) (spelt-held h) h ∷ opened stands (suc f) held
+abbrev pub opened : ℕ → (ℕ → Bool) → ℕ → List Held → List Held
+opened n stands f [] = []
+opened n stands f (h ∷ held) = cond (stands f) (spelt-held n h) h ∷ opened n stands (suc f) held
 
--- of a sheet: the question with 68 65 0 42 written out
+-- of a sheet: the question, in the characters that it has, with the pattern written out
 abbrev pub stands-asked : Question → ℕ → Bool
 stands-asked q f = stands-in f (q .left ++ q .right)
 
 abbrev pub spelt-open : Question → Question
-spelt-open q = record { alphabet = q .alphabet; left = q .left; right = q .right; held = opened (stands-asked q) 0 (q .held) }
+spelt-open q = record { alphabet = q .alphabet; left = q .left; right = q .right; held = opened (q .alphabet .characters) (stands-asked q) 0 (q .held) }
 
--- of a rule: "the mark `RU`, the `PA` records of its own fields .. and one `LE`"
+-- of a rule: "the mark `RU`, the `PA` records of its own fields .. and one `LE`"; "a rule never has `ED`"
 abbrev pub rule-saying : List Held → Side → List ℕ
-rule-saying held side = mark-bytes RU ++ patterns-saying 0 held ++ side-saying LE side
+rule-saying held side = mark-bytes RU ++ patterns-saying edition-1 0 held ++ side-saying edition-1 LE side
 
 abbrev pub stands-ruled : Rule → ℕ → Bool
 stands-ruled r f = stands-in f (r .side)
 
 abbrev pub held-open : Rule → List Held
-held-open r = opened (stands-ruled r) 0 (r .fields .held)
+held-open r = opened characters (stands-ruled r) 0 (r .fields .held)
 
 unfoldable pub rule-open : Rule → List ℕ
 rule-open r = rule-saying (held-open r) (r .side)

@@ -65,9 +65,9 @@ carried-of (rules l) catalogue =
 unfoldable pub carrying-over : List ℕ → CarriedOver
 carrying-over catalogue = carried-of (form catalogue) catalogue
 
--- The most bytes that a good sheet, a good rule and a catalogue's rules have.
+-- The most bytes that a good sheet, `ED` and its byte among them, a good rule and a catalogue's rules have.
 abbrev pub longest-sheet : ℕ
-longest-sheet = fields * (4 + pattern-bytes) + (3 + sheet-side) + (3 + sheet-side)
+longest-sheet = 3 + fields * (4 + pattern-bytes) + (3 + sheet-side) + (3 + sheet-side)
 
 abbrev pub longest-rule : ℕ
 longest-rule = 2 + rule-fields * (4 + pattern-bytes) + (3 + sheet-side)

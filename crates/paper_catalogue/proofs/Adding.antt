@@ -19,13 +19,14 @@ use Rattle.paper.specs.Lists.{member}
 use Rattle.paper.specs.Sheet.{Fault, fault-number, Records, faulty, records}
 use Rattle.paper.specs.Rule.{Rule, read-rule, foreign-field}
 use Rattle.paper.specs.Outcome.{room-of}
+use Rattle.paper.specs.Buffers.{sheet-numbers}
 use Rattle.paper_catalogue.specs.PairAsking.{PairAnswered, PairAsking}
 use Rattle.paper_catalogue.specs.Catalogue.{Present, Form, no-catalogue, rules, form, used, Pairs, all-answered-1, not-answered-1}
 use Rattle.paper_catalogue.specs.Catalogue.{pairs-by, AddedBy, not-asked, entered-if, is-full}
 use Rattle.paper_catalogue.specs.Catalogue.{added-rule, added-to, adding-by}
 use Rattle.paper_catalogue.specs.Calls.{rule-at}
-use Rattle.paper.proofs.base.Tests.{cond-by, eqb-true, eqb-false}
-use Rattle.paper.proofs.sheets.Rows.{fault-range}
+use Rattle.paper.proofs.base.Tests.{cond-by, true-false, eqb-true, eqb-false}
+use Rattle.paper.proofs.sheets.Rows.{fault-numbered, fault-above}
 use Rattle.paper_catalogue.proofs.Form.{length-with, rule-fits, form-with}
 use Rattle.paper_catalogue.proofs.RightAsking.{AsksRight}
 
@@ -144,7 +145,7 @@ module _ (a : PairAsking) (c bytes work : List ℕ) where
   -- "A new rule is entered exactly if its pair with every rule present gives answer 1", where nothing else refuses it.
   entered-by : (o : AddedBy) → Adds o → o .added .number ≡ 0 → Enters a c bytes work
   entered-by o (no-form e) z = absurd (omega (arith, z))
-  entered-by o (not-read l e x at f) z = let (low, high) = fault-range x in absurd (omega (arith, z))
+  entered-by o (not-read l e x at f) z = let low = fault-above x in absurd (omega (arith, z))
   entered-by o (foreign l e r k f own) z = absurd (omega (arith, z))
   entered-by o (full l e r k f own room) z = absurd (omega (arith, z))
   entered-by o (not-apart l e r k f own room i p first) z = absurd (omega (arith, z))
@@ -176,7 +177,7 @@ module _ (a : PairAsking) (c bytes work : List ℕ) where
 
   reported-by : AsksRight a → (o : AddedBy) → Adds o → o .added .number ≡ 30 → Reports o
   reported-by right o (no-form e) z = absurd (omega (arith, z))
-  reported-by right o (not-read l e x at f) z = let (low, high) = fault-range x in absurd (omega (arith, z))
+  reported-by right o (not-read l e x at f) z = absurd (true-false (sym (ap (λ (n : ℕ). member n sheet-numbers) z) ∙ fault-numbered x) refl)
   reported-by right o (foreign l e r k f own) z = absurd (omega (arith, z))
   reported-by right o (full l e r k f own room) z = absurd (omega (arith, z))
   reported-by right o (not-apart l e r k f own room i p first) z =

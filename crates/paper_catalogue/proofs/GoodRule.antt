@@ -22,7 +22,8 @@ use Rattle.paper.proofs.base.Tests.{cond-by, true-false, or-left-false, or-righ
 use Rattle.paper.proofs.base.Lists.{mem-cons-by, any-true, any-false, mem-map}
 use Rattle.paper.specs.Pattern.{Held, some-text, pattern}
 use Rattle.paper.specs.Equation.{Token, chr, fld, Side, is-field, stands-in}
-use Rattle.paper.specs.Sheet.{Checked, fault, read, FieldPattern, byte-at, body, LE, RU, marked, marked-side}
+use Rattle.paper.specs.Alphabet.{edition-1, code}
+use Rattle.paper.specs.Sheet.{Checked, fault, read, FieldPattern, byte-at, body, body-codes, LE, RU, marked, marked-side}
 use Rattle.paper.specs.Sheet.{Records, faulty, records, Fields, open-fields, with-pattern, read-patterns, asked}
 use Rattle.paper.specs.Rule.{Rule, rule-holds, with-side, side-read, rule-front, read-rule, foreign-token, foreign-field, moved-up, pair}
 use Rattle.paper_catalogue.specs.Catalogue.{Present, rules, form}
@@ -51,16 +52,16 @@ record GoodPatterns (fs : Fields) : Type 0 where
   codes : (f : ℕ) → ShortCode (getD (fs .held) f some-text)
   above : (f : ℕ) → fs .above ≤ f → getD (fs .held) f some-text ≡ some-text
 
-short-code : (s : List ℕ) (at least : ℕ) (fp : FieldPattern) → PatternRead s at least fp → ShortCode (pattern (fp .its))
+short-code : (s : List ℕ) (at least : ℕ) (fp : FieldPattern) → PatternRead edition-1 s at least fp → ShortCode (pattern (fp .its))
 short-code s at least fp h =
     let n = byte-at s (at + 3) in
-    rw (judged-code (body s (at + 4) n) (h .its-bytes), length-take n (drop (at + 4) s)) (omega (arith, h .short))
+    rw (judged-code (body-codes edition-1 s (at + 4) n) (h .its-bytes), length-map (body s (at + 4) n) (code edition-1), length-take n (drop (at + 4) s)) (omega (arith, h .short))
 
-one-pattern : (s : List ℕ) (at : ℕ) (fs : Fields) (fp : FieldPattern) → GoodPatterns fs → PatternRead s at (fs .above) fp
+one-pattern : (s : List ℕ) (at : ℕ) (fs : Fields) (fp : FieldPattern) → GoodPatterns fs → PatternRead edition-1 s at (fs .above) fp
     → GoodPatterns (with-pattern fs fp)
 one-pattern s at fs fp h g =
     record {
-      held = fields-with s at fs fp (h .held) g;
+      held = fields-with edition-1 s at fs fp (h .held) g;
       codes = set-by ShortCode (fs .held) (fp .field) (pattern (fp .its)) (short-code s at (fs .above) fp g) (h .codes);
       above = λ f k.
           let rises = g .rises in
@@ -69,7 +70,7 @@ one-pattern s at fs fp h g =
 
 no-pattern-yet : GoodPatterns open-fields
 no-pattern-yet =
-    record { held = opens-good; codes = open-by ShortCode tt fields; above = λ f k. open-by (λ (x : Held). x ≡ some-text) refl fields f }
+    record { held = opens-good characters; codes = open-by ShortCode tt fields; above = λ f k. open-by (λ (x : Held). x ≡ some-text) refl fields f }
 
 -- A rule that was read, whatever fields it names.
 record RuleRead (r : Rule) : Type 0 where
@@ -82,15 +83,15 @@ with-side-read fs (read side next) h g = record { side = g; patterns = h }
 
 side-behind : (s : List ℕ) (x : Records Fields) → Listed GoodPatterns x → Listed RuleRead (side-read s x)
 side-behind s (faulty x at) h = tt
-side-behind s (records fs at) h = with-side-read fs (marked-side LE s at) h (marked-good LE s at)
+side-behind s (records fs at) h = with-side-read fs (marked-side edition-1 LE s at) h (marked-good edition-1 LE s at)
 
 rule-read : (s : List ℕ) → Listed RuleRead (rule-front s)
 unfolding rule-front
 rule-read s =
     cond-by (Listed RuleRead) (ltb (length s) 2) (λ _. tt)
     (λ _. cond-by (Listed RuleRead) (marked RU s 0)
-    (λ _. side-behind s (read-patterns (suc (length s)) s 2 open-fields)
-    (patterns-by GoodPatterns one-pattern (suc (length s)) s 2 open-fields no-pattern-yet))
+    (λ _. side-behind s (read-patterns edition-1 (suc (length s)) s 2 open-fields)
+    (patterns-by edition-1 GoodPatterns one-pattern (suc (length s)) s 2 open-fields no-pattern-yet))
     (λ _. tt))
 
 own-token : (t : Token) → InRange characters t → foreign-token t ≡ false → OwnToken t

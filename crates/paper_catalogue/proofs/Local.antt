@@ -22,7 +22,8 @@ use Rattle.paper.proofs.base.Tests.{cond-by, and-left, ltb-false, le-ltb, eqb-t
 use Rattle.paper.specs.Written.{Judged, judged, judge}
 use Rattle.paper.specs.Written as Written
 use Rattle.paper.specs.Equation.{Side}
-use Rattle.paper.specs.Sheet.{Checked, fault, read, FieldPattern, byte-at, bytes-left, body, Mark, PA, LE, RU, first-letter, marked}
+use Rattle.paper.specs.Alphabet.{edition-1}
+use Rattle.paper.specs.Sheet.{Checked, fault, read, FieldPattern, byte-at, bytes-left, body, body-codes, Mark, PA, LE, RU, first-letter, marked}
 use Rattle.paper.specs.Sheet.{pattern-judged, pattern-record, is-token, side-record, marked-side, Records, faulty, records, Fields}
 use Rattle.paper.specs.Sheet.{open-fields, next-is, with-pattern, pattern-read, read-patterns}
 use Rattle.paper.specs.Rule.{Rule, with-side, side-read, rule-front, rule-end, read-rule}
@@ -65,13 +66,13 @@ module _ (n : ℕ) (s t : List ℕ) (same : take n t ≡ take n s) where
   judged-likewise at of-t (Written.too-many-leaves i) start f next low high e = tt
   judged-likewise at of-t (judged p) start f next low high e = (low, high, e)
 
-  pattern-likewise : (at above : ℕ) → Likewise at 4 (pattern-record t at above) (pattern-record s at above)
+  pattern-likewise : (at above : ℕ) → Likewise at 4 (pattern-record edition-1 t at above) (pattern-record edition-1 s at above)
   unfolding pattern-record
   pattern-likewise at above =
       let f = byte-at s (at + 2) in
       let m = byte-at s (at + 3) in
       let next = at + (4 + m) in
-      let L = Likewise at 4 (pattern-record t at above) in
+      let L = Likewise at 4 (pattern-record edition-1 t at above) in
       cond-by L (ltb (bytes-left s at) 4) (λ _. tt)
       (λ h. cond-by L (leb fields f || ltb f above) (λ _. tt)
       (λ i. cond-by L (eqb m 0 || ltb pattern-bytes m) (λ _. tt)
@@ -79,7 +80,7 @@ module _ (n : ℕ) (s t : List ℕ) (same : take n t ≡ take n s) where
       (λ k. let left = ltb-false (bytes-left s at) 4 h in
       let all-left = ltb-false (bytes-left s at) (4 + m) k in
       let high : next ≤ length s = omega arith in
-      judged-likewise at (pattern-record t at above) (judge (body s (at + 4) m)) (at + 4) f next (omega arith) high
+      judged-likewise at (pattern-record edition-1 t at above) (judge (body-codes edition-1 s (at + 4) m)) (at + 4) f next (omega arith) high
       (λ (g : next ≤ n). let in-t : next ≤ length t = inside next g high in
       rw (
         le-ltb (bytes-left t at) 4 (omega arith),
@@ -92,16 +93,16 @@ module _ (n : ℕ) (s t : List ℕ) (same : take n t ≡ take n s) where
       ))))))
 
   -- Sides.
-  side-likewise : (at : ℕ) → Likewise at 3 (side-record t at) (side-record s at)
+  side-likewise : (at : ℕ) → Likewise at 3 (side-record edition-1 t at) (side-record edition-1 s at)
   unfolding side-record
   side-likewise at =
       let m = byte-at s (at + 2) in
       let next = at + (3 + m) in
-      let L = Likewise at 3 (side-record t at) in
+      let L = Likewise at 3 (side-record edition-1 t at) in
       cond-by L (ltb (bytes-left s at) 3) (λ _. tt)
       (λ h. cond-by L (ltb sheet-side m) (λ _. tt)
       (λ i. cond-by L (ltb (bytes-left s at) (3 + m)) (λ _. tt)
-      (λ j. cond-by L (all is-token (body s (at + 3) m))
+      (λ j. cond-by L (all is-token (body-codes edition-1 s (at + 3) m))
       (λ k. let left = ltb-false (bytes-left s at) 3 h in
       let all-left = ltb-false (bytes-left s at) (3 + m) j in
       let high : next ≤ length s = omega arith in (
@@ -126,13 +127,13 @@ module _ (n : ℕ) (s t : List ℕ) (same : take n t ≡ take n s) where
   behind-test at least of-t behind (read a next) e (low, high, l) =
       (low, high, λ (g : next ≤ n). e (omega arith) (inside (at + least) (omega arith) (omega arith)) ∙ l g)
 
-  marked-likewise : (m : Mark) (at : ℕ) → Likewise at 3 (marked-side m t at) (marked-side m s at)
+  marked-likewise : (m : Mark) (at : ℕ) → Likewise at 3 (marked-side edition-1 m t at) (marked-side edition-1 m s at)
   unfolding marked-side
   marked-likewise m at =
-      let L = Likewise at 3 (marked-side m t at) in
+      let L = Likewise at 3 (marked-side edition-1 m t at) in
       cond-by L (ltb (bytes-left s at) 2) (λ _. tt)
       (λ _. cond-by L (marked m s at)
-      (λ h. behind-test at 3 (marked-side m t at) (side-record t at) (side-record s at)
+      (λ h. behind-test at 3 (marked-side edition-1 m t at) (side-record edition-1 t at) (side-record edition-1 s at)
       (λ (i : at + 3 ≤ n) (j : at + 3 ≤ length t). rw (le-ltb (bytes-left t at) 2 (omega arith), marked-same m at (omega arith), h))
       (side-likewise at))
       (λ _. tt))
@@ -142,7 +143,7 @@ module _ (n : ℕ) (s t : List ℕ) (same : take n t ≡ take n s) where
   abbrev AllLikewise : ℕ → Fields → Records Fields → Type 0
   AllLikewise at fs (faulty x place) = Unit {0}
   AllLikewise at fs (records gs next) =
-      (at ≤ next) × ((turns : ℕ) → next + 2 ≤ n → next + 2 ≤ length s → next < at + turns → read-patterns turns t at fs ≡ records gs next)
+      (at ≤ next) × ((turns : ℕ) → next + 2 ≤ n → next + 2 ≤ length s → next < at + turns → read-patterns edition-1 turns t at fs ≡ records gs next)
 
   next-same : (at : ℕ) → at + 2 ≤ n → at + 2 ≤ length s → next-is PA t at ≡ next-is PA s at
   unfolding next-is
@@ -151,32 +152,32 @@ module _ (n : ℕ) (s t : List ℕ) (same : take n t ≡ take n s) where
       rw (le-ltb (bytes-left t at) 2 (omega arith), le-ltb (bytes-left s at) 2 (omega arith)) (marked-same PA at h)
 
   none-next : (at : ℕ) (fs : Fields) → next-is PA s at ≡ false → (turns : ℕ) → at + 2 ≤ n → at + 2 ≤ length s → at < at + turns
-      → read-patterns turns t at fs ≡ records fs at
+      → read-patterns edition-1 turns t at fs ≡ records fs at
   none-next at fs h zero i j k = absurd (omega arith)
   none-next at fs h (suc turns) i j k = rw (next-same at i j, h)
 
   one-next : (at : ℕ) (fs : Fields) (fp : FieldPattern) (mid : ℕ) → next-is PA s at ≡ true
-      → Likewise at 4 (pattern-record t at (fs .above)) (read fp mid)
+      → Likewise at 4 (pattern-record edition-1 t at (fs .above)) (read fp mid)
       → (x : Records Fields) → AllLikewise mid (with-pattern fs fp) x → AllLikewise at fs x
   one-next at fs fp mid h l (faulty x place) k = tt
   one-next at fs fp mid h (low, high, l) (records gs next) (m, k) = (omega arith, turned)
     where
-      turned : (turns : ℕ) → next + 2 ≤ n → next + 2 ≤ length s → next < at + turns → read-patterns turns t at fs ≡ records gs next
+      turned : (turns : ℕ) → next + 2 ≤ n → next + 2 ≤ length s → next < at + turns → read-patterns edition-1 turns t at fs ≡ records gs next
       turned zero i j less = absurd (omega (arith, low, m))
       turned (suc turns) i j less =
           rw (next-same at (omega (arith, low, m)) (omega (arith, low, m)), h, l (omega (arith, m))) (k turns i j (omega (arith, low)))
 
   behind-likewise : (at : ℕ) (fs : Fields) (go-on : ℕ → Fields → Records Fields) (x : Checked FieldPattern) → next-is PA s at ≡ true
       → ((next : ℕ) (more : Fields) → AllLikewise next more (go-on next more))
-      → Likewise at 4 (pattern-record t at (fs .above)) x → AllLikewise at fs (pattern-read fs go-on x)
+      → Likewise at 4 (pattern-record edition-1 t at (fs .above)) x → AllLikewise at fs (pattern-read fs go-on x)
   behind-likewise at fs go-on (fault x place) h i l = tt
   behind-likewise at fs go-on (read fp mid) h i l = one-next at fs fp mid h l (go-on mid (with-pattern fs fp)) (i mid (with-pattern fs fp))
 
-  patterns-likewise : (turns : ℕ) (at : ℕ) (fs : Fields) → AllLikewise at fs (read-patterns turns s at fs)
+  patterns-likewise : (turns : ℕ) (at : ℕ) (fs : Fields) → AllLikewise at fs (read-patterns edition-1 turns s at fs)
   patterns-likewise zero at fs = tt
   patterns-likewise (suc turns) at fs =
       cond-by (AllLikewise at fs) (next-is PA s at)
-      (λ h. behind-likewise at fs (read-patterns turns s) (pattern-record s at (fs .above)) h
+      (λ h. behind-likewise at fs (read-patterns edition-1 turns s) (pattern-record edition-1 s at (fs .above)) h
       (patterns-likewise turns) (pattern-likewise at (fs .above)))
       (λ h. (omega arith, none-next at fs h))
 
@@ -186,8 +187,8 @@ module _ (n : ℕ) (s t : List ℕ) (same : take n t ≡ take n s) where
   RuleLikewise (records r next) = (2 < next) × (next ≤ length s) × (byte-at s 0 ≡ first-letter RU) × (next ≤ n → rule-front t ≡ records r next)
 
   sided : (fs : Fields) (at : ℕ) (x : Checked Side) → byte-at s 0 ≡ first-letter RU → 2 ≤ at
-      → (at + 3 ≤ n → at + 3 ≤ length s → rule-front t ≡ with-side fs (marked-side LE t at))
-      → Likewise at 3 (marked-side LE t at) x → RuleLikewise (with-side fs x)
+      → (at + 3 ≤ n → at + 3 ≤ length s → rule-front t ≡ with-side fs (marked-side edition-1 LE t at))
+      → Likewise at 3 (marked-side edition-1 LE t at) x → RuleLikewise (with-side fs x)
   sided fs at (fault x place) b h e l = tt
   sided fs at (read side next) b h e (low, high, l) =
       (omega arith, high, b, λ (g : next ≤ n). e (omega arith) (omega arith) ∙ ap (with-side fs) (l g))
@@ -196,7 +197,7 @@ module _ (n : ℕ) (s t : List ℕ) (same : take n t ≡ take n s) where
   unfolding rule-front
   patterned (faulty x at) b h k = tt
   patterned (records fs at) b h (low, k) =
-      sided fs at (marked-side LE s at) b low
+      sided fs at (marked-side edition-1 LE s at) b low
       (λ (i : at + 3 ≤ n) (j : at + 3 ≤ length s).
       let in-t = inside (at + 3) i j in
       rw (le-ltb (length t) 2 (omega arith), marked-same RU 0 (omega arith), h, k (suc (length t)) (omega arith) (omega arith) (omega arith)))
@@ -207,7 +208,7 @@ module _ (n : ℕ) (s t : List ℕ) (same : take n t ≡ take n s) where
   rule-likewise =
       cond-by RuleLikewise (ltb (length s) 2) (λ _. tt)
       (λ _. cond-by RuleLikewise (marked RU s 0)
-      (λ h. patterned (read-patterns (suc (length s)) s 2 open-fields) (eqb-true (byte-at s 0) (first-letter RU) (and-left _ _ h)) h
+      (λ h. patterned (read-patterns edition-1 (suc (length s)) s 2 open-fields) (eqb-true (byte-at s 0) (first-letter RU) (and-left _ _ h)) h
       (patterns-likewise (suc (length s)) 2 open-fields))
       (λ _. tt))
 

@@ -21,7 +21,7 @@ use Rattle.paper.specs.Search.{Entry, End, found, used-up, no-room, too-long, S
 use Rattle.paper.specs.Equation.{Texts, stands-in}
 use Rattle.paper.specs.Situation.{Situation, Move}
 use Rattle.paper.specs.Question.{Question, Solution, hidden, Equated}
-use Rattle.paper.specs.Sheet.{Fault, cut-short, wrong-mark, wrong-field, wrong-length, not-one-pattern, too-many-leaves, wrong-token}
+use Rattle.paper.specs.Sheet.{Fault, cut-short, wrong-mark, wrong-field, wrong-length, not-one-pattern, too-many-leaves, wrong-token, wrong-edition}
 use Rattle.paper.specs.Sheet.{fault-number, Reading, refused, asked, read-sheet}
 use Rattle.paper.specs.Outcome.{Outcome, room-of, searched, standing, cleared, without-bytes, clash, answered, count-of, how-of, outcome-of}
 use Rattle.paper.specs.Demands.{texts-spelt}
@@ -29,7 +29,7 @@ use Rattle.paper.proofs.base.Tests.{cond-by, true-false, not-is-true, not-is-fa
 use Rattle.paper.proofs.base.Lists.{length-only, mem-only, mem-cons-by, keep-mem, upto-mem}
 use Rattle.paper.proofs.sheets.Asked.{GoodQuestion, AsksGood, sheet-good, fields-known}
 use Rattle.paper.proofs.sheets.Hidden.{hidden-known, own-solves, with-spaces, hidden-solves}
-use Rattle.paper.proofs.sheets.Rows.{fault-range, found-records, records-hidden}
+use Rattle.paper.proofs.sheets.Rows.{fault-above, found-records, records-hidden}
 use Rattle.paper.proofs.demands.Demand1.{demand-1, answered-met}
 use Rattle.paper_chosen.specs.Chosen.{every, searched-over}
 use Rattle.paper_chosen.proofs.Over.{searched-every, found-over, used-up-over, count-over, short-over}
@@ -323,17 +323,18 @@ no-search wrong-length = refl
 no-search not-one-pattern = refl
 no-search too-many-leaves = refl
 no-search wrong-token = refl
+no-search wrong-edition = refl
 
 -- For every reading whose question is good, and all buffers.
 pub decided : (r : Reading) → AsksGood r → (work answer : List ℕ) → Decided r work answer (decision-of r work answer)
 unfolding room-of
 decided (refused x at) good work answer =
-    let (low, high) = fault-range x in
+    let low = fault-above x in
     record {
       demand1 = demand-1 (refused x at) work answer;
       clash = λ z. absurd (omega arith);
       no-clash = λ z. absurd (omega arith);
-      too-short = λ z. absurd (omega arith);
+      too-short = λ z. absurd (true-false (ap (λ (n : ℕ). member n (0 ∷ 1 ∷ 20 ∷ [])) z) (no-search x));
       good-number = λ q g. let z : _≡_ {A = ℕ} 0 1 = cc in absurd (omega arith);
       as-clash = λ _. refl;
       not-decided = λ _. refl;

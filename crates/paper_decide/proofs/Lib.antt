@@ -5,4 +5,3 @@ pub mod Apart
 pub mod Decided
 -- known questions and sheets: the checker computes them
 pub mod KnownDecisions
-pub mod KnownDecidedLines

@@ -6,5 +6,3 @@ pub mod Apart
 -- the whole outcome, and what is promised of it
 pub mod Deciding
 pub mod DecidePromised
--- what is printed of it
-pub mod DecisionLine

@@ -11,7 +11,7 @@ use mathlib.Core.List.{List, [], _∷_, _++_, List·Memᴰ, List·Memᴰ·head, 
 use lib.Dec.{eqb, leb}
 use lib.ListN.{length}
 use Rattle.paper.specs.Lists.{upto}
-use Rattle.paper.specs.Numbers.{characters, fields, hidden-left, hidden-right, most-leaves, sheet-side}
+use Rattle.paper.specs.Numbers.{fields, hidden-left, hidden-right, most-leaves, sheet-side}
 use Rattle.paper.specs.Pattern.{Held, some-text, pattern}
 use Rattle.paper.specs.Equation.{chr, fld, Side, stands-in}
 use Rattle.paper.specs.Plain.{each-once, plain}
@@ -47,16 +47,16 @@ fields-in-both [] r = omega arith
 fields-in-both (chr a ∷ l) r = fields-in-both l r
 fields-in-both (fld f ∷ l) r = omega (arith, fields-in-both l r)
 
-good-places : (h : Held) → GoodHeld characters h → places-of h ≤ suc most-leaves
-good-places some-text g = omega arith
-good-places (pattern p) g = omega (arith, g .1)
+good-places : (n : ℕ) (h : Held) → GoodHeld n h → places-of h ≤ suc most-leaves
+good-places n some-text g = omega arith
+good-places n (pattern p) g = omega (arith, g .1)
 
-module _ (held : ℕ → Held) (good : (f : ℕ) → GoodHeld characters (held f)) where
+module _ (n : ℕ) (held : ℕ → Held) (good : (f : ℕ) → GoodHeld n (held f)) where
   standings-most : (side : Side) (f : ℕ) → places-of (held f) ≡ 2
       → standings held (side ++ (fld f ∷ [])) ≤ most-leaves * length (fields-of side) + length side + 3
   standings-most [] f e = omega (arith, e)
   standings-most (chr a ∷ side) f e = omega (arith, standings-most side f e)
-  standings-most (fld g ∷ side) f e = omega (arith, standings-most side f e, good-places (held g) (good g))
+  standings-most (fld g ∷ side) f e = omega (arith, standings-most side f e, good-places n (held g) (good g))
 
 -- the most standings of a side with k fields
 abbrev most-standings : ℕ → ℕ
@@ -87,8 +87,8 @@ module _ (q : Question) (g : GoodQuestion q) where
       let b = length (fields-of (q .right)) in
       let few : a + b ≤ fields = few-fields once in
       let l : standings (held-by (hidden q)) (hidden q .left) ≤ most-standings a =
-      omega (arith, standings-most (held-by (hidden q)) good (q .left) hidden-left refl, g .left .short) in
+      omega (arith, standings-most (q .alphabet .characters) (held-by (hidden q)) good (q .left) hidden-left refl, g .left .short) in
       let r : standings (held-by (hidden q)) (hidden q .right) ≤ most-standings (fields - a) =
-      omega (arith, standings-most (held-by (hidden q)) good (q .right) hidden-right refl, g .right .short) in
+      omega (arith, standings-most (q .alphabet .characters) (held-by (hidden q)) good (q .right) hidden-right refl, g .right .short) in
       let product = mul-le-mul l r in
       omega (arith, product, every-share a (omega arith))

@@ -8,7 +8,8 @@ use lib.ListN.{replicate}
 use Rattle.paper.specs.Lists.{upto, each}
 use Rattle.paper.specs.Search.{enter, offer, take-next, search}
 use Rattle.paper.specs.Written.{judge}
-use Rattle.paper.specs.Sheet.{marked, pattern-record, side-record, read-end, marked-side, next-is, read-sheet}
+use Rattle.paper.specs.Alphabet.{code}
+use Rattle.paper.specs.Sheet.{marked, pattern-record, side-record, read-end, marked-side, next-is, edition-front, read-sheet}
 use Rattle.paper.proofs.known.KnownSheet.{PA, LE, RI, x, A, B, space}
 use Rattle.paper.proofs.known.KnownFew.{leaves-by}
 use Rattle.paper_plain.specs.Standing.{next-pairs, pairs-searched}
@@ -48,7 +49,7 @@ few-sheets =
     []
 
 pub few-sheets-met : map got few-sheets ≡ map wanted few-sheets
-unfolding judge enter offer take-next search marked pattern-record side-record read-end marked-side next-is read-sheet next-pairs pairs-searched bits-of clashes-apart engine
+unfolding judge enter offer take-next search marked pattern-record side-record read-end marked-side next-is code edition-front read-sheet next-pairs pairs-searched bits-of clashes-apart engine
 few-sheets-met = refl
 
 -- Four fields of 63 leaves and 20 characters a side need all the bytes that are ever needed.
@@ -62,5 +63,5 @@ abbrev largest-sheet : List ℕ
 largest-sheet = each widest (upto 8) ++ LE (largest-side 64) ++ RI (largest-side 68)
 
 pub largest-needs : needs largest-sheet ≡ record { number = 0; place = 0; bytes = enough-bytes }
-unfolding judge marked pattern-record side-record read-end marked-side next-is read-sheet bits-of needs
+unfolding judge marked pattern-record side-record read-end marked-side next-is code edition-front read-sheet bits-of needs
 largest-needs = refl

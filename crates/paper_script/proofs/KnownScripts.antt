@@ -1,18 +1,19 @@
--- Known scripts: the checker computes two, reads the first back and one in another layout, and refuses others. And known answers: a buffer that
--- fits exactly, one of a byte less, and a sheet that is cut short.
+-- Known scripts: the checker computes two of the first edition and one of the second, reads some back and one in another layout, and refuses others.
+-- And known answers: a buffer that fits exactly, one of a byte less, a sheet that is cut short, and one that begins with `ED`.
 use Prim.Native.Nat.{ℕ}
 use mathlib.Core.Path.{_≡_, refl}
 use mathlib.Core.List.{List, [], _∷_, _++_, map}
 use lib.ListN.{replicate}
 use Rattle.paper.specs.Pattern.{char, range, leaf, empty, then, either, many, some-text, pattern}
 use Rattle.paper.specs.Equation.{chr, fld}
-use Rattle.paper.specs.Alphabet.{code-39}
+use Rattle.paper.specs.Alphabet.{code-39, full-ascii, edition-1, edition-2, code}
 use Rattle.paper.specs.Question.{Question}
-use Rattle.paper_script.specs.Language.{to-re, concat, union, star}
+use Rattle.paper_script.specs.Language.{to-re, span, concat, union, star}
 use Rattle.paper_script.specs.Bytes.{bytes}
 use Rattle.paper_script.specs.Reader.{code-point, constant, set-logic, declare-const, in-re, equal, check-sat, no-script, commands, read-script}
-use Rattle.paper.specs.Sheet.{read-sheet, read-end, marked-side, side-record, next-is, marked}
-use Rattle.paper_script.specs.Script.{one-character, choice, field-lines, all-standing, equation, script, longest-script}
+use Rattle.paper.specs.Sheet.{edition-front, read-sheet, read-end, marked-side, side-record, next-is, marked}
+use Rattle.paper_script.specs.Escapes.{meaning}
+use Rattle.paper_script.specs.Script.{escaped, character, one-character, range-expression, field-lines, all-standing, equation, script, longest-script}
 use Rattle.paper_script.specs.Scripting.{scripting-told, scripting}
 
 -- `LT`x and x`4`, where x is 0, or Z or -, or ., any number of times
@@ -37,7 +38,7 @@ script-of-latch : script latch
     ++ bytes "; field 8\n(declare-const f8 String)\n(assert (str.in_re f8 (re.* (str.to_re \" \"))))\n"
     ++ bytes "; field 9\n(declare-const f9 String)\n(assert (str.in_re f9 (re.* (str.to_re \" \"))))\n"
     ++ bytes "(assert (= (str.++ \"LT\" f0 f8) (str.++ f0 \"4\" f9)))\n(check-sat)\n"
-unfolding one-character choice field-lines all-standing equation script
+unfolding character one-character range-expression field-lines all-standing equation script
 script-of-latch = refl
 
 latch-read : read-script (script latch)
@@ -54,7 +55,7 @@ latch-read : read-script (script latch)
     (constant (bytes "f0") ∷ code-point 52 ∷ constant (bytes "f9") ∷ [])
     ∷ check-sat
     ∷ [])
-unfolding one-character choice field-lines all-standing equation script read-script
+unfolding character one-character range-expression field-lines all-standing equation script read-script
 latch-read = refl
 
 -- nothing, and x, a space and `Z`, where x is open
@@ -96,8 +97,78 @@ script-of-blank : script blank
     ++ bytes "; field 8\n(declare-const f8 String)\n(assert (str.in_re f8 (re.* (str.to_re \" \"))))\n"
     ++ bytes "; field 9\n(declare-const f9 String)\n(assert (str.in_re f9 (re.* (str.to_re \" \"))))\n"
     ++ bytes "(assert (= f8 (str.++ f2 \" Z\" f9)))\n(check-sat)\n"
-unfolding one-character choice field-lines all-standing equation script
+unfolding character one-character range-expression field-lines all-standing equation script
 script-of-blank = refl
+
+-- The second edition (request K10): a quotation mark, a backslash and `u{41}`, NUL, x, and `~`, DEL, y; x is one of space to `!`, and then any of
+-- NUL to `"`, one of `[` to `\` and one of `~` to DEL; y is open.
+abbrev ascii : Question
+ascii =
+    record {
+      alphabet = full-ascii;
+      left = chr 34 ∷ chr 92 ∷ chr 117 ∷ chr 123 ∷ chr 52 ∷ chr 49 ∷ chr 125 ∷ chr 0 ∷ fld 0 ∷ [];
+      right = chr 126 ∷ chr 127 ∷ fld 1 ∷ [];
+      held =
+          pattern (then (leaf (range 32 33)) (then (many (leaf (range 0 34))) (then (leaf (range 91 92)) (leaf (range 126 127)))))
+          ∷ some-text ∷ [];
+    }
+
+script-of-ascii : script ascii
+    ≡ bytes "; Do two label rules clash? sat: they do. unsat: they don't.\n"
+    ++ bytes "; Fields 8 and 9 are the spaces at the end of the left and the right label.\n"
+    ++ bytes "(set-logic QF_S)\n"
+    ++ bytes "; field 0\n(declare-const f0 String)\n"
+    ++ bytes "(assert (str.in_re f0 (re.++ (re.range \" \" \"!\") (re.++ (re.* (re.range \"\\u{0}\" \"\"\"\"))"
+    ++ bytes " (re.++ (re.range \"[\" \"\\u{5c}\") (re.range \"~\" \"\\u{7f}\"))))))\n"
+    ++ bytes "; field 1\n(declare-const f1 String)\n"
+    ++ bytes "(assert (str.in_re f1 (re.++ (re.range \"\\u{0}\" \"\\u{7f}\") (re.* (re.range \"\\u{0}\" \"\\u{7f}\")))))\n"
+    ++ bytes "; field 8\n(declare-const f8 String)\n(assert (str.in_re f8 (re.* (str.to_re \" \"))))\n"
+    ++ bytes "; field 9\n(declare-const f9 String)\n(assert (str.in_re f9 (re.* (str.to_re \" \"))))\n"
+    ++ bytes "(assert (= (str.++ \"\"\"\\u{5c}u{41}\\u{0}\" f0 f8) (str.++ \"~\\u{7f}\" f1 f9)))\n(check-sat)\n"
+unfolding escaped character one-character range-expression field-lines all-standing equation script
+script-of-ascii = refl
+
+ascii-read : read-script (script ascii)
+    ≡ commands (
+    set-logic (bytes "QF_S")
+    ∷ declare-const (bytes "f0")
+    ∷ in-re (bytes "f0")
+    (concat (span (32 ∷ []) (33 ∷ []))
+    (concat (star (span (0 ∷ []) (34 ∷ []))) (concat (span (91 ∷ []) (92 ∷ [])) (span (126 ∷ []) (127 ∷ [])))))
+    ∷ declare-const (bytes "f1")
+    ∷ in-re (bytes "f1") (concat (span (0 ∷ []) (127 ∷ [])) (star (span (0 ∷ []) (127 ∷ []))))
+    ∷ declare-const (bytes "f8")
+    ∷ in-re (bytes "f8") (star (to-re (bytes " ")))
+    ∷ declare-const (bytes "f9")
+    ∷ in-re (bytes "f9") (star (to-re (bytes " ")))
+    ∷ equal (map code-point (34 ∷ 92 ∷ 117 ∷ 123 ∷ 52 ∷ 49 ∷ 125 ∷ 0 ∷ []) ++ (constant (bytes "f0") ∷ constant (bytes "f8") ∷ []))
+    (code-point 126 ∷ code-point 127 ∷ constant (bytes "f1") ∷ constant (bytes "f9") ∷ [])
+    ∷ check-sat
+    ∷ [])
+unfolding escaped character one-character range-expression field-lines all-standing equation script read-script
+ascii-read = refl
+
+-- One character is no range, in either edition; the first has no `re.range`.
+single-ranges : range-expression edition-1 10 10 ++ range-expression edition-2 10 10 ++ range-expression edition-1 10 11
+    ≡ bytes "(str.to_re \"A\")(str.to_re \"\\u{a}\")(re.union (str.to_re \"A\") (str.to_re \"B\"))"
+unfolding escaped character one-character range-expression
+single-ranges = refl
+
+-- The standard's escapes: one to five digits in braces, of either case; four without braces; what is none stands for itself.
+escapes-meant : map meaning (
+    bytes "\\u{41}\\u{0041}\\u{2FfFf}\\u{5}"
+    ∷ bytes "\\u0041B\\u00e9"
+    ∷ bytes "\\u{}\\u{30000}\\u{000041}\\u{4g}"
+    ∷ bytes "\\\\u{41}\\n\\u41g\\"
+    ∷ bytes "\\u{4"
+    ∷ [])
+    ≡ (65 ∷ 65 ∷ 196607 ∷ 5 ∷ [])
+    ∷ (65 ∷ 66 ∷ 233 ∷ [])
+    ∷ bytes "\\u{}\\u{30000}\\u{000041}\\u{4g}"
+    ∷ bytes "\\A\\n\\u41g\\"
+    ∷ bytes "\\u{4"
+    ∷ []
+escapes-meant = refl
 
 -- Another layout: other blanks, comments elsewhere, more arguments, a quotation mark in a literal, a parenthesis and a semicolon in another.
 abbrev crowded : List ℕ
@@ -131,10 +202,13 @@ garbled-scripts =
     -- a union, and a sum, of one
     bytes "(assert (str.in_re f0 (re.union (str.to_re \"A\"))))"
     ∷ bytes "(assert (= f0 (str.++ f1)))"
-    -- an escape, as a text, as a term and in a sum
-    ∷ bytes "(assert (str.in_re f0 (str.to_re \"\\u{41}\")))"
-    ∷ bytes "(assert (= \"\\u{41}\"))"
-    ∷ bytes "(assert (= f0 (str.++ f1 \"\\u{41}\")))"
+    -- a byte that can't stand in a literal, in a text, in a term and in a sum
+    ∷ bytes "(assert (str.in_re f0 (str.to_re \"\n\")))"
+    ∷ bytes "(assert (= f0 \"A\t\"))"
+    ∷ (bytes "(assert (= f0 (str.++ f1 \"" ++ (127 ∷ bytes "\")))"))
+    -- a range with one end, and of a constant
+    ∷ bytes "(assert (str.in_re f0 (re.range \"A\")))"
+    ∷ bytes "(assert (str.in_re f0 (re.range \"A\" f1)))"
     -- another operator, term, relation, sort and command
     ∷ bytes "(assert (str.in_re f0 (re.inter (str.to_re \"A\") (str.to_re \"B\"))))"
     ∷ bytes "(assert (= f0 (str.at f1 f2)))"
@@ -155,7 +229,7 @@ garbled-scripts =
     ∷ bytes "(check-sat)\"A"
     ∷ []
 
-none-read : map read-script garbled-scripts ≡ replicate 20 no-script
+none-read : map read-script garbled-scripts ≡ replicate 22 no-script
 unfolding read-script
 none-read = refl
 
@@ -168,13 +242,19 @@ abbrev empty-sides : List ℕ
 empty-sides = 76 ∷ 69 ∷ 0 ∷ 82 ∷ 73 ∷ 0 ∷ []
 
 exact-room : scripting empty-sides (replicate 351 0) ≡ scripting-told 0 0 351 (script (record { alphabet = code-39; left = []; right = []; held = replicate 8 some-text }))
-unfolding one-character choice field-lines all-standing equation script scripting read-sheet read-end marked-side side-record next-is marked
+unfolding character one-character range-expression field-lines all-standing equation script scripting code edition-front read-sheet read-end marked-side side-record next-is marked
 exact-room = refl
 
 one-less : scripting empty-sides (replicate 350 1) ≡ scripting-told 40 0 0 (replicate 350 1)
-unfolding one-character choice field-lines all-standing equation script scripting read-sheet read-end marked-side side-record next-is marked
+unfolding character one-character range-expression field-lines all-standing equation script scripting code edition-front read-sheet read-end marked-side side-record next-is marked
 one-less = refl
 
 cut-short : scripting (76 ∷ 69 ∷ []) [] ≡ scripting-told 11 2 0 []
-unfolding scripting read-sheet read-end marked-side side-record next-is marked
+unfolding scripting code edition-front read-sheet read-end marked-side side-record next-is marked
 cut-short = refl
+
+-- behind `ED` and the byte 2 the left side is a quotation mark, the right one DEL
+behind-edition : scripting (69 ∷ 68 ∷ 2 ∷ 76 ∷ 69 ∷ 1 ∷ 34 ∷ 82 ∷ 73 ∷ 1 ∷ 127 ∷ []) (replicate 383 0)
+    ≡ scripting-told 0 0 383 (script (record { alphabet = full-ascii; left = chr 34 ∷ []; right = chr 127 ∷ []; held = replicate 8 some-text }))
+unfolding escaped character one-character range-expression field-lines all-standing equation script scripting code edition-front read-sheet read-end marked-side side-record next-is marked
+behind-edition = refl

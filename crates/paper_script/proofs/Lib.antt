@@ -2,6 +2,7 @@
 pub mod Tree
 pub mod SameTexts
 -- the script, lexeme by lexeme
+pub mod Literal
 pub mod Lexed
 pub mod LexedScript
 -- what is read from it

@@ -1,9 +1,9 @@
--- The expression of what a field may hold has the same texts.
---   fits-matches : Fits p w → Matches (tree p) (map sign w)
---   matches-fits : leaves-take characters p → Matches (tree p) v → v is the signs of a text that fits p
---   same-texts   : GoodHeld characters h → SameTexts (tree-of h) h
--- Follows by induction on the pattern, and on how often a part comes; a range by the members of the list of its characters.
-use Prim.Native.Nat.{ℕ, suc, _-_, _≤_, _<_}
+-- The expression of what a field may hold has the same texts, in either edition.
+--   fits-matches : Fits p w → Matches (tree e p) (map (point e) w)
+--   matches-fits : leaves-take characters p → Matches (tree e p) v → v is the code points of a text that fits p
+--   same-texts   : GoodHeld characters h → SameTexts e (tree-of e h) h
+-- Follows by induction on the pattern, and on how often a part comes; a range of the first edition by the members of the list of its characters.
+use Prim.Native.Nat.{ℕ, zero, suc, _+_, _-_, _≤_, _<_}
 use native.Mathlib.Omega.{arith}
 use mathlib.Core.Path.{_≡_, refl, sym, ap, ap₂, _∙_}
 use mathlib.Core.Logic.{_⊎_, inl, inr, ⊎-elim, ⊎-map}
@@ -12,30 +12,21 @@ use mathlib.Core.List.{List, [], _∷_, _++_, map, List·Memᴰ, List·Memᴰ·h
 use lib.Dec.{leb, eqb}
 use lib.ListN.{length}
 use Rattle.paper.specs.Lists.{from}
-use Rattle.paper.specs.Numbers.{characters}
 use Rattle.paper.specs.Pattern.{char, range, takes, Pattern, leaf, empty, then, either, many, Held, some-text, pattern}
 use Rattle.paper.specs.Pattern.{Fits, one, nothing, both, first, second, none, more}
 use Rattle.paper.specs.Taken.{LeafTakes, leaves-take}
+use Rattle.paper.specs.Alphabet.{Edition, edition-1, edition-2, alphabet-of}
 use Rattle.paper.specs.Equation.{Over}
-use Rattle.paper.specs.Printed.{sign}
 use Rattle.paper.proofs.base.Tests.{by-bool, and-left, and-right, both-true, leb-true, le-leb, eqb-true, eqb-false, eqb-same}
 use Rattle.paper.proofs.base.Lists.{map-append, mem-from, from-mem}
 use Rattle.paper.proofs.places.NotStuck.{fits-over}
 use Rattle.paper.proofs.places.Judged.{range-takes}
 use Rattle.paper.proofs.sheets.Asked.{GoodHeld}
-use Rattle.paper_script.specs.Language.{Expression, to-re, union, star, Matches, itself, one-then-other, of-first, of-second, no-time, once-more}
-use Rattle.paper_script.specs.Script.{one-character-of-all, some-characters}
+use Rattle.paper.proofs.sheets.Editions.{space-of}
+use Rattle.paper_script.specs.Language.{Expression, to-re, span, union, star, Matches, itself, within, one-then-other, of-first, of-second, no-time, once-more}
+use Rattle.paper_script.specs.Script.{point, one-character-of-all, some-characters}
 use Rattle.paper_script.specs.Means.{SameTexts}
-use Rattle.paper_script.proofs.Tree.{alone, unions, tree, tree-of}
-
--- A union of characters has the texts of what it began with, and each of its characters.
-unions-first : (e : Expression) (l : List ℕ) {w : List ℕ} → Matches e w → Matches (unions e l) w
-unions-first e [] m = m
-unions-first e (c ∷ l) m = unions-first _ l (of-first m)
-
-unions-member : (e : Expression) (l : List ℕ) {c : ℕ} → List·Memᴰ c l → Matches (unions e l) (sign c ∷ [])
-unions-member e (a ∷ l) {c} (List·Memᴰ·head h) = rw h (unions-first _ l (of-second itself))
-unions-member e (a ∷ l) (List·Memᴰ·tail d) = unions-member _ l d
+use Rattle.paper_script.proofs.Tree.{alone, unions, range-tree, tree, tree-of}
 
 one-of-two : {a b : Expression} {w : List ℕ} → Matches (union a b) w → Matches a w ⊎ Matches b w
 one-of-two (of-first m) = inl m
@@ -44,106 +35,143 @@ one-of-two (of-second m) = inr m
 of-text : {t w : List ℕ} → Matches (to-re t) w → w ≡ t
 of-text itself = refl
 
--- one of the characters, and no other text
-abbrev OneOf : List ℕ → List ℕ → Type 0
-OneOf l w = (c : ℕ) × List·Memᴰ c l × (w ≡ sign c ∷ [])
-
-of-unions : (e : Expression) (l : List ℕ) {w : List ℕ} → Matches (unions e l) w → Matches e w ⊎ OneOf l w
-of-unions e [] m = inl m
-of-unions e (a ∷ l) {w} m =
-    ⊎-elim
-    (λ (n : Matches (union e (alone a)) w). ⊎-map (λ i. i) (λ (i : Matches (alone a) w). (a, List·Memᴰ·head refl, of-text i)) (one-of-two n))
-    (λ (h : OneOf l w). inr (h .0, List·Memᴰ·tail (h .1), h .2))
-    (of-unions (union e (alone a)) l m)
-
 -- A leaf.
-range-matches : (lo hi c : ℕ) → takes (range lo hi) c ≡ true → Matches (tree (leaf (range lo hi))) (sign c ∷ [])
-range-matches lo hi c t =
-    let low = leb-true lo c (and-left (leb lo c) (leb c hi) t) in
-    let high = leb-true c hi (and-right (leb lo c) (leb c hi) t) in
-    by-bool (eqb c lo)
-    (λ e. rw (eqb-true c lo e) (unions-first (alone lo) (from (suc lo) (hi - lo)) itself))
-    (λ (e : eqb c lo ≡ false).
-    let other : c ≡ lo → ⊥ = eqb-false c lo e in
-    unions-member (alone lo) (from (suc lo) (hi - lo)) {c = c} (from-mem (suc lo) (hi - lo) (omega arith) (omega arith)))
-
 range-takes-it : (lo hi c : ℕ) → lo ≤ c → c ≤ hi → takes (range lo hi) c ≡ true
 range-takes-it lo hi c h k = both-true (le-leb lo c h) (le-leb c hi k)
 
--- the text of one character that fits
-abbrev Fitting : Pattern → List ℕ → Type 0
-Fitting p v = (w : List ℕ) × (v ≡ map sign w) × Fits p w
-
-range-fits : (lo hi : ℕ) {v : List ℕ} → LeafTakes characters (range lo hi) → Matches (tree (leaf (range lo hi))) v → Fitting (leaf (range lo hi)) v
-range-fits lo hi {v} h m =
+-- where something is taken, lo is not above hi
+pub range-rises : {n : ℕ} (lo hi : ℕ) → LeafTakes n (range lo hi) → lo ≤ hi
+range-rises lo hi h =
     let low = leb-true lo (h .some) (and-left (leb lo (h .some)) (leb (h .some) hi) (h .taken)) in
     let high = leb-true (h .some) hi (and-right (leb lo (h .some)) (leb (h .some) hi) (h .taken)) in
+    omega arith
+
+module _ (e : Edition) where
+  abbrev characters : ℕ
+  characters = alphabet-of e .characters
+
+  -- A union of characters has the texts of what it began with, and each of its characters.
+  unions-first : (x : Expression) (l : List ℕ) {w : List ℕ} → Matches x w → Matches (unions e x l) w
+  unions-first x [] m = m
+  unions-first x (c ∷ l) m = unions-first _ l (of-first m)
+
+  unions-member : (x : Expression) (l : List ℕ) {c : ℕ} → List·Memᴰ c l → Matches (unions e x l) (point e c ∷ [])
+  unions-member x (a ∷ l) {c} (List·Memᴰ·head h) = rw h (unions-first _ l (of-second itself))
+  unions-member x (a ∷ l) (List·Memᴰ·tail d) = unions-member _ l d
+
+  -- one of the characters, and no other text
+  abbrev OneOf : List ℕ → List ℕ → Type 0
+  OneOf l w = (c : ℕ) × List·Memᴰ c l × (w ≡ point e c ∷ [])
+
+  of-unions : (x : Expression) (l : List ℕ) {w : List ℕ} → Matches (unions e x l) w → Matches x w ⊎ OneOf l w
+  of-unions x [] m = inl m
+  of-unions x (a ∷ l) {w} m =
+      ⊎-elim
+      (λ (n : Matches (union x (alone e a)) w). ⊎-map (λ i. i) (λ (i : Matches (alone e a) w). (a, List·Memᴰ·head refl, of-text i)) (one-of-two n))
+      (λ (h : OneOf l w). inr (h .0, List·Memᴰ·tail (h .1), h .2))
+      (of-unions (union x (alone e a)) l m)
+
+  -- the text of one character that fits
+  abbrev Fitting : Pattern → List ℕ → Type 0
+  Fitting p v = (w : List ℕ) × (v ≡ map (point e) w) × Fits p w
+
+-- A range.
+union-matches : (lo n c : ℕ) → lo ≤ c → c < suc lo + n → Matches (unions edition-1 (alone edition-1 lo) (from (suc lo) n)) (point edition-1 c ∷ [])
+union-matches lo n c low high =
+    by-bool (eqb c lo)
+    (λ e. rw (eqb-true c lo e) (unions-first edition-1 (alone edition-1 lo) (from (suc lo) n) itself))
+    (λ (e : eqb c lo ≡ false).
+    let other : c ≡ lo → ⊥ = eqb-false c lo e in
+    unions-member edition-1 (alone edition-1 lo) (from (suc lo) n) {c = c} (from-mem (suc lo) n (omega arith) (omega arith)))
+
+range-matches : (e : Edition) (lo hi n c : ℕ) → hi - lo ≡ n → lo ≤ c → c ≤ hi → Matches (range-tree e lo hi n) (point e c ∷ [])
+range-matches e lo hi zero c i low high = let same : c ≡ lo = omega arith in rw same itself
+range-matches edition-1 lo hi (suc n) c i low high = union-matches lo (suc n) c low (omega arith)
+range-matches edition-2 lo hi (suc n) c i low high = within low high
+
+one-fits : (e : Edition) (lo hi c : ℕ) {v : List ℕ} → lo ≤ c → c ≤ hi → v ≡ point e c ∷ [] → Fitting e (leaf (range lo hi)) v
+one-fits e lo hi c h k i = (c ∷ [], i, one (range-takes-it lo hi c h k))
+
+span-fits : (lo hi : ℕ) {v : List ℕ} → Matches (span (lo ∷ []) (hi ∷ [])) v → Fitting edition-2 (leaf (range lo hi)) v
+span-fits lo hi (within {c = c} h k) = one-fits edition-2 lo hi c h k refl
+
+range-fits : (e : Edition) (lo hi n : ℕ) {v : List ℕ} → hi - lo ≡ n → lo ≤ hi → Matches (range-tree e lo hi n) v → Fitting e (leaf (range lo hi)) v
+range-fits e lo hi zero i h m = one-fits e lo hi lo (omega arith) h (of-text m)
+range-fits edition-1 lo hi (suc n) {v} i h m =
     ⊎-elim
-    (λ (n : Matches (alone lo) v). (lo ∷ [], of-text n, one (range-takes-it lo hi lo (omega arith) (omega arith))))
-    (λ (n : OneOf (from (suc lo) (hi - lo)) v).
-    let within = mem-from (suc lo) (hi - lo) (n .1) in
-    (n .0 ∷ [], n .2, one (range-takes-it lo hi (n .0) (omega arith) (omega arith))))
-    (of-unions (alone lo) (from (suc lo) (hi - lo)) m)
+    (λ (k : Matches (alone edition-1 lo) v). one-fits edition-1 lo hi lo (omega arith) h (of-text k))
+    (λ (k : OneOf edition-1 (from (suc lo) (suc n)) v).
+    let its = mem-from (suc lo) (suc n) (k .1) in
+    one-fits edition-1 lo hi (k .0) (omega arith) (omega arith) (k .2))
+    (of-unions edition-1 (alone edition-1 lo) (from (suc lo) (suc n)) m)
+range-fits edition-2 lo hi (suc n) i h m = span-fits lo hi m
 
--- Every text that fits.
-joined : (u v w : List ℕ) → w ≡ u ++ v → map sign w ≡ map sign u ++ map sign v
-joined u v w e = ap (map sign) e ∙ map-append sign u v
+module _ (e : Edition) where
+  -- Every text that fits.
+  joined : (u v w : List ℕ) → w ≡ u ++ v → map (point e) w ≡ map (point e) u ++ map (point e) v
+  joined u v w i = ap (map (point e)) i ∙ map-append (point e) u v
 
-pub fits-matches : {p : Pattern} {w : List ℕ} → Fits p w → Matches (tree p) (map sign w)
-fits-matches (one {l = char a} {c = c} t) = rw (eqb-true a c t) itself
-fits-matches (one {l = range lo hi} {c = c} t) = range-matches lo hi c t
-fits-matches nothing = itself
-fits-matches (both {u = u} {v = v} {w = w} e f g) = one-then-other (joined u v w e) (fits-matches f) (fits-matches g)
-fits-matches (first f) = of-first (fits-matches f)
-fits-matches (second f) = of-second (fits-matches f)
-fits-matches none = no-time
-fits-matches (more {u = u} {v = v} {w = w} e f g) = once-more (joined u v w e) (fits-matches f) (fits-matches g)
+  pub fits-matches : {p : Pattern} {w : List ℕ} → Fits p w → Matches (tree e p) (map (point e) w)
+  fits-matches (one {l = char a} {c = c} t) = rw (eqb-true a c t) itself
+  fits-matches (one {l = range lo hi} {c = c} t) =
+      range-matches e lo hi (hi - lo) c refl (leb-true lo c (and-left (leb lo c) (leb c hi) t)) (leb-true c hi (and-right (leb lo c) (leb c hi) t))
+  fits-matches nothing = itself
+  fits-matches (both {u = u} {v = v} {w = w} i f g) = one-then-other (joined u v w i) (fits-matches f) (fits-matches g)
+  fits-matches (first f) = of-first (fits-matches f)
+  fits-matches (second f) = of-second (fits-matches f)
+  fits-matches none = no-time
+  fits-matches (more {u = u} {v = v} {w = w} i f g) = once-more (joined u v w i) (fits-matches f) (fits-matches g)
 
--- No other text.
-behind : {p q r : Pattern} {u v w : List ℕ} → w ≡ u ++ v → ((a b : List ℕ) → Fits p a → Fits q b → Fits r (a ++ b))
-    → Fitting p u → Fitting q v → Fitting r w
-behind e put (a, h, f) (b, k, g) = (a ++ b, e ∙ ap₂ _++_ h k ∙ sym (map-append sign a b), put a b f g)
+  -- No other text.
+  behind : {p q r : Pattern} {u v w : List ℕ} → w ≡ u ++ v → ((a b : List ℕ) → Fits p a → Fits q b → Fits r (a ++ b))
+      → Fitting e p u → Fitting e q v → Fitting e r w
+  behind i put (a, h, f) (b, k, g) = (a ++ b, i ∙ ap₂ _++_ h k ∙ sym (map-append (point e) a b), put a b f g)
 
-star-fits : (a : Pattern) → ((v : List ℕ) → Matches (tree a) v → Fitting a v) → {v : List ℕ} → Matches (star (tree a)) v → Fitting (many a) v
-star-fits a h no-time = ([], refl, none)
-star-fits a h (once-more {u = u} e m n) = behind e (λ u v. more refl) (h u m) (star-fits a h n)
+  star-fits : (a : Pattern) → ((v : List ℕ) → Matches (tree e a) v → Fitting e a v) → {v : List ℕ} → Matches (star (tree e a)) v
+      → Fitting e (many a) v
+  star-fits a h no-time = ([], refl, none)
+  star-fits a h (once-more {u = u} i m n) = behind i (λ u v. more refl) (h u m) (star-fits a h n)
 
-pub matches-fits : (p : Pattern) → leaves-take characters p → {v : List ℕ} → Matches (tree p) v → Fitting p v
-matches-fits (leaf (char c)) k m = (c ∷ [], of-text m, one (eqb-same c))
-matches-fits (leaf (range lo hi)) k m = range-fits lo hi k m
-matches-fits empty k itself = ([], refl, nothing)
-matches-fits (then a b) k (one-then-other e m n) = behind e (λ u v. both refl) (matches-fits a (k .0) m) (matches-fits b (k .1) n)
-matches-fits (either a b) k (of-first m) = let (w, e, f) = matches-fits a (k .0) m in (w, e, first f)
-matches-fits (either a b) k (of-second m) = let (w, e, f) = matches-fits b (k .1) m in (w, e, second f)
-matches-fits (many a) k m = star-fits a (λ v. matches-fits a k) m
+  pub matches-fits : (p : Pattern) → leaves-take (characters e) p → {v : List ℕ} → Matches (tree e p) v → Fitting e p v
+  matches-fits (leaf (char c)) k m = (c ∷ [], of-text m, one (eqb-same c))
+  matches-fits (leaf (range lo hi)) k m = range-fits e lo hi (hi - lo) refl (range-rises lo hi k) m
+  matches-fits empty k itself = ([], refl, nothing)
+  matches-fits (then a b) k (one-then-other i m n) = behind i (λ u v. both refl) (matches-fits a (k .0) m) (matches-fits b (k .1) n)
+  matches-fits (either a b) k (of-first m) = let (w, i, f) = matches-fits a (k .0) m in (w, i, first f)
+  matches-fits (either a b) k (of-second m) = let (w, i, f) = matches-fits b (k .1) m in (w, i, second f)
+  matches-fits (many a) k m = star-fits a (λ v. matches-fits a k) m
 
--- A pattern, and any text over the characters.
-fitting-over : (p : Pattern) → leaves-take characters p → (v : List ℕ) → Matches (tree p) v
-    → (w : List ℕ) × (v ≡ map sign w) × Over characters w × Fits p w
-fitting-over p k v m = let (w, e, f) = matches-fits p k m in (w, e, fits-over characters p k f, f)
+  -- A pattern, and any text over the characters.
+  fitting-over : (p : Pattern) → leaves-take (characters e) p → (v : List ℕ) → Matches (tree e p) v
+      → (w : List ℕ) × (v ≡ map (point e) w) × Over (characters e) w × Fits p w
+  fitting-over p k v m = let (w, i, f) = matches-fits p k m in (w, i, fits-over (characters e) p k f, f)
 
-any-fits : (w : List ℕ) → Over characters w → Fits (many one-character-of-all) w
-any-fits [] h = none
-any-fits (c ∷ w) h =
-    let low = h c (List·Memᴰ·head refl) in
-    let taken = range-takes-it 0 (characters - 1) c (omega arith) (omega arith) in
-    more {u = c ∷ []} {v = w} refl (one taken) (any-fits w (λ a d. h a (List·Memᴰ·tail d)))
+  any-fits : (w : List ℕ) → Over (characters e) w → Fits (many (one-character-of-all e)) w
+  any-fits [] h = none
+  any-fits (c ∷ w) h =
+      let low = h c (List·Memᴰ·head refl) in
+      let taken = range-takes-it 0 (characters e - 1) c (omega arith) (omega arith) in
+      more {u = c ∷ []} {v = w} refl (one taken) (any-fits w (λ a d. h a (List·Memᴰ·tail d)))
 
--- one character or more
-some-fits : (w : List ℕ) → Over characters w → 0 < length w → Fits some-characters w
-some-fits [] h k = absurd (omega arith)
-some-fits (c ∷ w) h k =
-    let below = h c (List·Memᴰ·head refl) in
-    both {u = c ∷ []} {v = w} refl (one (range-takes-it 0 (characters - 1) c (omega arith) (omega arith))) (any-fits w (λ a d. h a (List·Memᴰ·tail d)))
+  -- one character or more
+  some-fits : (w : List ℕ) → Over (characters e) w → 0 < length w → Fits (some-characters e) w
+  some-fits [] h k = absurd (omega arith)
+  some-fits (c ∷ w) h k =
+      let below = h c (List·Memᴰ·head refl) in
+      let taken = range-takes-it 0 (characters e - 1) c (omega arith) (omega arith) in
+      both {u = c ∷ []} {v = w} refl (one taken) (any-fits w (λ a d. h a (List·Memᴰ·tail d)))
 
-fits-some : {w : List ℕ} → Fits some-characters w → 0 < length w
-fits-some (both e (one t) m) = omega (arith, ap length e)
+  fits-some : {w : List ℕ} → Fits (some-characters e) w → 0 < length w
+  fits-some (both i (one t) m) = omega (arith, ap length i)
 
-pub same-texts : (h : Held) → GoodHeld characters h → SameTexts (tree-of h) h
-same-texts some-text k =
-    let all-of = range-takes 0 (characters - 1) (omega arith) (omega arith) in
-    record {
-      every = λ w over some. fits-matches (some-fits w over some);
-      no-other = λ v m. let (w, e, over, f) = fitting-over some-characters (all-of, all-of) v m in (w, e, over, fits-some f);
-    }
-same-texts (pattern p) k = record { every = λ w _ f. fits-matches f; no-other = fitting-over p (k .0) }
+  -- an open field's leaf takes every character
+  pub all-taken : LeafTakes (characters e) (range 0 (characters e - 1))
+  all-taken = range-takes (characters e) 0 (characters e - 1) (omega arith) (omega (arith, space-of e))
+
+  pub same-texts : (h : Held) → GoodHeld (characters e) h → SameTexts e (tree-of e h) h
+  same-texts some-text k =
+      record {
+        every = λ w over some. fits-matches (some-fits w over some);
+        no-other = λ v m. let (w, i, over, f) = fitting-over (some-characters e) (all-taken, all-taken) v m in (w, i, over, fits-some f);
+      }
+  same-texts (pattern p) k = record { every = λ w _ f. fits-matches f; no-other = fitting-over p (k .0) }

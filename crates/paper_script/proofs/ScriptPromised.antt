@@ -11,10 +11,11 @@ use lib.ListN.{length, take, drop, length-append, length-drop}
 use lib.Seq.{take-append-seam, drop-append-seam}
 use Rattle.paper.specs.Equation.{Texts}
 use Rattle.paper.specs.Question.{Question, Solution}
-use Rattle.paper.specs.Sheet.{Fault, cut-short, wrong-mark, wrong-field, wrong-length, not-one-pattern, too-many-leaves, wrong-token, fault-number}
+use Rattle.paper.specs.Sheet.{Fault, cut-short, wrong-mark, wrong-field, wrong-length, not-one-pattern, too-many-leaves, wrong-token, wrong-edition, fault-number}
 use Rattle.paper.specs.Sheet.{Reading, refused, asked, read-sheet}
 use Rattle.paper.proofs.base.Tests.{cond-by, leb-true, leb-false}
 use Rattle.paper.proofs.sheets.Asked.{GoodQuestion, sheet-good}
+use Rattle.paper.proofs.sheets.Rows.{fault-above}
 use Rattle.paper_script.specs.Reader.{read-script}
 use Rattle.paper_script.specs.Script.{script, longest-script}
 use Rattle.paper_script.specs.Means.{Means, Assignment, Satisfies}
@@ -31,15 +32,10 @@ no-40 wrong-length e = omega arith
 no-40 not-one-pattern e = omega arith
 no-40 too-many-leaves e = omega arith
 no-40 wrong-token e = omega arith
+no-40 wrong-edition e = omega arith
 
 no-0 : (x : Fault) → fault-number x ≡ 0 → ⊥
-no-0 cut-short e = omega arith
-no-0 wrong-mark e = omega arith
-no-0 wrong-field e = omega arith
-no-0 wrong-length e = omega arith
-no-0 not-one-pattern e = omega arith
-no-0 too-many-leaves e = omega arith
-no-0 wrong-token e = omega arith
+no-0 x e = omega (arith, fault-above x)
 
 abbrev question-of : Question → Reading → Question
 question-of p (refused x at) = p

@@ -1,29 +1,39 @@
--- The expression that the script's expression of a pattern is read as: operator by operator, a range as the union of its characters from the left.
-use Prim.Native.Nat.{ℕ, suc, _-_}
+-- The expression that the script's expression of a pattern is read as: operator by operator. A range of the first edition is the union of its
+-- characters from the left, one of the second is a span.
+use Prim.Native.Nat.{ℕ, zero, suc, _-_}
 use mathlib.Core.List.{List, [], _∷_}
 use Rattle.paper.specs.Lists.{from}
 use Rattle.paper.specs.Pattern.{char, range, Pattern, leaf, empty, then, either, many, Held, some-text, pattern}
-use Rattle.paper.specs.Printed.{sign}
-use Rattle.paper_script.specs.Language.{Expression, to-re, concat, union, star}
-use Rattle.paper_script.specs.Script.{some-characters}
+use Rattle.paper.specs.Alphabet.{Edition, edition-1, edition-2}
+use Rattle.paper_script.specs.Language.{Expression, to-re, span, concat, union, star}
+use Rattle.paper_script.specs.Script.{point, some-characters}
 
 -- one character
-abbrev pub alone : ℕ → Expression
-alone c = to-re (sign c ∷ [])
+abbrev pub alone : Edition → ℕ → Expression
+alone e c = to-re (point e c ∷ [])
 
 -- (re.union A B C) is (re.union (re.union A B) C)
-abbrev pub unions : Expression → List ℕ → Expression
-unions e [] = e
-unions e (c ∷ l) = unions (union e (alone c)) l
+abbrev pub unions : Edition → Expression → List ℕ → Expression
+unions e x [] = x
+unions e x (c ∷ l) = unions e (union x (alone e c)) l
 
-abbrev pub tree : Pattern → Expression
-tree (leaf (char c)) = alone c
-tree (leaf (range lo hi)) = unions (alone lo) (from (suc lo) (hi - lo))
-tree empty = to-re []
-tree (then a b) = concat (tree a) (tree b)
-tree (either a b) = union (tree a) (tree b)
-tree (many a) = star (tree a)
+-- a range from lo to hi that has so many characters behind its first
+abbrev pub several-tree : Edition → ℕ → ℕ → ℕ → Expression
+several-tree edition-1 lo hi more = unions edition-1 (alone edition-1 lo) (from (suc lo) more)
+several-tree edition-2 lo hi more = span (point edition-2 lo ∷ []) (point edition-2 hi ∷ [])
 
-abbrev pub tree-of : Held → Expression
-tree-of some-text = tree some-characters
-tree-of (pattern p) = tree p
+abbrev pub range-tree : Edition → ℕ → ℕ → ℕ → Expression
+range-tree e lo hi zero = alone e lo
+range-tree e lo hi (suc more) = several-tree e lo hi (suc more)
+
+abbrev pub tree : Edition → Pattern → Expression
+tree e (leaf (char c)) = alone e c
+tree e (leaf (range lo hi)) = range-tree e lo hi (hi - lo)
+tree e empty = to-re []
+tree e (then a b) = concat (tree e a) (tree e b)
+tree e (either a b) = union (tree e a) (tree e b)
+tree e (many a) = star (tree e a)
+
+abbrev pub tree-of : Edition → Held → Expression
+tree-of e some-text = tree e (some-characters e)
+tree-of e (pattern p) = tree e p

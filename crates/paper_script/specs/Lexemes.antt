@@ -1,16 +1,18 @@
 -- The lexemes of a script (SMT-LIB 2.6, section 3.1), as far as these scripts have them: parentheses, words, text literals; blanks and comments
--- stand between them. In a literal a doubled quotation mark is one. An escape of the theory begins with `\`: no literal that has one is read.
+-- stand between them. In a literal a doubled quotation mark is one, and only printable ASCII characters may stand, as the theory of strings asks.
 use Prim.Native.Nat.{ℕ}
-use mathlib.Core.Bool.{Bool, cond, _||_}
+use mathlib.Core.Bool.{Bool, cond, _&&_, _||_}
 use mathlib.Core.List.{List, [], _∷_, _++_}
-use lib.Dec.{eqb}
+use lib.Dec.{leb, eqb}
+use Rattle.paper_script.specs.Escapes.{meaning}
 
 pub data Lexeme : Type 0 where
   opening : Lexeme
   closing : Lexeme
   word : List ℕ → Lexeme
+  -- a literal, by the code points that it means
   text : List ℕ → Lexeme
-  -- an escape, or the end inside a literal
+  -- a byte that can't stand in a literal, or the end inside one
   unknown : Lexeme
 
 -- where the reader stands: between lexemes, or in one that has begun with these bytes
@@ -30,11 +32,8 @@ pub record Step : Type 0 where
 abbrev pub step : List Lexeme → Within → Step
 step whole stands = record { whole = whole; stands = stands }
 
-abbrev quotation-mark : ℕ
+abbrev pub quotation-mark : ℕ
 quotation-mark = 34
-
-abbrev backslash : ℕ
-backslash = 92
 
 abbrev semicolon : ℕ
 semicolon = 59
@@ -52,6 +51,10 @@ ends-line b = eqb b line-feed || eqb b carriage-return
 -- tab, line feed, carriage return, space
 abbrev pub is-blank : ℕ → Bool
 is-blank b = eqb b 32 || eqb b line-feed || eqb b 9 || eqb b carriage-return
+
+-- space to `~`
+abbrev pub is-printable : ℕ → Bool
+is-printable b = leb 32 b && leb b 126
 
 abbrev pub ends-word : ℕ → Bool
 ends-word b = is-blank b || eqb b 40 || eqb b 41 || eqb b semicolon || eqb b quotation-mark
@@ -74,9 +77,9 @@ byte-read in-comment b = cond (ends-line b) (step [] between) (step [] in-commen
 byte-read (in-word w) b = cond (ends-word b) (behind (word w) (begun b)) (step [] (in-word (w ++ (b ∷ []))))
 byte-read (in-text w) b =
     cond (eqb b quotation-mark) (step [] (behind-text w))
-    (cond (eqb b backslash) (step (unknown ∷ []) (in-text w)) (step [] (in-text (w ++ (b ∷ [])))))
+    (cond (is-printable b) (step [] (in-text (w ++ (b ∷ [])))) (step (unknown ∷ []) (in-text w)))
 byte-read (behind-text w) b =
-    cond (eqb b quotation-mark) (step [] (in-text (w ++ (quotation-mark ∷ [])))) (behind (text w) (begun b))
+    cond (eqb b quotation-mark) (step [] (in-text (w ++ (quotation-mark ∷ [])))) (behind (text (meaning w)) (begun b))
 
 -- where the bytes end
 abbrev pub ended : Within → List Lexeme
@@ -84,7 +87,7 @@ ended between = []
 ended in-comment = []
 ended (in-word w) = word w ∷ []
 ended (in-text w) = unknown ∷ []
-ended (behind-text w) = text w ∷ []
+ended (behind-text w) = text (meaning w) ∷ []
 
 abbrev pub lexemes : Within → List ℕ → List Lexeme
 lexemes at [] = ended at

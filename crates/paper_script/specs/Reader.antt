@@ -1,6 +1,6 @@
 -- A reader of scripts: from bytes to commands. It reads what SMT-LIB 2.6 calls `set-logic`, `declare-const` of a String, `assert` and `check-sat`,
--- in any layout; of terms, text literals, constants and `str.++`; of expressions `str.to_re`, `re.++`, `re.union` and `re.*`. The operators
--- `re.++` and `re.union` are left-associative: with more than two arguments, (op A B C) is (op (op A B) C).
+-- in any layout; of terms, text literals, constants and `str.++`; of expressions `str.to_re`, `re.range`, `re.++`, `re.union` and `re.*`. The
+-- operators `re.++` and `re.union` are left-associative: with more than two arguments, (op A B C) is (op (op A B) C).
 use Prim.Native.Nat.{ℕ, zero, suc}
 use Prim.Native.String.{String}
 use mathlib.Core.Bool.{Bool, true, false, cond}
@@ -8,7 +8,7 @@ use mathlib.Core.List.{List, [], _∷_, _++_, map}
 use lib.Dec.{eqb}
 use lib.ListN.{length}
 use Rattle.paper.specs.Lists.{same-by}
-use Rattle.paper_script.specs.Language.{Expression, to-re, concat, union, star}
+use Rattle.paper_script.specs.Language.{Expression, to-re, span, concat, union, star}
 use Rattle.paper_script.specs.Bytes.{bytes}
 use Rattle.paper_script.specs.Lexemes.{Lexeme, opening, closing, word, text, unknown, between, lexemes}
 
@@ -92,6 +92,12 @@ arguments argument op n s =
     and-then (argument s) (λ (a : Expression) (rest : List Lexeme).
     and-then (argument rest) (λ (b : Expression) (more : List Lexeme). further argument op n (op a b) more))
 
+-- two texts, and the closing parenthesis
+abbrev pub ends : List Lexeme → Understood Expression
+ends s =
+    and-then (a-text s) (λ (lo : List ℕ) (rest : List Lexeme).
+    and-then (a-text rest) (λ (hi : List ℕ) (more : List Lexeme). closed (span lo hi) more))
+
 -- by the word behind the opening parenthesis
 abbrev pub applied : ℕ → (List Lexeme → Understood Expression) → List ℕ → List Lexeme → Understood Expression
 applied n argument w s =
@@ -99,7 +105,8 @@ applied n argument w s =
     (cond (is w "re.*") (and-then (argument s) (λ (a : Expression) (rest : List Lexeme). closed (star a) rest))
     (cond (is w "re.++") (arguments argument concat n s)
     (cond (is w "re.union") (arguments argument union n s)
-    garbled)))
+    (cond (is w "re.range") (ends s)
+    garbled))))
 
 -- Every call reads a lexeme, so as many turns as there are lexemes are enough.
 abbrev pub read-expression : ℕ → List Lexeme → Understood Expression

@@ -10,7 +10,8 @@ use Rattle.paper.specs.Search.{enter, offer, take-next, search}
 use Rattle.paper.specs.Situation.{trimmed, strike, put-before, open-moves, child-by, children, question}
 use Rattle.paper.specs.Way.{search-from, texts-of}
 use Rattle.paper.specs.Question.{acceptor}
-use Rattle.paper.specs.Sheet.{marked, pattern-record, side-record, read-end, marked-side, next-is, read-sheet}
+use Rattle.paper.specs.Alphabet.{code}
+use Rattle.paper.specs.Sheet.{marked, pattern-record, side-record, read-end, marked-side, next-is, edition-front, read-sheet}
 use Rattle.paper.specs.Outcome.{room-of, searched, standing, value-record, records, clash, count-of, how-of}
 use Rattle.paper.proofs.known.KnownSheet.{LE, RI, VA, x, A}
 use Rattle.paper_steps.specs.StepsOutcome.{StepsOutcome, with-steps, steps-outcome}
@@ -99,7 +100,7 @@ known-steps =
     []
 
 pub steps-met : map steps-got known-steps ≡ map steps-wanted known-steps
-unfolding set-after may-end judge enter offer take-next search trimmed strike put-before open-moves child-by children question search-from texts-of acceptor marked pattern-record side-record read-end marked-side next-is read-sheet room-of searched standing value-record records clash count-of how-of with-steps steps-outcome
+unfolding set-after may-end judge enter offer take-next search trimmed strike put-before open-moves child-by children question search-from texts-of acceptor marked pattern-record side-record read-end marked-side next-is code edition-front read-sheet room-of searched standing value-record records clash count-of how-of with-steps steps-outcome
 steps-met = refl
 
 -- a sheet, the bytes of steps, the answer bytes lent, and what must come
@@ -150,5 +151,5 @@ known-plays =
     []
 
 pub plays-met : map play-got known-plays ≡ map play-wanted known-plays
-unfolding set-after may-end judge trimmed strike put-before open-moves question texts-of acceptor marked pattern-record side-record read-end marked-side next-is read-sheet standing value-record allowed alive step-made play-told play
+unfolding set-after may-end judge trimmed strike put-before open-moves question texts-of acceptor marked pattern-record side-record read-end marked-side next-is code edition-front read-sheet standing value-record allowed alive step-made play-told play
 plays-met = refl

@@ -14,7 +14,7 @@ use Rattle.paper.specs.Situation.{Situation, Move}
 use Rattle.paper.specs.Question.{Question}
 use Rattle.paper.specs.Sheet.{Reading, asked}
 use Rattle.paper.proofs.base.Tests.{by-bool, leb-true, leb-false}
-use Rattle.paper.proofs.sheets.Rows.{fault-range, by-reading}
+use Rattle.paper.proofs.sheets.Rows.{fault-above, by-reading}
 use Rattle.paper_steps.specs.Player.{Play, Played}
 use Rattle.paper_steps.specs.PlayPromised.{Accepted, way-answer, PlayPromised}
 use Rattle.paper_steps.proofs.Playing.{PlayTold, is-accepted, is-stopped, play-told}
@@ -63,7 +63,7 @@ module _ {r : Reading} {steps answer : List ℕ} {p s : Play} (a : PlayPromised 
       (λ x at h.
       let (m, l) = a .refuses x at h in
       let (n, k) = b .refuses x at h in
-      let low = fault-range x .0 in
+      let low = fault-above x in
       refused-same m n (λ z. omega arith) (l ∙ sym k))
       (λ q h. told-same q h (play-told q steps))
 

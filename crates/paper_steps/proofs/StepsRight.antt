@@ -122,7 +122,7 @@ module _ (r : Reading) (good : AsksGood r) (work answer steps : List ℕ) where
   -- The player makes the way that the search found, and gives what 01's outcome has.
   row-accepted : Row r work answer c 0
       → play-of r (steps-found r work) answer ≡ record { number = 0; count = 0; place = 0; written = c .written; answer = c .answer }
-  row-accepted (faulty x at e low high n) = absurd (omega arith)
+  row-accepted (faulty x at e n none) = absurd (true-false n refl)
   row-accepted (clashes q e g h fits w a) =
       let bytes = step-records (e .way) in
       let same : steps-found r work ≡ bytes = rw g (ap end-steps h) in

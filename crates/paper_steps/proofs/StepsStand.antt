@@ -15,13 +15,13 @@ use Rattle.paper.specs.Search.{End, found, used-up, no-room, too-long}
 use Rattle.paper.specs.Situation.{Situation, Move, question}
 use Rattle.paper.specs.Way.{search-from}
 use Rattle.paper.specs.Question.{Question, hidden, acceptor}
-use Rattle.paper.specs.Sheet.{Fault, cut-short, wrong-mark, wrong-field, wrong-length, not-one-pattern, too-many-leaves, wrong-token}
+use Rattle.paper.specs.Sheet.{Fault, cut-short, wrong-mark, wrong-field, wrong-length, not-one-pattern, too-many-leaves, wrong-token, wrong-edition}
 use Rattle.paper.specs.Sheet.{fault-number, Reading, refused, asked, read-sheet}
 use Rattle.paper.specs.Outcome.{room-of, searched, records, cleared, clash, answered, count-of, how-of}
 use Rattle.paper.proofs.base.Tests.{by-bool, cond-by, true-false, neq-eqb}
 use Rattle.paper.proofs.search.Searched
 use Rattle.paper.proofs.sheets.QuestionSearched.{equal, same}
-use Rattle.paper.proofs.sheets.Rows.{fault-range}
+use Rattle.paper.proofs.sheets.Rows.{fault-above}
 use Rattle.paper_steps.specs.StepsOutcome.{StepsOutcome, end-steps, with-steps, steps-outcome-of, steps-outcome}
 use Rattle.paper_steps.specs.StepsPromised.{steps-settle, SameSteps, StepsStand}
 
@@ -81,9 +81,10 @@ fault-settles-not wrong-length = refl
 fault-settles-not not-one-pattern = refl
 fault-settles-not too-many-leaves = refl
 fault-settles-not wrong-token = refl
+fault-settles-not wrong-edition = refl
 
 fault-not-0 : (x : Fault) → eqb (fault-number x) 0 ≡ false
-fault-not-0 x = let low = fault-range x .0 in neq-eqb (fault-number x) 0 (λ (z : fault-number x ≡ 0). omega arith)
+fault-not-0 x = let low = fault-above x in neq-eqb (fault-number x) 0 (λ (z : fault-number x ≡ 0). omega arith)
 
 -- For every reading.
 module _ (work larger answer steps : List ℕ) where

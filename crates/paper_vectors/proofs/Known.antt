@@ -17,7 +17,8 @@ use Rattle.paper.specs.Search.{enter, offer, take-next, search}
 use Rattle.paper.specs.Situation.{trimmed, strike, put-before, open-moves, child-by, children, question}
 use Rattle.paper.specs.Way.{search-from, texts-of}
 use Rattle.paper.specs.Question.{acceptor}
-use Rattle.paper.specs.Sheet.{marked, pattern-record, side-record, read-end, marked-side, next-is, read-sheet}
+use Rattle.paper.specs.Alphabet.{code}
+use Rattle.paper.specs.Sheet.{marked, pattern-record, side-record, read-end, marked-side, next-is, edition-front, read-sheet}
 use Rattle.paper.specs.Outcome.{outcome, room-of, searched, standing, value-record, records, clash, count-of, how-of}
 use Rattle.paper.proofs.known.KnownSheet.{Known, answer-row, fault-row, got, wanted, PA, LE, RI, VA, x, y, A, B, space, sheet-S, answer-S}
 use Rattle.paper.proofs.known.KnownFew.{judged-only, leaves-by}
@@ -387,5 +388,5 @@ abbrev known-sheets : List Known
 known-sheets = known-in-01 ++ known-rooms ++ known-searches ++ known-open-fields ++ known-spaces ++ known-patterns ++ known-records
 
 pub known-sheets-met : map got known-sheets ≡ map wanted known-sheets
-unfolding set-after may-end judge enter offer take-next search trimmed strike put-before open-moves child-by children question search-from texts-of acceptor marked pattern-record side-record read-end marked-side next-is read-sheet outcome room-of searched standing value-record records clash count-of how-of
+unfolding set-after may-end judge enter offer take-next search trimmed strike put-before open-moves child-by children question search-from texts-of acceptor marked pattern-record side-record read-end marked-side next-is code edition-front read-sheet outcome room-of searched standing value-record records clash count-of how-of
 known-sheets-met = refl

@@ -15,12 +15,13 @@ use Rattle.paper.specs.Search.{enter, offer, take-next, search}
 use Rattle.paper.specs.Situation.{trimmed, strike, put-before, open-moves, child-by, children, question}
 use Rattle.paper.specs.Way.{search-from}
 use Rattle.paper.specs.Question.{acceptor}
+use Rattle.paper.specs.Alphabet.{code}
 use Rattle.paper.specs.Sheet.{marked, pattern-record, side-record, marked-side, next-is}
 use Rattle.paper.specs.Outcome.{room-of, searched, count-of, how-of}
 use Rattle.paper.specs.Rule.{rule-front, read-rule, foreign-field, pair}
 use Rattle.paper_catalogue.specs.PairAsking.{pair-answer, pair-count}
 use Rattle.paper_catalogue.specs.Catalogue.{form, Added, adding, Withdrawn, withdrawing}
-use Rattle.paper.proofs.known.KnownSheet.{PA, LE, RI}
+use Rattle.paper.proofs.known.KnownSheet.{ED-2, PA, LE, RI}
 use Rattle.paper_catalogue.proofs.KnownFew.{RU, zeros, rule-A, rule-B, A-spaces}
 
 -- a catalogue, a rule's bytes, the bytes of work lent, and what must come; whether the working buffer is all zero afterwards or unchanged
@@ -188,6 +189,12 @@ refused-rules =
     refused-row (zeros 16) (LE (10 ∷ [])) 12 0 ∷
     refused-row (zeros 16) (RU (RI (10 ∷ []))) 12 2 ∷
     refused-row (zeros 16) (rule-A ++ 0 ∷ []) 12 6 ∷
+    -- "a rule never has `ED`": behind its mark, in front of it, with the byte of no edition; and its characters are Code 39's
+    refused-row (zeros 16) (RU (ED-2 ++ LE (10 ∷ []))) 12 2 ∷
+    refused-row (zeros 16) (ED-2 ++ rule-A) 12 0 ∷
+    refused-row (zeros 16) (RU (69 ∷ 68 ∷ 1 ∷ LE (10 ∷ []))) 12 2 ∷
+    refused-row (zeros 16) (RU (LE (10 ∷ 127 ∷ []))) 17 6 ∷
+    refused-row (zeros 16) (RU (LE (192 ∷ []))) 17 5 ∷
     -- field 8; a field number that stays; lengths; patterns; a token; each before 31
     refused-row (zeros 16) (RU (PA 8 (0 ∷ []) ++ LE [])) 13 4 ∷
     refused-row (zeros 16) (RU (PA 4 (0 ∷ []) ++ PA 4 (0 ∷ []) ++ LE [])) 13 9 ∷
@@ -199,9 +206,10 @@ refused-rules =
     refused-row (zeros 16 ++ 1 ∷ []) rule-A 34 0 ∷
     refused-row (rule-A ++ 0 ∷ 82 ∷ []) rule-B 34 0 ∷
     refused-row (rule-A ++ 0 ∷ rule-B) rule-AB 34 0 ∷
-    -- a rule that names field 4; a rule cut short; 33 rules; before a fault of the rule
+    -- a rule that names field 4; a rule cut short; a rule with `ED`; 33 rules; before a fault of the rule
     refused-row (RU (LE (68 ∷ [])) ++ zeros 10) rule-A 34 0 ∷
     refused-row (82 ∷ 85 ∷ 76 ∷ 69 ∷ 1 ∷ []) rule-A 34 0 ∷
+    refused-row (RU (ED-2 ++ LE (10 ∷ [])) ++ zeros 10) rule-A 34 0 ∷
     refused-row (empty-rules 33 ++ zeros 20) rule-A 34 0 ∷
     refused-row (1 ∷ []) [] 34 0 ∷
     []
@@ -210,7 +218,7 @@ abbrev known-additions : List KnownAddition
 known-additions = entered-rules ++ clashing-rules ++ refused-rules
 
 pub known-additions-met : map got known-additions ≡ map wanted known-additions
-unfolding set-after may-end judge enter offer take-next search trimmed strike put-before open-moves child-by children question search-from acceptor marked pattern-record side-record marked-side next-is room-of searched count-of how-of rule-front read-rule foreign-field pair form pair-answer pair-count adding
+unfolding set-after may-end judge enter offer take-next search trimmed strike put-before open-moves child-by children question search-from acceptor marked pattern-record side-record marked-side next-is code room-of searched count-of how-of rule-front read-rule foreign-field pair form pair-answer pair-count adding
 known-additions-met = refl
 
 -- a catalogue, the number of a rule, the number that must come, the catalogue afterwards
@@ -258,5 +266,5 @@ abbrev wanted-back : KnownWithdrawal → Withdrawn
 wanted-back k = record { number = k .number; catalogue = k .after }
 
 pub known-withdrawals-met : map got-back known-withdrawals ≡ map wanted-back known-withdrawals
-unfolding judge marked pattern-record side-record marked-side next-is rule-front foreign-field form withdrawing
+unfolding judge marked pattern-record side-record marked-side next-is code rule-front foreign-field form withdrawing
 known-withdrawals-met = refl

@@ -1,16 +1,17 @@
 -- Lines that the program `clash` prints (document 01, "The program"), as text. The checker computes them.
 --   decimals-known, lines-known : numbers in decimal; the lines of an outcome, from its numbers and the records in its answer buffer
+--   spelt-lines-known : the same behind `ED`
 --   sheets-printed : the lines for whole sheets, with what the program reads and lends
 --   program-buffers : the bytes that the program reads and lends
 --   program-never-20 : the answer buffer that the program lends is always long enough
 use Prim.Native.Nat.{ℕ}
-use Prim.Native.Char.{code}
+use Prim.Native.Char.{code as code-point}
 use Prim.Native.String.{String, [] as []ₜ, _∷_ as _∷ₜ_}
 use native.Mathlib.Omega.{arith}
 use mathlib.Core.Path.{_≡_, refl}
 use mathlib.Core.List.{List, [], _∷_, _++_, map}
 use lib.ListN.{take, replicate, length-replicate}
-use Rattle.paper.specs.Lists.{upto, each}
+use Rattle.paper.specs.Lists.{from, upto, each}
 use Rattle.paper.specs.Numbers.{program-input, program-work, program-answer}
 use Rattle.paper.specs.Places.{set-after, may-end}
 use Rattle.paper.specs.Written.{judge}
@@ -18,16 +19,20 @@ use Rattle.paper.specs.Search.{enter, offer, take-next, search}
 use Rattle.paper.specs.Situation.{trimmed, strike, put-before, open-moves, child-by, children, question}
 use Rattle.paper.specs.Way.{search-from, texts-of}
 use Rattle.paper.specs.Question.{acceptor}
-use Rattle.paper.specs.Sheet.{marked, pattern-record, side-record, read-end, marked-side, next-is, read-sheet}
+use Rattle.paper.specs.Alphabet.{edition-1, edition-2, code}
+use Rattle.paper.specs.Sheet.{marked, pattern-record, side-record, read-end, marked-side, next-is, edition-front, read-sheet}
 use Rattle.paper.specs.Outcome.{Outcome, outcome, room-of, searched, standing, value-record, records, clash, count-of, how-of}
-use Rattle.paper.specs.Printed.{decimal, printed-of, printed}
+use Rattle.paper.specs.Printed.{decimal}
 use Rattle.paper.proofs.known.KnownSheet.{PA, LE, RI, sheet-S}
+use Rattle.paper_spell.specs.FullAscii.{table}
+use Rattle.paper_print.specs.TextLines.{sheet-edition}
+use Rattle.paper_print.specs.ClashProgram.{printed-of, printed}
 use Rattle.paper_vectors.proofs.KnownLengths.{program-room}
 use Rattle.paper.proofs.sheets.AnswerRoom.{answer-enough}
 
 abbrev ascii : String → List ℕ
 ascii []ₜ = []
-ascii (c ∷ₜ s) = code c ∷ ascii s
+ascii (c ∷ₜ s) = code-point c ∷ ascii s
 
 pub decimals-known :
     map decimal (0 ∷ 9 ∷ 10 ∷ 100 ∷ 65535 ∷ 18446744073709551615 ∷ [])
@@ -43,7 +48,7 @@ abbrev VA : ℕ → ℕ → ℕ → List ℕ → List ℕ
 VA f low high text = 86 ∷ 65 ∷ f ∷ low ∷ high ∷ text
 
 pub lines-known :
-    map printed-of
+    map (printed-of edition-1)
     (told 17 65535 802 0 (VA 0 1 0 (4 ∷ [])) ∷
     told 0 1 0 0 [] ∷
     told 0 12 0 12 (VA 0 1 0 (4 ∷ []) ++ VA 3 1 0 (4 ∷ []) ++ VA 5 1 0 (4 ∷ [])) ∷
@@ -62,15 +67,34 @@ pub lines-known :
 unfolding printed-of
 lines-known = refl
 
+-- Behind `ED` every text is spelt: one in two signs for each character, and the characters 28 to 70, in which each shift sign but `$` and `+` stands.
+pub spelt-lines-known :
+    map (printed-of edition-2)
+    (told 17 65535 802 0 (VA 0 1 0 (4 ∷ [])) ∷
+    told 0 20 0 18 (VA 0 0 0 [] ++ VA 1 3 0 (97 ∷ 0 ∷ 127 ∷ []) ++ VA 2 0 0 []) ∷
+    told 0 99 0 48 (VA 7 43 0 (from 28 43)) ∷
+    [])
+    ≡ map ascii
+    ("17 65535 802\n" ∷
+    "0 20 0\n0 \n1 +A%U%T\n2 \n" ∷
+    "0 99 0\n7 %B%C%D%E /A/B/C/D/E/F/G/H/I/J/K/L-./O0123456789/Z%F%G%H%I%J%VABCDEF\n" ∷
+    [])
+unfolding printed-of table
+spelt-lines-known = refl
+
 -- eight patterns of 192 bytes, two sides of 24 tokens: 1,622 bytes
 abbrev longest-pattern : ℕ → List ℕ
 longest-pattern f = PA f (replicate 191 68 ++ 0 ∷ [])
+
+-- the record `ED`
+abbrev ED : List ℕ → List ℕ
+ED sheet = 69 ∷ 68 ∷ 2 ∷ sheet
 
 abbrev longest-sheet : List ℕ
 longest-sheet = each longest-pattern (upto 8) ++ LE (replicate 24 10) ++ RI (replicate 24 10)
 
 -- sheet S; xy and eight times `A`, open, which takes more situations than 4,096 bytes have; x and nothing, where x is one space, and where x has
--- the pattern 68 65 0 42 and is empty; the longest good sheet, and one byte more
+-- the pattern 68 65 0 42 and is empty; the longest good sheet, and one byte more; behind `ED`, x and `a#`, and x and nothing, where x is one space
 pub sheets-printed :
     map printed
     (sheet-S ∷
@@ -79,6 +103,8 @@ pub sheets-printed :
     (PA 0 (68 ∷ 65 ∷ 0 ∷ 42 ∷ []) ++ LE (64 ∷ []) ++ RI []) ∷
     longest-sheet ∷
     (longest-sheet ++ 0 ∷ []) ∷
+    ED (LE (192 ∷ []) ++ RI (97 ∷ 35 ∷ [])) ∷
+    ED (LE (192 ∷ []) ++ RI []) ∷
     [])
     ≡ map ascii
     ("0 13 0\n0 4\n1 4\n" ∷
@@ -87,8 +113,10 @@ pub sheets-printed :
     "0 10 0\n0 \n" ∷
     "0 5 0\n" ∷
     "12 0 1622\n" ∷
+    "0 12 0\n0 +A/C\n" ∷
+    "0 9 0\n0  \n" ∷
     [])
-unfolding set-after may-end judge enter offer take-next search trimmed strike put-before open-moves child-by children question search-from texts-of acceptor marked pattern-record side-record read-end marked-side next-is read-sheet outcome room-of searched standing value-record records clash count-of how-of printed-of printed
+unfolding set-after may-end judge enter offer take-next search trimmed strike put-before open-moves child-by children question search-from texts-of acceptor marked pattern-record side-record read-end marked-side next-is code edition-front read-sheet outcome room-of searched standing value-record records clash count-of how-of table sheet-edition printed-of printed
 sheets-printed = refl
 
 -- "reads the first" 2,048 "bytes of standard input, lends 65,520 bytes of work and 4,096 of answer"

@@ -16,6 +16,7 @@ use Rattle.paper.specs.Search.{enter, offer, take-next, search}
 use Rattle.paper.specs.Situation.{trimmed, strike, put-before, open-moves, child-by, children, question}
 use Rattle.paper.specs.Way.{search-from}
 use Rattle.paper.specs.Question.{acceptor}
+use Rattle.paper.specs.Alphabet.{code}
 use Rattle.paper.specs.Sheet.{marked, pattern-record, side-record, marked-side, next-is}
 use Rattle.paper.specs.Outcome.{room-of, searched, count-of, how-of}
 use Rattle.paper.specs.Rule.{rule-front, foreign-field, pair}
@@ -125,7 +126,7 @@ known-rechecks =
     []
 
 pub known-rechecks-met : map got known-rechecks ≡ map wanted known-rechecks
-unfolding set-after may-end judge enter offer take-next search trimmed strike put-before open-moves child-by children question search-from acceptor marked pattern-record side-record marked-side next-is room-of searched count-of how-of rule-front foreign-field pair form pair-answer pair-count rechecking
+unfolding set-after may-end judge enter offer take-next search trimmed strike put-before open-moves child-by children question search-from acceptor marked pattern-record side-record marked-side next-is code room-of searched count-of how-of rule-front foreign-field pair form pair-answer pair-count rechecking
 known-rechecks-met = refl
 
 -- "the count in two bytes (low first)"

@@ -1,5 +1,6 @@
 -- known sheets
 pub mod Known
+pub mod KnownEditions
 pub mod KnownBounds
 pub mod KnownLengths
 pub mod KnownPrinted

@@ -26,7 +26,7 @@ module _ (s : List ℕ) (q : Question) (e : read-sheet s ≡ asked q) where
   unfolding writing
   written-back out = rw (laid-back, e)
 
-  -- "the same with 68 65 0 42"
+  -- "the same with 68 65 0 42", behind `ED` with "196 193 0 127"
   pub carried-by : (out : List ℕ) → spelling s out ≡ writing (to-say (spelt-open q)) out
   unfolding spelling writing sheet-saying
   carried-by out = rw (e, sheet-carried s q e .asks)

@@ -1,3 +1,4 @@
+pub mod KnownWritten
 pub mod LaidRead
 pub mod LaidSaying
 pub mod WritePromised

@@ -1,6 +1,6 @@
 -- A number that no byte holds is never written.
---   no-byte : where a number is laid out that no byte holds, reading refuses the sheet: at that number with 13 or 14, or before it
--- What is given in bytes are the patterns and the sides, so such a number is a field's or a length. By the records, one behind the other.
+--   no-byte : where a number is laid out that no byte holds, reading refuses the sheet: at that number with 44, 13 or 14, or before it
+-- What is given in bytes are the patterns and the sides, so such a number is the edition's, a field's or a length. By the records, one behind the other.
 use Prim.Native.Nat.{ℕ, zero, suc, _+_, _≤_, _<_}
 use native.Mathlib.Nat.{add-zero, zero-add, suc-add, add-suc}
 use native.Mathlib.Numerals.{add-one}
@@ -10,17 +10,19 @@ use mathlib.Core.Logic.{_⊎_, inl, inr}
 use mathlib.Core.Bool.{Bool, true, false, cond}
 use mathlib.Core.List.{List, [], _∷_, _++_, append-assoc, append-nil}
 use lib.Dec.{leb, ltb, eqb}
-use lib.ListN.{length, getD, take, drop, length-append, length-take, List·getD-eq-default}
+use lib.ListN.{length, getD, take, drop, length-append, length-take, length-map, List·getD-eq-default}
 use lib.Seq.{length-take-le, drop-drop, getD-drop, drop-append-seam}
 use Rattle.paper.specs.Lists.{all, leading}
 use Rattle.paper.specs.Numbers.{fields, pattern-bytes, sheet-side}
+use Rattle.paper.specs.Alphabet.{Edition, edition-1, edition-2, codes}
+use Rattle.paper.specs.Alphabet as Alphabet
 use Rattle.paper.specs.Written.{Judged, judged, judge}
 use Rattle.paper.specs.Written as Written
-use Rattle.paper.specs.Sheet.{Fault, wrong-field, wrong-length, byte-at, Mark, PA, LE, RI, first-letter, second-letter, is-token, refused, read-sheet}
-use Rattle.paper.proofs.base.Tests.{by-bool, cond-by, cond-true, cond-false, true-false, leb-true, leb-false, ltb-true, ltb-false}
+use Rattle.paper.specs.Sheet.{Fault, wrong-field, wrong-length, wrong-edition, byte-at, Mark, PA, LE, RI, ED, first-letter, second-letter, is-token, refused, read-sheet}
+use Rattle.paper.proofs.base.Tests.{by-bool, cond-by, cond-true, cond-false, true-false, leb-true, leb-false, ltb-true, ltb-false, eqb-true}
 use Rattle.paper.proofs.places.Judged.{within-not-one, within-too-many}
-use Rattle.paper.specs.Saying.{ToSay, pattern-laid, side-laid, laid-from, sheet-laid}
-use Rattle.paper_write.specs.Laying.{Laying, at-fault, laid-out, judged-laid, record-laid, side-record-laid, then-laid, fields-laid, then-side, laying}
+use Rattle.paper.specs.Saying.{ToSay, mark-bytes, pattern-laid, side-laid, edition-laid, edition-byte, laid-from, sheet-laid}
+use Rattle.paper_write.specs.Laying.{Laying, at-fault, laid-out, judged-laid, record-laid, side-record-laid, then-laid, fields-laid, then-side, laying-in, laying}
 use Rattle.paper.proofs.sheets.FaultPlaces.{leading-below}
 use Rattle.paper_write.proofs.LaidRead.{Whole, laying-reads}
 
@@ -39,10 +41,10 @@ bytes-drop zero l h = h
 bytes-drop (suc n) [] h = tt
 bytes-drop (suc n) (b ∷ l) h = bytes-drop n l (h .1)
 
--- where a fault is that is met at or before the number i: 13 or 14 at it, or any before it
+-- where a fault is that is met at or before the number i: 13, 14 or 44 at it, or any before it
 pub record Before (i : ℕ) (x : Fault) (at : ℕ) : Type 0 where
   pub not-behind : at ≤ i
-  pub which : (x ≡ wrong-field) ⊎ ((x ≡ wrong-length) ⊎ (at < i))
+  pub which : (x ≡ wrong-field) ⊎ ((x ≡ wrong-length) ⊎ ((x ≡ wrong-edition) ⊎ (at < i)))
 
 -- where it is not met, the number stands in what is left
 abbrev Meets : List ℕ → ℕ → List ℕ → Laying → Type 0
@@ -76,158 +78,196 @@ module _ (s : List ℕ) (i : ℕ) (above : 256 ≤ byte-at s i) where
       cond-by (λ (l : List ℕ). byte-at l 0 < 256) (eqb n 0) (λ _. first-byte lengths (suc f) patterns rest h)
       (λ _. cond-by (λ (l : List ℕ). byte-at l 0 < 256) (ltb (length patterns) n) (λ _. omega arith) (λ _. omega arith))
 
-  -- one field's record
-  module _ (rest : List ℕ) (f n : ℕ) (lengths done patterns : List ℕ) (bytes : AllBytes patterns) (front : byte-at rest 0 < 256) (h : length done ≤ i) where
-    abbrev code : List ℕ
-    code = take n patterns
+  -- in an edition
+  module _ (ed : Edition) where
+    -- one field's record
+    module _ (rest : List ℕ) (f n : ℕ) (lengths done patterns : List ℕ) (bytes : AllBytes patterns) (front : byte-at rest 0 < 256) (h : length done ≤ i) where
+      abbrev code : List ℕ
+      code = take n patterns
 
-    abbrev behind : List ℕ
-    behind = laid-from (suc f) lengths (drop n patterns) rest
+      abbrev behind : List ℕ
+      behind = laid-from (suc f) lengths (drop n patterns) rest
 
-    record-past : f < fields → n ≤ pattern-bytes → (some more : List ℕ) → AllBytes some → drop (length done) s ≡ pattern-laid f n some ++ more
-        → length done + (4 + length some) ≤ i
-    record-past known short some more b e =
-        omega (arith, past (pattern-laid f n some) more (length done) (omega arith, (omega arith, (omega arith, (omega arith, b)))) e h)
+      record-past : f < fields → n ≤ pattern-bytes → (some more : List ℕ) → AllBytes some → drop (length done) s ≡ pattern-laid f n some ++ more
+          → length done + (4 + length some) ≤ i
+      record-past known short some more b e =
+          omega (arith, past (pattern-laid f n some) more (length done) (omega arith, (omega arith, (omega arith, (omega arith, b)))) e h)
 
-    abbrev end : ℕ
-    end = length done + length (pattern-laid f n code)
+      abbrev end : ℕ
+      end = length done + length (pattern-laid f n code)
 
-    judged-meets : f < fields → n ≤ pattern-bytes → s ≡ done ++ (pattern-laid f n code ++ behind) → (j : Judged) → judge code ≡ j
-        → MeetsBehind s i done behind (judged-laid j f n code)
-    judged-meets known short d j q = by-judged j q
+      judged-meets : f < fields → n ≤ pattern-bytes → s ≡ done ++ (pattern-laid f n code ++ behind) → (j : Judged) → judge (codes ed code) ≡ j
+          → MeetsBehind s i done behind (judged-laid j f n code)
+      judged-meets known short d j q = by-judged j q
+        where
+          e : drop (length done) s ≡ pattern-laid f n code ++ behind
+          e = ap (drop (length done)) d ∙ drop-append-seam done (pattern-laid f n code ++ behind)
+
+          there : end ≤ i
+          there = omega (arith, record-past known short code behind (bytes-take n patterns bytes) e)
+
+          next : byte-at s end ≡ byte-at behind 0
+          next =
+              ap (byte-at s) (sym (add-zero end)) ∙ sym (getD-drop end s 0 0)
+              ∙ ap (λ (l : List ℕ). getD l 0 0)
+              (sym (drop-drop (length (pattern-laid f n code)) (length done) s) ∙ ap (drop (length (pattern-laid f n code))) e
+              ∙ drop-append-seam (pattern-laid f n code) behind)
+
+          strictly : end < i
+          strictly = past-one end there (omega (arith, next, first-byte lengths (suc f) (drop n patterns) rest front))
+
+          by-judged : (j : Judged) → judge (codes ed code) ≡ j → MeetsBehind s i done behind (judged-laid j f n code)
+          by-judged (Written.not-one-pattern k) q =
+              let low = within-not-one (codes ed code) k q in
+              let same = length-map code (Alphabet.code ed) in
+              record { not-behind = omega (arith, there); which = inr (inr (inr (omega (arith, strictly)))) }
+          by-judged (Written.too-many-leaves k) q =
+              let low = within-too-many (codes ed code) k q in
+              let same = length-map code (Alphabet.code ed) in
+              record { not-behind = omega (arith, there); which = inr (inr (inr (omega (arith, strictly)))) }
+          by-judged (judged p) q =
+              (omega (arith, there, length-append done (pattern-laid f n code)), d ∙ sym (append-assoc done (pattern-laid f n code) behind))
+
+      abbrev cut : List ℕ
+      cut = pattern-laid f n patterns
+
+      abbrev whole : List ℕ
+      whole = pattern-laid f n code ++ behind
+
+      -- 13 and 14 stand at the number itself; where bytes are missing, there is no such number
+      field-meets : s ≡ done ++ cond (ltb (length patterns) n) cut whole → MeetsBehind s i done behind (record-laid ed f n patterns)
+      unfolding record-laid
+      field-meets e =
+          cond-by (MeetsBehind s i done behind) (leb fields f)
+          (λ _. record { not-behind = marks; which = inl refl })
+          (λ a. cond-by (MeetsBehind s i done behind) (ltb pattern-bytes n)
+          (λ _. record { not-behind = named (leb-false fields f a); which = inr (inl refl) })
+          (λ b. let known = leb-false fields f a in
+          let short = ltb-false pattern-bytes n b in
+          cond-by (MeetsBehind s i done behind) (ltb (length patterns) n)
+          (λ m. absurd (not-at-end (omega (
+            arith,
+            ap length (ends m),
+            length-append done (cut ++ []),
+            ap length (append-nil patterns),
+            record-past known short patterns [] bytes (there patterns [] (ends m)),
+          ))))
+          (λ m. judged-meets known short (goes-on m) (judge (codes ed code)) refl)))
+        where
+          there : (some more : List ℕ) → s ≡ done ++ (pattern-laid f n some ++ more) → drop (length done) s ≡ pattern-laid f n some ++ more
+          there some more d = ap (drop (length done)) d ∙ drop-append-seam done (pattern-laid f n some ++ more)
+
+          ends : ltb (length patterns) n ≡ true → s ≡ done ++ (cut ++ [])
+          ends m = e ∙ ap (λ (l : List ℕ). done ++ l) (cond-true (ltb (length patterns) n) cut whole m ∙ sym (append-nil cut))
+
+          goes-on : ltb (length patterns) n ≡ false → s ≡ done ++ whole
+          goes-on m = e ∙ ap (λ (l : List ℕ). done ++ l) (cond-false (ltb (length patterns) n) cut whole m)
+
+          -- whichever of the two it is, the mark, the field and the length stand in front
+          in-front : (l : List ℕ) × (drop (length done) s ≡ first-letter PA ∷ second-letter PA ∷ f ∷ n ∷ l)
+          in-front =
+              by-bool (ltb (length patterns) n)
+              (λ m. (patterns ++ [], there patterns [] (ends m)))
+              (λ m. (code ++ behind, there code behind (goes-on m)))
+
+          marks : length done + 2 ≤ i
+          marks = let (l, d) = in-front in past (first-letter PA ∷ second-letter PA ∷ []) (f ∷ n ∷ l) (length done) (omega arith, (omega arith, tt)) d h
+
+          named : f < fields → length done + 3 ≤ i
+          named known =
+              let (l, d) = in-front in
+              past (first-letter PA ∷ second-letter PA ∷ f ∷ []) (n ∷ l) (length done) (omega arith, (omega arith, (omega arith, tt))) d h
+
+    then-meets : (done behind rest : List ℕ) (go-on : List ℕ → Laying) (w : Laying) → MeetsBehind s i done behind w
+        → ((more : List ℕ) → length more ≤ i → s ≡ more ++ behind → Meets s i rest (go-on more)) → Meets s i rest (then-laid done w go-on)
+    then-meets done behind rest go-on (at-fault x at) h next = h
+    then-meets done behind rest go-on (laid-out bytes) h next = next (done ++ bytes) (h .0) (h .1)
+
+    -- all of the fields
+    fields-meet : (lengths : List ℕ) (f : ℕ) (done patterns rest : List ℕ) → AllBytes patterns → byte-at rest 0 < 256 → length done ≤ i
+        → s ≡ done ++ laid-from f lengths patterns rest → Meets s i rest (fields-laid ed done f lengths patterns)
+    fields-meet [] f done patterns rest b front h e = (h, e)
+    fields-meet (n ∷ lengths) f done patterns rest b front h e =
+        let none = laid-from (suc f) lengths patterns rest in
+        let behind = laid-from (suc f) lengths (drop n patterns) rest in
+        let some = cond (ltb (length patterns) n) (pattern-laid f n patterns) (pattern-laid f n (take n patterns) ++ behind) in
+        cond-by (Meets s i rest) (eqb n 0)
+        (λ z. fields-meet lengths (suc f) done patterns rest b front h (e ∙ ap (λ (t : List ℕ). done ++ t) (cond-true (eqb n 0) none some z)))
+        (λ z. then-meets done behind rest (λ (more : List ℕ). fields-laid ed more (suc f) lengths (drop n patterns)) (record-laid ed f n patterns)
+        (field-meets rest f n lengths done patterns b front h (e ∙ ap (λ (t : List ℕ). done ++ t) (cond-false (eqb n 0) none some z)))
+        (λ more k d. fields-meet lengths (suc f) more (drop n patterns) rest (bytes-drop n patterns b) front k d))
+
+    -- a side
+    side-meets : (m : Mark) (done tokens rest : List ℕ) → first-letter m < 256 → second-letter m < 256 → AllBytes tokens → length done ≤ i
+        → s ≡ done ++ (side-laid m tokens ++ rest) → MeetsBehind s i done rest (side-record-laid ed m tokens)
+    unfolding side-record-laid
+    side-meets m done tokens rest x y b h e =
+        cond-by (MeetsBehind s i done rest) (ltb sheet-side (length tokens))
+        (λ _. record {
+          not-behind = past (first-letter m ∷ second-letter m ∷ []) (length tokens ∷ tokens ++ rest) (length done) (x, (y, tt)) here h;
+          which = inr (inl refl);
+        })
+        (λ short. let low = ltb-false sheet-side (length tokens) short in
+        let behind = past (side-laid m tokens) rest (length done) (x, (y, (omega arith, b))) here h in
+        cond-by (MeetsBehind s i done rest) (all is-token (codes ed tokens))
+        (λ _. (omega (arith, behind, length-append done (side-laid m tokens)), e ∙ sym (append-assoc done (side-laid m tokens) rest)))
+        (λ a. let k = leading-below is-token (codes ed tokens) a in
+        let same = length-map tokens (Alphabet.code ed) in
+        record { not-behind = omega (arith, behind); which = inr (inr (inr (omega (arith, behind)))) }))
       where
-        e : drop (length done) s ≡ pattern-laid f n code ++ behind
-        e = ap (drop (length done)) d ∙ drop-append-seam done (pattern-laid f n code ++ behind)
+        here : drop (length done) s ≡ side-laid m tokens ++ rest
+        here = ap (drop (length done)) e ∙ drop-append-seam done (side-laid m tokens ++ rest)
 
-        there : end ≤ i
-        there = omega (arith, record-past known short code behind (bytes-take n patterns bytes) e)
+    side-meet : (m : Mark) (behind tokens rest : List ℕ) → AllBytes tokens → first-letter m < 256 → second-letter m < 256
+        → behind ≡ side-laid m tokens ++ rest → (w : Laying) → Meets s i behind w → Meets s i rest (then-side ed m tokens w)
+    side-meet m behind tokens rest b x y e (at-fault z at) h = h
+    side-meet m behind tokens rest b x y e (laid-out done) h =
+        then-meets done rest rest laid-out (side-record-laid ed m tokens)
+        (side-meets m done tokens rest x y b (h .0) (h .1 ∙ ap (λ (l : List ℕ). done ++ l) e))
+        (λ more k d. (k, d))
 
-        next : byte-at s end ≡ byte-at behind 0
-        next =
-            ap (byte-at s) (sym (add-zero end)) ∙ sym (getD-drop end s 0 0)
-            ∙ ap (λ (l : List ℕ). getD l 0 0)
-            (sym (drop-drop (length (pattern-laid f n code)) (length done) s) ∙ ap (drop (length (pattern-laid f n code))) e
-            ∙ drop-append-seam (pattern-laid f n code) behind)
-
-        strictly : end < i
-        strictly = past-one end there (omega (arith, next, first-byte lengths (suc f) (drop n patterns) rest front))
-
-        by-judged : (j : Judged) → judge code ≡ j → MeetsBehind s i done behind (judged-laid j f n code)
-        by-judged (Written.not-one-pattern k) q =
-            record { not-behind = omega (arith, there, within-not-one code k q); which = inr (inr (omega (arith, strictly, within-not-one code k q))) }
-        by-judged (Written.too-many-leaves k) q =
-            record { not-behind = omega (arith, there, within-too-many code k q); which = inr (inr (omega (arith, strictly, within-too-many code k q))) }
-        by-judged (judged p) q =
-            (omega (arith, there, length-append done (pattern-laid f n code)), d ∙ sym (append-assoc done (pattern-laid f n code) behind))
-
-    abbrev cut : List ℕ
-    cut = pattern-laid f n patterns
-
-    abbrev whole : List ℕ
-    whole = pattern-laid f n code ++ behind
-
-    -- 13 and 14 stand at the number itself; where bytes are missing, there is no such number
-    field-meets : s ≡ done ++ cond (ltb (length patterns) n) cut whole → MeetsBehind s i done behind (record-laid f n patterns)
-    unfolding record-laid
-    field-meets e =
-        cond-by (MeetsBehind s i done behind) (leb fields f)
-        (λ _. record { not-behind = marks; which = inl refl })
-        (λ a. cond-by (MeetsBehind s i done behind) (ltb pattern-bytes n)
-        (λ _. record { not-behind = named (leb-false fields f a); which = inr (inl refl) })
-        (λ b. let known = leb-false fields f a in
-        let short = ltb-false pattern-bytes n b in
-        cond-by (MeetsBehind s i done behind) (ltb (length patterns) n)
-        (λ m. absurd (not-at-end (omega (
-          arith,
-          ap length (ends m),
-          length-append done (cut ++ []),
-          ap length (append-nil patterns),
-          record-past known short patterns [] bytes (there patterns [] (ends m)),
-        ))))
-        (λ m. judged-meets known short (goes-on m) (judge code) refl)))
-      where
-        there : (some more : List ℕ) → s ≡ done ++ (pattern-laid f n some ++ more) → drop (length done) s ≡ pattern-laid f n some ++ more
-        there some more d = ap (drop (length done)) d ∙ drop-append-seam done (pattern-laid f n some ++ more)
-
-        ends : ltb (length patterns) n ≡ true → s ≡ done ++ (cut ++ [])
-        ends m = e ∙ ap (λ (l : List ℕ). done ++ l) (cond-true (ltb (length patterns) n) cut whole m ∙ sym (append-nil cut))
-
-        goes-on : ltb (length patterns) n ≡ false → s ≡ done ++ whole
-        goes-on m = e ∙ ap (λ (l : List ℕ). done ++ l) (cond-false (ltb (length patterns) n) cut whole m)
-
-        -- whichever of the two it is, the mark, the field and the length stand in front
-        in-front : (l : List ℕ) × (drop (length done) s ≡ first-letter PA ∷ second-letter PA ∷ f ∷ n ∷ l)
-        in-front =
-            by-bool (ltb (length patterns) n)
-            (λ m. (patterns ++ [], there patterns [] (ends m)))
-            (λ m. (code ++ behind, there code behind (goes-on m)))
-
-        marks : length done + 2 ≤ i
-        marks = let (l, d) = in-front in past (first-letter PA ∷ second-letter PA ∷ []) (f ∷ n ∷ l) (length done) (omega arith, (omega arith, tt)) d h
-
-        named : f < fields → length done + 3 ≤ i
-        named known =
-            let (l, d) = in-front in
-            past (first-letter PA ∷ second-letter PA ∷ f ∷ []) (n ∷ l) (length done) (omega arith, (omega arith, (omega arith, tt))) d h
-
-  then-meets : (done behind rest : List ℕ) (go-on : List ℕ → Laying) (w : Laying) → MeetsBehind s i done behind w
-      → ((more : List ℕ) → length more ≤ i → s ≡ more ++ behind → Meets s i rest (go-on more)) → Meets s i rest (then-laid done w go-on)
-  then-meets done behind rest go-on (at-fault x at) h next = h
-  then-meets done behind rest go-on (laid-out bytes) h next = next (done ++ bytes) (h .0) (h .1)
-
-  -- all of the fields
-  fields-meet : (lengths : List ℕ) (f : ℕ) (done patterns rest : List ℕ) → AllBytes patterns → byte-at rest 0 < 256 → length done ≤ i
-      → s ≡ done ++ laid-from f lengths patterns rest → Meets s i rest (fields-laid done f lengths patterns)
-  fields-meet [] f done patterns rest b front h e = (h, e)
-  fields-meet (n ∷ lengths) f done patterns rest b front h e =
-      let none = laid-from (suc f) lengths patterns rest in
-      let behind = laid-from (suc f) lengths (drop n patterns) rest in
-      let some = cond (ltb (length patterns) n) (pattern-laid f n patterns) (pattern-laid f n (take n patterns) ++ behind) in
-      cond-by (Meets s i rest) (eqb n 0)
-      (λ z. fields-meet lengths (suc f) done patterns rest b front h (e ∙ ap (λ (t : List ℕ). done ++ t) (cond-true (eqb n 0) none some z)))
-      (λ z. then-meets done behind rest (λ (more : List ℕ). fields-laid more (suc f) lengths (drop n patterns)) (record-laid f n patterns)
-      (field-meets rest f n lengths done patterns b front h (e ∙ ap (λ (t : List ℕ). done ++ t) (cond-false (eqb n 0) none some z)))
-      (λ more k d. fields-meet lengths (suc f) more (drop n patterns) rest (bytes-drop n patterns b) front k d))
-
-  -- a side
-  side-meets : (m : Mark) (done tokens rest : List ℕ) → first-letter m < 256 → second-letter m < 256 → AllBytes tokens → length done ≤ i
-      → s ≡ done ++ (side-laid m tokens ++ rest) → MeetsBehind s i done rest (side-record-laid m tokens)
-  unfolding side-record-laid
-  side-meets m done tokens rest x y b h e =
-      cond-by (MeetsBehind s i done rest) (ltb sheet-side (length tokens))
-      (λ _. record {
-        not-behind = past (first-letter m ∷ second-letter m ∷ []) (length tokens ∷ tokens ++ rest) (length done) (x, (y, tt)) here h;
-        which = inr (inl refl);
-      })
-      (λ short. let low = ltb-false sheet-side (length tokens) short in
-      let behind = past (side-laid m tokens) rest (length done) (x, (y, (omega arith, b))) here h in
-      cond-by (MeetsBehind s i done rest) (all is-token tokens)
-      (λ _. (omega (arith, behind, length-append done (side-laid m tokens)), e ∙ sym (append-assoc done (side-laid m tokens) rest)))
-      (λ a. let k = leading-below is-token tokens a in record { not-behind = omega (arith, behind); which = inr (inr (omega (arith, behind))) }))
-    where
-      here : drop (length done) s ≡ side-laid m tokens ++ rest
-      here = ap (drop (length done)) e ∙ drop-append-seam done (side-laid m tokens ++ rest)
-
-  side-meet : (m : Mark) (behind tokens rest : List ℕ) → AllBytes tokens → first-letter m < 256 → second-letter m < 256
-      → behind ≡ side-laid m tokens ++ rest → (w : Laying) → Meets s i behind w → Meets s i rest (then-side m tokens w)
-  side-meet m behind tokens rest b x y e (at-fault z at) h = h
-  side-meet m behind tokens rest b x y e (laid-out done) h =
-      then-meets done rest rest laid-out (side-record-laid m tokens)
-      (side-meets m done tokens rest x y b (h .0) (h .1 ∙ ap (λ (l : List ℕ). done ++ l) e))
-      (λ more k d. (k, d))
+-- the edition's record has bytes alone
+edition-bytes : (ed : Edition) → AllBytes (edition-laid (edition-byte ed))
+edition-bytes edition-1 = tt
+edition-bytes edition-2 = (omega arith, (omega arith, (omega arith, tt)))
 
 -- all of the sheet
-met : (t : ToSay) (i : ℕ) → 256 ≤ byte-at (sheet-laid t) i → AllBytes (t .patterns) → AllBytes (t .left) → AllBytes (t .right)
-    → Meets (sheet-laid t) i [] (laying t)
-unfolding sheet-laid laying
-met t i above patterns left right =
-    let s = sheet-laid t in
-    let w = fields-laid [] 0 (t .lengths) (t .patterns) in
-    let left-bytes = side-laid LE (t .left) in
-    let right-bytes = side-laid RI (t .right) in
-    side-meet s i above RI right-bytes (t .right) [] right (omega arith) (omega arith) (sym (append-nil right-bytes)) (then-side LE (t .left) w)
-    (side-meet s i above LE (left-bytes ++ right-bytes) (t .left) right-bytes left (omega arith) (omega arith) refl w
-    (fields-meet s i above (t .lengths) 0 [] (t .patterns) (left-bytes ++ right-bytes) patterns (omega arith) (omega arith) refl))
+module _ (t : ToSay) (i : ℕ) (above : 256 ≤ byte-at (sheet-laid t) i) (patterns : AllBytes (t .patterns)) (left : AllBytes (t .left)) (right : AllBytes (t .right)) where
+  abbrev left-bytes : List ℕ
+  left-bytes = side-laid LE (t .left)
+
+  abbrev right-bytes : List ℕ
+  right-bytes = side-laid RI (t .right)
+
+  abbrev records-bytes : List ℕ
+  records-bytes = laid-from 0 (t .lengths) (t .patterns) (left-bytes ++ right-bytes)
+
+  met-in : (ed : Edition) → t .edition ≡ edition-byte ed → Meets (sheet-laid t) i [] (laying-in ed t)
+  unfolding sheet-laid laying-in
+  met-in ed given =
+      let s = sheet-laid t in
+      let front = edition-laid (edition-byte ed) in
+      let w = fields-laid ed front 0 (t .lengths) (t .patterns) in
+      let parts : s ≡ front ++ records-bytes = ap (λ (n : ℕ). edition-laid n ++ records-bytes) given in
+      let behind = past s i above front records-bytes 0 (edition-bytes ed) parts (omega arith) in
+      side-meet s i above ed RI right-bytes (t .right) [] right (omega arith) (omega arith) (sym (append-nil right-bytes)) (then-side ed LE (t .left) w)
+      (side-meet s i above ed LE (left-bytes ++ right-bytes) (t .left) right-bytes left (omega arith) (omega arith) refl w
+      (fields-meet s i above ed (t .lengths) 0 front (t .patterns) (left-bytes ++ right-bytes) patterns (omega arith) (omega (arith, behind)) parts))
+
+  met-other : eqb (t .edition) 0 ≡ false → Before i wrong-edition 2
+  unfolding sheet-laid
+  met-other z =
+      let s = sheet-laid t in
+      let n = t .edition in
+      let parts : s ≡ mark-bytes ED ++ (n ∷ records-bytes) = ap (λ (l : List ℕ). l ++ records-bytes) (cond-false (eqb n 0) [] (mark-bytes ED ++ n ∷ []) z) in
+      let marks = past s i above (mark-bytes ED) (n ∷ records-bytes) 0 (omega arith, (omega arith, tt)) parts (omega arith) in
+      record { not-behind = omega (arith, marks); which = inr (inr (inl refl)) }
+
+  met : Meets (sheet-laid t) i [] (laying t)
+  unfolding laying
+  met =
+      cond-by (Meets (sheet-laid t) i []) (eqb (t .edition) 0) (λ z. met-in edition-1 (eqb-true (t .edition) 0 z))
+      (λ z. cond-by (Meets (sheet-laid t) i []) (eqb (t .edition) 2) (λ y. met-in edition-2 (eqb-true (t .edition) 2 y)) (λ _. met-other z))
 
 -- a fault that is met at or before the number
 pub record RefusedBefore (s : List ℕ) (i : ℕ) : Type 0 where

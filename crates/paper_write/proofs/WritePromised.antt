@@ -16,7 +16,7 @@ use Rattle.paper.proofs.saying.Sayable.{sheet-sayable}
 use Rattle.paper_carry.specs.Spelling.{Spelling, put-into, longest-sheet}
 use Rattle.paper_carry.proofs.SaidBack.{said-back}
 use Rattle.paper_carry.proofs.Lengths.{sheet-length}
-use Rattle.paper_carry.proofs.CarryPromised.{fault-between}
+use Rattle.paper_carry.proofs.CarryPromised.{fault-between, fault-not-short}
 use Rattle.paper.specs.Saying.{ToSay, sheet-laid}
 use Rattle.paper_write.specs.Laying.{Laying, at-fault, laid-out, laying}
 use Rattle.paper_write.specs.Writing.{writing-of, writing, Says, WritePromised}
@@ -55,7 +55,7 @@ module _ (t : ToSay) where
           behind = refl;
           refuses = λ y place h. (ap number-of (sym e ∙ h), ap place-of (sym e ∙ h));
           unchanged = λ _. refl;
-          enough = λ _ (z : fault-number x ≡ 41). omega arith;
+          enough = λ _ z. fault-not-short x z;
         }
     by-reading (asked q) e =
         let bytes = sheet-laid t in

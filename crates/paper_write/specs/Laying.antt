@@ -1,5 +1,6 @@
 -- The sheet laid out record by record, each judged before it is laid: the first fault met with its place, or all of the sheet. It is what reading
--- the sheet laid out finds (`LaidRead`), said of what is given and with no sheet to read.
+-- the sheet laid out finds (`LaidRead`), said of what is given and with no sheet to read. The edition comes first (request K10), and bytes of patterns
+-- and sides are judged by the codes that they have in it.
 use Prim.Native.Nat.{ℕ, suc, _+_}
 use mathlib.Core.Bool.{cond}
 use mathlib.Core.List.{List, [], _∷_, _++_}
@@ -7,10 +8,11 @@ use lib.Dec.{leb, ltb, eqb}
 use lib.ListN.{length, take, drop}
 use Rattle.paper.specs.Lists.{all, leading}
 use Rattle.paper.specs.Numbers.{fields, pattern-bytes, sheet-side}
+use Rattle.paper.specs.Alphabet.{Edition, edition-1, edition-2, codes}
 use Rattle.paper.specs.Written.{Judged, judged, judge}
 use Rattle.paper.specs.Written as Written
-use Rattle.paper.specs.Sheet.{Fault, cut-short, wrong-field, wrong-length, not-one-pattern, too-many-leaves, wrong-token, Mark, LE, RI, is-token}
-use Rattle.paper.specs.Saying.{ToSay, pattern-laid, side-laid}
+use Rattle.paper.specs.Sheet.{Fault, cut-short, wrong-field, wrong-length, not-one-pattern, too-many-leaves, wrong-token, wrong-edition, Mark, LE, RI, is-token}
+use Rattle.paper.specs.Saying.{ToSay, pattern-laid, side-laid, edition-laid, edition-byte}
 
 -- what was laid out, or the fault and its place
 pub data Laying : Type 0 where
@@ -23,36 +25,43 @@ judged-laid (Written.not-one-pattern i) f n code = at-fault not-one-pattern (4 +
 judged-laid (Written.too-many-leaves i) f n code = at-fault too-many-leaves (4 + i)
 judged-laid (judged p) f n code = laid-out (pattern-laid f n code)
 
--- the record of a field that has a pattern, offsets from its mark: 13, 14, 11, then 15 and 16
-unfoldable pub record-laid : ℕ → ℕ → List ℕ → Laying
-record-laid f n patterns =
-    cond (leb fields f) (at-fault wrong-field 2)
-    (cond (ltb pattern-bytes n) (at-fault wrong-length 3)
-    (cond (ltb (length patterns) n) (at-fault cut-short (4 + length patterns))
-    (judged-laid (judge (take n patterns)) f n (take n patterns))))
+module _ (e : Edition) where
+  -- the record of a field that has a pattern, offsets from its mark: 13, 14, 11, then 15 and 16
+  unfoldable pub record-laid : ℕ → ℕ → List ℕ → Laying
+  record-laid f n patterns =
+      cond (leb fields f) (at-fault wrong-field 2)
+      (cond (ltb pattern-bytes n) (at-fault wrong-length 3)
+      (cond (ltb (length patterns) n) (at-fault cut-short (4 + length patterns))
+      (judged-laid (judge (codes e (take n patterns))) f n (take n patterns))))
 
--- a side's record: 14, 17
-unfoldable pub side-record-laid : Mark → List ℕ → Laying
-side-record-laid m tokens =
-    cond (ltb sheet-side (length tokens)) (at-fault wrong-length 2)
-    (cond (all is-token tokens) (laid-out (side-laid m tokens)) (at-fault wrong-token (3 + leading is-token tokens)))
+  -- a side's record: 14, 17
+  unfoldable pub side-record-laid : Mark → List ℕ → Laying
+  side-record-laid m tokens =
+      cond (ltb sheet-side (length tokens)) (at-fault wrong-length 2)
+      (cond (all is-token (codes e tokens)) (laid-out (side-laid m tokens)) (at-fault wrong-token (3 + leading is-token (codes e tokens))))
 
 -- a record behind what is done, and what comes behind it
 abbrev pub then-laid : List ℕ → Laying → (List ℕ → Laying) → Laying
 then-laid done (at-fault x at) go-on = at-fault x (length done + at)
 then-laid done (laid-out bytes) go-on = go-on (done ++ bytes)
 
--- the fields from f on
-abbrev pub fields-laid : List ℕ → ℕ → List ℕ → List ℕ → Laying
-fields-laid done f [] patterns = laid-out done
-fields-laid done f (n ∷ lengths) patterns =
-    cond (eqb n 0) (fields-laid done (suc f) lengths patterns)
-    (then-laid done (record-laid f n patterns) (λ (more : List ℕ). fields-laid more (suc f) lengths (drop n patterns)))
+module _ (e : Edition) where
+  -- the fields from f on
+  abbrev pub fields-laid : List ℕ → ℕ → List ℕ → List ℕ → Laying
+  fields-laid done f [] patterns = laid-out done
+  fields-laid done f (n ∷ lengths) patterns =
+      cond (eqb n 0) (fields-laid done (suc f) lengths patterns)
+      (then-laid done (record-laid e f n patterns) (λ (more : List ℕ). fields-laid more (suc f) lengths (drop n patterns)))
 
--- a side behind what was laid out
-abbrev pub then-side : Mark → List ℕ → Laying → Laying
-then-side m tokens (at-fault x at) = at-fault x at
-then-side m tokens (laid-out done) = then-laid done (side-record-laid m tokens) laid-out
+  -- a side behind what was laid out
+  abbrev pub then-side : Mark → List ℕ → Laying → Laying
+  then-side m tokens (at-fault x at) = at-fault x at
+  then-side m tokens (laid-out done) = then-laid done (side-record-laid e m tokens) laid-out
 
+  -- the records behind the edition's
+  unfoldable pub laying-in : ToSay → Laying
+  laying-in t = then-side RI (t .right) (then-side LE (t .left) (fields-laid (edition-laid (edition-byte e)) 0 (t .lengths) (t .patterns)))
+
+-- "0 for none, 44 at place 2 for any other than 2"
 unfoldable pub laying : ToSay → Laying
-laying t = then-side RI (t .right) (then-side LE (t .left) (fields-laid [] 0 (t .lengths) (t .patterns)))
+laying t = cond (eqb (t .edition) 0) (laying-in edition-1 t) (cond (eqb (t .edition) 2) (laying-in edition-2 t) (at-fault wrong-edition 2))

@@ -13,7 +13,7 @@ use Rattle.paper.specs.Plain.{plain}
 use Rattle.paper.specs.Question.{Question}
 use Rattle.paper.specs.Sheet.{asked}
 use Rattle.paper.proofs.base.Tests.{le-leb, lt-leb}
-use Rattle.paper.proofs.sheets.Asked.{GoodQuestion, left-39, right-39}
+use Rattle.paper.proofs.sheets.Asked.{GoodQuestion, good-most}
 use Rattle.paper_plain.specs.Engine.{bits-of, clashes-apart, engine-of, needs-of}
 use Rattle.base_question.specs.Asked.{question-of}
 use Rattle.base_question.specs.declared.Body.{Body}
@@ -30,7 +30,8 @@ use Rattle.plain_question.proofs.Standings.{said-of-good}
 module _ (q : Question) (good : GoodQuestion q) (bodies : List Body) (s : Code.Question) (is : s ≡ question-of q bodies) where
   twice-is : twice-coded (s .left) (s .right) ≡ not (plain (q .left) (q .right))
   twice-is =
-      ap (λ (x : Code.Question). twice-coded (x .left) (x .right)) is ∙ twice-told (q .left) (q .right) (left-39 good) (right-39 good)
+      ap (λ (x : Code.Question). twice-coded (x .left) (x .right)) is
+      ∙ twice-told (q .alphabet .characters) (good-most good) (q .left) (q .right) (good .left) (good .right)
 
   bits-are : bits-coded s ≡ bits-of q
   bits-are = ap bits-coded is ∙ bits-told q good bodies

@@ -1,23 +1,36 @@
 -- What both tokens take of one character after the other is added to the rows, and comes to what comes after the pairs of a place (`Behind`).
-use Prim.Native.Nat.{ℕ, _+_, _-_, _^_, _<_, _≤_, min}
+use Prim.Native.Nat.{ℕ, _+_, _-_, _^_, _<_, _≤_}
 use native.Mathlib.Nat.{le-refl}
 use native.Mathlib.Omega.{arith}
 use mathlib.Core.Path.{_≡_, sym, ap, _∙_}
-use mathlib.Core.Bool.{Bool, true, _&&_}
+use mathlib.Core.Bool.{Bool, true, false, _&&_}
 use mathlib.Core.List.{List}
 use mathlib.Core.Logic.{_⊎_, inl, inr}
 use lib.Bits.{bitAnd}
-use lib.Dec.{ltb}
+use lib.Dec.{leb, ltb}
 use lib.ListN.{length, getD}
-use Rattle.paper.specs.Numbers.{characters}
-use Rattle.paper.proofs.base.Tests.{by-bool, true-false, both-true, and-left, and-right, ltb-true, lt-ltb, ltb-false}
+use Rattle.paper.specs.Numbers.{most-characters}
+use Rattle.paper.proofs.base.Tests.{by-bool, true-false, leb-true, leb-false, both-true, and-left, and-right, ltb-true, lt-ltb, ltb-false}
 use Rattle.paper.specs.Lists.{upto, any}
 use Rattle.paper.proofs.base.Lists.{any-true, mem-any, mem-upto, upto-mem}
-use Rattle.base_places.specs.Masks.{places, in-mask, followers-of}
+use Rattle.base_places.specs.Masks.{places, in-mask, followers-of, within}
 use Rattle.base_places.proofs.MaskOf.{in-mask-of}
 use Rattle.plain_block.specs.Rows.{Grows, Each, Taken, Behind}
 use Rattle.plain_block.proofs.Growing.{grows-none, grows-as, grows-then}
 use Rattle.plain_block.proofs.Digits.{in-mask-and, in-mask-none, in-narrow}
+
+-- the characters below a number that a table has room for
+within-below : (n c : ℕ) → c < within n → (c < n) × (c < most-characters)
+unfolding within
+within-below n c h =
+    by-bool (leb n most-characters)
+    (λ (e : leb n most-characters ≡ true). let k = rw e at h in let l = leb-true n most-characters e in (omega arith, omega arith))
+    (λ (e : leb n most-characters ≡ false). let k = rw e at h in let l = leb-false n most-characters e in (omega arith, omega arith))
+
+below-within : (n c : ℕ) → c < n → c < most-characters → c < within n
+unfolding within
+below-within n c h k =
+    by-bool (leb n most-characters) (λ (e : leb n most-characters ≡ true). rw e h) (λ (e : leb n most-characters ≡ false). rw e k)
 
 module _ (rows₀ : List ℕ) (lefts rights : ℕ) (left-taking right-taking : List ℕ) (lo hi todo : ℕ) where
   abbrev All : ℕ → ℕ → Type 0
@@ -50,20 +63,20 @@ module _ (rows₀ : List ℕ) (lefts rights : ℕ) (left-taking right-taking : L
         let same : t .0 .by ≡ c = omega (arith, t .1) in
         inr (rw same at (t .0 .taken)))
 
-    pub reading-more : c < hi → c < characters → (after : List ℕ) (last : ℕ) → Grows (At c) rows left after last → Reading after last (c + 1)
-    reading-more h k after last g =
+    pub reading-more : c < within hi → (after : List ℕ) (last : ℕ) → Grows (At c) rows left after last → Reading after last (c + 1)
+    reading-more h after last g =
         record {
           from = let f = x .from in omega arith;
           grown =
               grows-then (Below c) rows₀ todo (At c) (Below (c + 1)) rows left after last (x .grown) g
               (λ j s t. (t .0, omega (arith, t .1)))
-              (λ j s t. (record { by = c; from = x .from; below = h; there = k; taken = t }, omega arith)) by-last;
+              (λ j s t. (record { by = c; from = x .from; below = within-below hi c h .0; there = within-below hi c h .1; taken = t }, omega arith)) by-last;
         }
 
-    pub reading-all : min hi characters ≤ c → Grows All rows₀ todo rows left
+    pub reading-all : within hi ≤ c → Grows All rows₀ todo rows left
     reading-all h =
         grows-as (Below c) rows₀ todo All rows left (x .grown) (λ j s l t. t .0)
-        (λ j s t. (t, let b = t .below in let k = t .there in omega arith))
+        (λ j s t. (t, let b = below-within hi (t .by) (t .below) (t .there) in omega arith))
 
 -- the places that follow those of a set
 module _ (follow : List ℕ) (m s : ℕ) where

@@ -7,7 +7,7 @@ use mathlib.Core.Bool.{Bool, true, _&&_}
 use mathlib.Core.List.{List}
 use lib.Dec.{ltb}
 use lib.ListN.{getD}
-use Rattle.paper.specs.Numbers.{characters}
+use Rattle.paper.specs.Numbers.{most-characters}
 use Rattle.base_places.specs.Masks.{places, in-mask}
 use Rattle.base_places.specs.declared.PlaceTables.{PlaceTables}
 use Rattle.plain_block.specs.declared.Crossed.{Crossed}
@@ -25,7 +25,7 @@ may-be-left t i = in-mask (t .last) i
 pub data Met (l r : PlaceTables) (lo hi m n : ℕ) : ℕ → ℕ → Type 0 where
   left-came : (q : ℕ) → in-mask m q ≡ true → Met l r lo hi m n 0 q
   right-came : (i : ℕ) → in-mask n i ≡ true → Met l r lo hi m n i 0
-  both-read : (i q c j s : ℕ) → Met l r lo hi m n i q → lo ≤ c → c < hi → c < characters → comes-by l i c j ≡ true → comes-by r q c s ≡ true → Met l r lo hi m n j s
+  both-read : (i q c j s : ℕ) → Met l r lo hi m n i q → lo ≤ c → c < hi → c < most-characters → comes-by l i c j ≡ true → comes-by r q c s ≡ true → Met l r lo hi m n j s
 
 -- the mask has exactly the places of which something holds
 pub record Exactly (mask : ℕ) (P : ℕ → Type 0) : Type 0 where

@@ -12,7 +12,7 @@ use mathlib.Core.List.{List, [], _∷_}
 use mathlib.Core.Logic.{_⊎_}
 use lib.Bits.{bitAnd}
 use lib.ListN.{length, getD}
-use Rattle.paper.specs.Numbers.{characters}
+use Rattle.paper.specs.Numbers.{most-characters}
 use Rattle.base_places.specs.Masks.{places, in-mask}
 use Rattle.base_places.specs.declared.PlaceTables.{PlaceTables}
 use Rattle.plain_block.specs.Met.{comes-by, Met, tables}
@@ -51,7 +51,7 @@ pub record Taken (lefts rights : ℕ) (left-taking right-taking : List ℕ) (lo 
   pub by : ℕ
   pub from : lo ≤ by
   pub below : by < hi
-  pub there : by < characters
+  pub there : by < most-characters
   pub taken : Each (bitAnd lefts (getD left-taking by 0)) (bitAnd rights (getD right-taking by 0)) j s
 
 -- what comes after the pairs of the left place i, whatever the last places are
@@ -61,7 +61,7 @@ pub record Behind (left-follow left-taking right-follow right-taking : List ℕ)
   pub stands : In rows i at
   pub from : lo ≤ by
   pub below : by < hi
-  pub there : by < characters
+  pub there : by < most-characters
   pub left : comes-by (tables left-follow left-taking 0) i by j ≡ true
   pub right : comes-by (tables right-follow right-taking 0) at by s ≡ true
 

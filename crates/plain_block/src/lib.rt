@@ -4,13 +4,13 @@ use base_places::CHARACTERS;
 use base_places::PLACES;
 use base_places::PlaceSet;
 use base_places::followers;
+use base_places::within;
 ghost use mathlib.Core.Path.{_≡_};
 ghost use mathlib.Core.Bool.{_&&_, not};
-ghost use Prim.Native.Nat.{ℕ, _^_, _<_, min};
+ghost use Prim.Native.Nat.{ℕ, _^_, _<_};
 ghost use lib.Bits.{bitAnd, bitOr};
 ghost use lib.Dec.{eqb};
 ghost use lib.ListN.{length, getD};
-ghost use Rattle.paper.specs.Numbers.{characters};
 ghost use Rattle.base_places.specs.Masks.{places, in-mask};
 ghost use Rattle.plain_block.specs.Met.{tables, Crosses};
 ghost use Rattle.plain_block.specs.Rows.{Grows, One, Each, Taken, Behind, Gone-on};
@@ -125,7 +125,7 @@ fn go_from(
     read(rows, lefts, rights, left_taking, right_taking, lo, hi, todo)
 }
 
-// Lets both tokens read each character that they may.
+// Lets both tokens read each character that they may, as far as a table has room.
 fn read(
     rows: &mut [PlaceSet; PLACES],
     lefts: PlaceSet,
@@ -139,7 +139,7 @@ fn read(
     requires { ⌜ length (now rows) ≡ places ⌝ }
     ensures { λ r. ⌜ Grows (Taken lefts rights (now («left_taking» .entry)) (now («right_taking» .entry)) lo hi) (now (rows .entry)) todo (now (rows .exit)) r ⌝ }
 {
-    let end = until(hi);
+    let end = within(hi);
     let mut r = todo;
     let mut c = lo;
     while c < end {
@@ -147,13 +147,6 @@ fn read(
         c += 1;
     }
     r
-}
-
-// The end of the characters that may be read.
-fn until(hi: usize) -> usize
-    ensures { λ r. ⌜ r ≡ min hi characters ⌝ }
-{
-    if hi < CHARACTERS { hi } else { CHARACTERS }
 }
 
 // Every left place of the set is met with every right place of `more`. For most characters one of the two sets is empty.

@@ -1,5 +1,5 @@
 -- How many places a field has, by what is worked out of it, is how many it has.
---   places-told : places-by (taking-masks h) ≡ places-of h, of what a field of a good question may hold
+--   places-told : places-by n (taking-masks h) ≡ places-of h, of what a field of a good question of n characters may hold
 -- Every leaf of a good pattern takes some character and no other place does: by induction on the pattern. So the mask of those that do is
 -- 2 + 4 + .. + 2 ^ leaves. Of a field without a pattern every place takes every character.
 use Prim.Native.Nat.{ℕ, zero, suc, _+_, _*_, _/_, _%_, _^_, _≤_, _<_}
@@ -11,8 +11,9 @@ use mathlib.Core.List.{List, [], _∷_, _++_, map}
 use lib.Bits.{bitOr}
 use lib.Count.{trailingZeros, under}
 use lib.Dec.{eqb}
+use lib.ListN.{take}
 use Rattle.paper.specs.Lists.{from, upto, any, only, keep}
-use Rattle.paper.specs.Numbers.{characters, most-leaves}
+use Rattle.paper.specs.Numbers.{most-characters, most-leaves}
 use Rattle.paper.specs.Pattern.{takes, Pattern, leaf, empty, then, either, many, Held, some-text, pattern}
 use Rattle.paper.specs.Places.{leaves, leaf-takes}
 use Rattle.paper.specs.Taken.{leaves-take}
@@ -38,14 +39,20 @@ taken-are h (c ∷ l) t =
     (λ q k. or-assoc (t q) (takes-at h q c) (any (λ (d : ℕ). takes-at h q d) l))
 
 -- does the place take some character?
-abbrev some-taken : Held → ℕ → Bool
-some-taken h q = any (λ (c : ℕ). takes-at h q c) (upto characters)
+abbrev some-taken : ℕ → Held → ℕ → Bool
+some-taken n h q = any (λ (c : ℕ). takes-at h q c) (upto n)
 
-all-taken : (h : Held) → taken-too 0 (taking-masks h) ≡ mask-of (some-taken h)
+-- the first n of more
+take-from : (f : ℕ → ℕ) (a n m : ℕ) → n ≤ m → take n (map f (from a m)) ≡ map f (from a n)
+take-from f a zero m h = refl
+take-from f a (suc n) zero h = absurd (omega arith)
+take-from f a (suc n) (suc m) h = cons-eq refl (take-from f (suc a) n m (omega arith))
+
+all-taken : (n : ℕ) → n ≤ most-characters → (h : Held) → taken-too 0 (take n (taking-masks h)) ≡ mask-of (some-taken n h)
 unfolding taking-masks table
-all-taken h =
-    ap (λ (m : ℕ). taken-too m (map (taking-mask h) (upto characters))) (sym mask-of-none)
-    ∙ taken-are h (upto characters) (λ (q : ℕ). false)
+all-taken n most h =
+    ap₂ taken-too (sym mask-of-none) (take-from (taking-mask h) 0 n most-characters most)
+    ∙ taken-are h (upto n) (λ (q : ℕ). false)
 
 -- every leaf takes some character
 leaf-taken : (n : ℕ) (p : Pattern) (o q : ℕ) → leaves-take n p → Within o (leaves p) q → (c : ℕ) × (c < n) × (leaf-takes p o q c ≡ true)
@@ -93,21 +100,21 @@ zeros-power (suc k) (suc l) h =
     let half : 2 ^ suc l / 2 ≡ 2 ^ l = omega arith in
     ap₂ under even (ap (trailingZeros k) half) ∙ ap suc (zeros-power k l (omega arith))
 
-module _ (p : Pattern) (good : GoodHeld characters (pattern p)) where
-  leaves-taken : (q : ℕ) → Within 1 (leaves p) q → some-taken (pattern p) q ≡ true
+module _ (n : ℕ) (p : Pattern) (good : GoodHeld n (pattern p)) where
+  leaves-taken : (q : ℕ) → Within 1 (leaves p) q → some-taken n (pattern p) q ≡ true
   leaves-taken q w =
-      let (c, l, t) = leaf-taken characters p 1 q (good .0) w in
-      mem-any (λ (d : ℕ). leaf-takes p 1 q d) (upto characters) (upto-mem characters l) t
+      let (c, l, t) = leaf-taken n p 1 q (good .0) w in
+      mem-any (λ (d : ℕ). leaf-takes p 1 q d) (upto n) (upto-mem n l) t
 
-  no-other : (q : ℕ) → (Within 1 (leaves p) q → ⊥) → some-taken (pattern p) q ≡ false
+  no-other : (q : ℕ) → (Within 1 (leaves p) q → ⊥) → some-taken n (pattern p) q ≡ false
   no-other q other =
-      not-true (some-taken (pattern p) q)
-      (λ e. let (c, d, t) = any-true (λ (c : ℕ). leaf-takes p 1 q c) (upto characters) e in other (takes-within p 1 q c t))
+      not-true (some-taken n (pattern p) q)
+      (λ e. let (c, d, t) = any-true (λ (c : ℕ). leaf-takes p 1 q c) (upto n) e in other (takes-within p 1 q c t))
 
-  leaves-mask : mask-of (some-taken (pattern p)) + 2 ≡ 2 ^ leaves p * 2
+  leaves-mask : mask-of (some-taken n (pattern p)) + 2 ≡ 2 ^ leaves p * 2
   unfolding mask-of
   leaves-mask =
-      let t = some-taken (pattern p) in
+      let t = some-taken n (pattern p) in
       let first : keep t (upto places) ≡ from 1 (leaves p) =
       rw (no-other 0 (λ w. omega arith)) (keep-first t 1 (leaves p) most-leaves (good .1) leaves-taken (λ q l. no-other q (λ w. omega arith))) in
       let is = ap mask first in
@@ -125,8 +132,13 @@ open-told : (m : ℕ) → in-mask m 0 ≡ true → places-in m ≡ 2
 unfolding in-mask
 open-told m e = rw (ap (λ (x : ℕ). eqb (x % 2) 1) (sym (div-one m)) ∙ e)
 
-pub places-told : (h : Held) → GoodHeld characters h → places-by (taking-masks h) ≡ places-of h
-unfolding places-by
-places-told some-text g = ap places-in (all-taken some-text) ∙ open-told (mask-of (some-taken some-text)) (in-mask-of (some-taken some-text) 0 (omega arith))
-places-told (pattern p) g =
-    ap places-in (all-taken (pattern p)) ∙ leaves-told (mask-of (some-taken (pattern p))) (leaves p) (let k = g .1 in omega arith) (leaves-mask p g)
+module _ (n : ℕ) (most : n ≤ most-characters) (some : 0 < n) where
+  pub places-told : (h : Held) → GoodHeld n h → places-by n (taking-masks h) ≡ places-of h
+  unfolding places-by
+  places-told some-text g =
+      ap places-in (all-taken n most some-text)
+      ∙ open-told (mask-of (some-taken n some-text))
+      (in-mask-of (some-taken n some-text) 0 (omega arith) ∙ mem-any (λ (c : ℕ). true) (upto n) (upto-mem n some) refl)
+  places-told (pattern p) g =
+      ap places-in (all-taken n most (pattern p))
+      ∙ leaves-told (mask-of (some-taken n (pattern p))) (leaves p) (let k = g .1 in omega arith) (leaves-mask n p g)

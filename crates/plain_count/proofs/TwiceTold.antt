@@ -10,7 +10,7 @@ use mathlib.Core.List.{List, [], _∷_, _++_, map, List·Memᴰ, List·Memᴰ·h
 use lib.Dec.{leb, ltb, eqb}
 use lib.ListN.{length, getD, length-append}
 use Rattle.paper.specs.Lists.{upto, any, only, keep}
-use Rattle.paper.specs.Numbers.{characters, set-fields}
+use Rattle.paper.specs.Numbers.{most-characters, set-fields}
 use Rattle.paper.specs.Equation.{Token, chr, fld, Side, is-field, stands-in}
 use Rattle.paper.specs.Plain.{each-once, plain}
 use Rattle.paper.proofs.base.Tests.{by-bool, true-false, same-tests, not-is-true, false-not, true-not, left-false, right-false, leb-true, leb-false, eqb-true, eqb-false, eqb-same, neq-eqb, ltb-true, lt-ltb}
@@ -60,10 +60,10 @@ not-once-twice (fld g ∷ side) h e =
     let (f, k, l) = not-once-twice side (λ t d. h t (List·Memᴰ·tail d)) (ap (λ (b : Bool). not b && each-once side) (sym s) ∙ e) in
     (f, k, omega (arith, times-front f g side)))
 
-module _ (l r : Side) (good-left : GoodSide characters l) (good-right : GoodSide characters r) where
+module _ (n : ℕ) (most : n ≤ most-characters) (l r : Side) (good-left : GoodSide n l) (good-right : GoodSide n r) where
   have-sets : (t : Token) → List·Memᴰ t (l ++ r) → HasSet t
   have-sets t d =
-      ⊎-elim (λ i. in-range-has-set t (good-left .tokens t i)) (λ i. in-range-has-set t (good-right .tokens t i)) (List·Memᴰ·append-cases l d)
+      ⊎-elim (λ i. in-range-has-set n most t (good-left .tokens t i)) (λ i. in-range-has-set n most t (good-right .tokens t i)) (List·Memᴰ·append-cases l d)
 
   abbrev left : List ℕ
   left = padded (side-code l)
@@ -72,7 +72,7 @@ module _ (l r : Side) (good-left : GoodSide characters l) (good-right : GoodSide
   right = padded (side-code r)
 
   codes-are : tokens left ++ tokens right ≡ side-code (l ++ r)
-  codes-are = ap₂ _++_ (side-back l good-left) (side-back r good-right) ∙ sym (map-append token-code l r)
+  codes-are = ap₂ _++_ (side-back n most l good-left) (side-back n most r good-right) ∙ sym (map-append token-code l r)
 
   -- how often a field stands, by the codes
   abbrev counted : ℕ → ℕ
@@ -85,12 +85,12 @@ module _ (l r : Side) (good-left : GoodSide characters l) (good-right : GoodSide
   pub twice-told : twice-coded left right ≡ not (plain l r)
   unfolding twice-coded standing-times
   twice-told =
-      same-tests (any (λ (n : ℕ). ltb 1 n) (map counted (upto set-fields))) (not (plain l r))
+      same-tests (any (λ (m : ℕ). ltb 1 m) (map counted (upto set-fields))) (not (plain l r))
       (λ e.
-      let (n, d, t) = any-true (λ (n : ℕ). ltb 1 n) (map counted (upto set-fields)) e in
+      let (m, d, t) = any-true (λ (m : ℕ). ltb 1 m) (map counted (upto set-fields)) e in
       let (f, i, is) = mem-map counted (upto set-fields) d in
-      false-not (twice-not-once f (l ++ r) (omega (arith, ltb-true 1 n t, is, counted-is f (mem-upto set-fields i)))))
+      false-not (twice-not-once f (l ++ r) (omega (arith, ltb-true 1 m t, is, counted-is f (mem-upto set-fields i)))))
       (λ e.
       let (f, k, more) = not-once-twice (l ++ r) have-sets (not-is-true e) in
-      mem-any (λ (n : ℕ). ltb 1 n) (map counted (upto set-fields)) (map-mem counted (upto-mem set-fields k))
+      mem-any (λ (m : ℕ). ltb 1 m) (map counted (upto set-fields)) (map-mem counted (upto-mem set-fields k))
       (lt-ltb 1 (counted f) (omega (arith, counted-is f k))))

@@ -5,11 +5,11 @@ use mathlib.Core.List.{List, [], _∷_, map}
 use lib.Bits.{bitOr}
 use lib.Count.{trailingZeros}
 use lib.Dec.{ltb, eqb}
-use lib.ListN.{getD}
+use lib.ListN.{getD, take}
 use Rattle.paper.specs.Lists.{upto, any}
 use Rattle.paper.specs.Numbers.{fields}
 use Rattle.base_codes.specs.Inner.{is-char, field-of, tokens}
-use Rattle.base_places.specs.Masks.{places}
+use Rattle.base_places.specs.Masks.{places, within}
 use Rattle.base_places.specs.declared.PlaceTables.{PlaceTables}
 use Rattle.base_question.specs.Standings.{standing-times}
 use Rattle.base_question.specs.declared.Question.{Question}
@@ -24,20 +24,21 @@ taken-too m [] = m
 taken-too m (its ∷ taking) = taken-too (bitOr m its) taking
 
 -- "its leaves and the start, or two for a field without a pattern", by the places that take some character. The leaves are the places behind the
--- start, as far as there is no gap between them. Of a field without a pattern the start takes some character, too.
+-- start, as far as there is no gap between them. Of a field without a pattern the start takes some character, too. Only the characters of the alphabet, of
+-- which there are n, are looked at.
 abbrev pub places-in : ℕ → ℕ
 places-in taken = cond (eqb (taken % 2) 1) 2 (1 + trailingZeros places (taken / 2 + 1))
 
-unfoldable pub places-by : List ℕ → ℕ
-places-by taking = places-in (taken-too 0 taking)
+unfoldable pub places-by : ℕ → List ℕ → ℕ
+places-by n taking = places-in (taken-too 0 (take n taking))
 
 -- tables that are not there
 abbrev pub no-tables : PlaceTables
 no-tables = record { follow = []; taking = []; last = 0 }
 
 -- how many places each field has
-unfoldable pub all-places : List PlaceTables → List ℕ
-all-places tables = map (λ (f : ℕ). places-by (getD tables f no-tables .taking)) (upto fields)
+unfoldable pub all-places : ℕ → List PlaceTables → List ℕ
+all-places n tables = map (λ (f : ℕ). places-by n (getD tables f no-tables .taking)) (upto fields)
 
 -- how many standings a token adds
 abbrev pub token-adds : List ℕ → ℕ → ℕ
@@ -50,4 +51,5 @@ standings-coded places (b ∷ side) = token-adds places b + standings-coded plac
 
 unfoldable pub bits-coded : Question → ℕ
 bits-coded s =
-    standings-coded (all-places (s .fields)) (tokens (s .left)) * standings-coded (all-places (s .fields)) (tokens (s .right))
+    let its-places = all-places (within (s .alphabet .characters)) (s .fields) in
+    standings-coded its-places (tokens (s .left)) * standings-coded its-places (tokens (s .right))

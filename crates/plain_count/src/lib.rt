@@ -8,9 +8,12 @@ use base_codes::SHEET_FIELDS;
 use base_codes::field_of;
 use base_places::CHARACTERS;
 use base_places::PlaceSet;
+use base_places::within;
 use base_question::Question;
 ghost use mathlib.Core.Path.{_≡_};
 ghost use Prim.Native.Nat.{_≤_};
+ghost use Rattle.paper.specs.Numbers.{most-characters};
+ghost use Rattle.base_places.specs.Masks.{within};
 ghost use Rattle.base_codes.specs.Inner.{tokens};
 ghost use Rattle.plain_count.specs.StandingsCoded.{twice-coded, places-in, places-by, all-places, token-adds, standings-coded, bits-coded};
 
@@ -45,28 +48,31 @@ pub fn bits_of(question: Question) -> usize
     standings(left, places) * standings(right, places)
 }
 
-// How many places each field has.
+// How many places each field has, by the characters of the question's alphabet.
 fn places_of(question: Question) -> [u8; SHEET_FIELDS]
-    ensures { λ r. ⌜ r ≡ all-places (question .fields) ⌝ }
+    ensures { λ r. ⌜ r ≡ all-places (within (question .alphabet .characters)) (question .fields) ⌝ }
 {
+    let alphabet = question.alphabet;
+    let n = within(alphabet.characters);
     let mut places = [0u8; SHEET_FIELDS];
     let mut f: usize = 0;
     while f < SHEET_FIELDS {
         let tables = question.fields[f];
         let taking = tables.taking;
-        places[f] = places_by(taking);
+        places[f] = places_by(taking, n);
         f += 1;
     }
     places
 }
 
-// How many places a field has, by the places that take each character.
-fn places_by(taking: [PlaceSet; CHARACTERS]) -> u8
-    ensures { λ r. ⌜ r ≡ places-by taking ⌝ }
+// How many places a field has, by the places that take each of n characters.
+fn places_by(taking: [PlaceSet; CHARACTERS], n: usize) -> u8
+    requires { ⌜ n ≤ most-characters ⌝ }
+    ensures { λ r. ⌜ r ≡ places-by n taking ⌝ }
 {
     let mut taken: PlaceSet = 0;
     let mut c: usize = 0;
-    while c < CHARACTERS {
+    while c < n {
         taken = taken | taking[c];
         c += 1;
     }

@@ -1,29 +1,30 @@
 -- The pairs that are reached are the pairs of standings that the first one leads to:
 --   meets-meeting, meeting-meets : the ends are reached exactly if two sides meet, each standing apart
 --   said-is-clash                : so what says whether the question's ends are reached is `clashes-apart`
--- of every question in Code 39 whose tokens have place sets and whose patterns are good, a good question among them, whether or not a field stands
--- twice. A pair of standings is reached as the pair of their tokens' numbers and places, by induction on the way. The other way, by induction on the pairs
--- reached: a character's token at the place behind its start is shown as the standing behind it, everything else as itself.
+-- of every question of at most 128 characters whose sides and patterns are good, a good question among them, whether or not a field stands twice. A pair
+-- of standings is reached as the pair of their tokens' numbers and places, by induction on the way. The other way, by induction on the pairs reached: a
+-- character's token at the place behind its start is shown as the standing behind it, everything else as itself.
 use Prim.Native.Nat.{ℕ, suc, _+_, _≤_, _<_}
 use native.Mathlib.Omega.{arith}
 use mathlib.Core.Path.{_≡_, refl, sym, ap, _∙_, subst}
 use mathlib.Core.Bool.{Bool, true}
-use mathlib.Core.List.{List, [], _∷_, map}
-use mathlib.Core.List.{List·Memᴰ, List·Memᴰ·head, List·Memᴰ·tail}
+use mathlib.Core.Logic.{⊎-elim}
+use mathlib.Core.List.{List, [], _∷_, _++_, map}
+use mathlib.Core.List.{List·Memᴰ, List·Memᴰ·head, List·Memᴰ·tail, List·Memᴰ·not-nil, List·Memᴰ·append-cases}
 use lib.ListN.{length, getD, length-map}
 use Rattle.paper.specs.Lists.{upto}
-use Rattle.paper.specs.Numbers.{characters, set-fields}
+use Rattle.paper.specs.Numbers.{most-characters, set-fields, hidden-left, hidden-right}
 use Rattle.paper.specs.Pattern.{Held, some-text, pattern}
 use Rattle.paper.specs.Equation.{Token, chr, fld, Side}
 use Rattle.paper.specs.Search.{Child, child, long}
 use Rattle.paper.specs.Situation.{Move, strike-left, strike-right, put}
 use Rattle.paper.specs.Leads.{Leads, start, step}
-use Rattle.paper.specs.Alphabet.{Alphabet, code-39}
 use Rattle.paper.specs.Question.{Question, held-by, hidden}
 use Rattle.paper.proofs.base.Tests.{true-false, same-tests, and-left, and-right, both-true, lt-ltb, le-ltb}
+use Rattle.paper.proofs.base.Lists.{mem-cons-by}
 use Rattle.paper.proofs.base.Listed.{getD-map-upto}
-use Rattle.paper.proofs.sheets.Asked.{GoodSide, GoodHeld, GoodQuestion, left-39, right-39}
-use Rattle.paper.proofs.sheets.Hidden.{HasSet, Searchable, hidden-searchable}
+use Rattle.paper.proofs.sheets.Asked.{InRange, GoodSide, GoodHeld, GoodQuestion, good-most}
+use Rattle.paper.proofs.sheets.Hidden.{Searchable, hidden-searchable}
 use Rattle.paper_plain.specs.Standing.{places-of, Standing, begins, Pair, next-pairs, is-read}
 use Rattle.paper_plain.specs.Meeting.{Meeting}
 use Rattle.paper_plain.specs.Engine.{clashes-apart}
@@ -61,36 +62,51 @@ code-end : {side : Side} {i : ℕ} → At side i [] → getD (side-code side) i 
 code-end here = refl
 code-end (there a) = code-end a
 
-at-has-set : {side rest : Side} {t : Token} {i : ℕ} → At side i (t ∷ rest) → ((u : Token) → List·Memᴰ u side → HasSet u) → HasSet t
-at-has-set {t = t} here h = h t (List·Memᴰ·head refl)
-at-has-set (there a) h = at-has-set a (λ u d. h u (List·Memᴰ·tail d))
+-- a token over n characters, of a field or of a hidden one
+abbrev Known : ℕ → Token → Type 0
+Known n (chr c) = c < n
+Known n (fld f) = f < set-fields
+
+at-known : {n : ℕ} {side rest : Side} {t : Token} {i : ℕ} → At side i (t ∷ rest) → ((u : Token) → List·Memᴰ u side → Known n u) → Known n t
+at-known {t = t} here h = h t (List·Memᴰ·head refl)
+at-known (there a) h = at-known a (λ u d. h u (List·Memᴰ·tail d))
+
+known-good : (n : ℕ) (t : Token) → InRange n t → Known n t
+known-good n (chr c) h = h
+known-good n (fld f) h = omega arith
+
+known-with : (n : ℕ) (side : Side) (f : ℕ) → GoodSide n side → f < set-fields → (t : Token) → List·Memᴰ t (side ++ (fld f ∷ [])) → Known n t
+known-with n side f g h t d =
+    ⊎-elim (λ i. known-good n t (g .tokens t i))
+    (mem-cons-by (Known n) h (λ u i. absurd (List·Memᴰ·not-nil i)) t)
+    (List·Memᴰ·append-cases side d)
 
 -- the start is one of the places
 starts : (h : Held) → 0 < places-of h
 starts some-text = omega arith
 starts (pattern p) = omega arith
 
-module _ (held : ℕ → Held) (few : (f : ℕ) → Few (held f)) where
+module _ (n : ℕ) (most : n ≤ most-characters) (held : ℕ → Held) (few : (f : ℕ) → Few (held f)) where
   abbrev all-tables : List PlaceTables
   all-tables = map (λ (f : ℕ). worked-out (held f)) (upto set-fields)
 
   -- the tokens of a side in front
   abbrev pub fronts-of : Side → ℕ → Front
-  fronts-of side i = front-of all-tables (getD (side-code side) i no-token)
+  fronts-of side i = front-of n all-tables (getD (side-code side) i no-token)
 
-  module _ (side : Side) (known : (t : Token) → List·Memᴰ t side → HasSet t) where
+  module _ (side : Side) (known : (t : Token) → List·Memᴰ t side → Known n t) where
     front-character : {i a : ℕ} {rest : Side} → At side i (chr a ∷ rest) → fronts-of side i ≡ record { of = one-place; lo = a; hi = suc a }
-    front-character {a = a} x = let h : a < characters = at-has-set x known in ap (front-of all-tables) (code-at x) ∙ rw (lt-ltb a field-code (omega arith))
+    front-character {a = a} x = let h : a < n = at-known x known in ap (front-of n all-tables) (code-at x) ∙ rw (lt-ltb a field-code (omega arith))
 
-    front-field : {i f : ℕ} {rest : Side} → At side i (fld f ∷ rest) → fronts-of side i ≡ record { of = worked-out (held f); lo = 0; hi = characters }
+    front-field : {i f : ℕ} {rest : Side} → At side i (fld f ∷ rest) → fronts-of side i ≡ record { of = worked-out (held f); lo = 0; hi = n }
     front-field {f = f} x =
-        let h : f < set-fields = at-has-set x known in
+        let h : f < set-fields = at-known {n = n} x known in
         let same : field-of (field-code + f) ≡ f = omega arith in
-        ap (front-of all-tables) (code-at x)
+        ap (front-of n all-tables) (code-at x)
         ∙ rw (le-ltb (field-code + f) field-code (omega arith), same, getD-map-upto (λ (g : ℕ). worked-out (held g)) no-tables set-fields f h)
 
-    front-end : {i : ℕ} → At side i [] → fronts-of side i ≡ record { of = no-tables; lo = 0; hi = characters }
-    front-end x = ap (front-of all-tables) (code-end x)
+    front-end : {i : ℕ} → At side i [] → fronts-of side i ≡ record { of = no-tables; lo = 0; hi = n }
+    front-end x = ap (front-of n all-tables) (code-end x)
 
     -- a standing of the side, with the number of the token in front
     data Stood : ℕ → Standing → Type 0 where
@@ -125,14 +141,14 @@ module _ (held : ℕ → Held) (few : (f : ℕ) → Few (held f)) where
       comes : comes-by (fronts-of side i .of) (s .place) c place ≡ true
       on : Leads-on i place t
 
-    stood-read : {i c : ℕ} {s t : Standing} → c < characters → Stood i s → ReadTo held c (s .rest) (s .place) t → Read i c s t
+    stood-read : {i c : ℕ} {s t : Standing} → c < n → Stood i s → ReadTo held c (s .rest) (s .place) t → Read i c s t
     stood-read {c = c} k (at-character {a = a} {rest = rest} x) (character-read e) =
         let f = front-character x in
         record {
           place = 1;
           low = rw f (omega arith);
           high = rw f (omega arith);
-          comes = rw f (comes-one c k);
+          comes = rw f (comes-one c (omega arith));
           on = passes (begins-stood rest (at-next x)) refl (rw f left-one);
         }
     stood-read {c = c} k (at-field {f = f} {p = p} x h) (place-read {q = q} b e) =
@@ -141,7 +157,7 @@ module _ (held : ℕ → Held) (few : (f : ℕ) → Few (held f)) where
           place = q;
           low = rw w (omega arith);
           high = rw w k;
-          comes = rw w (held-comes (held f) (few f) p c q k h b e);
+          comes = rw w (held-comes (held f) (few f) p c q (omega arith) h b e);
           on = stays (at-field x b) refl;
         }
 
@@ -165,8 +181,9 @@ module _ (held : ℕ → Held) (few : (f : ℕ) → Few (held f)) where
       to : Standing
       reads : ReadTo held c (s .rest) (s .place) to
       shown : Shown i q to
+      below : c < n
 
-    shown-read : {i p c q : ℕ} {s : Standing} → Shown i p s → fronts-of side i .lo ≤ c → c < fronts-of side i .hi → c < characters
+    shown-read : {i p c q : ℕ} {s : Standing} → Shown i p s → fronts-of side i .lo ≤ c → c < fronts-of side i .hi → c < most-characters
         → comes-by (fronts-of side i .of) p c q ≡ true → Reads i q c s
     shown-read {p = p} {c = c} {q = q} (itself (at-end x) k) a b h e = absurd (none-comes p c q (rw (front-end x) at e))
     shown-read {p = p} {c = c} {q = q} (itself (at-character {a = d} x) k) a b h e =
@@ -174,18 +191,19 @@ module _ (held : ℕ → Held) (few : (f : ℕ) → Few (held f)) where
         let low = rw (front-character x) at a in
         let high = rw (front-character x) at b in
         let same : d ≡ c = omega arith in
-        record { to = _; reads = character-read same; shown = behind x (w .1) }
+        let known-here : d < n = at-known x known in
+        record { to = _; reads = character-read same; shown = behind x (w .1); below = omega arith }
     shown-read {p = p} {c = c} {q = q} (itself (at-field {f = f} x g) k) a b h e =
         let w = comes-held (held f) p c q h (rw (front-field x) at e) in
-        record { to = _; reads = place-read (w .0) (rw k at (w .1)); shown = itself (at-field x (w .0)) refl }
+        record { to = _; reads = place-read (w .0) (rw k at (w .1)); shown = itself (at-field x (w .0)) refl; below = rw (front-field x) at b }
     shown-read {p = p} {c = c} {q = q} (behind x k) a b h e = let w = one-comes p c q (rw (front-character x) at e) in absurd (omega arith)
 
-  module _ (l r : Side) (left-known : (t : Token) → List·Memᴰ t l → HasSet t) (right-known : (t : Token) → List·Memᴰ t r → HasSet t) where
+  module _ (l r : Side) (left-known : (t : Token) → List·Memᴰ t l → Known n t) (right-known : (t : Token) → List·Memᴰ t r → Known n t) where
     abbrev first : Pair
     first = record { left = begins l; right = begins r }
 
     abbrev next : Pair → List (Child Pair Move)
-    next = next-pairs held characters
+    next = next-pairs held n
 
     -- a pair of standings is reached
     record As-reached (x : Pair) : Type 0 where
@@ -210,7 +228,7 @@ module _ (held : ℕ → Held) (few : (f : ℕ) → Few (held f)) where
     read-on {i} {j} {p} {q} (passes a e h) (passes b f k) d =
         record { i = suc i; j = suc j; left = a; right = b; reached = rw (e, f) (right-left (suc i) 0 j q (left-left i p j q d h) k) }
 
-    step-reached : {x : Pair} {k : Child Pair Move} → Steps held characters x k → As-reached x → Child-reached k
+    step-reached : {x : Pair} {k : Child Pair Move} → Steps held n x k → As-reached x → Child-reached k
     step-reached {x} (leaves-left h) w =
         let n = stood-left l left-known (w .left) h in
         record {
@@ -237,14 +255,14 @@ module _ (held : ℕ → Held) (few : (f : ℕ) → Few (held f)) where
         let m = stood-read l left-known k (w .left) a in
         let n = stood-read r right-known k (w .right) b in
         read-on (m .on) (n .on)
-        (both-read (w .i) (x .left .place) (w .j) (x .right .place) c (m .place) (n .place) (w .reached) (m .low) (m .high) (n .low) (n .high) k (m .comes) (n .comes))
+        (both-read (w .i) (x .left .place) (w .j) (x .right .place) c (m .place) (n .place) (w .reached) (m .low) (m .high) (n .low) (n .high) (omega (arith, k, most)) (m .comes) (n .comes))
 
     leads-reached : {way : List Move} {x : Pair} → Leads next first way x → As-reached x
     leads-reached start = record { i = 0; j = 0; left = begins-stood l left-known l here; right = begins-stood r right-known r here; reached = begun }
-    leads-reached (step {t = t} d m) = step-reached (next-steps held characters t m) (leads-reached d)
+    leads-reached (step {t = t} d m) = step-reached (next-steps held n t m) (leads-reached d)
 
     -- where all of a side is read, the number is that of its tokens
-    stood-end : (side : Side) (known : (t : Token) → List·Memᴰ t side → HasSet t) {i : ℕ} {s : Standing} → Stood side known i s → is-read (s .rest) ≡ true
+    stood-end : (side : Side) (known : (t : Token) → List·Memᴰ t side → Known n t) {i : ℕ} {s : Standing} → Stood side known i s → is-read (s .rest) ≡ true
         → (i ≡ length side) × (s .place ≡ 0)
     stood-end side known (at-end x) e = (omega (arith, at-length x), refl)
     stood-end side known (at-character x) e = absurd (true-false e refl)
@@ -256,7 +274,7 @@ module _ (held : ℕ → Held) (few : (f : ℕ) → Few (held f)) where
     at-ends : {i p j q : ℕ} → Reached (fronts-of l) (fronts-of r) i p j q → i ≡ length l → p ≡ 0 → j ≡ length r → q ≡ 0 → Ends-reached
     at-ends d a b c e = rw (a, b, c, e) at d
 
-    pub meeting-reached : Meeting held characters l r → Ends-reached
+    pub meeting-reached : Meeting held n l r → Ends-reached
     meeting-reached m =
         let w = leads-reached (m .leads) in
         let x = m .at in
@@ -278,7 +296,7 @@ module _ (held : ℕ → Held) (few : (f : ℕ) → Few (held f)) where
         record {
           way = strike-left ∷ w .way;
           at = record { left = t; right = w .at .right };
-          leads = step (w .leads) (steps-next held characters (w .at) (leaves-left h));
+          leads = step (w .leads) (steps-next held n (w .at) (leaves-left h));
           left = s;
           right = w .right;
         }
@@ -289,19 +307,19 @@ module _ (held : ℕ → Held) (few : (f : ℕ) → Few (held f)) where
         record {
           way = strike-right ∷ w .way;
           at = record { left = w .at .left; right = t };
-          leads = step (w .leads) (steps-next held characters (w .at) (leaves-right h));
+          leads = step (w .leads) (steps-next held n (w .at) (leaves-right h));
           left = w .left;
           right = s;
         }
 
-    led-read : {i p j q : ℕ} (w : Led i p j q) (c s t : ℕ) → c < characters → Reads l left-known i s c (w .at .left) → Reads r right-known j t c (w .at .right) → Led i s j t
-    led-read w c s t h m n =
+    led-read : {i p j q : ℕ} (w : Led i p j q) (c s t : ℕ) → Reads l left-known i s c (w .at .left) → Reads r right-known j t c (w .at .right) → Led i s j t
+    led-read w c s t a b =
         record {
           way = put c ∷ w .way;
-          at = record { left = m .to; right = n .to };
-          leads = step (w .leads) (steps-next held characters (w .at) (read-both h (m .reads) (n .reads)));
-          left = m .shown;
-          right = n .shown;
+          at = record { left = a .to; right = b .to };
+          leads = step (w .leads) (steps-next held n (w .at) (read-both (a .below) (a .reads) (b .reads)));
+          left = a .shown;
+          right = b .shown;
         }
 
     reached-led : {i p j q : ℕ} → Reached (fronts-of l) (fronts-of r) i p j q → Led i p j q
@@ -311,16 +329,16 @@ module _ (held : ℕ → Held) (few : (f : ℕ) → Few (held f)) where
     reached-led (right-left i p j q d e) = let w = reached-led d in led-right w (shown-left r right-known (w .right) e)
     reached-led (both-read i p j q c s t d a b a′ b′ h x y) =
         let w = reached-led d in
-        led-read w c s t h (shown-read l left-known (w .left) a b h x) (shown-read r right-known (w .right) a′ b′ h y)
+        led-read w c s t (shown-read l left-known (w .left) a b h x) (shown-read r right-known (w .right) a′ b′ h y)
 
-    shown-end : (side : Side) (known : (t : Token) → List·Memᴰ t side → HasSet t) {i p : ℕ} {s : Standing} → Shown side known i p s → i ≡ length side
+    shown-end : (side : Side) (known : (t : Token) → List·Memᴰ t side → Known n t) {i p : ℕ} {s : Standing} → Shown side known i p s → i ≡ length side
         → is-read (s .rest) ≡ true
     shown-end side known (itself (at-end x) k) e = refl
     shown-end side known (itself (at-character x) k) e = absurd (omega (arith, at-length x))
     shown-end side known (itself (at-field x h) k) e = absurd (omega (arith, at-length x))
     shown-end side known (behind x k) e = absurd (omega (arith, at-length x))
 
-    pub reached-meeting : Ends-reached → Meeting held characters l r
+    pub reached-meeting : Ends-reached → Meeting held n l r
     reached-meeting d =
         let w = reached-led d in
         record {
@@ -335,43 +353,49 @@ few-good : (n : ℕ) (h : Held) → GoodHeld n h → Few h
 few-good n some-text g = tt
 few-good n (pattern p) g = g .1
 
-module _ (q : Question) (in-39 : q .alphabet ≡ code-39) (l : GoodSide characters (q .left)) (r : GoodSide characters (q .right)) (good : Searchable (hidden q)) (bodies : List Body) where
+module _ (q : Question) (most : q .alphabet .characters ≤ most-characters) (l : GoodSide (q .alphabet .characters) (q .left))
+    (r : GoodSide (q .alphabet .characters) (q .right)) (good : Searchable (hidden q)) (bodies : List Body) where
+  abbrev characters : ℕ
+  characters = q .alphabet .characters
+
   abbrev few-hidden : (f : ℕ) → Few (held-by (hidden q) f)
   few-hidden f = few-good characters (held-by (hidden q) f) (good .held f)
 
+  abbrev left-known : (t : Token) → List·Memᴰ t (hidden q .left) → Known characters t
+  left-known = known-with characters (q .left) hidden-left l (omega arith)
+
+  abbrev right-known : (t : Token) → List·Memᴰ t (hidden q .right) → Known characters t
+  right-known = known-with characters (q .right) hidden-right r (omega arith)
+
   abbrev ends-of : List PlaceTables → List ℕ → List ℕ → Type 0
   ends-of fields a b =
-      Reached (λ (i : ℕ). front-of fields (getD a i no-token)) (λ (j : ℕ). front-of fields (getD b j no-token)) (length a) 0 (length b) 0
+      Reached (λ (i : ℕ). front-of characters fields (getD a i no-token)) (λ (j : ℕ). front-of characters fields (getD b j no-token)) (length a) 0 (length b) 0
 
   abbrev coded-ends : Type 0
-  coded-ends = ends-of (all-tables (held-by (hidden q)) few-hidden) (side-code (hidden q .left)) (side-code (hidden q .right))
+  coded-ends = ends-of (all-tables characters most (held-by (hidden q)) few-hidden) (side-code (hidden q .left)) (side-code (hidden q .right))
 
   meets-coded : Meets (question-of q bodies) ≡ coded-ends
-  meets-coded = λ i. ends-of (fields-behind q in-39 i) (left-hidden q in-39 bodies l i) (right-hidden q in-39 bodies r i)
+  meets-coded = λ i. ends-of (fields-behind q i) (left-hidden q bodies most l i) (right-hidden q bodies most r i)
 
-  coded-reached : coded-ends ≡ Ends-reached (held-by (hidden q)) few-hidden (hidden q .left) (hidden q .right) (good .left) (good .right)
+  coded-reached : coded-ends ≡ Ends-reached characters most (held-by (hidden q)) few-hidden (hidden q .left) (hidden q .right) left-known right-known
   coded-reached =
       λ i.
-      Reached (fronts-of (held-by (hidden q)) few-hidden (hidden q .left)) (fronts-of (held-by (hidden q)) few-hidden (hidden q .right))
+      Reached (fronts-of characters most (held-by (hidden q)) few-hidden (hidden q .left)) (fronts-of characters most (held-by (hidden q)) few-hidden (hidden q .right))
       (length-map (hidden q .left) token-code i) 0 (length-map (hidden q .right) token-code i) 0
 
-  -- both sides with their hidden fields meet, over the characters of an alphabet
-  abbrev over : Alphabet → Type 0
-  over a = Meeting (held-by (hidden q)) (a .characters) (hidden q .left) (hidden q .right)
-
+  -- both sides with their hidden fields meet
   abbrev pub Meets-apart : Type 0
-  Meets-apart = over (q .alphabet)
+  Meets-apart = Meeting (held-by (hidden q)) characters (hidden q .left) (hidden q .right)
 
   pub meets-meeting : Meets (question-of q bodies) → Meets-apart
   meets-meeting m =
-      subst over (sym in-39)
-      (reached-meeting (held-by (hidden q)) few-hidden (hidden q .left) (hidden q .right) (good .left) (good .right)
-      (subst (λ (x : Type 0). x) (meets-coded ∙ coded-reached) m))
+      reached-meeting characters most (held-by (hidden q)) few-hidden (hidden q .left) (hidden q .right) left-known right-known
+      (subst (λ (x : Type 0). x) (meets-coded ∙ coded-reached) m)
 
   pub meeting-meets : Meets-apart → Meets (question-of q bodies)
   meeting-meets m =
       subst (λ (x : Type 0). x) (sym (meets-coded ∙ coded-reached))
-      (meeting-reached (held-by (hidden q)) few-hidden (hidden q .left) (hidden q .right) (good .left) (good .right) (subst over in-39 m))
+      (meeting-reached characters most (held-by (hidden q)) few-hidden (hidden q .left) (hidden q .right) left-known right-known m)
 
   pub said-is-clash : (b : Bool) → Says b (Meets (question-of q bodies)) → b ≡ clashes-apart q
   said-is-clash b s =
@@ -379,4 +403,4 @@ module _ (q : Question) (in-39 : q .alphabet ≡ code-39) (l : GoodSide characte
 
 -- a good question, as a sheet asks it
 pub said-of-good : (q : Question) → GoodQuestion q → (bodies : List Body) (b : Bool) → Says b (Meets (question-of q bodies)) → b ≡ clashes-apart q
-said-of-good q g bodies b s = said-is-clash q (g .alphabet) (left-39 g) (right-39 g) (hidden-searchable q g) bodies b s
+said-of-good q g bodies b s = said-is-clash q (good-most g) (g .left) (g .right) (hidden-searchable q g) bodies b s

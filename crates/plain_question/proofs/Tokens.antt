@@ -10,7 +10,7 @@ use mathlib.Core.Path.{_≡_, refl, sym, ap, ap₂, _∙_}
 use mathlib.Core.Bool.{true, _&&_, and-true}
 use lib.Dec.{eqb, ltb}
 use lib.ListN.{getD, getD-replicate}
-use Rattle.paper.specs.Numbers.{characters, most-leaves}
+use Rattle.paper.specs.Numbers.{most-characters, most-leaves}
 use Rattle.paper.specs.Pattern.{Held, some-text, pattern}
 use Rattle.paper.specs.Places.{leaf-takes, follows, ends-at}
 use Rattle.paper.proofs.base.Tests.{true-false, and-left, and-right, both-true, lt-ltb, ltb-true, eqb-true}
@@ -45,7 +45,7 @@ module _ (h : Held) where
       of some-text = and-true (eqb q 1)
       of (pattern p) = refl
 
-  comes-same : (i c q : ℕ) → i < places → q < places → c < characters → comes-by (worked-out h) i c q ≡ Paper.comes-by h i c q
+  comes-same : (i c q : ℕ) → i < places → q < places → c < most-characters → comes-by (worked-out h) i c q ≡ Paper.comes-by h i c q
   unfolding follow-masks taking-mask
   comes-same i c q a b k =
       ap₂ _&&_ (both-true (lt-ltb i places a) (lt-ltb q places b))
@@ -69,13 +69,13 @@ module _ (h : Held) where
       of some-text e = omega (arith, eqb-true q 1 e)
       of (pattern p) e = omega (arith, takes-within p 1 q c (and-right (follows p i q) (leaf-takes p 1 q c) e) .high)
 
-  pub comes-held : (i c q : ℕ) → c < characters → comes-by (worked-out h) i c q ≡ true → (q < places-of h) × (Paper.comes-by h i c q ≡ true)
+  pub comes-held : (i c q : ℕ) → c < most-characters → comes-by (worked-out h) i c q ≡ true → (q < places-of h) × (Paper.comes-by h i c q ≡ true)
   comes-held i c q k e =
       let w = within-places (worked-out h) i c q e in
       let t = sym (comes-same i c q (w .0) (w .1) k) ∙ e in
       (next-place i c q t, t)
 
-  pub held-comes : Few h → (i c q : ℕ) → c < characters → i < places-of h → q < places-of h → Paper.comes-by h i c q ≡ true → comes-by (worked-out h) i c q ≡ true
+  pub held-comes : Few h → (i c q : ℕ) → c < most-characters → i < places-of h → q < places-of h → Paper.comes-by h i c q ≡ true → comes-by (worked-out h) i c q ≡ true
   held-comes f i c q k a b e = let n = few-places f in comes-same i c q (omega arith) (omega arith) k ∙ e
 
   pub held-left : Few h → (i : ℕ) → i < places-of h → may-be-left (worked-out h) i ≡ ends-at h i
@@ -97,9 +97,9 @@ one-follows (suc i) q e = absurd (in-none q (sym (ap (λ (m : ℕ). in-mask m q)
 pub one-comes : (i c q : ℕ) → comes-by one-place i c q ≡ true → (i ≡ 0) × (q ≡ 1)
 one-comes i c q e = one-follows i q (follows-by one-place i c q e)
 
-pub comes-one : (c : ℕ) → c < characters → comes-by one-place 0 c 1 ≡ true
+pub comes-one : (c : ℕ) → c < most-characters → comes-by one-place 0 c 1 ≡ true
 unfolding one-place in-mask
-comes-one c h = rw (getD-replicate {A = ℕ} characters c 2 0 h) refl
+comes-one c h = rw (getD-replicate {A = ℕ} most-characters c 2 0 h) refl
 
 pub one-left : (i : ℕ) → may-be-left one-place i ≡ true → i ≡ 1
 unfolding one-place

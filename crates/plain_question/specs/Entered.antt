@@ -22,9 +22,9 @@ pub data LeftCame (l r : ℕ → Front) : ℕ → ℕ → ℕ → Type 0 where
 pub data RightCame (l r : ℕ → Front) : ℕ → ℕ → ℕ → Type 0 where
   behind-right : (i p j q : ℕ) → Reached l r i p j q → may-be-left (r j .of) q ≡ true → RightCame l r i (suc j) p
 
--- the tokens of a side by their rows; behind the last one its end
-abbrev pub fronts : List (List ℕ) → List (List ℕ) → List ℕ → List ℕ → ℕ → Front
-fronts follow taking last side i = front-by follow taking last (token-of (getD side i no-token))
+-- the tokens of a side by their rows, over n characters; behind the last one its end
+abbrev pub fronts : ℕ → List (List ℕ) → List (List ℕ) → List ℕ → List ℕ → ℕ → Front
+fronts n follow taking last side i = front-by follow taking last (token-of n (getD side i no-token))
 
 -- for each right token, the places at which the left token i came in front
 abbrev pub Entered : (ℕ → Front) → (ℕ → Front) → ℕ → ℕ → List ℕ → Type 0

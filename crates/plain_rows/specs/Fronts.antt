@@ -4,7 +4,7 @@ use Prim.Native.Nat.{ℕ, suc}
 use mathlib.Core.Bool.{cond}
 use mathlib.Core.List.{List, _∷_}
 use lib.ListN.{getD, replicate}
-use Rattle.paper.specs.Numbers.{characters, most-leaves}
+use Rattle.paper.specs.Numbers.{most-characters, most-leaves}
 use Rattle.base_places.specs.Masks.{places}
 use Rattle.base_places.specs.declared.PlaceTables.{PlaceTables}
 use Rattle.base_codes.specs.Inner.{field-of, is-char}
@@ -17,14 +17,15 @@ pub record Front : Type 0 where
 
 -- no place follows, none takes a character, none may be the last one
 unfoldable pub no-tables : PlaceTables
-no-tables = record { follow = replicate places 0; taking = replicate characters 0; last = 0 }
+no-tables = record { follow = replicate places 0; taking = replicate most-characters 0; last = 0 }
 
 -- one place behind the start, which takes every character and is the last one
 unfoldable pub one-place : PlaceTables
-one-place = record { follow = 2 ∷ replicate most-leaves 0; taking = replicate characters 2; last = 2 }
+one-place = record { follow = 2 ∷ replicate most-leaves 0; taking = replicate most-characters 2; last = 2 }
 
--- the token with the inner code b; 255, and a field that there is none of, is the end of a side
-abbrev pub front-of : List PlaceTables → ℕ → Front
-front-of fields b =
+-- The token with the inner code b; 255, and a field that there is none of, is the end of a side. A field reads the characters of its alphabet, of which
+-- there are n.
+abbrev pub front-of : ℕ → List PlaceTables → ℕ → Front
+front-of n fields b =
     cond (is-char b) (record { of = one-place; lo = b; hi = suc b })
-    (record { of = getD fields (field-of b) no-tables; lo = 0; hi = characters })
+    (record { of = getD fields (field-of b) no-tables; lo = 0; hi = n })

@@ -5,7 +5,7 @@ use mathlib.Core.Bool.{cond}
 use mathlib.Core.List.{List, [], _∷_, _++_}
 use lib.Dec.{ltb}
 use lib.ListN.{getD}
-use Rattle.paper.specs.Numbers.{characters, set-fields}
+use Rattle.paper.specs.Numbers.{set-fields}
 use Rattle.base_places.specs.declared.PlaceTables.{PlaceTables}
 use Rattle.base_codes.specs.Inner.{field-of, is-char}
 use Rattle.plain_rows.specs.Fronts.{Front, no-tables, one-place}
@@ -24,12 +24,12 @@ rows = suc end-row
 abbrev pub rows-of : List PlaceTables → List PlaceTables
 rows-of fields = fields ++ (one-place ∷ no-tables ∷ [])
 
--- the token with the inner code b
-unfoldable pub token-of : ℕ → Token
-token-of b =
+-- the token with the inner code b, over n characters
+unfoldable pub token-of : ℕ → ℕ → Token
+token-of n b =
     cond (is-char b) (record { row = character-row; lo = b; hi = suc b })
-    (cond (ltb (field-of b) set-fields) (record { row = field-of b; lo = 0; hi = characters })
-    (record { row = end-row; lo = 0; hi = characters }))
+    (cond (ltb (field-of b) set-fields) (record { row = field-of b; lo = 0; hi = n })
+    (record { row = end-row; lo = 0; hi = n }))
 
 -- a token by its rows
 abbrev pub front-by : List (List ℕ) → List (List ℕ) → List ℕ → Token → Front

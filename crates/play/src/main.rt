@@ -2,6 +2,8 @@
 // the answer as `clash` does. There is no exit status: a failure is told on standard error.
 //
 // The stored input: left field 0 and `A`, right `BA`. `B` is put before field 0, which is struck, and then both hidden fields are.
+use base_answers::Numbers;
+use base_editions::Edition;
 use print_lines::FIRST_LINE;
 use print_lines::Filled;
 use print_out::How;
@@ -11,18 +13,23 @@ use print_out::read_first;
 use print_out::tell;
 use print_out::tell_end;
 
-// More than the longest sheet and a long way: the first bytes of standard input.
-const INPUT: usize = 65536;
+// The length, the longest sheet that it can tell, and 65,535 records of the longest, a character's. "50 if it is past the 65,534th": what stands behind
+// is never looked at.
+const INPUT: usize = 2 + 65535 + 4 * 65535;
 
 // as `clash` lends it
 const ANSWER: usize = 4096;
 
-// No later line is longer than its record.
-const PRINTED: usize = FIRST_LINE + ANSWER;
+// No later line is longer than two of its records.
+const PRINTED: usize = FIRST_LINE + 2 * ANSWER;
 
 fn main() {
     let mut input = [0u8; INPUT];
-    let got = read_first(&mut input);
+    read_in(&mut input);
+}
+
+fn read_in(input: &mut [u8]) {
+    let got = read_first(input);
     let n = got.bytes;
     if got.read {
         play_input(&input[0..n]);
@@ -47,12 +54,21 @@ fn play_input(input: &[u8]) {
 
 fn print(sheet: &[u8], steps: &[u8]) {
     let mut answer = [0u8; ANSWER];
-    let told = play_sheet::in_numbers(play_sheet::play(sheet, steps, &mut answer));
+    print_played(sheet, steps, &mut answer);
+}
+
+fn print_played(sheet: &[u8], steps: &[u8], answer: &mut [u8]) {
+    let edition = print_signs::edition(sheet);
+    let told = play_sheet::in_numbers(play_sheet::play(sheet, steps, answer));
     let mut out = [0u8; PRINTED];
-    let filled = print_lines::put_lines(&mut out, told, &answer);
+    print_told(edition, told, answer, &mut out);
+}
+
+fn print_told(edition: Edition, told: Numbers, answer: &[u8], out: &mut [u8]) {
+    let filled = print_lines::put_lines(out, edition, told, answer);
     match filled {
         Filled::Bytes(n) => {
-            let bytes = least(n, PRINTED);
+            let bytes = least(n, out.len());
             tell_end(b"play", print_out::print(How::Going, &out[0..bytes]));
         }
         // never: the buffer has room for the longest lines

@@ -51,11 +51,12 @@ pub question-from : (s : Question) (whole : Hidden) (follow taking : List (List 
     → length (whole .left) ≡ longest-side → length (whole .right) ≡ longest-side → whole ≡ with-hidden s
     → follow ≡ map follow-of (whole .fields) → taking ≡ map taking-of (whole .fields) → last ≡ map last-of (whole .fields)
     → first ≡ as-struct (question-coded (tokens (whole .left)) (tokens (whole .right)))
-    → (steps answer after : List ℕ) (r : End) → PlayedFrom (lent-tables follow taking last) (denoted first) steps answer after r
+    → (steps answer after : List ℕ) (r : End) → PlayedFrom (lent-tables (whole .characters) follow taking last) (denoted first) steps answer after r
     → PlayedFrom (question-tables s) (question-first s) steps answer after r
 question-from s whole follow taking last first l r w a b c d steps answer after x p =
     let k : denoted first ≡ question-first s = ap denoted d ∙ first-held (whole .left) (whole .right) l r ∙ (λ i. question-coded (tokens (w i .left)) (tokens (w i .right))) in
-    let t : lent-tables follow taking last ≡ question-tables s =
-    (λ i. lent-tables (a i) (b i) (c i)) ∙ (λ i. lent-tables (map follow-of (w i .fields)) (map taking-of (w i .fields)) (map last-of (w i .fields))) in
+    let t : lent-tables (whole .characters) follow taking last ≡ question-tables s =
+    (λ i. lent-tables (whole .characters) (a i) (b i) (c i))
+    ∙ (λ i. lent-tables (w i .characters) (map follow-of (w i .fields)) (map taking-of (w i .fields)) (map last-of (w i .fields))) in
     subst (λ (z : Tables). PlayedFrom z (question-first s) steps answer after x) t
-    (subst (λ (z : Coded). PlayedFrom (lent-tables follow taking last) z steps answer after x) k p)
+    (subst (λ (z : Coded). PlayedFrom (lent-tables (whole .characters) follow taking last) z steps answer after x) k p)

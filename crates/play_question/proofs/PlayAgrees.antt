@@ -22,7 +22,7 @@ use Rattle.paper.specs.Demands.{texts-spelt, records-of}
 use Rattle.paper.proofs.base.Tests.{by-bool}
 use Rattle.paper.proofs.base.Lists.{mem-keep, mem-upto, map-append}
 use Rattle.paper.proofs.base.Listed.{keep-same, each-same}
-use Rattle.paper.proofs.sheets.Asked.{GoodQuestion, left-39, right-39}
+use Rattle.paper.proofs.sheets.Asked.{GoodQuestion, good-most}
 use Rattle.paper.proofs.sheets.Hidden.{Searchable, hidden-searchable, standing-hidden}
 use Rattle.paper_steps.specs.Player.{most-steps, Played, play-from, first-entry, play-told, play-ended}
 use Rattle.base_codes.specs.Inner.{token-code}
@@ -99,10 +99,10 @@ module _ (q : Question) (g : GoodQuestion q) (steps answer : List ℕ) where
     tables-are : question-tables (question-of q bodies) ≡ tables-of (hidden q)
     unfolding tables-of
     tables-are = λ i.
-        lent-tables (part-hidden q (g .alphabet) bodies follow-of i) (part-hidden q (g .alphabet) bodies taking-of i) (part-hidden q (g .alphabet) bodies last-of i)
+        lent-tables (q .alphabet .characters) (part-hidden q bodies follow-of i) (part-hidden q bodies taking-of i) (part-hidden q bodies last-of i)
 
     first-is : question-first (question-of q bodies) ≡ first-coded (hidden q)
-    first-is = λ i. question-coded (left-hidden q (g .alphabet) bodies (left-39 g) i) (right-hidden q (g .alphabet) bodies (right-39 g) i)
+    first-is = λ i. question-coded (left-hidden q bodies (good-most g) (g .left) i) (right-hidden q bodies (good-most g) (g .right) i)
 
     pub played-told : (s : Code.Question) → s ≡ question-of q bodies → (after : List ℕ) (r : End)
         → PlayedFrom (question-tables s) (question-first s) steps answer after r

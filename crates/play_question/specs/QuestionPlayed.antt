@@ -20,11 +20,11 @@ use Rattle.play_texts.specs.WayRecords.{way-records, way-given, way-buffer}
 use Rattle.play_question.specs.declared.End.{End}
 use Rattle.play_question.specs.declared.End.the-variants.{Texts, AnswerTooShort, Stopped}
 
--- what is worked out of the fields, with the hidden ones
+-- how many characters there are, and what is worked out of the fields, with the hidden ones
 abbrev pub question-tables : Question → Tables
 question-tables s =
     let fields = with-hidden s .fields in
-    lent-tables (map follow-of fields) (map taking-of fields) (map last-of fields)
+    lent-tables (with-hidden s .characters) (map follow-of fields) (map taking-of fields) (map last-of fields)
 
 -- the trimmed question
 abbrev pub question-first : Question → Coded

@@ -1,4 +1,5 @@
-// A question, played: its hidden fields, the tables of its fields, the steps made from the trimmed question, and the texts at the end.
+// A question, played: its hidden fields, the tables of its fields, the steps made from the trimmed question, and the texts at the end. The number of
+// characters is that of its alphabet.
 use base_codes::FIELDS;
 use base_codes::Situation;
 use base_places::CHARACTERS;
@@ -32,22 +33,23 @@ fn end_of(given: Given) -> End
     }
 }
 
-// From this situation on, with these tables.
+// From this situation on, with so many characters and these tables.
 fn play_from(
     first: Situation,
     steps: &[u8],
     answer: &mut [u8],
+    characters: usize,
     follow: &[[PlaceSet; PLACES]; FIELDS],
     taking: &[[PlaceSet; CHARACTERS]; FIELDS],
     last: [PlaceSet; FIELDS],
 ) -> End
-    ensures { λ r. ⌜ PlayedFrom (lent-tables (now (follow .entry)) (now (taking .entry)) last) (denoted first) (now (steps .entry)) (now (answer .entry)) (now (answer .exit)) r ⌝ }
+    ensures { λ r. ⌜ PlayedFrom (lent-tables characters (now (follow .entry)) (now (taking .entry)) last) (denoted first) (now (steps .entry)) (now (answer .entry)) (now (answer .exit)) r ⌝ }
 {
-    let ending = play_walk::walk(first, steps, follow, taking, last);
+    let ending = play_walk::walk(first, steps, characters, follow, taking, last);
     if let Ending::Stopped { why } = ending {
         return End::Stopped { why };
     }
-    let given = play_texts::answer_way(answer, first, steps, follow, taking, last);
+    let given = play_texts::answer_way(answer, first, steps, characters, follow, taking, last);
     end_of(given)
 }
 
@@ -56,6 +58,7 @@ pub fn play(question: Question, steps: &[u8], answer: &mut [u8]) -> End
     ensures { λ r. ⌜ PlayedFrom (question-tables question) (question-first question) (now (steps .entry)) (now (answer .entry)) (now (answer .exit)) r ⌝ }
 {
     let hidden = search_hidden::question(question);
+    let characters = hidden.characters;
     let left = hidden.left;
     let right = hidden.right;
     let fields = hidden.fields;
@@ -63,5 +66,5 @@ pub fn play(question: Question, steps: &[u8], answer: &mut [u8]) -> End
     let taking = search_tables::taking_sets(fields);
     let last = search_tables::last_sets(fields);
     let first = search_trim::question(left, right);
-    play_from(first, steps, answer, &follow, &taking, last)
+    play_from(first, steps, answer, characters, &follow, &taking, last)
 }

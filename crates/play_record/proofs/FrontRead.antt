@@ -9,7 +9,6 @@ use mathlib.Core.List.{List, [], _∷_}
 use lib.Dec.{eqb, ltb}
 use lib.ListN.{length, getD, drop, length-append, length-drop}
 use lib.Seq.{drop-at, drop-drop}
-use Rattle.paper.specs.Numbers.{characters}
 use Rattle.paper.specs.Situation.{Move, strike-left, strike-right, put}
 use Rattle.paper.proofs.base.Tests.{eq-eqb, neq-eqb, lt-ltb, le-ltb}
 use Rattle.base_codes.specs.Inner.{move-code}
@@ -80,8 +79,8 @@ module _ (n : ℕ) where
     pub value-unknown : n ≤ getD l 3 0 → with-value n (drop 3 l) ≡ no-record
     value-unknown k = value-there l h ∙ rw (le-ltb (getD l 3 0) n k)
 
--- A record that was read at a place: the step that it says, and what is left behind it.
-pub record Stands (s : List ℕ) (at : ℕ) (r : Record) : Type 0 where
+-- A record that was read at a place, where there are so many characters: the step that it says, and what is left behind it.
+pub record Stands (characters : ℕ) (s : List ℕ) (at : ℕ) (r : Record) : Type 0 where
   pub move : Move
   pub is-step : IsStep characters move
   pub code : r .step ≡ move-code move
@@ -94,8 +93,8 @@ record-some strike-left = omega arith
 record-some strike-right = omega arith
 record-some (put c) = omega arith
 
-module _ (s : List ℕ) (at : ℕ) (r : Record) where
-  stands-by : (x : Front) → front-of characters (drop at s) ≡ x → FrontSays characters (drop at s) x → r ≡ record-of x → (r .bytes ≡ 0 → ⊥) → Stands s at r
+module _ (characters : ℕ) (s : List ℕ) (at : ℕ) (r : Record) where
+  stands-by : (x : Front) → front-of characters (drop at s) ≡ x → FrontSays characters (drop at s) x → r ≡ record-of x → (r .bytes ≡ 0 → ⊥) → Stands characters s at r
   stands-by no-record e f g n = absurd (n (rw g))
   stands-by (front m later) e f g n =
       let b : r .bytes ≡ length (step-record m) = ap (λ (x : Record). x .bytes) g in
@@ -111,7 +110,7 @@ module _ (s : List ℕ) (at : ℕ) (r : Record) where
         within = omega (arith, b, l, length-drop at s, record-some m);
       }
 
-  pub front-told : r ≡ record-of (front-of characters (drop at s)) → (r .bytes ≡ 0 → ⊥) → Stands s at r
+  pub front-told : r ≡ record-of (front-of characters (drop at s)) → (r .bytes ≡ 0 → ⊥) → Stands characters s at r
   front-told = stands-by (front-of characters (drop at s)) refl (front-says characters (drop at s))
 
   -- a record with no bytes is none

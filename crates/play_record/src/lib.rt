@@ -1,10 +1,8 @@
 // The record in front of bytes of steps, which may be anything.
 use base_codes::LEFT_STRUCK;
 use base_codes::RIGHT_STRUCK;
-use base_places::CHARACTERS;
 ghost use mathlib.Core.Path.{_≡_};
 ghost use lib.ListN.{drop};
-ghost use Rattle.paper.specs.Numbers.{characters};
 ghost use Rattle.paper_steps.specs.StepRecords.{front-of, with-value};
 ghost use Rattle.play_record.specs.InFront.{record-of};
 
@@ -12,9 +10,6 @@ ghost use Rattle.play_record.specs.InFront.{record-of};
 const STRIKE: usize = 3;
 
 const PUT: usize = 4;
-
-// how many values there are
-const VALUES: u8 = CHARACTERS as u8;
 
 // A step by its inner code, and how many bytes its record has. No record has no bytes.
 pub struct Record {
@@ -28,8 +23,8 @@ fn read_as(step: u8, bytes: usize) -> Record
     Record { step, bytes }
 }
 
-// The record that the bytes begin with.
-fn in_front(s: &[u8]) -> Record
+// The record that the bytes begin with, where there are so many characters.
+fn in_front(s: &[u8], characters: usize) -> Record
     ensures { λ r. ⌜ r ≡ record-of (front-of characters (now (s .entry))) ⌝ }
 {
     if s.len() < STRIKE {
@@ -51,29 +46,35 @@ fn in_front(s: &[u8]) -> Record
     if kind != 2 {
         return read_as(0, 0);
     }
-    with_value(s)
+    with_value(s, characters)
+}
+
+fn wide(b: u8) -> usize
+    ensures { λ r. ⌜ r ≡ b ⌝ }
+{
+    b as usize
 }
 
 // "and for kind 2 its value": that is a character's
-fn with_value(s: &[u8]) -> Record
+fn with_value(s: &[u8], characters: usize) -> Record
     ensures { λ r. ⌜ r ≡ record-of (with-value characters (drop 3 (now (s .entry)))) ⌝ }
 {
     if s.len() < PUT {
         return read_as(0, 0);
     }
     let value = s[3];
-    if value < VALUES {
+    if wide(value) < characters {
         return read_as(value, PUT);
     }
     read_as(0, 0)
 }
 
-// The record that stands at this place.
-pub fn front(s: &[u8], at: usize) -> Record
+// The record that stands at this place, where there are so many characters.
+pub fn front(s: &[u8], at: usize, characters: usize) -> Record
     ensures { λ r. ⌜ r ≡ record-of (front-of characters (drop at (now (s .entry)))) ⌝ }
 {
     if s.len() < at {
         return read_as(0, 0);
     }
-    in_front(&s[at..])
+    in_front(&s[at..], characters)
 }

@@ -1,17 +1,17 @@
 -- A step by its inner code is the paper's step:
---   step-agrees  : step-coded (tables-of q) (situation-code s) (move-code m) ≡ settled-as (step-made q s m), of a codable s and a question in Code 39
+--   step-agrees  : step-coded (tables-of q) (situation-code s) (move-code m) ≡ settled-as (step-made q s m), of a codable s and a question with at
+--                  most 128 characters
 --   step-codable : the situation that it makes is codable again
 -- Follows, move by move, from the children by inner codes being the codes of the paper's (`CodedChildren` of search_children), since a move that is
 -- allowed is the one move of its group.
-use Prim.Native.Nat.{ℕ, _<_}
+use Prim.Native.Nat.{ℕ, _≤_, _<_}
 use native.Mathlib.Omega.{arith}
 use mathlib.Core.Path.{_≡_, refl, sym, ap, ap₂, _∙_, subst}
 use mathlib.Core.Bool.{Bool, true, false, cond, not, _&&_, _||_, and-false, and-true, or-false}
 use mathlib.Core.List.{List, [], _∷_, _++_, map}
 use lib.Dec.{eqb}
 use Rattle.paper.specs.Lists.{upto, any, only, keep}
-use Rattle.paper.specs.Numbers.{characters, longest-side}
-use Rattle.paper.specs.Alphabet.{Alphabet, code-39}
+use Rattle.paper.specs.Numbers.{most-characters, longest-side}
 use Rattle.paper.specs.Places.{PlaceSet}
 use Rattle.paper.specs.Situation.{Acceptor, Situation, Kind, is-finished, is-dead, is-open, Move, strike-left, strike-right, put, front-field, front-may-end, front-takes, open-moves, kind, side-above, kept, child-by}
 use Rattle.paper.specs.Question.{Question, held-by, acceptor}
@@ -23,12 +23,12 @@ use Rattle.paper_steps.specs.StepRecords.{IsStep}
 use Rattle.paper_steps.specs.Player.{same-move, kind-dead, Made, not-allowed, long-side, made, allowed, stepped, alive, step-made}
 use Rattle.paper_steps.proofs.StepChildren.{StepTold, no-child, long-child, its-child, step-told}
 use Rattle.base_places.proofs.Masks.{Few}
-use Rattle.base_codes.specs.Inner.{left-struck, right-struck, move-code}
+use Rattle.base_codes.specs.Inner.{left-struck, right-struck, move-code, front}
 use Rattle.search_children.specs.Children.{Settled, dropped, above, left-strike, right-strike, as-child}
 use Rattle.search_children.specs.Children as Children
-use Rattle.search_children.specs.Coding.{situation-code, tables-of}
-use Rattle.search_children.proofs.CodedSets.{Codable, tables-every}
-use Rattle.search_children.proofs.CodedChildren.{code-child-of, moves-open, left-coded, right-coded, put-of-coded}
+use Rattle.search_children.specs.Coding.{situation-code, tables-of, tables-over}
+use Rattle.search_children.proofs.CodedSets.{Codable}
+use Rattle.search_children.proofs.CodedChildren.{code-child-of, moves-open, left-coded, right-coded, put-of-coded, put-every}
 use Rattle.search_children.proofs.KeptCodable.{child-codable}
 use Rattle.play_step.specs.StepCoded.{put-step, step-coded, settled-as}
 use Rattle.play_step.proofs.StepShort.{step-left, step-right, step-put}
@@ -141,7 +141,12 @@ pub over-every : (q : Question) → acceptor-over every q ≡ acceptor q
 unfolding acceptor-over acceptor
 over-every q = refl
 
-module _ (q : Question) (in-39 : q .alphabet ≡ code-39) (few : (f : ℕ) → Few (held-by q f)) (s : Situation PlaceSet) (codable : Codable s) where
+-- and the fields that may end are the same
+last-every : (q : Question) → tables-over every q .last ≡ tables-of q .last
+unfolding tables-over tables-of
+last-every q = refl
+
+module _ (q : Question) (most : q .alphabet .characters ≤ most-characters) (few : (f : ℕ) → Few (held-by q f)) (s : Situation PlaceSet) (codable : Codable s) where
   step-grouped : (m : Move) → as-child (move-code m) (settled-as (step-made q s m)) ≡ map code-child-of (cond (allowed q s m) (child-by (acceptor q) longest-side s m) [])
   unfolding step-made alive child-by
   step-grouped m =
@@ -151,22 +156,23 @@ module _ (q : Question) (in-39 : q .alphabet ≡ code-39) (few : (f : ℕ) → F
   left-agrees : left-strike (tables-of q .last) (situation-code s) ≡ settled-as (step-made q s strike-left)
   left-agrees =
       as-child-back left-struck _ _
-      ((rw (over-every q, tables-every q) at (left-coded every q few s codable)) ∙ sym (rw (allowed-left q s) at (step-grouped strike-left)))
+      ((rw (over-every q, last-every q) at (left-coded every q most few s codable)) ∙ sym (rw (allowed-left q s) at (step-grouped strike-left)))
 
   right-agrees : right-strike (tables-of q .last) (situation-code s) ≡ settled-as (step-made q s strike-right)
   right-agrees =
       as-child-back right-struck _ _
-      ((rw (over-every q, tables-every q) at (right-coded every q few s codable)) ∙ sym (rw (allowed-right q s) at (step-grouped strike-right)))
+      ((rw (over-every q, last-every q) at (right-coded every q most few s codable)) ∙ sym (rw (allowed-right q s) at (step-grouped strike-right)))
 
-  put-agrees : (c : ℕ) → c < characters → put-step (tables-of q .follow) (tables-of q .taking) (situation-code s) c ≡ settled-as (step-made q s (put c))
+  put-agrees : (c : ℕ) → c < q .alphabet .characters
+      → put-step (tables-of q .follow) (tables-of q .taking) (situation-code s) c ≡ settled-as (step-made q s (put c))
   unfolding put-step
   put-agrees c h =
-      let k : c < q .alphabet .characters = subst (λ (a : Alphabet). c < a .characters) (sym in-39) h in
-      rw (lt-ltb c characters h)
+      let k = situation-code s in
+      rw (lt-ltb c most-characters (omega arith), put-every q most (k .sets) k (front (k .left)) (front (k .right)) c h)
       (as-child-back c _ _
-      ((rw (over-every q, tables-every q) at (put-of-coded every q few s codable c h)) ∙ sym (rw (allowed-put q s c k) at (step-grouped (put c)))))
+      ((rw (over-every q) at (put-of-coded every q most few s codable c h)) ∙ sym (rw (allowed-put q s c h) at (step-grouped (put c)))))
 
-  pub step-agrees : (m : Move) → IsStep characters m → step-coded (tables-of q) (situation-code s) (move-code m) ≡ settled-as (step-made q s m)
+  pub step-agrees : (m : Move) → IsStep (q .alphabet .characters) m → step-coded (tables-of q) (situation-code s) (move-code m) ≡ settled-as (step-made q s m)
   step-agrees strike-left h = step-left (tables-of q) (situation-code s) left-struck refl ∙ left-agrees
   step-agrees strike-right h = step-right (tables-of q) (situation-code s) right-struck (λ (e : right-struck ≡ left-struck). omega arith) refl ∙ right-agrees
   step-agrees (put c) h =
@@ -181,4 +187,4 @@ module _ (q : Question) (in-39 : q .alphabet ≡ code-39) (few : (f : ℕ) → F
       by (long-child c l) f = absurd (never (cc))
       by (its-child {t = u} d) f =
           let h : u ≡ t = cc in
-          subst Codable h (child-codable every q few in-39 s m u codable (rw (over-every q) d))
+          subst Codable h (child-codable every q few most s m u codable (rw (over-every q) d))

@@ -8,12 +8,13 @@ use base_places::PLACES;
 use base_places::PlaceSet;
 use search_children::Child;
 use search_children::Fate;
+ghost use Prim.Native.Nat.{ℕ};
 ghost use mathlib.Core.Path.{_≡_};
 ghost use Rattle.base_codes.specs.Coded.{denoted};
 ghost use Rattle.search_children.specs.Laid.{child-of};
 ghost use Rattle.play_step.specs.StepCoded.{lent-tables, put-step, step-coded};
 
-// "a character": the child by putting c, where both fronts take it. A byte that is no character's value is never taken.
+// "a character": the child by putting c, where both fronts take it. A byte that a table has no room for is never taken.
 fn put_step(
     s: Situation,
     c: u8,
@@ -39,7 +40,7 @@ fn put_step(
     search_children::unmade(Fate::Dropped)
 }
 
-// The child by the step with this inner code. It is dropped where the step is not allowed or the child dead.
+// The child by the step with this inner code, however many characters there are. It is dropped where the step is not allowed or the child dead.
 pub fn step(
     s: Situation,
     code: u8,
@@ -47,7 +48,7 @@ pub fn step(
     taking: &[[PlaceSet; CHARACTERS]; FIELDS],
     last: [PlaceSet; FIELDS],
 ) -> Child
-    ensures { λ r. ⌜ r ≡ child-of (step-coded (lent-tables (now (follow .entry)) (now (taking .entry)) last) (denoted s) code) ⌝ }
+    ensures { λ r. ⌜ ((n : ℕ) → r ≡ child-of (step-coded (lent-tables n (now (follow .entry)) (now (taking .entry)) last) (denoted s) code)) ⌝ }
 {
     if code == LEFT_STRUCK {
         return search_children::strike_left(s, last);

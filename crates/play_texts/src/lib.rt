@@ -38,16 +38,37 @@ fn put_record(
     first: Situation,
     steps: &[u8],
     f: u8,
+    characters: usize,
     follow: &[[PlaceSet; PLACES]; FIELDS],
     taking: &[[PlaceSet; CHARACTERS]; FIELDS],
     last: [PlaceSet; FIELDS],
 ) -> usize
-    ensures { λ r. ⌜ Counted (now (out .entry)) (now (out .exit)) at r (value-record f (text-walked (lent-tables (now (follow .entry)) (now (taking .entry)) last) f (denoted first) (now (steps .entry)))) ⌝ }
+    ensures { λ r. ⌜ Counted (now (out .entry)) (now (out .exit)) at r (value-record f (text-walked (lent-tables characters (now (follow .entry)) (now (taking .entry)) last) f (denoted first) (now (steps .entry)))) ⌝ }
 {
-    let n = put_text(&mut out[0..0], 0, first, steps, f, follow, taking, last);
+    let n = put_text(
+        &mut out[0..0],
+        0,
+        first,
+        steps,
+        f,
+        characters,
+        follow,
+        taking,
+        last,
+    );
     let head = head(f, n);
     let begun = put_all(out, at, &head);
-    put_text(out, begun, first, steps, f, follow, taking, last)
+    put_text(
+        out,
+        begun,
+        first,
+        steps,
+        f,
+        characters,
+        follow,
+        taking,
+        last,
+    )
 }
 
 // That of a field whose first place set is this, if it stands.
@@ -58,16 +79,17 @@ fn put_field(
     steps: &[u8],
     f: u8,
     set: PlaceSet,
+    characters: usize,
     follow: &[[PlaceSet; PLACES]; FIELDS],
     taking: &[[PlaceSet; CHARACTERS]; FIELDS],
     last: [PlaceSet; FIELDS],
 ) -> usize
-    ensures { λ r. ⌜ Counted (now (out .entry)) (now (out .exit)) at r (records-along (lent-tables (now (follow .entry)) (now (taking .entry)) last) (denoted first) (now (steps .entry)) (only (not (eqb set 0)) f)) ⌝ }
+    ensures { λ r. ⌜ Counted (now (out .entry)) (now (out .exit)) at r (records-along (lent-tables characters (now (follow .entry)) (now (taking .entry)) last) (denoted first) (now (steps .entry)) (only (not (eqb set 0)) f)) ⌝ }
 {
     if set == 0 {
         return at;
     }
-    put_record(out, at, first, steps, f, follow, taking, last)
+    put_record(out, at, first, steps, f, characters, follow, taking, last)
 }
 
 // "for each field standing in the sides, by rising number"
@@ -75,11 +97,12 @@ fn put_records(
     out: &mut [u8],
     first: Situation,
     steps: &[u8],
+    characters: usize,
     follow: &[[PlaceSet; PLACES]; FIELDS],
     taking: &[[PlaceSet; CHARACTERS]; FIELDS],
     last: [PlaceSet; FIELDS],
 ) -> usize
-    ensures { λ r. ⌜ Counted (now (out .entry)) (now (out .exit)) 0 r (way-records (lent-tables (now (follow .entry)) (now (taking .entry)) last) (denoted first) (now (steps .entry))) ⌝ }
+    ensures { λ r. ⌜ Counted (now (out .entry)) (now (out .exit)) 0 r (way-records (lent-tables characters (now (follow .entry)) (now (taking .entry)) last) (denoted first) (now (steps .entry))) ⌝ }
 {
     let sets = first.sets;
     let mut end = 0;
@@ -92,6 +115,7 @@ fn put_records(
             steps,
             f as u8,
             sets[f],
+            characters,
             follow,
             taking,
             last,
@@ -106,16 +130,25 @@ pub fn answer_way(
     answer: &mut [u8],
     first: Situation,
     steps: &[u8],
+    characters: usize,
     follow: &[[PlaceSet; PLACES]; FIELDS],
     taking: &[[PlaceSet; CHARACTERS]; FIELDS],
     last: [PlaceSet; FIELDS],
 ) -> Given
-    ensures { λ r. ⌜ WayAnswered (way-records (lent-tables (now (follow .entry)) (now (taking .entry)) last) (denoted first) (now (steps .entry))) (now (answer .entry)) (now (answer .exit)) r ⌝ }
+    ensures { λ r. ⌜ WayAnswered (way-records (lent-tables characters (now (follow .entry)) (now (taking .entry)) last) (denoted first) (now (steps .entry))) (now (answer .entry)) (now (answer .exit)) r ⌝ }
 {
-    let length = put_records(&mut answer[0..0], first, steps, follow, taking, last);
+    let length = put_records(
+        &mut answer[0..0],
+        first,
+        steps,
+        characters,
+        follow,
+        taking,
+        last,
+    );
     if answer.len() < length {
         return Given::TooShort;
     }
-    let written = put_records(answer, first, steps, follow, taking, last);
+    let written = put_records(answer, first, steps, characters, follow, taking, last);
     Given::Bytes(written)
 }

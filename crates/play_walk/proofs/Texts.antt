@@ -5,7 +5,7 @@ use mathlib.Core.Path.{_≡_, sym, subst, _∙_}
 use mathlib.Core.Bool.{true, false}
 use mathlib.Core.List.{List, [], _∷_, _++_, append-nil, append-assoc}
 use lib.Dec.{eqb}
-use Rattle.paper.specs.Numbers.{characters}
+use Rattle.paper.specs.Numbers.{most-characters}
 use Rattle.paper.proofs.base.Tests.{lt-ltb, le-ltb}
 use Rattle.base_put.specs.Counted.{Counted}
 use Rattle.base_put.proofs.Counting.{counted-none, counted-then}
@@ -14,23 +14,23 @@ use Rattle.base_codes.specs.Coded.{Coded}
 use Rattle.search_children.specs.Children.{given-coded}
 
 module _ (f : ℕ) (s : Coded) (step : ℕ) where
-  pub given-none : characters ≤ step → given-coded f s step ≡ []
+  pub given-none : most-characters ≤ step → given-coded f s step ≡ []
   unfolding given-coded
-  given-none h = rw (le-ltb step characters h)
+  given-none h = rw (le-ltb step most-characters h)
 
-  module _ (h : step < characters) where
+  module _ (h : step < most-characters) where
     pub given-left : eqb (front (s .left)) (field-code + f) ≡ true → given-coded f s step ≡ step ∷ []
     unfolding given-coded
-    given-left e = rw (lt-ltb step characters h, e)
+    given-left e = rw (lt-ltb step most-characters h, e)
 
     module _ (n : eqb (front (s .left)) (field-code + f) ≡ false) where
       pub given-right : eqb (front (s .right)) (field-code + f) ≡ true → given-coded f s step ≡ step ∷ []
       unfolding given-coded
-      given-right e = rw (lt-ltb step characters h, n, e)
+      given-right e = rw (lt-ltb step most-characters h, n, e)
 
       pub given-neither : eqb (front (s .right)) (field-code + f) ≡ false → given-coded f s step ≡ []
       unfolding given-coded
-      given-neither e = rw (lt-ltb step characters h, n, e)
+      given-neither e = rw (lt-ltb step most-characters h, n, e)
 
 -- some of the whole was put, and the rest is missing
 pub record Underway (whole rest before after : List ℕ) (at end : ℕ) : Type 0 where

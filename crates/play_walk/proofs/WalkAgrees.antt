@@ -1,7 +1,7 @@
 -- Playing by inner codes is the paper's playing, from an entry that the way so far leads to:
 --   walk-told  : where it ends, by its number; and where it arrives, what the records put before each field is the text that the way spells
 --   text-short : a text has no more characters than there are steps
--- For a good question in Code 39. Follows from one step (`StepAgrees`), by induction on how many records may still come.
+-- For a searchable question. Follows from one step (`StepAgrees`), by induction on how many records may still come.
 use Prim.Native.Nat.{ℕ, zero, suc, _+_, _≤_, _<_}
 use native.Mathlib.Omega.{arith}
 use mathlib.Core.Path.{_≡_, refl, sym, ap, _∙_, subst}
@@ -10,8 +10,7 @@ use mathlib.Core.List.{List, [], _∷_, _++_, append-nil, append-assoc, reverse,
 use lib.Dec.{ltb, eqb}
 use lib.ListN.{length, length-append}
 use Rattle.paper.specs.Lists.{only}
-use Rattle.paper.specs.Numbers.{characters, set-fields, longest-side}
-use Rattle.paper.specs.Alphabet.{Alphabet}
+use Rattle.paper.specs.Numbers.{most-characters, set-fields, longest-side}
 use Rattle.paper.specs.Pattern.{Held, some-text, pattern}
 use Rattle.paper.specs.Places.{PlaceSet}
 use Rattle.paper.specs.Search.{Entry, child}
@@ -55,7 +54,7 @@ length-only false x = omega arith
 
 given-short : (f : ℕ) (s : Coded) (c : ℕ) → length (given-coded f s c) ≤ 1
 unfolding given-coded
-given-short f s c = length-only (ltb c characters && (eqb (Inner.front (s .left)) (field-code + f) || eqb (Inner.front (s .right)) (field-code + f))) c
+given-short f s c = length-only (ltb c most-characters && (eqb (Inner.front (s .left)) (field-code + f) || eqb (Inner.front (s .right)) (field-code + f))) c
 
 module _ (T : Tables) (f : ℕ) where
   on-short : (n : ℕ) (given : List ℕ) (go-on : Coded → List ℕ) (x : Settled) → length given ≤ 1 → ((t : Coded) → length (go-on t) ≤ n)
@@ -72,7 +71,7 @@ module _ (T : Tables) (f : ℕ) where
 
   from-short : (left : ℕ) (s : Coded) (bytes : List ℕ) → length (text-from T f left s bytes) ≤ left
   from-short zero s bytes = omega arith
-  from-short (suc left) s bytes = front-short left (text-from T f left) s (front-of characters bytes) (from-short left)
+  from-short (suc left) s bytes = front-short left (text-from T f left) s (front-of (T .characters) bytes) (from-short left)
 
   pub text-short : (s : Coded) (bytes : List ℕ) → length (text-walked T f s bytes) ≤ most-steps
   unfolding text-walked
@@ -82,21 +81,27 @@ module _ (T : Tables) (f : ℕ) where
 abbrev pub first-coded : Question → Coded
 first-coded q = question-coded (side-code (q .left)) (side-code (q .right))
 
-few-leaves : (h : Held) → GoodHeld characters h → Few h
-few-leaves some-text g = tt
-few-leaves (pattern p) g = g .1
+module _ (n : ℕ) where
+  few-leaves : (h : Held) → GoodHeld n h → Few h
+  few-leaves some-text g = tt
+  few-leaves (pattern p) g = g .1
 
-known-step : (m : Move) → IsStep characters m → Known-move m
-known-step strike-left h = tt
-known-step strike-right h = tt
-known-step (put c) h = h
+  known-step : (m : Move) → n ≤ most-characters → IsStep n m → Known-move m
+  known-step strike-left most h = tt
+  known-step strike-right most h = tt
+  known-step (put c) most h = omega arith
 
 module _ (q : Question) (good : Searchable q) where
   few : (f : ℕ) → Few (held-by q f)
-  few f = few-leaves (held-by q f) (good .held f)
+  few f = few-leaves (q .alphabet .characters) (held-by q f) (good .held f)
 
   abbrev T : Tables
   T = tables-of q
+
+  -- the tables have the alphabet's number of characters
+  characters-are : T .characters ≡ q .alphabet .characters
+  unfolding tables-of
+  characters-are = refl
 
   abbrev At : Type 0
   At = Entry (Situation PlaceSet) Move
@@ -153,16 +158,16 @@ module _ (q : Question) (good : Searchable q) where
   come-on : (e : At) (m : Move) (t : Situation PlaceSet) → Come e → step-made q (e .at) m ≡ made t → Come (behind e m t)
   come-on e m t c h =
       record {
-        codable = step-codable q (good .alphabet) few (e .at) (c .codable) m t h;
+        codable = step-codable q (good .most) few (e .at) (c .codable) m t h;
         leads = step (c .leads) (step-child (e .at) m t h);
       }
 
   -- what the way spells, and what its next step gives
-  spelt-on : (e : At) (m : Move) (t : Situation PlaceSet) → Come e → IsStep characters m → (f : ℕ) → f < set-fields
+  spelt-on : (e : At) (m : Move) (t : Situation PlaceSet) → Come e → IsStep (q .alphabet .characters) m → (f : ℕ) → f < set-fields
       → spelt f (behind e m t) ≡ spelt f e ++ given-coded f (situation-code (e .at)) (move-code m)
   spelt-on e m t c i f k =
       text-last (acceptor q) f longest-side m (c .leads)
-      ∙ ap (λ (l : List ℕ). spelt f e ++ l) (sym (given-agrees every q f (e .at) m k (c .codable) (known-step m i)))
+      ∙ ap (λ (l : List ℕ). spelt f e ++ l) (sym (given-agrees every q f (e .at) m k (c .codable) (known-step (q .alphabet .characters) m (good .most) i)))
 
   -- one step, by what making it gives
   abbrev Told-on : ℕ → At → Move → List ℕ → Settled → Made → Type 0
@@ -171,7 +176,7 @@ module _ (q : Question) (good : Searchable q) where
       (walk-on (λ (t : Coded). walk-from T left t later) x)
       (made-on (λ (g : At) (rest : List ℕ). play-from q left g rest) e m later y)
 
-  made-told : (left : ℕ) (e : At) (m : Move) (later : List ℕ) → Come e → IsStep characters m
+  made-told : (left : ℕ) (e : At) (m : Move) (later : List ℕ) → Come e → IsStep (q .alphabet .characters) m
       → ((g : At) (rest : List ℕ) → Come g → Tells (texts-from left g rest) (walk-from T left (situation-code (g .at)) rest) (play-from q left g rest))
       → (x : Made) → step-made q (e .at) m ≡ x → Told-on left e m later (settled-as x) x
   made-told left e m later c i on not-allowed h = stops NotAllowed
@@ -185,14 +190,14 @@ module _ (q : Question) (good : Searchable q) where
 
   front-told : (left : ℕ) (e : At) (bytes : List ℕ) → Come e
       → ((g : At) (rest : List ℕ) → Come g → Tells (texts-from left g rest) (walk-from T left (situation-code (g .at)) rest) (play-from q left g rest))
-      → (x : Front) → FrontSays characters bytes x
+      → (x : Front) → FrontSays (q .alphabet .characters) bytes x
       → Tells (λ (f : ℕ). spelt f e ++ text-front T f (text-from T f left) (situation-code (e .at)) x)
       (walk-front T (walk-from T left) (situation-code (e .at)) x)
       (front-on q (λ (g : At) (rest : List ℕ). play-from q left g rest) e x)
   front-told left e bytes c on no-record says = stops NoRecord
   front-told left e bytes c on (front m later) says =
       subst (λ (z : Settled). Told-on left e m later z (step-made q (e .at) m))
-      (sym (step-agrees q (good .alphabet) few (e .at) (c .codable) m (says .0)))
+      (sym (step-agrees q (good .most) few (e .at) (c .codable) m (says .0)))
       (made-told left e m later c (says .0) on (step-made q (e .at) m) refl)
 
   told-from : (left : ℕ) (e : At) (bytes : List ℕ) → Come e
@@ -202,11 +207,12 @@ module _ (q : Question) (good : Searchable q) where
   told-from (suc left) e [] c = ended-told e (texts-from (suc left) e []) (λ f. append-nil (spelt f e))
   told-from (suc left) e (b ∷ bytes) c =
       subst
-      (λ (a : Alphabet).
-      Tells (texts-from (suc left) e (b ∷ bytes)) (walk-from T (suc left) (situation-code (e .at)) (b ∷ bytes))
-      (front-on q (λ (g : At) (rest : List ℕ). play-from q left g rest) e (front-of (a .characters) (b ∷ bytes))))
-      (sym (good .alphabet))
-      (front-told left e (b ∷ bytes) c (told-from left) (front-of characters (b ∷ bytes)) (front-says characters (b ∷ bytes)))
+      (λ (n : ℕ).
+      Tells (λ (f : ℕ). spelt f e ++ text-front T f (text-from T f left) (situation-code (e .at)) (front-of n (b ∷ bytes)))
+      (walk-front T (walk-from T left) (situation-code (e .at)) (front-of n (b ∷ bytes)))
+      (play-from q (suc left) e (b ∷ bytes)))
+      (sym characters-are)
+      (front-told left e (b ∷ bytes) c (told-from left) (front-of (q .alphabet .characters) (b ∷ bytes)) (front-says (q .alphabet .characters) (b ∷ bytes)))
 
   first-is : situation-code begin ≡ first-coded q
   first-is = rw (over-every q) at (question-agrees every q (q .left) (q .right) (known-side (q .left) (good .left)) (known-side (q .right) (good .right)))

@@ -7,7 +7,6 @@ use mathlib.Core.Bool.{true, false}
 use mathlib.Core.List.{List, []}
 use lib.ListN.{length, drop, drop-of-length-le}
 use lib.Seq.{drop-cons}
-use Rattle.paper.specs.Numbers.{characters}
 use Rattle.paper_steps.specs.StepRecords.{front-of}
 use Rattle.paper_steps.specs.Player.{most-steps}
 use Rattle.base_codes.specs.Coded.{Coded, finished-coded, denoted, Short}
@@ -57,31 +56,31 @@ module _ (T : Tables) where
   walk-past zero s bytes at e h = rw (drop-cons bytes at 0 h)
   walk-past (suc left) s bytes at e h = absurd (omega arith)
 
-  module _ (left : ℕ) (s : Coded) (bytes : List ℕ) (at : ℕ) (l : 0 < left) (r : Record) (e : r ≡ record-of (front-of characters (drop at bytes))) where
+  module _ (left : ℕ) (s : Coded) (bytes : List ℕ) (at : ℕ) (l : 0 < left) (r : Record) (e : r ≡ record-of (front-of (T .characters) (drop at bytes))) where
     -- one record
-    front-walk : at < length bytes → walk-from T left s (drop at bytes) ≡ walk-front T (walk-from T (left - 1)) s (front-of characters (drop at bytes))
+    front-walk : at < length bytes → walk-from T left s (drop at bytes) ≡ walk-front T (walk-from T (left - 1)) s (front-of (T .characters) (drop at bytes))
     front-walk h = by left l
       where
-        by : (n : ℕ) → 0 < n → walk-from T n s (drop at bytes) ≡ walk-front T (walk-from T (n - 1)) s (front-of characters (drop at bytes))
+        by : (n : ℕ) → 0 < n → walk-from T n s (drop at bytes) ≡ walk-front T (walk-from T (n - 1)) s (front-of (T .characters) (drop at bytes))
         by zero k = absurd (omega arith)
         by (suc n) k = let d : n ≡ suc n - 1 = omega arith in rw (drop-cons bytes at 0 h, ← d)
 
-    front-text : (f : ℕ) → text-from T f left s (drop at bytes) ≡ text-front T f (text-from T f (left - 1)) s (front-of characters (drop at bytes))
+    front-text : (f : ℕ) → text-from T f left s (drop at bytes) ≡ text-front T f (text-from T f (left - 1)) s (front-of (T .characters) (drop at bytes))
     front-text f = by left l
       where
-        by : (n : ℕ) → 0 < n → text-from T f n s (drop at bytes) ≡ text-front T f (text-from T f (n - 1)) s (front-of characters (drop at bytes))
+        by : (n : ℕ) → 0 < n → text-from T f n s (drop at bytes) ≡ text-front T f (text-from T f (n - 1)) s (front-of (T .characters) (drop at bytes))
         by zero k = absurd (omega arith)
         by (suc n) k = let d : n ≡ suc n - 1 = omega arith in rw (← d)
 
     pub text-none : (f : ℕ) → r .bytes ≡ 0 → text-from T f left s (drop at bytes) ≡ []
-    text-none f z = front-text f ∙ ap (text-front T f (text-from T f (left - 1)) s) (front-none bytes at r e z)
+    text-none f z = front-text f ∙ ap (text-front T f (text-from T f (left - 1)) s) (front-none (T .characters) bytes at r e z)
 
     pub walk-none : at < length bytes → r .bytes ≡ 0 → walk-from T left s (drop at bytes) ≡ Stopped NoRecord
-    walk-none h z = front-walk h ∙ ap (walk-front T (walk-from T (left - 1)) s) (front-none bytes at r e z)
+    walk-none h z = front-walk h ∙ ap (walk-front T (walk-from T (left - 1)) s) (front-none (T .characters) bytes at r e z)
 
     module _ (n : r .bytes ≡ 0 → ⊥) where
-      its : Stands bytes at r
-      its = front-told bytes at r e n
+      its : Stands (T .characters) bytes at r
+      its = front-told (T .characters) bytes at r e n
 
       pub record-within : at + r .bytes ≤ length bytes
       record-within = its .within

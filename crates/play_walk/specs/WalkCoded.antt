@@ -3,7 +3,6 @@
 use Prim.Native.Nat.{ℕ, zero, suc}
 use mathlib.Core.Bool.{cond}
 use mathlib.Core.List.{List, [], _∷_, _++_}
-use Rattle.paper.specs.Numbers.{characters}
 use Rattle.paper_steps.specs.StepRecords.{Front, no-record, front, front-of}
 use Rattle.paper_steps.specs.Player.{most-steps}
 use Rattle.base_codes.specs.Inner.{move-code}
@@ -39,7 +38,7 @@ text-on given go-on above = []
 text-on given go-on (made t) = given ++ go-on t
 
 module _ (T : Tables) where
-  -- "47 for one cut short .."
+  -- "47 for one cut short .."; a value is a character's by how many of them there are
   abbrev pub walk-front : (Coded → List ℕ → Ending) → Coded → Front → Ending
   walk-front go-on s no-record = Stopped NoRecord
   walk-front go-on s (front m later) = walk-on (λ (t : Coded). go-on t later) (step-coded T s (move-code m))
@@ -49,7 +48,7 @@ module _ (T : Tables) where
   walk-from zero s [] = ended-coded s
   walk-from zero s (b ∷ bytes) = Stopped PastMost
   walk-from (suc left) s [] = ended-coded s
-  walk-from (suc left) s (b ∷ bytes) = walk-front (λ (t : Coded) (later : List ℕ). walk-from left t later) s (front-of characters (b ∷ bytes))
+  walk-from (suc left) s (b ∷ bytes) = walk-front (λ (t : Coded) (later : List ℕ). walk-from left t later) s (front-of (T .characters) (b ∷ bytes))
 
   unfoldable pub walked : Coded → List ℕ → Ending
   walked s bytes = walk-from most-steps s bytes
@@ -62,7 +61,7 @@ module _ (T : Tables) where
 
     abbrev pub text-from : ℕ → Coded → List ℕ → List ℕ
     text-from zero s bytes = []
-    text-from (suc left) s bytes = text-front (λ (t : Coded) (later : List ℕ). text-from left t later) s (front-of characters bytes)
+    text-from (suc left) s bytes = text-front (λ (t : Coded) (later : List ℕ). text-from left t later) s (front-of (T .characters) bytes)
 
     unfoldable pub text-walked : Coded → List ℕ → List ℕ
     text-walked s bytes = text-from most-steps s bytes

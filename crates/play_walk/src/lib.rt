@@ -59,15 +59,16 @@ fn ended(s: Situation) -> Ending
     }
 }
 
-// Plays the records of steps from this situation on.
+// Plays the records of steps from this situation on, where there are so many characters.
 pub fn walk(
     first: Situation,
     steps: &[u8],
+    characters: usize,
     follow: &[[PlaceSet; PLACES]; FIELDS],
     taking: &[[PlaceSet; CHARACTERS]; FIELDS],
     last: [PlaceSet; FIELDS],
 ) -> Ending
-    ensures { λ r. ⌜ r ≡ walked (lent-tables (now (follow .entry)) (now (taking .entry)) last) (denoted first) (now (steps .entry)) ⌝ }
+    ensures { λ r. ⌜ r ≡ walked (lent-tables characters (now (follow .entry)) (now (taking .entry)) last) (denoted first) (now (steps .entry)) ⌝ }
 {
     let mut s = first;
     let mut at = 0;
@@ -78,7 +79,7 @@ pub fn walk(
                 why: Stop::PastMost,
             };
         }
-        let record = play_record::front(steps, at);
+        let record = play_record::front(steps, at, characters);
         if record.bytes == 0 {
             return Ending::Stopped {
                 why: Stop::NoRecord,
@@ -137,18 +138,19 @@ pub fn put_text(
     first: Situation,
     steps: &[u8],
     f: u8,
+    characters: usize,
     follow: &[[PlaceSet; PLACES]; FIELDS],
     taking: &[[PlaceSet; CHARACTERS]; FIELDS],
     last: [PlaceSet; FIELDS],
 ) -> usize
-    ensures { λ r. ⌜ Counted (now (out .entry)) (now (out .exit)) at r (text-walked (lent-tables (now (follow .entry)) (now (taking .entry)) last) f (denoted first) (now (steps .entry))) ⌝ }
+    ensures { λ r. ⌜ Counted (now (out .entry)) (now (out .exit)) at r (text-walked (lent-tables characters (now (follow .entry)) (now (taking .entry)) last) f (denoted first) (now (steps .entry))) ⌝ }
 {
     let mut end = at;
     let mut s = first;
     let mut i = 0;
     let mut left = MOST_STEPS;
     while left > 0 {
-        let record = play_record::front(steps, i);
+        let record = play_record::front(steps, i, characters);
         if record.bytes == 0 {
             return end;
         }

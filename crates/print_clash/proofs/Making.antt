@@ -1,6 +1,6 @@
 -- From the lines that were put and the entry's answer to what is printed of the outcome. Over any lines and any bound on the first one's
 -- length, so that what else is printed of an outcome has the same laws. Follows from the definitions of the lines.
-use Prim.Native.Nat.{ℕ, _+_}
+use Prim.Native.Nat.{ℕ, _+_, _*_}
 use native.Mathlib.Omega.{arith}
 use mathlib.Core.Path.{_≡_, ap}
 use mathlib.Core.Bool.{true, false}
@@ -10,7 +10,7 @@ use lib.ListN.{length, length-append, length-replicate}
 use Rattle.paper.specs.Numbers.{program-answer}
 use Rattle.paper.specs.Outcome.{Outcome}
 use Rattle.paper.proofs.base.Tests.{le-leb}
-use Rattle.print_lines.specs.Lines.{lines-in-front, Prints, Put, put-as, put-where-room}
+use Rattle.print_lines.specs.Lines.{lines-in-front, room-for, Prints, Put, put-as, put-where-room}
 use Rattle.print_lines.specs.declared.Filled.{Filled}
 use Rattle.print_lines.specs.declared.Filled.the-variants.{Bytes, NoRoom}
 use Rattle.print_clash.specs.ClashPrinted.{Lined, lined-as, lined-where-room, no-answer}
@@ -26,11 +26,11 @@ answer-length = length-replicate {A = ℕ} program-answer 0
 
 module _ (longest : ℕ) (lines : List ℕ) (o : Outcome) (work answer out : List ℕ) where
   -- by whether the longest lines have room
-  pub no-room : leb (longest + length answer) (length out) ≡ false → lined-as NoRoom out answer work ≡ lined-where-room longest lines o work answer out
+  pub no-room : leb (room-for longest answer) (length out) ≡ false → lined-as NoRoom out answer work ≡ lined-where-room longest lines o work answer out
   no-room h = rw h
 
   pub with-room : {said : Filled} {out′ answer′ work′ : List ℕ}
-      → leb (longest + length answer) (length out) ≡ true
+      → leb (room-for longest answer) (length out) ≡ true
       → length answer′ ≡ length answer
       → answer′ ≡ o .answer
       → work′ ≡ o .work
@@ -43,11 +43,11 @@ module _ (longest : ℕ) (lines : List ℕ) (o : Outcome) (work answer out : Lis
   -- what a program prints in its buffers
   pub program-prints : {out′ answer′ work′ : List ℕ} {said : Filled}
       → answer ≡ no-answer
-      → length out ≡ longest + program-answer
+      → length out ≡ longest + 2 * program-answer
       → lined-as said out′ answer′ work′ ≡ lined-where-room longest lines o work answer out
       → Prints lines out out′ (filled-bytes said)
   program-prints {out′ = out′} {said = said} b room e =
-      let fits : leb (longest + length answer) (length out) ≡ true = le-leb (longest + length answer) (length out) (omega (arith, ap length b, answer-length, room)) in
+      let fits : leb (room-for longest answer) (length out) ≡ true = le-leb (room-for longest answer) (length out) (omega (arith, ap length b, answer-length, room)) in
       let f = rw fits at e in
       let bytes : out′ ≡ lines-in-front lines out = ap (λ (x : Lined). x .out) f in
       let many : filled-bytes said ≡ length lines = ap (λ (x : Lined). filled-bytes (x .said)) f in

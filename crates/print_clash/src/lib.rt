@@ -2,7 +2,7 @@
 pub use print_lines::FIRST_LINE;
 pub use print_lines::Filled;
 ghost use mathlib.Core.Path.{_≡_};
-ghost use Rattle.paper.specs.Printed.{printed as printed-for};
+ghost use Rattle.paper_print.specs.ClashProgram.{printed as printed-for};
 ghost use Rattle.print_lines.specs.Lines.{Prints};
 ghost use Rattle.print_clash.specs.ClashPrinted.{no-work, no-answer, lined-as, lined};
 
@@ -13,16 +13,17 @@ pub const WORK: usize = 65520;
 
 pub const ANSWER: usize = 4096;
 
-// No later line is longer than its record.
-pub const PRINTED: usize = FIRST_LINE + ANSWER;
+// No later line is longer than two of its records.
+pub const PRINTED: usize = FIRST_LINE + 2 * ANSWER;
 
 // The lines for a sheet and two lent buffers. Where `out` has no room for the longest, nothing is asked and nothing changed.
 pub fn lines(sheet: &[u8], work: &mut [u8], answer: &mut [u8], out: &mut [u8]) -> Filled
     ensures { λ r. ⌜ lined-as r (now (out .exit)) (now (answer .exit)) (now (work .exit)) ≡ lined (now (sheet .entry)) (now (work .entry)) (now (answer .entry)) (now (out .entry)) ⌝ }
 {
     if print_lines::has_room(out.len(), answer.len()) {
+        let edition = print_signs::edition(sheet);
         let told = base_answers::in_numbers(search_clash::clash(sheet, work, answer));
-        return print_lines::put_lines(out, told, answer);
+        return print_lines::put_lines(out, edition, told, answer);
     }
     Filled::NoRoom
 }

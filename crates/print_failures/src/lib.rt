@@ -25,5 +25,6 @@ fn tell_words(fault: Fault) {
         Fault::NotOnePattern => tell(b"not one pattern"),
         Fault::TooManyLeaves => tell(b"a pattern with too many leaves"),
         Fault::WrongToken => tell(b"a wrong token"),
+        Fault::WrongEdition => tell(b"a wrong edition"),
     }
 }

@@ -1,4 +1,5 @@
 pub mod Decimal
 pub mod Putting
+pub mod CharacterPut
 pub mod Walked
 pub mod Making

@@ -1,11 +1,14 @@
 -- What the writers put into a lent buffer: the parts of what is printed, in the order in which they are put.
 use Prim.Native.Nat.{ℕ, _+_, _*_, _-_, _≤_, min}
 use mathlib.Core.Path.{_≡_}
-use mathlib.Core.List.{List, [], _∷_, _++_, map}
+use mathlib.Core.List.{List, [], _∷_, _++_}
 use lib.ListN.{length, getD}
 use lib.Seq.{sets}
-use Rattle.paper.specs.Printed.{digits, decimal, first-line, sign, blank-sign, newline, value-lines}
-use Rattle.paper_decide.specs.DecisionLine.{decided-line}
+use Rattle.paper.specs.Alphabet.{Edition}
+use Rattle.paper.specs.Printed.{digits, blank-sign}
+use Rattle.paper_print.specs.TextLines.{text-line, value-lines}
+use Rattle.paper_print.specs.ClashProgram.{first-line}
+use Rattle.paper_print.specs.DecideProgram.{decided-line}
 
 -- The bytes l were put into d from `at` on, which is now e; `end` is the place behind them.
 pub record Puts (d e : List ℕ) (at end : ℕ) (l : List ℕ) : Type 0 where
@@ -36,8 +39,8 @@ three-numbers number count place sign =
     (in-decimal number ++ (blank-sign ∷ [])) ++ (in-decimal count ++ (blank-sign ∷ [])) ++ (in-decimal place ++ (sign ∷ []))
 
 -- "field number, a space, the text as characters"
-unfoldable pub value-line : ℕ → List ℕ → List ℕ
-value-line f text = decimal f ++ (blank-sign ∷ map sign text) ++ (newline ∷ [])
+unfoldable pub value-line : Edition → ℕ → List ℕ → List ℕ
+value-line e f text = text-line e f text
 
 -- `VA`, field byte, length in two bytes
 abbrev pub head-size : ℕ
@@ -47,7 +50,7 @@ head-size = 5
 abbrev pub text-length : List ℕ → ℕ → ℕ
 text-length s from = min (getD s (from + 3) 0 + 256 * getD s (from + 4) 0) (length s - (from + head-size))
 
--- "a line for each `VA`" was put, none longer than its record
-pub record Puts-lines (d e : List ℕ) (at end : ℕ) (records : List ℕ) : Type 0 where
-  pub within : end ≤ at + length records
-  pub lines : (n : ℕ) → length records ≤ n → Puts d e at end (value-lines n records)
+-- "a line for each `VA`" was put, none longer than two of its records: behind `ED` a character may be two signs
+pub record Puts-lines (k : Edition) (d e : List ℕ) (at end : ℕ) (records : List ℕ) : Type 0 where
+  pub within : end ≤ at + 2 * length records
+  pub lines : (n : ℕ) → length records ≤ n → Puts d e at end (value-lines k n records)

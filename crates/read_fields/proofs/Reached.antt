@@ -10,6 +10,7 @@ use lib.Dec.{ltb}
 use lib.ListN.{length, set, replicate, length-set}
 use Rattle.paper.specs.Numbers.{fields}
 use Rattle.paper.specs.Pattern.{Held, some-text, pattern}
+use Rattle.paper.specs.Alphabet.{Edition}
 use Rattle.paper.specs.Sheet.{Fault, fault, bytes-left, Mark, PA, next-is, pattern-record, Records, faulty, Fields, open-fields, read-patterns}
 use Rattle.paper.proofs.base.Tests.{by-bool, true-false, ltb-false}
 use Rattle.base_places.specs.WorkedOut.{worked-out}
@@ -26,16 +27,16 @@ use Rattle.read_fields.specs.Bodies.{bodies-from, bodies-in}
 use Rattle.read_fields.specs.Walk.{fields-of, Pattern-stands}
 
 -- what reading from the offset on gives, with turns enough
-abbrev pub all-read : List ℕ → ℕ → Records Fields
-all-read s from = read-patterns (suc (length s)) s from open-fields
+abbrev pub all-read : Edition → List ℕ → ℕ → Records Fields
+all-read e s from = read-patterns e (suc (length s)) s from open-fields
 
 -- the records from the offset `from` on are read up to the offset `at`; the patterns among them are worked out, and it is known where they
 -- stand; the turns left are enough
-pub record Reached (s : List ℕ) (from at above : ℕ) (works : List PlaceTables) (bodies : List Body) : Type 0 where
+pub record Reached (e : Edition) (s : List ℕ) (from at above : ℕ) (works : List PlaceTables) (bodies : List Body) : Type 0 where
   pub held : List Held
   pub turns : ℕ
   pub enough : length s ≤ turns + at
-  pub reads : all-read s from ≡ read-patterns (suc turns) s at (record { held = held; above = above })
+  pub reads : all-read e s from ≡ read-patterns e (suc turns) s at (record { held = held; above = above })
   pub stand : bodies-in s from ≡ bodies-from (suc turns) s at bodies
   pub all : length held ≡ fields
   pub worked : works ≡ map worked-out held
@@ -45,10 +46,10 @@ map-set f [] i x = refl
 map-set f (y ∷ l) zero x = refl
 map-set f (y ∷ l) (suc i) x = ap (λ (m : List _). f y ∷ m) (map-set f l i x)
 
-pub reached-start : (s : List ℕ) (from : ℕ) (open-one : PlaceTables) → open-one ≡ worked-out some-text
-    → (bodies : List Body) → bodies ≡ no-bodies → Reached s from from 0 (replicate fields open-one) bodies
+pub reached-start : (e : Edition) (s : List ℕ) (from : ℕ) (open-one : PlaceTables) → open-one ≡ worked-out some-text
+    → (bodies : List Body) → bodies ≡ no-bodies → Reached e s from from 0 (replicate fields open-one) bodies
 unfolding bodies-in
-reached-start s from open-one e bodies f =
+reached-start e s from open-one h bodies f =
     record {
       held = replicate fields some-text;
       turns = length s;
@@ -56,27 +57,27 @@ reached-start s from open-one e bodies f =
       reads = refl;
       stand = rw f;
       all = refl;
-      worked = ap (λ (t : PlaceTables). replicate fields t) e;
+      worked = ap (λ (t : PlaceTables). replicate fields t) h;
     }
 
-module _ {s : List ℕ} {from at above : ℕ} {works : List PlaceTables} {bodies : List Body} (r : Reached s from at above works bodies) where
-  pub reached-fault : (x : Fault) (place : ℕ) → next-is PA s at ≡ true → pattern-record s at above ≡ fault x place → all-read s from ≡ faulty x place
-  reached-fault x place p e = r .reads ∙ rw (p, e)
+module _ {e : Edition} {s : List ℕ} {from at above : ℕ} {works : List PlaceTables} {bodies : List Body} (r : Reached e s from at above works bodies) where
+  pub reached-fault : (x : Fault) (place : ℕ) → next-is PA s at ≡ true → pattern-record e s at above ≡ fault x place → all-read e s from ≡ faulty x place
+  reached-fault x place p h = r .reads ∙ rw (p, h)
 
-  pub reached-next : (f : PatternRecord) → next-is PA s at ≡ true → Pattern-stands s at above f
-      → Reached s from (f .next .at) (f .next .above) (set works (f .field) (f .tables)) (set bodies (f .field) (f .body))
+  pub reached-next : (f : PatternRecord) → next-is PA s at ≡ true → Pattern-stands e s at above f
+      → Reached e s from (f .next .at) (f .next .above) (set works (f .field) (f .tables)) (set bodies (f .field) (f .body))
   reached-next f p w = turn (r .turns) (r .enough) (r .reads) (r .stand)
     where
-      turn : (m : ℕ) → length s ≤ m + at → all-read s from ≡ read-patterns (suc m) s at (record { held = r .held; above = above })
+      turn : (m : ℕ) → length s ≤ m + at → all-read e s from ≡ read-patterns e (suc m) s at (record { held = r .held; above = above })
           → bodies-in s from ≡ bodies-from (suc m) s at bodies
-          → Reached s from (f .next .at) (f .next .above) (set works (f .field) (f .tables)) (set bodies (f .field) (f .body))
-      turn zero h e k = absurd (omega (arith, w .moves, w .goes-on))
-      turn (suc m) h e k =
+          → Reached e s from (f .next .at) (f .next .above) (set works (f .field) (f .tables)) (set bodies (f .field) (f .body))
+      turn zero h i k = absurd (omega (arith, w .moves, w .goes-on))
+      turn (suc m) h i k =
           record {
             held = set (r .held) (f .field) (pattern (w .its));
             turns = m;
             enough = omega (arith, w .moves);
-            reads = e ∙ rw (p, w .reads, w .rises);
+            reads = i ∙ rw (p, w .reads, w .rises);
             stand = k ∙ rw (p, w .stands, w .field, w .ends);
             all = length-set (r .held) (f .field) (pattern (w .its)) ∙ r .all;
             worked = rw (r .worked, w .works) (sym (map-set worked-out (r .held) (f .field) (pattern (w .its))));
@@ -84,7 +85,7 @@ module _ {s : List ℕ} {from at above : ℕ} {works : List PlaceTables} {bodies
 
   pub reached-end : next-is PA s at ≡ false →
       _≡_ {A = Code.Fields} (record { found = NoFault; next = record { at = at }; above = above; tables = works; bodies = bodies })
-      (fields-of (bodies-in s from) (all-read s from))
+      (fields-of (bodies-in s from) (all-read e s from))
   reached-end p = rw (r .reads, r .stand, p, r .worked)
 
 -- a record with a fault: all fields are open, and no pattern stands anywhere

@@ -5,6 +5,7 @@ use mathlib.Core.List.{List, map}
 use lib.ListN.{length, replicate}
 use Rattle.paper.specs.Numbers.{fields}
 use Rattle.paper.specs.Pattern.{Pattern, some-text, pattern}
+use Rattle.paper.specs.Alphabet.{Edition}
 use Rattle.paper.specs.Sheet.{fault, read, byte-at, pattern-record, Records, faulty, records}
 use Rattle.paper.specs.Sheet as Sheet
 use Rattle.base_places.specs.WorkedOut.{worked-out}
@@ -37,9 +38,9 @@ fields-of bodies (records fs at) =
     }
 
 -- a pattern's record is read, and reading goes on behind it
-pub record Pattern-stands (s : List ℕ) (at least : ℕ) (r : PatternRecord) : Type 0 where
+pub record Pattern-stands (e : Edition) (s : List ℕ) (at least : ℕ) (r : PatternRecord) : Type 0 where
   pub its : Pattern
-  pub reads : pattern-record s at least ≡ read (record { field = r .field; its = its }) (r .next .at)
+  pub reads : pattern-record e s at least ≡ read (record { field = r .field; its = its }) (r .next .at)
   pub works : r .tables ≡ worked-out (pattern its)
   pub stands : r .body ≡ body-at s at
   pub field : r .field ≡ byte-at s (at + 2)
@@ -50,6 +51,6 @@ pub record Pattern-stands (s : List ℕ) (at least : ℕ) (r : PatternRecord) : 
   pub goes-on : r .next .at ≤ length s
 
 -- what the checks on a pattern's record find
-abbrev pub Pattern-read : List ℕ → ℕ → ℕ → Found → PatternRecord → Type 0
-Pattern-read s at least NoFault r = Pattern-stands s at least r
-Pattern-read s at least (Refused x) r = pattern-record s at least ≡ fault (fault-of x) (r .next .at)
+abbrev pub Pattern-read : Edition → List ℕ → ℕ → ℕ → Found → PatternRecord → Type 0
+Pattern-read e s at least NoFault r = Pattern-stands e s at least r
+Pattern-read e s at least (Refused x) r = pattern-record e s at least ≡ fault (fault-of x) (r .next .at)

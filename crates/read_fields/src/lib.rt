@@ -2,8 +2,11 @@
 use base_answers::Fault;
 use base_answers::Found;
 use base_codes::SHEET_FIELDS;
+use base_editions::Edition;
 use base_places::PlaceTables;
 use base_question::Body;
+use read_codes::PATTERN_BYTES;
+use read_codes::codes_of;
 use read_pattern::Verdict;
 use read_side::Cursor;
 use read_side::Mark;
@@ -15,11 +18,9 @@ ghost use lib.ListN.{length};
 ghost use Rattle.paper.specs.Numbers.{fields, pattern-bytes};
 ghost use Rattle.paper.specs.Sheet.{PA, next-is, open-fields, read-patterns};
 ghost use Rattle.base_answers.specs.declared.Found.the-variants as Found;
+ghost use Rattle.base_editions.specs.Editions.{paper-edition};
 ghost use Rattle.read_fields.specs.Bodies.{bodies-in};
 ghost use Rattle.read_fields.specs.Walk.{fields-of, Pattern-read};
-
-// "length byte n 1 to 192"
-pub const PATTERN_BYTES: usize = 192;
 
 // What the patterns' records say.
 pub struct Fields {
@@ -35,8 +36,8 @@ pub struct Fields {
 }
 
 // Reads them: "Reading goes on from where the last record ended."
-pub fn read(s: &[u8], start: Cursor) -> Fields
-    ensures { λ r. ⌜ r ≡ fields-of (bodies-in (now (s .entry)) (start .at)) (read-patterns (suc (length (now (s .entry)))) (now (s .entry)) (start .at) open-fields) ⌝ }
+pub fn read(s: &[u8], start: Cursor, edition: Edition) -> Fields
+    ensures { λ r. ⌜ r ≡ fields-of (bodies-in (now (s .entry)) (start .at)) (read-patterns (paper-edition edition) (suc (length (now (s .entry)))) (now (s .entry)) (start .at) open-fields) ⌝ }
 {
     // "A field without `PA` is open": before the first record every field is.
     let open = base_places::open_tables();
@@ -47,7 +48,7 @@ pub fn read(s: &[u8], start: Cursor) -> Fields
         above: 0,
     };
     while c.next_is_pattern(s) {
-        let r = c.pattern(s);
+        let r = c.pattern(s, edition);
         let found = r.found;
         let next = r.next;
         if let Found::Refused(x) = found {
@@ -105,9 +106,9 @@ impl PatternCursor {
 
     // A pattern's record, behind its mark: "missing field or length byte 11; field above 7 or not above the field before it 13; length out
     // of its range 14; missing body 11; then for a pattern 15, then 16".
-    fn pattern(self, s: &[u8]) -> PatternRecord
+    fn pattern(self, s: &[u8], edition: Edition) -> PatternRecord
         requires { ⌜ self .at + 2 ≤ length (now s) ⌝ }
-        ensures { λ r. ⌜ Pattern-read (now (s .entry)) (self .at) (self .above) (r .found) r ⌝ }
+        ensures { λ r. ⌜ Pattern-read (paper-edition edition) (now (s .entry)) (self .at) (self .above) (r .found) r ⌝ }
     {
         let at = self.at;
         let left = s.len() - at;
@@ -127,22 +128,21 @@ impl PatternCursor {
         }
         let start = at + 4;
         let end = start + len;
-        let worked = read_pattern::tables(&s[start..end]);
+        let codes = codes_of(edition, &s[start..end]);
+        let worked = read_pattern::tables(&codes[0..len]);
         let verdict = worked.verdict;
         match verdict {
             Verdict::NotOnePattern => refuse_at(Fault::NotOnePattern, start + worked.at),
             Verdict::TooManyLeaves => refuse_at(Fault::TooManyLeaves, start + worked.at),
             Verdict::OnePattern => {
                 let tables = worked.tables;
+                let above = field + 1;
                 PatternRecord {
                     found: Found::NoFault,
                     field,
                     tables,
                     body: Body { start, length: len },
-                    next: PatternCursor {
-                        at: end,
-                        above: field + 1,
-                    },
+                    next: PatternCursor { at: end, above },
                 }
             }
         }

@@ -7,7 +7,7 @@ use mathlib.Core.List.{List, [], _∷_}
 use lib.Dec.{eqb, eqb·zero-suc}
 use lib.Bits.{bitOr}
 use lib.ListN.{length, set, replicate}
-use Rattle.paper.specs.Numbers.{characters, most-leaves}
+use Rattle.paper.specs.Numbers.{most-characters, most-leaves}
 use Rattle.paper.proofs.base.Tests.{true-false, not-true, le-leb, lt-leb}
 use Rattle.paper.proofs.places.Parts.{last-within}
 use Rattle.paper.specs.Pattern.{Pattern, pattern}
@@ -28,7 +28,7 @@ use Rattle.read_pattern.proofs.Joining.{joins-all}
 
 -- the tables before the first leaf
 abbrev pub unworked : Working
-unworked = working (replicate places 0) (replicate characters 0)
+unworked = working (replicate places 0) (replicate most-characters 0)
 
 -- the start may be the last one "if the pattern takes the empty text", and it is no leaf
 last-at : (p : Pattern) (i : ℕ) → may-be-last p 1 i || (takes-empty p && eqb 0 i) ≡ ends-at (pattern p) i
@@ -85,7 +85,7 @@ module _ (r : ReadPart) (v : Working) where
         (ew ∙ ap₂ (λ (b : Bool) (m : ℕ). cond b m 0) (h .empty) es ∙ mask-of-cond (λ (q : ℕ). eqb 0 q) (takes-empty p))
         ∙ mask-of-or (λ (i : ℕ). may-be-last p 1 i) (λ (i : ℕ). takes-empty p && eqb 0 i)
         ∙ mask-of-same (λ (i : ℕ). may-be-last p 1 i || (takes-empty p && eqb 0 i)) (λ (i : ℕ). ends-at (pattern p) i) (λ i l. last-at p i) in
-        rw (follow, joins-all characters (k .taking), last)
+        rw (follow, joins-all most-characters (k .taking), last)
 
   module _ (s : List ℕ) (h : Read-as (read-part (length s) s) 1 unworked v r) where
     pub judge-bad : r .ok ≡ false → judge s ≡ not-one-pattern (length s - r .left)

@@ -9,7 +9,7 @@ use mathlib.Core.List.{List, [], _∷_}
 use lib.Dec.{leb, ltb, eqb}
 use lib.ListN.{length, getD, take, drop, length-drop}
 use lib.Seq.{take-all, drop-drop}
-use Rattle.paper.specs.Numbers.{characters, empty-code, range-code, then-code, or-code, many-code}
+use Rattle.paper.specs.Numbers.{most-characters, empty-code, range-code, then-code, or-code, many-code}
 use Rattle.paper.specs.Pattern.{takes, char, range, Pattern, leaf, empty, then, either}
 use Rattle.paper.specs.Places.{leaves, may-be-first, may-be-last}
 use Rattle.paper.specs.Written.{Part, no-pattern, part, read-range, two-parts, read-part}
@@ -28,35 +28,35 @@ pub range-none : (s : List ℕ) → length s < 1 → read-range s ≡ no-pattern
 range-none [] h = refl
 range-none (lo ∷ s) h = absurd (omega arith)
 
-pub range-lo : (s : List ℕ) → 1 ≤ length s → characters ≤ getD s 0 0 → read-range s ≡ no-pattern (length s)
+pub range-lo : (s : List ℕ) → 1 ≤ length s → most-characters ≤ getD s 0 0 → read-range s ≡ no-pattern (length s)
 range-lo [] l h = absurd (omega arith)
-range-lo (lo ∷ s) l h = rw (le-ltb lo characters h)
+range-lo (lo ∷ s) l h = rw (le-ltb lo most-characters h)
 
-pub range-short : (s : List ℕ) → 1 ≤ length s → getD s 0 0 < characters → length s < 2 → read-range s ≡ no-pattern 0
+pub range-short : (s : List ℕ) → 1 ≤ length s → getD s 0 0 < most-characters → length s < 2 → read-range s ≡ no-pattern 0
 range-short [] l h k = absurd (omega arith)
-range-short (lo ∷ []) l h k = rw (lt-ltb lo characters h)
+range-short (lo ∷ []) l h k = rw (lt-ltb lo most-characters h)
 range-short (lo ∷ hi ∷ s) l h k = absurd (omega arith)
 
-range-hi : (s : List ℕ) → 2 ≤ length s → getD s 0 0 < characters → leb (getD s 0 0) (getD s 1 0) && ltb (getD s 1 0) characters ≡ false
+range-hi : (s : List ℕ) → 2 ≤ length s → getD s 0 0 < most-characters → leb (getD s 0 0) (getD s 1 0) && ltb (getD s 1 0) most-characters ≡ false
     → read-range s ≡ no-pattern (length s - 1)
 range-hi [] l h k = absurd (omega arith)
 range-hi (lo ∷ []) l h k = absurd (omega arith)
 range-hi (lo ∷ hi ∷ s) l h k =
     let e : length (hi ∷ s) ≡ length (lo ∷ hi ∷ s) - 1 = omega arith in
-    rw (lt-ltb lo characters h, k) (ap no-pattern e)
+    rw (lt-ltb lo most-characters h, k) (ap no-pattern e)
 
-pub range-falls : (s : List ℕ) → 2 ≤ length s → getD s 0 0 < characters → getD s 1 0 < getD s 0 0 → read-range s ≡ no-pattern (length s - 1)
-range-falls s l h k = range-hi s l h (left-false (leb (getD s 0 0) (getD s 1 0)) (ltb (getD s 1 0) characters) (lt-leb (getD s 0 0) (getD s 1 0) k))
+pub range-falls : (s : List ℕ) → 2 ≤ length s → getD s 0 0 < most-characters → getD s 1 0 < getD s 0 0 → read-range s ≡ no-pattern (length s - 1)
+range-falls s l h k = range-hi s l h (left-false (leb (getD s 0 0) (getD s 1 0)) (ltb (getD s 1 0) most-characters) (lt-leb (getD s 0 0) (getD s 1 0) k))
 
-pub range-above : (s : List ℕ) → 2 ≤ length s → getD s 0 0 < characters → characters ≤ getD s 1 0 → read-range s ≡ no-pattern (length s - 1)
-range-above s l h k = range-hi s l h (right-false (leb (getD s 0 0) (getD s 1 0)) (ltb (getD s 1 0) characters) (le-ltb (getD s 1 0) characters k))
+pub range-above : (s : List ℕ) → 2 ≤ length s → getD s 0 0 < most-characters → most-characters ≤ getD s 1 0 → read-range s ≡ no-pattern (length s - 1)
+range-above s l h k = range-hi s l h (right-false (leb (getD s 0 0) (getD s 1 0)) (ltb (getD s 1 0) most-characters) (le-ltb (getD s 1 0) most-characters k))
 
-pub range-good : (s : List ℕ) → 2 ≤ length s → getD s 0 0 ≤ getD s 1 0 → getD s 1 0 < characters
+pub range-good : (s : List ℕ) → 2 ≤ length s → getD s 0 0 ≤ getD s 1 0 → getD s 1 0 < most-characters
     → read-range s ≡ part (leaf (range (getD s 0 0) (getD s 1 0))) (suc (length s) ∷ []) (drop 2 s)
 range-good [] l h k = absurd (omega arith)
 range-good (lo ∷ []) l h k = absurd (omega arith)
 range-good (lo ∷ hi ∷ s) l h k =
-    rw (lt-ltb lo characters (omega arith), both-true (le-leb lo hi h) (lt-ltb hi characters k))
+    rw (lt-ltb lo most-characters (omega arith), both-true (le-leb lo hi h) (lt-ltb hi most-characters k))
 
 -- The first byte.
 abbrev first-byte : List ℕ → ℕ
@@ -134,7 +134,7 @@ leaf-as lo hi first left o follow taking after r h rest e = (h .reads rest e, re
 pub empty-as : (left o : ℕ) (follow taking : List ℕ) (r : ReadPart) → Single empty [] left o r
     → (rest : List ℕ) → length rest ≡ left → Read-as (part empty [] rest) o (working follow taking) (working follow taking) r
 empty-as left o follow taking r h rest e =
-    (h rest e, record { follow = joins-none places follow; taking = joins-none characters taking })
+    (h rest e, record { follow = joins-none places follow; taking = joins-none most-characters taking })
 
 char-as : (b o : ℕ) (starts rest : List ℕ) (w v : Working) (r : ReadPart)
     → Read-as (part (leaf (range b b)) starts rest) o w v r → Read-as (part (leaf (char b)) starts rest) o w v r
@@ -142,7 +142,7 @@ char-as b o starts rest w v r h = (
   record { ok = h .0 .ok; left = h .0 .left; each = h .0 .each; next = h .0 .next; surplus = h .0 .surplus; empty = h .0 .empty; first = h .0 .first; last = h .0 .last },
   record {
     follow = h .1 .follow;
-    taking = joins-same characters (λ c q. ap (λ (t : Bool). eqb o q && t) (char-range b c)) (h .1 .taking);
+    taking = joins-same most-characters (λ c q. ap (λ (t : Bool). eqb o q && t) (char-range b c)) (h .1 .taking);
   },
 )
 
@@ -158,11 +158,11 @@ module _ (s : List ℕ) (o : ℕ) (w v : Working) (r : ReadPart) (h : 0 < length
   abbrev reads-as : Part → Type 0
   reads-as x = Read-as x o w v r
 
-  read-other : (n : ℕ) (rest : List ℕ) (b : ℕ) → characters ≤ b → (b ≡ empty-code → ⊥) → (b ≡ range-code → ⊥)
+  read-other : (n : ℕ) (rest : List ℕ) (b : ℕ) → most-characters ≤ b → (b ≡ empty-code → ⊥) → (b ≡ range-code → ⊥)
       → (b ≡ then-code → ⊥) → (b ≡ or-code → ⊥) → (b ≡ many-code → ⊥) → read-part (suc n) (b ∷ rest) ≡ no-pattern (length (b ∷ rest))
   read-other n rest b l e g t o m =
       simp (
-        le-ltb b characters l,
+        le-ltb b most-characters l,
         neq-eqb b empty-code e,
         neq-eqb b range-code g,
         neq-eqb b then-code t,
@@ -170,11 +170,11 @@ module _ (s : List ℕ) (o : ℕ) (w v : Working) (r : ReadPart) (h : 0 < length
         neq-eqb b many-code m,
       )
 
-  pub as-char : first-byte s < characters
+  pub as-char : first-byte s < most-characters
       → reads-as (part (leaf (range (first-byte s) (first-byte s))) (length s ∷ []) (drop 1 s)) → Reading-of s o w v r
   as-char l f =
       by-front reads-as s h
-      (λ m k. rw (lt-ltb (first-byte s) characters l, front-length s h) (char-as (first-byte s) o (length s ∷ []) (drop 1 s) w v r f))
+      (λ m k. rw (lt-ltb (first-byte s) most-characters l, front-length s h) (char-as (first-byte s) o (length s ∷ []) (drop 1 s) w v r f))
 
   pub as-empty : first-byte s ≡ empty-code → reads-as (part empty [] (drop 1 s)) → Reading-of s o w v r
   as-empty e f = by-front reads-as s h (λ m k. rw e f)
@@ -182,7 +182,7 @@ module _ (s : List ℕ) (o : ℕ) (w v : Working) (r : ReadPart) (h : 0 < length
   pub as-range : first-byte s ≡ range-code → reads-as (read-range (drop 1 s)) → Reading-of s o w v r
   as-range e f = by-front reads-as s h (λ m k. rw e f)
 
-  pub as-none : characters ≤ first-byte s → (first-byte s ≡ empty-code → ⊥) → (first-byte s ≡ range-code → ⊥)
+  pub as-none : most-characters ≤ first-byte s → (first-byte s ≡ empty-code → ⊥) → (first-byte s ≡ range-code → ⊥)
       → (first-byte s ≡ then-code → ⊥) → (first-byte s ≡ or-code → ⊥) → (first-byte s ≡ many-code → ⊥)
       → Not-read (length s) r → Reading-of s o w v r
   as-none l e g t o′ m z =
@@ -298,7 +298,7 @@ module _ {s : List ℕ} {o : ℕ} {w v : Working} {a : ReadPart} (f : First s o 
           (λ p q ls s ms t m i b u.
           record {
             follow = joins-more places (joins-more places (b .follow) (u .follow)) (links l m i);
-            taking = rw (l .taking) (joins-more characters (b .taking) (u .taking));
+            taking = rw (l .taking) (joins-more most-characters (b .taking) (u .taking));
           })
           n k))
 
@@ -309,7 +309,7 @@ module _ {s : List ℕ} {o : ℕ} {w v : Working} {a : ReadPart} (f : First s o 
           rw e
           (as-two either z r okc h
           (λ p q ls s ms t m i b u.
-          record { follow = joins-more places (b .follow) (u .follow); taking = joins-more characters (b .taking) (u .taking) })
+          record { follow = joins-more places (b .follow) (u .follow); taking = joins-more most-characters (b .taking) (u .taking) })
           n k))
 
       pub as-no-second : (y : Working) → then-code ≤ first-byte s → first-byte s ≤ or-code → c .ok ≡ false → Reading-of s o w y c

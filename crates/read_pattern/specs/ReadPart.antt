@@ -9,7 +9,7 @@ use mathlib.Core.Bool.{Bool, true, false, _||_}
 use mathlib.Core.List.{List, [], _∷_, _++_}
 use lib.Bits.{bitOr}
 use lib.ListN.{length, getD, replicate}
-use Rattle.paper.specs.Numbers.{characters}
+use Rattle.paper.specs.Numbers.{most-characters}
 use Rattle.paper.specs.Pattern.{range, Pattern, leaf, many}
 use Rattle.paper.specs.Places.{leaves, takes-empty, may-be-first, may-be-last, may-follow, leaf-takes}
 use Rattle.paper.specs.Written.{Part, no-pattern, part, read-part}
@@ -57,7 +57,7 @@ pub record Joins (t : ℕ → ℕ → Bool) (n : ℕ) (d e : List ℕ) : Type 0 
 
 pub record Works (p : Pattern) (o : ℕ) (w v : Working) : Type 0 where
   pub follow : Joins (λ (i q : ℕ). may-follow p o i q) places (w .follow) (v .follow)
-  pub taking : Joins (λ (c q : ℕ). leaf-takes p o q c) characters (w .taking) (v .taking)
+  pub taking : Joins (λ (c q : ℕ). leaf-takes p o q c) most-characters (w .taking) (v .taking)
 
 -- what reading gives for the pattern at the front of the bytes, or for none
 abbrev pub Read-as : Part → ℕ → Working → Working → ReadPart → Type 0
@@ -75,7 +75,7 @@ Single p starts left o r = (rest : List ℕ) → length rest ≡ left → Reads 
 -- r is the reading of a leaf, and what it takes is joined to the table
 pub record Leaf-read (lo hi first left o : ℕ) (taking after : List ℕ) (r : ReadPart) : Type 0 where
   pub reads : Single (leaf (range lo hi)) (first ∷ []) left o r
-  pub takes : Joins (λ (c q : ℕ). leaf-takes (leaf (range lo hi)) o q c) characters taking after
+  pub takes : Joins (λ (c q : ℕ). leaf-takes (leaf (range lo hi)) o q c) most-characters taking after
 
 -- r is the reading of two patterns under an operator, of which a and b are the readings
 abbrev pub Joined : (Pattern → Pattern → Pattern) → ReadPart → ReadPart → ReadPart → Type 0

@@ -1,4 +1,4 @@
-// Patterns: a pattern's bytes are judged, and its places are worked out as masks.
+// Patterns: a pattern's bytes are judged, each as its code (`base_editions::code`), and its places are worked out as masks.
 mod place_sets;
 mod reader;
 

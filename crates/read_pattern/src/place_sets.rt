@@ -2,11 +2,10 @@
 use base_places::CHARACTERS;
 use base_places::PLACES;
 use base_places::PlaceSet;
-use base_places::when_holds;
 ghost use mathlib.Core.Path.{_≡_};
 ghost use mathlib.Core.Bool.{cond};
-ghost use Prim.Native.Nat.{ℕ};
-ghost use Rattle.paper.specs.Numbers.{characters};
+ghost use Prim.Native.Nat.{ℕ, _<_};
+ghost use Rattle.paper.specs.Numbers.{most-characters};
 ghost use Rattle.paper.specs.Pattern.{takes, range};
 ghost use Rattle.base_places.specs.Masks.{places, in-mask};
 ghost use Rattle.read_pattern.specs.ReadPart.{Adds};
@@ -18,35 +17,30 @@ pub fn when(b: bool, set: PlaceSet) -> PlaceSet
     if b { set } else { 0 }
 }
 
-// Lets every place of `first` follow every place of `last`.
+// Lets every place of `first` follow every place of `last`. Only the places of `last` are looked at, one after the other, as `followers` does.
 pub fn link(follow: &mut [PlaceSet; PLACES], last: PlaceSet, first: PlaceSet)
     ensures { λ _. ⌜ Adds places (λ (i : ℕ). cond (in-mask last i) first 0) (now (follow .entry)) (now (follow .exit)) ⌝ }
 {
-    let mut i = 0;
+    let mut i: usize = 0;
     while i < PLACES {
-        follow[i] = follow[i] | when_holds(last, i, first);
-        i += 1;
+        let rest = last >> i;
+        if rest == 0 {
+            return;
+        }
+        let next = i + u64::trailing_zeros(rest) as usize;
+        follow[next] = follow[next] | first;
+        i = next + 1;
     }
 }
 
-// lo ≤ value ≤ hi
-fn between(lo: u8, c: usize, hi: u8) -> bool
-    ensures { λ r. ⌜ r ≡ takes (range lo hi) c ⌝ }
-{
-    if lo as usize <= c {
-        c <= hi as usize
-    } else {
-        false
-    }
-}
-
-// Lets the set take the characters from lo to hi.
+// Lets the set take the characters from lo to hi. Only these are looked at.
 pub fn mark(taking: &mut [PlaceSet; CHARACTERS], lo: u8, hi: u8, set: PlaceSet)
-    ensures { λ _. ⌜ Adds characters (λ (c : ℕ). cond (takes (range lo hi) c) set 0) (now (taking .entry)) (now (taking .exit)) ⌝ }
+    requires { ⌜ (lo < most-characters) × (hi < most-characters) ⌝ }
+    ensures { λ _. ⌜ Adds most-characters (λ (c : ℕ). cond (takes (range lo hi) c) set 0) (now (taking .entry)) (now (taking .exit)) ⌝ }
 {
-    let mut c = 0;
-    while c < CHARACTERS {
-        taking[c] = taking[c] | when(between(lo, c, hi), set);
+    let mut c = lo as usize;
+    while c <= hi as usize {
+        taking[c] = taking[c] | set;
         c += 1;
     }
 }

@@ -12,24 +12,24 @@ ghost use mathlib.Core.List.{List, []};
 ghost use Prim.Native.Nat.{ℕ, _+_, _^_, _<_};
 ghost use lib.Dec.{eqb};
 ghost use lib.ListN.{length, getD};
-ghost use Rattle.paper.specs.Numbers.{then-code};
+ghost use Rattle.paper.specs.Numbers.{most-characters, then-code};
 ghost use Rattle.paper.specs.Pattern.{empty, then, either};
 ghost use Rattle.paper.specs.Written.{read-range};
 ghost use Rattle.base_places.specs.Masks.{places};
 ghost use Rattle.read_pattern.specs.ReadPart.{Not-read, working, Read-as, Reading-of, Single, Leaf-read, Joined, Repeated};
 ghost use Rattle.read_pattern.specs.Laid.{numbers, laid-as, read-as, left-in, next-in, last-bytes, Begins};
 
-// "0 to 42: that character".
+// A byte stands here as its code, one for both editions (request K10). "0 to 42: that character", behind `ED` "0 to 127".
 const CHARACTER_END: u8 = CHARACTERS as u8;
 
-// "64: the empty text", 65 a range, 66 A then B, 67 A or B, 68 A any number of times.
-const EMPTY_CODE: u8 = 64;
+// "64: the empty text", 65 a range, 66 A then B, 67 A or B, 68 A any number of times: the codes from 192 on.
+const EMPTY_CODE: u8 = 192;
 
-const RANGE_CODE: u8 = 65;
+const RANGE_CODE: u8 = 193;
 
-const THEN_CODE: u8 = 66;
+const THEN_CODE: u8 = 194;
 
-const MANY_CODE: u8 = 68;
+const MANY_CODE: u8 = 196;
 
 // What the pattern at the front of some bytes comes to, where its first leaf is at a given place. Which places may follow its leaves, and
 // which characters these take, is joined to tables that are lent.
@@ -89,7 +89,7 @@ impl ReadPart {
         lo: u8,
         hi: u8,
     ) -> Self
-        requires { ⌜ o + 1 < 2 ^ 64 ⌝ }
+        requires { ⌜ (o + 1 < 2 ^ 64) × ((lo < most-characters) × (hi < most-characters)) ⌝ }
         ensures { λ r. ⌜ Leaf-read lo hi from left o (now (taking .entry)) (now (taking .exit)) r ⌝ }
     {
         let set = place(o);
@@ -154,7 +154,7 @@ fn earlier(a: usize, b: usize) -> usize
 }
 
 // "65 lo hi: one character with lo ≤ value ≤ hi ≤ 42": what stands behind the 65. "The lo byte if lo is above 42, else the hi byte if that is
-// above 42 or below lo."
+// above 42 or below lo." Behind `ED` "a range's ends go to 127".
 fn read_range(s: &[u8], o: usize, taking: &mut [PlaceSet; CHARACTERS]) -> ReadPart
     requires { ⌜ (o + 1 < 2 ^ 64) × (length (now s) + 1 < 2 ^ 64) ⌝ }
     ensures { λ r. ⌜ ((follow : List ℕ) → Read-as (read-range (now (s .entry))) o (working follow (now (taking .entry))) (working follow (now (taking .exit))) r) ⌝ }

@@ -9,6 +9,7 @@ use lib.Dec.{leb, ltb}
 use lib.ListN.{length, replicate}
 use Rattle.paper.specs.Lists.{any}
 use Rattle.paper.specs.Numbers.{characters, rule-fields, longest-side}
+use Rattle.paper.specs.Alphabet.{edition-1}
 use Rattle.paper.specs.Equation.{Token, chr, fld, Side}
 use Rattle.paper.specs.Rule.{foreign-token, foreign-field, rule-front}
 use Rattle.paper.specs.Sheet.{Fault, fault, read, cut-short, wrong-mark, LE, RU, bytes-left, next-is, marked, marked-side, Records, faulty, records, Fields, open-fields, read-patterns}
@@ -49,7 +50,7 @@ side-foreign side g =
 
 -- what the patterns' records of the rule give
 abbrev pub patterns-of : List ℕ → Records Fields
-patterns-of s = read-patterns (suc (length s)) s 2 open-fields
+patterns-of s = read-patterns edition-1 (suc (length s)) s 2 open-fields
 
 module _ (s : List ℕ) where
   pub short : length s < 2 → rule-front s ≡ faulty cut-short (length s)
@@ -70,17 +71,17 @@ module _ (s : List ℕ) where
     patterns-fault x at p = rw (le-ltb (length s) 2 h, mark, p)
 
     module _ (fs : Fields) (at : ℕ) (p : patterns-of s ≡ records fs at) where
-      pub side-fault : (x : Fault) (place : ℕ) → marked-side LE s at ≡ fault x place → rule-front s ≡ faulty x place
+      pub side-fault : (x : Fault) (place : ℕ) → marked-side edition-1 LE s at ≡ fault x place → rule-front s ≡ faulty x place
       unfolding rule-front
       side-fault x place f = rw (le-ltb (length s) 2 h, mark, p, f)
 
-      module _ (l : Side) (next : ℕ) (f : marked-side LE s at ≡ read l next) where
+      module _ (l : Side) (next : ℕ) (f : marked-side edition-1 LE s at ≡ read l next) where
         stands : rule-front s ≡ records (record { side = l; fields = fs }) next
         unfolding rule-front
         stands = rw (le-ltb (length s) 2 h, mark, p, f)
 
         good-side : GoodSide characters l
-        good-side = rw f at (marked-good LE s at)
+        good-side = rw f at (marked-good edition-1 LE s at)
 
         pub whole : (codes : List ℕ) (tables : List PlaceTables) (foreign : Bool) (bodies : List Body)
             → codes ≡ padded (side-code l) → tables ≡ map worked-out (fs .held) → foreign ≡ (ltb rule-fields (fs .above) || any foreign-code codes)

@@ -6,6 +6,7 @@ use base_codes::FIELD_CODE;
 use base_codes::LONGEST_SIDE;
 use base_codes::NO_TOKEN;
 use base_codes::SHEET_FIELDS;
+use base_editions::Edition;
 use base_places::PlaceTables;
 use base_question::Body;
 use read_side::Cursor;
@@ -42,6 +43,7 @@ pub struct Rule {
 }
 
 // The rule at the front of the bytes: "the mark `RU`, the `PA` records of its own fields .. and one `LE`, its end as `RI` is a sheet's".
+// "A rule never has `ED`": it is of the first edition.
 pub fn front(s: &[u8]) -> Rule
     ensures { λ r. ⌜ r ≡ rule-of (rule-bodies (now (s .entry))) (rule-front (now (s .entry))) ⌝ }
 {
@@ -52,13 +54,13 @@ pub fn front(s: &[u8]) -> Rule
     if !start.next_is(s, Mark::RU) {
         return refuse(Fault::WrongMark, 0);
     }
-    let p = read_fields::read(s, Cursor { at: 2 });
+    let p = read_fields::read(s, Cursor { at: 2 }, Edition::First);
     let c = p.next;
     let patterns_found = p.found;
     if let Found::Refused(x) = patterns_found {
         return refuse(x, c.at);
     }
-    let l = c.side(s, Mark::LE);
+    let l = c.side(s, Mark::LE, Edition::First);
     let end = l.next;
     let side_found = l.found;
     if let Found::Refused(x) = side_found {

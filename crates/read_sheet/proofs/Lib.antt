@@ -1,3 +1,4 @@
+pub mod FrontStruct
 pub mod SheetWhole
 pub mod SheetStruct
 pub mod SheetPatterns

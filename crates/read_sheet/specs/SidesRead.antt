@@ -5,12 +5,16 @@ use mathlib.Core.List.{List, []}
 use lib.ListN.{length, replicate}
 use Rattle.paper.specs.Numbers.{fields}
 use Rattle.paper.specs.Pattern.{some-text}
-use Rattle.paper.specs.Sheet.{open-fields, read-patterns, read-sheet}
+use Rattle.paper.specs.Alphabet as Paper
+use Rattle.paper.specs.Sheet.{Checked, fault, read, open-fields, read-patterns, read-sheet}
 use Rattle.base_codes.specs.Inner.{padded}
 use Rattle.base_places.specs.WorkedOut.{worked-out}
 use Rattle.base_places.specs.declared.PlaceTables.{PlaceTables}
+use Rattle.base_editions.specs.Editions.{paper-edition, edition-code, alphabet-code}
+use Rattle.base_editions.specs.declared.Edition.the-variants.{First}
 use Rattle.base_question.specs.Bodies.{no-bodies}
 use Rattle.base_question.specs.declared.Body.{Body}
+use Rattle.base_answers.specs.Faults.{as-fault}
 use Rattle.base_answers.specs.declared.Fault.{Fault}
 use Rattle.base_answers.specs.declared.Found.{Found}
 use Rattle.base_answers.specs.declared.Found.the-variants.{NoFault, Refused}
@@ -18,16 +22,25 @@ use Rattle.read_fields.specs.Bodies.{bodies-in}
 use Rattle.read_fields.specs.Walk.{fields-of}
 use Rattle.read_fields.specs.declared.Fields.{Fields}
 use Rattle.read_sheet.specs.SheetRead.{bodies-of, sheet-of}
+use Rattle.read_sheet.specs.declared.Front.{Front}
 use Rattle.read_sheet.specs.declared.Sheet.{Sheet}
 use Rattle.read_sheet.specs.declared.Sides.{Sides}
 
--- what the patterns' records of the sheet give
-abbrev pub fields-read : List ℕ → Fields
-fields-read s = fields-of (bodies-in s 0) (read-patterns (suc (length s)) s 0 open-fields)
+-- what the sheet begins with: the fault, or its edition
+abbrev pub no-front : Fault → ℕ → Front
+no-front x at = record { found = Refused x; edition = First; at = at }
+
+abbrev pub front-of : Checked Paper.Edition → Front
+front-of (fault x at) = no-front (as-fault x) at
+front-of (read e at) = record { found = NoFault; edition = edition-code e; at = at }
+
+-- what the patterns' records behind it give
+abbrev pub fields-read : List ℕ → Front → Fields
+fields-read s f = fields-of (bodies-in s (f .at)) (read-patterns (paper-edition (f .edition)) (suc (length s)) s (f .at) open-fields)
 
 -- a fault, and no tokens
 abbrev pub no-sides : Fault → ℕ → Sides
-no-sides x at = record { found = Refused x; place = at; left = padded []; right = padded [] }
+no-sides x at = record { found = Refused x; place = at; edition = First; left = padded []; right = padded [] }
 
 -- the sheet of the sides, with these fields
 abbrev pub with-fields : Sides → List PlaceTables → List Body → Sheet
@@ -35,7 +48,15 @@ with-fields r tables bodies =
     record {
       found = r .found;
       place = r .place;
-      question = record { left = r .left; right = r .right; fields = tables; bodies = bodies };
+      edition = r .edition;
+      question =
+          record {
+            alphabet = alphabet-code (Paper.alphabet-of (paper-edition (r .edition)));
+            left = r .left;
+            right = r .right;
+            fields = tables;
+            bodies = bodies;
+          };
     }
 
 -- with the fields that were read, or with open ones, it is what the sheet is read as

@@ -1,57 +1,40 @@
--- The sides of a sheet by inner codes: filling a side's room from the front, and what a token's byte is below; how many tokens lead a side.
--- Follows from the laws of `set`, `take` and `++`, from what a token is, and by induction on the side.
-use Prim.Native.Nat.{ℕ, suc, _+_, _-_, _≤_, _<_}
+-- The sides of a sheet by inner codes: all codes of a side in its room; the inner code of a token is its code; how many tokens lead a side.
+-- Follows from the laws of `take`, from what a token is, and by induction on the side.
+use Prim.Native.Nat.{ℕ, _+_, _-_, _≤_, _<_}
 use native.Mathlib.Omega.{arith}
-use mathlib.Core.Path.{_≡_, refl, sym, ap, _∙_}
+use mathlib.Core.Path.{_≡_, refl}
 use mathlib.Core.Bool.{Bool, true, false, _&&_}
-use mathlib.Core.List.{List, [], _∷_, _++_, map, map-map, append-assoc}
+use mathlib.Core.List.{List, [], _∷_, map}
 use lib.Dec.{leb, ltb}
-use lib.ListN.{length, getD, take, set, replicate, length-map, List·getD-map}
-use lib.Seq.{take-suc, take-length, length-take-le, set-at}
+use lib.ListN.{length}
+use lib.Seq.{take-length}
 use Rattle.paper.specs.Lists.{all, leading}
-use Rattle.paper.specs.Numbers.{characters, fields, field-token, longest-side}
+use Rattle.paper.specs.Numbers.{most-characters, fields, field-token, longest-side}
 use Rattle.paper.specs.Sheet.{bytes-left, is-token, token}
-use Rattle.paper.proofs.base.Tests.{by-bool, and-left, and-right, leb-true, ltb-true, ltb-false, lt-ltb, le-ltb}
-use Rattle.paper.proofs.base.Lists.{all-true}
-use Rattle.paper.proofs.base.Listed.{getD-mem}
+use Rattle.paper.proofs.base.Tests.{by-bool, and-left, and-right, leb-true, ltb-false, lt-ltb}
+use Rattle.paper.proofs.base.Lists.{cons-eq}
 use Rattle.base_codes.specs.Inner.{no-token, token-code, side-code, padded}
-use Rattle.read_side.specs.SideRead.{code-of}
+use Rattle.read_codes.proofs.Laying.{laid}
 
--- one more code of the side, and all of them
-filled : (side : List ℕ) (d n i : ℕ) → i < length side → length side ≤ n →
-    set (take i side ++ replicate (n - i) d) i (getD side i 0) ≡ take (suc i) side ++ replicate (n - suc i) d
-filled side d n i h k =
-    let e : n - i ≡ suc (n - suc i) = omega arith in
-    rw (e, set-at (take i side) d (replicate (n - suc i) d) (getD side i 0) i (length-take-le i side (omega arith)), take-suc side i 0, append-assoc)
+-- all the codes of a side, laid in its room
+pub coded-all : (cs : List ℕ) (i : ℕ) → i ≡ length cs → laid cs no-token longest-side i ≡ padded cs
+coded-all cs i l = rw (l, take-length cs)
 
-pub coded-more : (side : List ℕ) (i : ℕ) → i < length side → length side ≤ longest-side →
-    set (take i (map code-of side) ++ replicate (longest-side - i) no-token) i (code-of (getD side i 0))
-    ≡ take (suc i) (map code-of side) ++ replicate (longest-side - suc i) no-token
-coded-more side i h k =
-    let l = length-map side code-of in
-    ap (set (take i (map code-of side) ++ replicate (longest-side - i) no-token) i) (sym (List·getD-map code-of side i 0))
-    ∙ filled (map code-of side) no-token longest-side i (omega (arith, l)) (omega (arith, l))
+-- the inner code of a token is its code: a token that is no character is one of a field's
+inner-code : (c : ℕ) → is-token c ≡ true → token-code (token c) ≡ c
+inner-code c e =
+    by-bool (ltb c most-characters) (λ h. rw h)
+    (λ h.
+    let field : leb field-token c && ltb c (field-token + fields) ≡ true = rw h at e in
+    let low = leb-true field-token c (and-left (leb field-token c) (ltb c (field-token + fields)) field) in
+    let same : field-token + (c - field-token) ≡ c = omega arith in
+    rw h same)
 
-pub coded-all : (side : List ℕ) (i : ℕ) → i ≡ length side → take i (map code-of side) ++ replicate (longest-side - i) no-token ≡ padded (map code-of side)
-coded-all side i e =
-    let l : i ≡ length (map code-of side) = e ∙ sym (length-map side code-of) in
-    rw (l, take-length (map code-of side))
-
--- the codes of bytes are those of the tokens
-pub codes-of-tokens : (l : List ℕ) → side-code (map token l) ≡ map code-of l
-codes-of-tokens l = map-map token-code token l
-
--- a token that is no character is one of a field's
-pub field-range : (b : ℕ) → is-token b ≡ true → characters ≤ b → (field-token ≤ b) × (b < field-token + fields)
-field-range b e h =
-    let field : leb field-token b && ltb b (field-token + fields) ≡ true = rw (le-ltb b characters h) at e in (
-      leb-true field-token b (and-left (leb field-token b) (ltb b (field-token + fields)) field),
-      ltb-true b (field-token + fields) (and-right (leb field-token b) (ltb b (field-token + fields)) field),
-    )
-
--- each byte of a side is a token
-pub token-at : (side : List ℕ) (i : ℕ) → all is-token side ≡ true → i < length side → is-token (getD side i 0) ≡ true
-token-at side i e h = all-true is-token side e (getD-mem side 0 i h)
+-- so a side of tokens is its codes
+pub codes-of-tokens : (l : List ℕ) → all is-token l ≡ true → side-code (map token l) ≡ l
+codes-of-tokens [] e = refl
+codes-of-tokens (c ∷ l) e =
+    cons-eq (inner-code c (and-left (is-token c) (all is-token l) e)) (codes-of-tokens l (and-right (is-token c) (all is-token l) e))
 
 -- fewer lead than there are: not all pass the test
 pub fewer-lead : (p : ℕ → Bool) (l : List ℕ) → leading p l < length l → all p l ≡ false

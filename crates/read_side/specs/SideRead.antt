@@ -1,9 +1,8 @@
 -- What reading a side hands on: its tokens by inner codes, and the next cursor.
-use Prim.Native.Nat.{ℕ}
 use mathlib.Core.List.{[]}
 use Rattle.paper.specs.Equation.{Side}
-use Rattle.paper.specs.Sheet.{Mark, PA, LE, RI, RU, Checked, fault, read, token}
-use Rattle.base_codes.specs.Inner.{token-code, side-code, padded}
+use Rattle.paper.specs.Sheet.{Mark, PA, LE, RI, RU, ED, Checked, fault, read}
+use Rattle.base_codes.specs.Inner.{side-code, padded}
 use Rattle.base_answers.specs.Faults.{as-fault}
 use Rattle.base_answers.specs.declared.Found.the-variants.{NoFault, Refused}
 use Rattle.read_side.specs.declared.Mark as Code
@@ -15,10 +14,7 @@ mark-of Code-mark.PA = PA
 mark-of Code-mark.LE = LE
 mark-of Code-mark.RI = RI
 mark-of Code-mark.RU = RU
-
--- the inner code of a token's byte
-abbrev pub code-of : ℕ → ℕ
-code-of b = token-code (token b)
+mark-of Code-mark.ED = ED
 
 -- a fault hands on no token, and its place
 abbrev pub side-of : Checked Side → SideRecord

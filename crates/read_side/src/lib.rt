@@ -5,22 +5,23 @@ use base_codes::CodedSide;
 use base_codes::FIELD_CODE;
 use base_codes::LONGEST_SIDE;
 use base_codes::NO_TOKEN;
+use base_codes::SHEET_FIELDS;
+use base_editions::Edition;
+use base_editions::code;
 use base_places::CHARACTERS;
 ghost use mathlib.Core.Path.{_≡_};
-ghost use mathlib.Core.Bool.{true};
-ghost use mathlib.Core.List.{map};
 ghost use Prim.Native.Nat.{_+_, _≤_};
 ghost use lib.Dec.{ltb};
 ghost use lib.ListN.{length};
-ghost use Rattle.paper.specs.Lists.{all, leading};
+ghost use Rattle.paper.specs.Lists.{leading};
+ghost use Rattle.paper.specs.Alphabet.{codes};
 ghost use Rattle.paper.specs.Numbers.{sheet-side};
 ghost use Rattle.paper.specs.Sheet.{first-letter, second-letter, bytes-left, marked, next-is, is-token, fault, side-record, marked-side};
 ghost use Rattle.base_codes.specs.Inner.{padded};
+ghost use Rattle.base_editions.specs.Editions.{paper-edition};
 ghost use Rattle.base_answers.specs.Faults.{fault-of};
-ghost use Rattle.read_side.specs.SideRead.{mark-of, code-of, side-of};
+ghost use Rattle.read_side.specs.SideRead.{mark-of, side-of};
 
-// "64 to 71 (field 0 to 7)"
-const FIELD_TOKEN: usize = 64;
 // "length byte 0 to 24"
 pub const SHEET_SIDE: usize = 24;
 
@@ -30,6 +31,7 @@ pub enum Mark {
     LE,
     RI,
     RU,
+    ED,
 }
 
 fn first_letter(m: Mark) -> u8
@@ -40,6 +42,7 @@ fn first_letter(m: Mark) -> u8
         Mark::LE => b'L',
         Mark::RI => b'R',
         Mark::RU => b'R',
+        Mark::ED => b'E',
     }
 }
 
@@ -51,6 +54,7 @@ fn second_letter(m: Mark) -> u8
         Mark::LE => b'E',
         Mark::RI => b'I',
         Mark::RU => b'U',
+        Mark::ED => b'D',
     }
 }
 
@@ -95,8 +99,8 @@ impl Cursor {
     }
 
     // The side behind the mark m: "fewer than two bytes left give 11; an unknown mark or one not allowed here gives 12".
-    pub fn side(self, s: &[u8], m: Mark) -> SideRecord
-        ensures { λ r. ⌜ r ≡ side-of (marked-side (mark-of m) (now (s .entry)) (self .at)) ⌝ }
+    pub fn side(self, s: &[u8], m: Mark, edition: Edition) -> SideRecord
+        ensures { λ r. ⌜ r ≡ side-of (marked-side (paper-edition edition) (mark-of m) (now (s .entry)) (self .at)) ⌝ }
     {
         let at = self.at;
         if ends_at(s, at) {
@@ -105,7 +109,7 @@ impl Cursor {
         if !marked(s, at, m) {
             return refuse(Fault::WrongMark, at);
         }
-        body(s, at)
+        body(s, at, edition)
     }
 }
 
@@ -128,9 +132,9 @@ fn refuse(x: Fault, at: usize) -> SideRecord
 }
 
 // "missing .. length byte 11; .. length out of its range 14; missing body 11; .. for a side 17"
-fn body(s: &[u8], at: usize) -> SideRecord
+fn body(s: &[u8], at: usize, edition: Edition) -> SideRecord
     requires { ⌜ at + 2 ≤ length (now s) ⌝ }
-    ensures { λ r. ⌜ r ≡ side-of (side-record (now (s .entry)) at) ⌝ }
+    ensures { λ r. ⌜ r ≡ side-of (side-record (paper-edition edition) (now (s .entry)) at) ⌝ }
 {
     let left = s.len() - at;
     if left < 3 {
@@ -145,11 +149,11 @@ fn body(s: &[u8], at: usize) -> SideRecord
     }
     let start = at + 3;
     let end = start + len;
-    let tokens = leading_tokens(&s[start..end]);
+    let tokens = leading_tokens(&s[start..end], edition);
     if tokens < len {
         return refuse(Fault::WrongToken, start + tokens);
     }
-    let codes = inner_side(&s[start..end]);
+    let codes = inner_side(&s[start..end], edition);
     SideRecord {
         found: Found::NoFault,
         codes,
@@ -157,27 +161,27 @@ fn body(s: &[u8], at: usize) -> SideRecord
     }
 }
 
-// "A token is 0 to 42 (a character) or 64 to 71 (field 0 to 7)."
-fn is_token(b: u8) -> bool
-    ensures { λ r. ⌜ r ≡ is-token b ⌝ }
+// "A token is 0 to 42 (a character) or 64 to 71 (field 0 to 7)", behind `ED` 0 to 127 or 192 to 199: by the code of its byte.
+fn is_token(c: u8) -> bool
+    ensures { λ r. ⌜ r ≡ is-token c ⌝ }
 {
-    let value = b as usize;
+    let value = c as usize;
     if value < CHARACTERS {
         return true;
     }
-    if value < FIELD_TOKEN {
+    if c < FIELD_CODE {
         return false;
     }
-    value < FIELD_TOKEN + base_codes::SHEET_FIELDS
+    value < FIELD_CODE as usize + SHEET_FIELDS
 }
 
-// How many stand before the first that is no token.
-pub fn leading_tokens(side: &[u8]) -> usize
-    ensures { λ r. ⌜ r ≡ leading is-token (now (side .entry)) ⌝ }
+// How many stand before the first that is no token of the edition.
+pub fn leading_tokens(side: &[u8], edition: Edition) -> usize
+    ensures { λ r. ⌜ r ≡ leading is-token (codes (paper-edition edition) (now (side .entry))) ⌝ }
 {
     let mut i = 0;
     while i < side.len() {
-        if !is_token(side[i]) {
+        if !is_token(code(edition, side[i])) {
             return i;
         }
         i += 1;
@@ -185,27 +189,16 @@ pub fn leading_tokens(side: &[u8]) -> usize
     i
 }
 
-// The side of these tokens.
-fn inner_side(side: &[u8]) -> CodedSide
-    requires { ⌜ (length (now side) ≤ sheet-side) × (all is-token (now side) ≡ true) ⌝ }
-    ensures { λ r. ⌜ r ≡ padded (map code-of (now (side .entry))) ⌝ }
+// The side of these bytes: the inner code of a token is its code.
+fn inner_side(side: &[u8], edition: Edition) -> CodedSide
+    requires { ⌜ length (now side) ≤ sheet-side ⌝ }
+    ensures { λ r. ⌜ r ≡ padded (codes (paper-edition edition) (now (side .entry))) ⌝ }
 {
     let mut codes = [NO_TOKEN; LONGEST_SIDE];
     let mut i = 0;
     while i < side.len() {
-        codes[i] = inner_code(side[i]);
+        codes[i] = code(edition, side[i]);
         i += 1;
     }
     codes
-}
-
-// The inner code of a token.
-fn inner_code(b: u8) -> u8
-    requires { ⌜ is-token b ≡ true ⌝ }
-    ensures { λ r. ⌜ r ≡ code-of b ⌝ }
-{
-    if (b as usize) < CHARACTERS {
-        return b;
-    }
-    FIELD_CODE + (b - FIELD_TOKEN as u8)
 }

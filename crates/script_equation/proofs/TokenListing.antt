@@ -6,26 +6,27 @@ use mathlib.Core.Bool.{Bool, false, cond}
 use mathlib.Core.List.{List, [], _∷_, _++_, append-assoc}
 use lib.ListN.{length, getD, drop}
 use lib.Seq.{drop-cons, drop-length}
+use Rattle.paper.specs.Alphabet.{Edition}
 use Rattle.paper_script.specs.Bytes.{bytes}
 use Rattle.base_codes.specs.Inner.{is-char}
 use Rattle.script_equation.specs.Arguments.{argument, arguments-from, all-arguments}
 
 -- The arguments that were put, and those that are left: they make all of them.
-pub record Put-so-far (side : List ℕ) (i : ℕ) (literal : Bool) (done : List ℕ) : Type 0 where
-  pub makes : done ++ arguments-from literal (drop i side) ≡ arguments-from false side
+pub record Put-so-far (e : Edition) (side : List ℕ) (i : ℕ) (literal : Bool) (done : List ℕ) : Type 0 where
+  pub makes : done ++ arguments-from e literal (drop i side) ≡ arguments-from e false side
 
-pub one-more-argument : (side : List ℕ) (i : ℕ) (literal : Bool) (done : List ℕ) → i < length side → Put-so-far side i literal done
-    → Put-so-far side (i + 1) (is-char (getD side i 0)) (done ++ argument literal (getD side i 0))
-one-more-argument side i literal done h p =
+pub one-more-argument : (e : Edition) (side : List ℕ) (i : ℕ) (literal : Bool) (done : List ℕ) → i < length side → Put-so-far e side i literal done
+    → Put-so-far e side (i + 1) (is-char (getD side i 0)) (done ++ argument e literal (getD side i 0))
+one-more-argument e side i literal done h p =
     record {
       makes =
-          append-assoc done (argument literal (getD side i 0)) (arguments-from (is-char (getD side i 0)) (drop (i + 1) side))
-          ∙ ap (λ (l : List ℕ). done ++ arguments-from literal l) (ap (λ (n : ℕ). getD side i 0 ∷ drop n side) (add-one i) ∙ sym (drop-cons side i 0 h))
+          append-assoc done (argument e literal (getD side i 0)) (arguments-from e (is-char (getD side i 0)) (drop (i + 1) side))
+          ∙ ap (λ (l : List ℕ). done ++ arguments-from e literal l) (ap (λ (n : ℕ). getD side i 0 ∷ drop n side) (add-one i) ∙ sym (drop-cons side i 0 h))
           ∙ p .makes;
     }
 
 -- where all were put, the literal that is open is closed
-pub all-put : (side : List ℕ) (i : ℕ) (literal : Bool) (done : List ℕ) → i ≡ length side → Put-so-far side i literal done
-    → all-arguments side ≡ done ++ cond literal (bytes "\"") []
+pub all-put : (e : Edition) (side : List ℕ) (i : ℕ) (literal : Bool) (done : List ℕ) → i ≡ length side → Put-so-far e side i literal done
+    → all-arguments e side ≡ done ++ cond literal (bytes "\"") []
 unfolding all-arguments
-all-put side i literal done e p = sym (p .makes) ∙ ap (λ (l : List ℕ). done ++ arguments-from literal l) (ap (λ (n : ℕ). drop n side) e ∙ drop-length side)
+all-put e side i literal done h p = sym (p .makes) ∙ ap (λ (l : List ℕ). done ++ arguments-from e literal l) (ap (λ (n : ℕ). drop n side) h ∙ drop-length side)

@@ -4,9 +4,10 @@ use base_codes::FIELD_CODE;
 use base_codes::HIDDEN_LEFT;
 use base_codes::HIDDEN_RIGHT;
 use base_codes::length_of;
+use base_editions::Edition;
 use base_put::put;
 use base_put::put_all;
-use base_put::sign;
+use script_characters::character;
 ghost use mathlib.Core.Path.{_≡_};
 ghost use mathlib.Core.Bool.{cond};
 ghost use mathlib.Core.List.{[]};
@@ -16,6 +17,7 @@ ghost use Rattle.paper.specs.Numbers.{longest-side};
 ghost use Rattle.paper_script.specs.Bytes.{bytes};
 ghost use Rattle.base_put.specs.Counted.{Counted};
 ghost use Rattle.base_codes.specs.Inner.{tokens};
+ghost use Rattle.base_editions.specs.Editions.{paper-edition};
 ghost use Rattle.script_equation.specs.Arguments.{digit-of, argument, all-arguments, constant, side-spelt, equation-spelt};
 
 // The opening quotation mark of a literal, if none is open.
@@ -39,28 +41,28 @@ fn before_field(out: &mut [u8], at: usize, literal: bool) -> usize
 }
 
 // A token as an argument: characters that stand together are one literal.
-fn argument(out: &mut [u8], at: usize, literal: bool, token: u8) -> usize
-    ensures { λ r. ⌜ Counted (now (out .entry)) (now (out .exit)) at r (argument literal token) ⌝ }
+fn argument(out: &mut [u8], at: usize, edition: Edition, literal: bool, token: u8) -> usize
+    ensures { λ r. ⌜ Counted (now (out .entry)) (now (out .exit)) at r (argument (paper-edition edition) literal token) ⌝ }
 {
     if token < FIELD_CODE {
         let begun = before_character(out, at, literal);
-        return put(out, begun, sign(token));
+        return character(out, begun, edition, token);
     }
     let begun = before_field(out, at, literal);
     put(out, begun, digit(token))
 }
 
 // The first n tokens as arguments.
-fn arguments(out: &mut [u8], at: usize, side: CodedSide, n: usize) -> usize
+fn arguments(out: &mut [u8], at: usize, edition: Edition, side: CodedSide, n: usize) -> usize
     requires { ⌜ n ≤ longest-side ⌝ }
-    ensures { λ r. ⌜ Counted (now (out .entry)) (now (out .exit)) at r (all-arguments (take n side)) ⌝ }
+    ensures { λ r. ⌜ Counted (now (out .entry)) (now (out .exit)) at r (all-arguments (paper-edition edition) (take n side)) ⌝ }
 {
     let mut end = at;
     let mut literal = false;
     let mut i = 0;
     while i < n {
         let token = side[i];
-        end = argument(out, end, literal, token);
+        end = argument(out, end, edition, literal, token);
         literal = token < FIELD_CODE;
         i += 1;
     }
@@ -90,27 +92,33 @@ fn digit(token: u8) -> u8
 }
 
 // A side and its hidden field; alone it is no sum.
-fn side_term(out: &mut [u8], at: usize, side: CodedSide, hidden: u8) -> usize
-    ensures { λ r. ⌜ Counted (now (out .entry)) (now (out .exit)) at r (side-spelt (tokens side) hidden) ⌝ }
+fn side_term(out: &mut [u8], at: usize, edition: Edition, side: CodedSide, hidden: u8) -> usize
+    ensures { λ r. ⌜ Counted (now (out .entry)) (now (out .exit)) at r (side-spelt (paper-edition edition) (tokens side) hidden) ⌝ }
 {
     let n = length_of(side);
     if n == 0 {
         return constant(out, at, hidden);
     }
     let begun = put_all(out, at, b"(str.++");
-    let end = arguments(out, begun, side, n);
+    let end = arguments(out, begun, edition, side, n);
     let gap = put(out, end, b' ');
     let behind = constant(out, gap, hidden);
     put(out, behind, b')')
 }
 
 // The equation, and the check command.
-pub fn equation(out: &mut [u8], at: usize, left: CodedSide, right: CodedSide) -> usize
-    ensures { λ r. ⌜ Counted (now (out .entry)) (now (out .exit)) at r (equation-spelt (tokens left) (tokens right)) ⌝ }
+pub fn equation(
+    out: &mut [u8],
+    at: usize,
+    edition: Edition,
+    left: CodedSide,
+    right: CodedSide,
+) -> usize
+    ensures { λ r. ⌜ Counted (now (out .entry)) (now (out .exit)) at r (equation-spelt (paper-edition edition) (tokens left) (tokens right)) ⌝ }
 {
     let begun = put_all(out, at, b"(assert (= ");
-    let behind_left = side_term(out, begun, left, HIDDEN_LEFT);
+    let behind_left = side_term(out, begun, edition, left, HIDDEN_LEFT);
     let gap = put(out, behind_left, b' ');
-    let behind_right = side_term(out, gap, right, HIDDEN_RIGHT);
+    let behind_right = side_term(out, gap, edition, right, HIDDEN_RIGHT);
     put_all(out, behind_right, b"))\n(check-sat)\n")
 }

@@ -1,22 +1,22 @@
 -- The parts of a good sheet's script: the fields that are counted are those that stand, and the equation is that of its sides.
 --   all-counted  : standing-fields of how often each field stands ≡ all-standing (hidden q)
---   equation-put : equation-spelt of the sides that were read ≡ equation (q .left) (q .right)
+--   equation-put : equation-spelt of the sides that were read ≡ equation e (q .left) (q .right)
 -- Follows from the laws of good sheets and of inner codes.
 use Prim.Native.Nat.{ℕ, _+_}
 use native.Mathlib.Omega.{arith}
-use mathlib.Core.Path.{_≡_, sym, ap, ap₂, _∙_}
+use mathlib.Core.Path.{_≡_, sym, ap, ap₂, _∙_, subst}
 use mathlib.Core.Logic.{⊎-elim}
 use mathlib.Core.Bool.{not}
 use mathlib.Core.List.{List, _++_, List·Memᴰ, List·Memᴰ·append-cases}
 use lib.Dec.{eqb}
 use Rattle.paper.specs.Lists.{upto}
 use Rattle.paper.specs.Numbers.{hidden-left, hidden-right, set-fields}
-use Rattle.paper.specs.Equation.{Token, stands-in}
+use Rattle.paper.specs.Alphabet.{Alphabet, Edition, alphabet-of}
+use Rattle.paper.specs.Equation.{Token, Side, stands-in}
 use Rattle.paper.specs.Question.{Question, hidden}
-use Rattle.paper.specs.Sheet.{asked, read-sheet}
 use Rattle.paper.proofs.base.Lists.{mem-upto, map-append}
 use Rattle.paper.proofs.base.Listed.{keep-same}
-use Rattle.paper.proofs.sheets.Asked.{GoodQuestion, sheet-good, left-39, right-39}
+use Rattle.paper.proofs.sheets.Asked.{InRange, GoodSide, GoodQuestion, good-most, sheet-good}
 use Rattle.paper.proofs.sheets.Hidden.{HasSet, hidden-searchable}
 use Rattle.paper_script.specs.Script.{all-standing, equation}
 use Rattle.base_codes.specs.Inner.{field-code, token-code, side-code, tokens, padded}
@@ -25,12 +25,20 @@ use Rattle.base_question.proofs.HowOften.{standings-are, stands-times}
 use Rattle.search_hidden.specs.Behind.{side-with}
 use Rattle.search_hidden.proofs.Codes.{side-back, side-behind}
 use Rattle.script_equation.specs.Arguments.{equation-spelt}
-use Rattle.script_sheet.specs.WrittenOut.{fields-counted}
+use Rattle.script_sheet.specs.WrittenOut.{Asks-in, fields-counted}
 use Rattle.script_equation.proofs.Sides.{equation-alike}
 
-module _ (sheet : List ℕ) (q : Question) (asks : read-sheet sheet ≡ asked q) where
+module _ (e : Edition) (sheet : List ℕ) (q : Question) (asks : Asks-in e sheet q) where
   good : GoodQuestion q
-  good = sheet-good sheet q asks
+  good = sheet-good sheet q (asks .asks)
+
+  abbrev characters : ℕ
+  characters = q .alphabet .characters
+
+  -- the tokens of a good side are the edition's
+  in-edition : (side : Side) → GoodSide characters side → (t : Token) → List·Memᴰ t side → InRange (alphabet-of e .characters) t
+  in-edition side g t d =
+      subst (λ (a : Alphabet). InRange (a .characters) t) (good .alphabet ∙ ap alphabet-of (sym (asks .its-edition))) (g .tokens t d)
 
   -- by the tokens of two sides that are those of the question with its hidden fields
   counted-alike : (left right : List ℕ) → tokens left ≡ side-code (hidden q .left) → tokens right ≡ side-code (hidden q .right)
@@ -49,11 +57,12 @@ module _ (sheet : List ℕ) (q : Question) (asks : read-sheet sheet ≡ asked q)
         → all-left ≡ side-with (field-code + hidden-left) left → all-right ≡ side-with (field-code + hidden-right) right
         → counts ≡ standing-times all-left all-right → fields-counted counts ≡ all-standing (hidden q)
     all-counted all-left all-right counts a b c =
-        let on-left : tokens all-left ≡ side-code (hidden q .left) = rw (a, l) (side-behind (q .left) (left-39 good) hidden-left (omega arith)) in
-        let on-right : tokens all-right ≡ side-code (hidden q .right) = rw (b, r) (side-behind (q .right) (right-39 good) hidden-right (omega arith)) in
+        let on-left : tokens all-left ≡ side-code (hidden q .left) = rw (a, l) (side-behind characters (good-most good) (q .left) (good .left) hidden-left (omega arith)) in
+        let on-right : tokens all-right ≡ side-code (hidden q .right) = rw (b, r) (side-behind characters (good-most good) (q .right) (good .right) hidden-right (omega arith)) in
         ap fields-counted c ∙ counted-alike all-left all-right on-left on-right
 
-    pub equation-put : equation-spelt (tokens left) (tokens right) ≡ equation (q .left) (q .right)
+    pub equation-put : equation-spelt e (tokens left) (tokens right) ≡ equation e (q .left) (q .right)
     equation-put =
-        ap₂ (λ (x y : List ℕ). equation-spelt x y) (ap tokens l ∙ side-back (q .left) (left-39 good)) (ap tokens r ∙ side-back (q .right) (right-39 good))
-        ∙ equation-alike (q .left) (q .right) (left-39 good .tokens) (right-39 good .tokens)
+        ap₂ (equation-spelt e) (ap tokens l ∙ side-back characters (good-most good) (q .left) (good .left))
+        (ap tokens r ∙ side-back characters (good-most good) (q .right) (good .right))
+        ∙ equation-alike e (q .left) (q .right) (in-edition (q .left) (good .left)) (in-edition (q .right) (good .right))

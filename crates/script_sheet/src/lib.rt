@@ -9,6 +9,7 @@ use base_codes::FIELDS;
 use base_codes::HIDDEN_LEFT;
 use base_codes::HIDDEN_RIGHT;
 use base_codes::SHEET_FIELDS;
+use base_editions::Edition;
 use base_put::put_all;
 use base_question::Body;
 use base_question::Question;
@@ -21,19 +22,19 @@ ghost use lib.ListN.{length};
 ghost use Rattle.paper.specs.Lists.{only};
 ghost use Rattle.paper.specs.Numbers.{set-fields};
 ghost use Rattle.paper.specs.Question as Paper;
-ghost use Rattle.paper.specs.Sheet.{asked, read-sheet};
 ghost use Rattle.paper_script.specs.Script.{heading, script};
 ghost use Rattle.paper_script.specs.Scripting.{scripting, ScriptPromised};
 ghost use Rattle.base_put.specs.Counted.{Counted};
+ghost use Rattle.base_editions.specs.Editions.{paper-edition};
 ghost use Rattle.base_question.specs.Asked.{question-of};
 ghost use Rattle.read_sheet.specs.SheetRead.{bodies-of};
-ghost use Rattle.script_sheet.specs.WrittenOut.{scripted-numbers, told-scripted, fields-lines, fields-counted, body-of, Bodies-within};
+ghost use Rattle.script_sheet.specs.WrittenOut.{scripted-numbers, told-scripted, Asks-in, fields-lines, fields-counted, body-of, Bodies-within};
 
 // The answer to a sheet that is to be written out.
 pub enum Scripted {
     // 0: so many bytes of script stand in front of the buffer
     Written { bytes: usize },
-    // 11 to 17: the sheet is at fault
+    // 11 to 17, 44: the sheet is at fault
     Refused { fault: Fault, place: usize },
     // 40: the output buffer is too short
     TooShort,
@@ -52,12 +53,13 @@ pub fn script(sheet: &[u8], out: &mut [u8]) -> Scripted
             place: read.place,
         };
     }
+    let edition = read.edition;
     let question = read.question;
-    let length = put_script(&mut out[0..0], sheet, question);
+    let length = put_script(&mut out[0..0], edition, sheet, question);
     if out.len() < length {
         return Scripted::TooShort;
     }
-    let bytes = put_script(out, sheet, question);
+    let bytes = put_script(out, edition, sheet, question);
     Scripted::Written { bytes }
 }
 
@@ -88,9 +90,9 @@ pub fn in_numbers(s: Scripted) -> Numbers
 }
 
 // The script of a good sheet, which asks this: as far as there is room, and how long it is.
-fn put_script(out: &mut [u8], sheet: &[u8], question: Question) -> usize
+fn put_script(out: &mut [u8], edition: Edition, sheet: &[u8], question: Question) -> usize
     requires { ⌜ Bodies-within (now sheet) (question .bodies) ⌝ }
-    ensures { λ r. ⌜ ((q : Paper.Question) → read-sheet (now (sheet .entry)) ≡ asked q → question ≡ question-of q (bodies-of (now (sheet .entry))) → Counted (now (out .entry)) (now (out .exit)) 0 r (script q)) ⌝ }
+    ensures { λ r. ⌜ ((q : Paper.Question) → Asks-in (paper-edition edition) (now (sheet .entry)) q → question ≡ question-of q (bodies-of (now (sheet .entry))) → Counted (now (out .entry)) (now (out .exit)) 0 r (script q)) ⌝ }
 {
     let left = question.left;
     let right = question.right;
@@ -99,8 +101,8 @@ fn put_script(out: &mut [u8], sheet: &[u8], question: Question) -> usize
     let all_right = search_hidden::side(right, HIDDEN_RIGHT);
     let counts = base_question::standings(all_left, all_right);
     let begun = put_heading(out, 0);
-    let end = put_fields(out, begun, sheet, bodies, counts);
-    script_equation::equation(out, end, left, right)
+    let end = put_fields(out, begun, edition, sheet, bodies, counts);
+    script_equation::equation(out, end, edition, left, right)
 }
 
 fn put_heading(out: &mut [u8], at: usize) -> usize
@@ -120,14 +122,22 @@ fn put_heading(out: &mut [u8], at: usize) -> usize
 }
 
 // The lines of a field, if it stands.
-fn put_field(out: &mut [u8], at: usize, sheet: &[u8], f: usize, body: Body, count: usize) -> usize
+fn put_field(
+    out: &mut [u8],
+    at: usize,
+    edition: Edition,
+    sheet: &[u8],
+    f: usize,
+    body: Body,
+    count: usize,
+) -> usize
     requires { ⌜ (f < set-fields) × (body .start + body .length ≤ length (now sheet)) ⌝ }
-    ensures { λ r. ⌜ ((q : Paper.Question) → read-sheet (now (sheet .entry)) ≡ asked q → body ≡ body-of (bodies-of (now (sheet .entry))) f → Counted (now (out .entry)) (now (out .exit)) at r (fields-lines q (only (not (eqb count 0)) f))) ⌝ }
+    ensures { λ r. ⌜ ((q : Paper.Question) → Asks-in (paper-edition edition) (now (sheet .entry)) q → body ≡ body-of (bodies-of (now (sheet .entry))) f → Counted (now (out .entry)) (now (out .exit)) at r (fields-lines (paper-edition edition) q (only (not (eqb count 0)) f))) ⌝ }
 {
     if count == 0 {
         return at;
     }
-    field_lines(out, at, sheet, f, body)
+    field_lines(out, at, edition, sheet, f, body)
 }
 
 // Where the pattern of a field stands. A hidden field has none in the sheet.
@@ -148,18 +158,19 @@ fn body_of(bodies: [Body; SHEET_FIELDS], f: usize) -> Body
 fn put_fields(
     out: &mut [u8],
     at: usize,
+    edition: Edition,
     sheet: &[u8],
     bodies: [Body; SHEET_FIELDS],
     counts: [usize; FIELDS],
 ) -> usize
     requires { ⌜ Bodies-within (now sheet) bodies ⌝ }
-    ensures { λ r. ⌜ ((q : Paper.Question) → read-sheet (now (sheet .entry)) ≡ asked q → bodies ≡ bodies-of (now (sheet .entry)) → Counted (now (out .entry)) (now (out .exit)) at r (fields-lines q (fields-counted counts))) ⌝ }
+    ensures { λ r. ⌜ ((q : Paper.Question) → Asks-in (paper-edition edition) (now (sheet .entry)) q → bodies ≡ bodies-of (now (sheet .entry)) → Counted (now (out .entry)) (now (out .exit)) at r (fields-lines (paper-edition edition) q (fields-counted counts))) ⌝ }
 {
     let mut end = at;
     let mut f = 0;
     while f < FIELDS {
         let body = body_of(bodies, f);
-        end = put_field(out, end, sheet, f, body, counts[f]);
+        end = put_field(out, end, edition, sheet, f, body, counts[f]);
         f += 1;
     }
     end

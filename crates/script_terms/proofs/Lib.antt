@@ -1,3 +1,4 @@
 pub mod Ranges
 pub mod Spelling
 pub mod Patterns
+pub mod CodesAt

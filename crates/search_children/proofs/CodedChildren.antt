@@ -1,10 +1,13 @@
 -- The children of a situation by inner codes are the codes of the paper's children, in the same order:
 --   children-agree : children-coded (tables-over among q) (situation-code s) ≡ map code-child-of (children (acceptor-over among q) longest-side s),
---     of a codable s and a question in Code 39, whichever characters pass the test `among`
+--     of a codable s and a question with at most 128 characters, whichever characters pass the test `among`
 --   left-coded, right-coded, put-of-coded : the same of each move by itself
+--   children-every, put-every : children, and a put, by the question's own tables are those by its tables over every character
 -- First what the children of the paper are without kinds; then the three groups: the left strike, the right strike, the puts.
 -- Follows from the laws of sides by their codes and of sets as masks.
-use Prim.Native.Nat.{ℕ, _+_, _<_}
+use Prim.Native.Nat.{ℕ, _+_, _≤_, _<_}
+use native.Mathlib.Omega.{arith}
+use lib.Bits.{bitAnd}
 use mathlib.Core.Path.{_≡_, refl, sym, ap, ap₂, _∙_}
 use mathlib.Core.Bool.{Bool, true, false, cond, not, _&&_, and-false, and-true}
 use mathlib.Core.List.{List, [], _∷_, _++_, map, append-nil}
@@ -12,28 +15,27 @@ use lib.Dec.{eqb}
 use lib.ListN.{getD, set, length-map}
 use lib.Seq.{set-set, getD-set-other}
 use Rattle.paper.specs.Lists.{upto, any, only, keep, each}
-use Rattle.paper.specs.Numbers.{characters, set-fields, longest-side}
+use Rattle.paper.specs.Numbers.{most-characters, set-fields, longest-side}
 use Rattle.paper.specs.Places.{PlaceSet}
 use Rattle.paper.specs.Search.{Child}
 use Rattle.paper.specs.Equation.{chr, fld, Side}
 use Rattle.paper.specs.Situation.{Acceptor, Situation, Kind, is-finished, is-dead, is-open, Move, strike-left, strike-right, put, trim, kind-of, front-field, front-fields, trimmed, kind, strike, strike-all, put-before, put-before-all, front-may-end, front-takes, open-moves, moves-of, side-above, kept, child-by, children}
-use Rattle.paper.specs.Alphabet.{Alphabet, code-39}
 use Rattle.paper.specs.Question.{Question, held-by}
-use Rattle.paper_chosen.specs.Chosen.{acceptor-over}
+use Rattle.paper_chosen.specs.Chosen.{every, acceptor-over}
 use Rattle.paper.proofs.base.Listed.{each-append, each-same, keep-none}
 use Rattle.paper.proofs.base.Tests.{by-bool, true-false, not-true, and-left, and-right, eqb-true, eqb-same, eqb-false}
 use Rattle.paper.proofs.base.Lists.{map-append, mem-upto}
 use Rattle.paper.proofs.equations.Moves.{other-front}
 use Rattle.paper.proofs.search.Mapped.{code-child}
-use Rattle.base_places.specs.Masks.{mask}
+use Rattle.base_places.specs.Masks.{mask, follow-masks, followers-of}
 use Rattle.base_places.proofs.Masks.{Few}
-use Rattle.base_codes.specs.Inner.{field-code, left-struck, right-struck, token-code, side-code, move-code, front}
-use Rattle.search_fronts.specs.Fronts.{front-from, set-by}
+use Rattle.base_codes.specs.Inner.{field-code, left-struck, right-struck, token-code, side-code, move-code, field-of, front}
+use Rattle.search_fronts.specs.Fronts.{Front, row-number, front-from, set-by}
 use Rattle.base_codes.specs.Coded.{Coded}
 use Rattle.search_children.specs.Children.{dropped, above, made, judged-sides, settle, with-set, struck, put-child, may-end-at, left-strike, right-strike, put-of, as-child, children-coded}
-use Rattle.search_children.specs.Coding.{situation-code, tables-over}
+use Rattle.search_children.specs.Coding.{situation-code, tables-of, tables-over}
 use Rattle.search_children.proofs.CodedSides.{Known-side, char-not-field, field-is-field, field-of-code, strike-coded, put-in-all, put-coded, trim-coded, kind-dead, dead-coded, front-coded, known-strike, known-put-all}
-use Rattle.search_children.proofs.CodedSets.{Codable, set-mask, may-end-coded, front-at, set-by-coded, takes-coded}
+use Rattle.search_children.proofs.CodedSets.{row-known, row-every, Codable, set-mask, may-end-coded, front-at, set-by-coded, takes-coded}
 
 -- `each` over the lists that the moves are made of
 module _ {A B : Type 0} (f : A → List B) where
@@ -150,7 +152,11 @@ token-at : (among : ℕ → Bool) (q : Question) (s : Situation PlaceSet) (b : �
 unfolding front-from
 token-at among q s b = refl
 
-module _ (among : ℕ → Bool) (q : Question) (few : (f : ℕ) → Few (held-by q f)) (s : Situation PlaceSet) (codable : Codable s) where
+module _ (among : ℕ → Bool) (q : Question) (most : q .alphabet .characters ≤ most-characters) (few : (f : ℕ) → Few (held-by q f))
+    (s : Situation PlaceSet) (codable : Codable s) where
+  abbrev characters : ℕ
+  characters = q .alphabet .characters
+
   -- a strike of the field in front of a side, whose set may end
   strike-child : (m : Move) (side : Side) → Known-side side → front-may-end (acceptor-over among q) s (front-field side) ≡ true
       → as-child (move-code m) (struck (situation-code s) (front (side-code side)))
@@ -166,7 +172,7 @@ module _ (among : ℕ → Bool) (q : Question) (few : (f : ℕ) → Few (held-by
       ≡ map code-child-of (left-group (acceptor-over among q) longest-side s)
   unfolding left-strike child-by
   left-coded =
-      rw (may-end-coded among q few s codable (s .left) (codable .left))
+      rw (may-end-coded among q most few s codable (s .left) (codable .left))
       (by-bool (front-may-end (acceptor-over among q) s (front-field (s .left)))
       (λ e. rw e (strike-child strike-left (s .left) (codable .left) e))
       (λ e. rw e))
@@ -175,10 +181,10 @@ module _ (among : ℕ → Bool) (q : Question) (few : (f : ℕ) → Few (held-by
   right-ends : (r : Side) → Known-side r
       → (may-end-at (situation-code s .sets) (tables-over among q .last) (front (side-code r)) && not (eqb (front (side-code r)) (front (side-code (s .left)))))
       ≡ front-may-end (acceptor-over among q) s (other-front (s .left) r)
-  right-ends [] k = rw (may-end-coded among q few s codable [] k)
-  right-ends (chr b ∷ r) k = rw (may-end-coded among q few s codable (chr b ∷ r) k)
+  right-ends [] k = rw (may-end-coded among q most few s codable [] k)
+  right-ends (chr b ∷ r) k = rw (may-end-coded among q most few s codable (chr b ∷ r) k)
   right-ends (fld g ∷ r) k =
-      rw (may-end-coded among q few s codable (fld g ∷ r) k, front-coded g (s .left) (k .0) (codable .left))
+      rw (may-end-coded among q most few s codable (fld g ∷ r) k, front-coded g (s .left) (k .0) (codable .left))
       (by-bool (any (eqb g) (front-field (s .left)))
       (λ e. rw e (and-false (front-may-end (acceptor-over among q) s (g ∷ []))))
       (λ e. rw e (and-true (front-may-end (acceptor-over among q) s (g ∷ [])))))
@@ -190,7 +196,7 @@ module _ (among : ℕ → Bool) (q : Question) (few : (f : ℕ) → Few (held-by
       let ends = right-ends (s .right) (codable .right) in
       rw ends
       (by-bool (front-may-end (acceptor-over among q) s (other-front (s .left) (s .right)))
-      (λ e. rw e (strike-child strike-right (s .right) (codable .right) (sym (may-end-coded among q few s codable (s .right) (codable .right)) ∙ and-left _ _ (ends ∙ e))))
+      (λ e. rw e (strike-child strike-right (s .right) (codable .right) (sym (may-end-coded among q most few s codable (s .right) (codable .right)) ∙ and-left _ _ (ends ∙ e))))
       (λ e. rw e))
 
   -- the set of the token in front after c
@@ -203,7 +209,7 @@ module _ (among : ℕ → Bool) (q : Question) (few : (f : ℕ) → Few (held-by
   unfolding put-before
   sets-one c [] h k = refl
   sets-one c (chr a ∷ side) h k = rw (char-not-field a (k .0))
-  sets-one c (fld f ∷ side) h k = rw (field-is-field f (k .0), set-by-coded among q few s codable f c (k .0) h, field-of-code f) (set-mask (s .sets) f _)
+  sets-one c (fld f ∷ side) h k = rw (field-is-field f (k .0), set-by-coded among q most few s codable f c (k .0) h, field-of-code f) (set-mask (s .sets) f _)
 
   -- two, which are put before one after the other; the same one once
   sets-two : (c f g : ℕ) (l r : Side) → c < characters → f < set-fields → g < set-fields
@@ -211,7 +217,7 @@ module _ (among : ℕ → Bool) (q : Question) (few : (f : ℕ) → Few (held-by
       ≡ map mask (put-before-all (acceptor-over among q) c (front-fields (fld f ∷ l) (fld g ∷ r)) s .sets)
   unfolding put-before acceptor-over
   sets-two c f g l r h kf kg =
-      rw (field-is-field f kf, field-is-field g kg, set-by-coded among q few s codable f c kf h, set-by-coded among q few s codable g c kg h, field-of-code f, field-of-code g)
+      rw (field-is-field f kf, field-is-field g kg, set-by-coded among q most few s codable f c kf h, set-by-coded among q most few s codable g c kg h, field-of-code f, field-of-code g)
       (by-bool (eqb g f)
       (λ e. rw (e, eqb-true g f e, set-set (map mask (s .sets)) f (mask (acceptor-over among q .set-after f (getD (s .sets) f []) c))) (set-mask (s .sets) f _))
       (λ e.
@@ -237,26 +243,52 @@ module _ (among : ℕ → Bool) (q : Question) (few : (f : ℕ) → Few (held-by
       let l : put-in-all c fs (s .left) ≡ t .left = sym (put-all-left (acceptor-over among q) c fs s) in
       let r : put-in-all c fs (s .right) ≡ t .right = sym (put-all-right (acceptor-over among q) c fs s) in
       rw (put-coded c (s .left) (s .right) (s .left) (codable .left) (codable .right) (codable .left), put-coded c (s .left) (s .right) (s .right) (codable .left) (codable .right) (codable .right), sets-coded c (s .left) (s .right) h (codable .left) (codable .right), l, r)
-      (settle-coded among q (put c) t (rw l at (known-put-all c fs (s .left) h (codable .left))) (rw r at (known-put-all c fs (s .right) h (codable .right))))
+      (settle-coded among q (put c) t (rw l at (known-put-all c fs (s .left) (omega arith) (codable .left))) (rw r at (known-put-all c fs (s .right) (omega arith) (codable .right))))
 
   pub put-of-coded : (c : ℕ) → c < characters
       → as-child c (put-of (situation-code s) (front-at among q s (front (side-code (s .left)))) (front-at among q s (front (side-code (s .right)))) c)
       ≡ map code-child-of (put-group (acceptor-over among q) longest-side s c)
   unfolding put-of
   put-of-coded c h =
-      rw (token-at among q s (front (side-code (s .left))), token-at among q s (front (side-code (s .right))), takes-coded among q few s codable (s .left) c h (codable .left), takes-coded among q few s codable (s .right) c h (codable .right))
+      rw (token-at among q s (front (side-code (s .left))), token-at among q s (front (side-code (s .right))), takes-coded among q most few s codable (s .left) c h (codable .left), takes-coded among q most few s codable (s .right) c h (codable .right))
       (by-bool (front-takes (acceptor-over among q) s c (s .left) && front-takes (acceptor-over among q) s c (s .right))
       (λ e. rw e (put-child-coded c h))
       (λ e. rw e))
 
   -- The children agree, in their order.
-  pub children-agree : q .alphabet ≡ code-39
-      → children-coded (tables-over among q) (situation-code s) ≡ map code-child-of (children (acceptor-over among q) longest-side s)
-  unfolding children-coded acceptor-over
-  children-agree in-39 =
+  pub children-agree : children-coded (tables-over among q) (situation-code s) ≡ map code-child-of (children (acceptor-over among q) longest-side s)
+  unfolding children-coded acceptor-over tables-over
+  children-agree =
       let puts : ℕ → List (Child Coded ℕ) = λ (c : ℕ). map code-child-of (put-group (acceptor-over among q) longest-side s c) in
-      ap₂ _++_ left-coded
-      (ap₂ _++_ right-coded
-      (each-same _ puts (upto characters) (λ c d. put-of-coded c (mem-upto characters d))
-      ∙ ap (λ (a : Alphabet). each puts (upto (a .characters))) (sym in-39)))
+      ap₂ _++_ left-coded (ap₂ _++_ right-coded (each-same _ puts (upto characters) (λ c d. put-of-coded c (mem-upto characters d))))
       ∙ sym (grouped-mapped (acceptor-over among q) code-child-of longest-side s)
+
+-- A put by the question's own tables is one by its tables over every character.
+module _ (q : Question) (most : q .alphabet .characters ≤ most-characters) (sets : List ℕ) where
+  abbrev own-front : ℕ → Front
+  own-front b = front-from (tables-of q .follow) (tables-of q .taking) sets b
+
+  abbrev every-front : ℕ → Front
+  every-front b = front-from (tables-over every q .follow) (tables-over every q .taking) sets b
+
+  set-by-every : (b c : ℕ) → c < q .alphabet .characters → set-by (own-front b) c ≡ set-by (every-front b) c
+  unfolding front-from row-number tables-over tables-of
+  set-by-every b c h =
+      ap (bitAnd (followers-of (getD (map (λ (f : ℕ). follow-masks (held-by q f)) (upto set-fields)) (field-of b) []) (getD sets (field-of b) 0)))
+      (row-every q most (row-number b) c (row-known b) h)
+
+  pub put-every : (k : Coded) (a b c : ℕ) → c < q .alphabet .characters
+      → put-of k (own-front a) (own-front b) c ≡ put-of k (every-front a) (every-front b) c
+  unfolding put-of front-from
+  put-every k a b c h = rw (set-by-every a c h, set-by-every b c h)
+
+-- So the children by either tables are the same.
+pub children-every : (q : Question) → q .alphabet .characters ≤ most-characters → (k : Coded)
+    → children-coded (tables-of q) k ≡ children-coded (tables-over every q) k
+unfolding children-coded tables-of tables-over
+children-every q most k =
+    let left = as-child left-struck (left-strike (tables-over every q .last) k) in
+    let right = as-child right-struck (right-strike (tables-over every q .last) k) in
+    ap (λ (puts : List (Child Coded ℕ)). left ++ (right ++ puts))
+    (each-same _ _ (upto (q .alphabet .characters))
+    (λ c d. ap (as-child c) (put-every q most (k .sets) k (front (k .left)) (front (k .right)) c (mem-upto (q .alphabet .characters) d))))

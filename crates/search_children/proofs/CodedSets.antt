@@ -1,29 +1,29 @@
 -- Place sets as masks, in a situation: the set of a field, which fields may end, the set after a character, the test of sets. And the
--- tables over some of the characters: `tables-every` says that over every character they are those of the question.
+-- tables over some of the characters: `row-every` says that over every character a row of them is that of the question's own, for its characters.
 -- Holds of codable situations, which are those that their codes tell apart: known tokens, a set for each field, rising places below 64;
 -- and of fields with few leaves. Follows from the laws of masks.
-use Prim.Native.Nat.{ℕ, zero, suc, _+_, _<_}
+use Prim.Native.Nat.{ℕ, zero, suc, _+_, _≤_, _<_}
 use native.Mathlib.Omega.{arith}
-use mathlib.Core.Path.{_≡_, refl, ap, ap₂, subst}
+use mathlib.Core.Path.{_≡_, refl, ap, ap₂, _∙_, subst}
 use mathlib.Core.Bool.{Bool, true, not, _&&_, cond, or-false}
 use mathlib.Core.List.{List, [], _∷_, map}
 use lib.Bits.{and-zero-r}
-use lib.Dec.{eqb}
+use lib.Dec.{ltb, eqb}
 use lib.ListN.{length, getD, set, List·getD-map}
 use lib.Seq.{getD-set-same, getD-set-other}
 use Rattle.paper.specs.Lists.{same-by}
-use Rattle.paper.specs.Numbers.{characters, set-fields}
+use Rattle.paper.specs.Numbers.{most-characters, set-fields}
 use Rattle.paper.specs.Pattern.{Held}
 use Rattle.paper.specs.Places.{PlaceSet, same-set}
 use Rattle.paper.specs.Equation.{chr, fld, Side}
 use Rattle.paper.specs.Situation.{Situation, front-field, set-of, front-may-end, front-takes}
 use Rattle.paper.specs.Question.{Question, held-by}
 use Rattle.paper_chosen.specs.Chosen.{every, acceptor-over}
-use Rattle.paper.proofs.base.Tests.{by-bool, same-tests, lt-ltb, neq-eqb, eq-eqb, eqb-true, eqb-false}
+use Rattle.paper.proofs.base.Tests.{by-bool, cond-by, ltb-true, same-tests, lt-ltb, neq-eqb, eq-eqb, eqb-true, eqb-false}
 use Rattle.paper.proofs.base.Lists.{cons-eq}
 use Rattle.paper.proofs.places.PlaceSets.{same-equal, equal-same}
 use Rattle.paper.proofs.base.Listed.{getD-map-upto}
-use Rattle.base_places.proofs.Masks.{Masked, Few, mask-same, mask-empty, mask-may-end, mask-after}
+use Rattle.base_places.proofs.Masks.{taking-at, Masked, Few, mask-same, mask-empty, mask-may-end, mask-after}
 use Rattle.base_places.proofs.Filling.{getD-table}
 use Rattle.base_places.specs.Masks.{mask, follow-masks, taking-mask, taking-masks, last-mask, followers-of}
 use Rattle.base_codes.specs.Inner.{field-code, no-token, side-code, field-of, front}
@@ -66,14 +66,28 @@ same-sets (s ∷ l) [] h k = refl
 same-sets (s ∷ l) (t ∷ m) h k = ap₂ _&&_ (set-coded s t (h 0) (k 0)) (same-sets l m (λ f. h (suc f)) (λ f. k (suc f)))
 
 -- what a character lets through, in the table over some
-pub taking-over-at : (among : ℕ → Bool) (h : Held) (c : ℕ) → c < characters → getD (taking-over among h) c 0 ≡ cond (among c) (taking-mask h c) 0
+pub taking-over-at : (n : ℕ) → n ≤ most-characters → (among : ℕ → Bool) (h : Held) (c : ℕ) → c < n
+    → getD (taking-over n among h) c 0 ≡ cond (among c) (taking-mask h c) 0
 unfolding taking-over
-taking-over-at among h = getD-table (λ (c : ℕ). cond (among c) (taking-mask h c) 0) characters
+taking-over-at n m among h c k =
+    getD-table (λ (x : ℕ). cond (ltb x n && among x) (taking-mask h x) 0) most-characters c (omega arith) ∙ rw (lt-ltb c n k)
 
--- Over every character the tables are those of the question.
-pub tables-every : (q : Question) → tables-over every q ≡ tables-of q
-unfolding tables-over tables-of taking-over taking-masks
-tables-every q = refl
+-- every token has a row
+pub row-known : (b : ℕ) → row-number b < set-fields
+unfolding row-number
+row-known b = cond-by (λ (f : ℕ). f < set-fields) (ltb (field-of b) set-fields) (λ h. ltb-true (field-of b) set-fields h) (λ _. omega arith)
+
+-- Over every character a row of the tables is that of the question's own tables, for its characters.
+pub row-every : (q : Question) → q .alphabet .characters ≤ most-characters → (f c : ℕ) → f < set-fields → c < q .alphabet .characters
+    → getD (getD (tables-of q .taking) f []) c 0 ≡ getD (getD (tables-over every q .taking) f []) c 0
+unfolding tables-over tables-of
+row-every q m f c h k =
+    rw (
+      getD-map-upto (λ (g : ℕ). taking-masks (held-by q g)) [] set-fields f h,
+      getD-map-upto (λ (g : ℕ). taking-over (q .alphabet .characters) every (held-by q g)) [] set-fields f h,
+      taking-over-at (q .alphabet .characters) m every (held-by q f) c k,
+    )
+    (taking-at (held-by q f) c (omega arith))
 
 -- a field's set, and a token in front
 module _ (among : ℕ → Bool) (q : Question) (s : Situation PlaceSet) where
@@ -88,7 +102,7 @@ module _ (among : ℕ → Bool) (q : Question) (s : Situation PlaceSet) where
   abbrev pub front-at : ℕ → Front
   front-at b = front-from (tables-over among q .follow) (tables-over among q .taking) (situation-code s .sets) b
 
-module _ (among : ℕ → Bool) (q : Question) (few : (f : ℕ) → Few (held-by q f)) (s : Situation PlaceSet) (codable : Codable s) where
+module _ (among : ℕ → Bool) (q : Question) (most : q .alphabet .characters ≤ most-characters) (few : (f : ℕ) → Few (held-by q f)) (s : Situation PlaceSet) (codable : Codable s) where
   masked-at : (f : ℕ) → Masked (the-set among q s f)
   unfolding acceptor-over
   masked-at f = codable .masked f
@@ -105,22 +119,23 @@ module _ (among : ℕ → Bool) (q : Question) (few : (f : ℕ) → Few (held-by
       (mask-may-end (held-by q f) (the-set among q s f) (masked-at f))
 
   -- the set after a character
-  pub set-by-coded : (f c : ℕ) → f < set-fields → c < characters
+  pub set-by-coded : (f c : ℕ) → f < set-fields → c < q .alphabet .characters
       → set-by (front-at among q s (field-code + f)) c ≡ mask (acceptor-over among q .set-after f (the-set among q s f) c)
   unfolding front-from row-number acceptor-over tables-over
   set-by-coded f c h k =
       let follow = getD-map-upto (λ (g : ℕ). follow-masks (held-by q g)) [] set-fields f h in
-      let taking = getD-map-upto (λ (g : ℕ). taking-over among (held-by q g)) [] set-fields f h in
-      rw (set-at-coded among q s f, field-of-code f, lt-ltb f set-fields h, follow, taking, taking-over-at among (held-by q f) c k)
+      let n = q .alphabet .characters in
+      let taking = getD-map-upto (λ (g : ℕ). taking-over n among (held-by q g)) [] set-fields f h in
+      rw (set-at-coded among q s f, field-of-code f, lt-ltb f set-fields h, follow, taking, taking-over-at n most among (held-by q f) c k)
       (by-bool (among c)
       (λ e. rw e (mask-after (held-by q f) (the-set among q s f) c (few f) (masked-at f)))
       (λ e. rw e (and-zero-r (followers-of (follow-masks (held-by q f)) (mask (the-set among q s f))))))
 
   -- "a character in front must be c, and each front field's set after c must not be empty"
-  pub takes-coded : (side : Side) (c : ℕ) → c < characters → Known-side side
+  pub takes-coded : (side : Side) (c : ℕ) → c < q .alphabet .characters → Known-side side
       → takes-next (front (side-code side)) (set-by (front-at among q s (front (side-code side))) c) c ≡ front-takes (acceptor-over among q) s c side
   unfolding takes-next acceptor-over
-  takes-coded [] c h k = neq-eqb no-token c (λ e. omega arith)
+  takes-coded [] c h k = neq-eqb no-token c (λ (e : no-token ≡ c). omega arith)
   takes-coded (chr a ∷ side) c h k = rw (char-not-field a (k .0))
   takes-coded (fld f ∷ side) c h k =
       rw (field-is-field f (k .0), set-by-coded f c (k .0) h) (ap not (mask-empty (acceptor-over among q .set-after f (the-set among q s f) c)))

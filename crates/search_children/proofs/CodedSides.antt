@@ -10,7 +10,7 @@ use mathlib.Core.List.{List, [], _∷_, _++_, map, List·Memᴰ, List·Memᴰ·h
 use lib.Dec.{leb, eqb}
 use lib.ListN.{drop}
 use Rattle.paper.specs.Lists.{any, only, keep, same-by, member}
-use Rattle.paper.specs.Numbers.{characters, set-fields}
+use Rattle.paper.specs.Numbers.{most-characters, set-fields}
 use Rattle.paper.specs.Equation.{Token, chr, fld, Side, is-field}
 use Rattle.paper.specs.Situation.{Acceptor, Sides, trim, same-token, Kind, is-finished, is-dead, is-open, kind-of, strike-in, put-in, front-field, front-fields, kind-finished}
 use Rattle.paper.proofs.base.Tests.{by-bool, cond-by, true-false, not-true, same-tests, neq-eqb, eq-eqb, eqb-true, eqb-symmetric, lt-leb, le-leb, lt-ltb, le-ltb}
@@ -25,7 +25,7 @@ use Rattle.search_trim.specs.Trimming.{alike-in-front}
 
 -- a token that a situation may have
 abbrev pub Known : Token → Type 0
-Known (chr c) = c < characters
+Known (chr c) = c < most-characters
 Known (fld f) = f < set-fields
 
 abbrev pub Known-side : Side → Type 0
@@ -43,19 +43,19 @@ known-side (t ∷ side) h =
     (has-set-known t (h t (List·Memᴰ·head refl)), known-side side (λ u d. h u (List·Memᴰ·tail d)))
 
 -- characters and fields have different codes
-char-is-char : (c : ℕ) → c < characters → is-char c ≡ true
+char-is-char : (c : ℕ) → c < most-characters → is-char c ≡ true
 char-is-char c h = lt-ltb c field-code (omega arith)
 
 field-not-char : (f : ℕ) → is-char (field-code + f) ≡ false
 field-not-char f = le-ltb (field-code + f) field-code (omega arith)
 
-char-below : (c : ℕ) → c < characters → leb field-code c ≡ false
+char-below : (c : ℕ) → c < most-characters → leb field-code c ≡ false
 char-below c h = lt-leb field-code c (omega arith)
 
 field-from : (f : ℕ) → leb field-code (field-code + f) ≡ true
 field-from f = le-leb field-code (field-code + f) (omega arith)
 
-pub char-not-field : (c : ℕ) → c < characters → Inner.is-field-code c ≡ false
+pub char-not-field : (c : ℕ) → c < most-characters → Inner.is-field-code c ≡ false
 char-not-field c h = rw (char-below c h)
 
 pub field-is-field : (f : ℕ) → f < set-fields → Inner.is-field-code (field-code + f) ≡ true
@@ -70,7 +70,7 @@ eqb-field f g =
     (λ e. eq-eqb f g (let h = eqb-true (field-code + f) (field-code + g) e in omega arith))
     (λ e. eq-eqb (field-code + f) (field-code + g) (let h = eqb-true f g e in omega arith))
 
-char-field : (c f : ℕ) → c < characters → eqb c (field-code + f) ≡ false
+char-field : (c f : ℕ) → c < most-characters → eqb c (field-code + f) ≡ false
 char-field c f h = neq-eqb c (field-code + f) (λ e. omega arith)
 
 -- the test of tokens
@@ -242,11 +242,11 @@ pub known-strike : (f : ℕ) (side : Side) → Known-side side → Known-side (s
 known-strike f [] h = tt
 known-strike f (t ∷ side) h = known-only (not (is-field f t)) t (strike-in f side) (h .0) (known-strike f side (h .1))
 
-pub known-put : (c f : ℕ) (side : Side) → c < characters → Known-side side → Known-side (put-in c f side)
+pub known-put : (c f : ℕ) (side : Side) → c < most-characters → Known-side side → Known-side (put-in c f side)
 known-put c f [] b h = tt
 known-put c f (t ∷ side) b h = known-only (is-field f t) (chr c) (t ∷ put-in c f side) b (h .0, known-put c f side b (h .1))
 
-pub known-put-all : (c : ℕ) (fs : List ℕ) (side : Side) → c < characters → Known-side side → Known-side (put-in-all c fs side)
+pub known-put-all : (c : ℕ) (fs : List ℕ) (side : Side) → c < most-characters → Known-side side → Known-side (put-in-all c fs side)
 known-put-all c [] side b h = h
 known-put-all c (f ∷ fs) side b h = known-put-all c fs (put-in c f side) b (known-put c f side b h)
 

@@ -9,12 +9,11 @@ use mathlib.Core.List.{List, [], _∷_, _++_, map, List·Memᴰ, List·Memᴰ·h
 use lib.Dec.{ltb}
 use lib.ListN.{length, getD, length-set, length-map, List·getD-eq-default}
 use Rattle.paper.specs.Lists.{upto}
-use Rattle.paper.specs.Numbers.{characters, set-fields, longest-side}
+use Rattle.paper.specs.Numbers.{most-characters, set-fields, longest-side}
 use Rattle.paper.specs.Places.{PlaceSet, first-set}
 use Rattle.paper.specs.Search.{child}
 use Rattle.paper.specs.Equation.{chr, fld, Side, stands-in}
 use Rattle.paper.specs.Situation.{Situation, Move, front-field, front-fields, trimmed, strike, strike-all, put-before, put-before-all, moved, children, question}
-use Rattle.paper.specs.Alphabet.{Alphabet, code-39}
 use Rattle.paper.specs.Question.{Question, held-by}
 use Rattle.paper_chosen.specs.Chosen.{acceptor-over}
 use Rattle.paper.proofs.base.Tests.{by-bool, cond-by, ltb-true, ltb-false}
@@ -76,7 +75,7 @@ module _ (among : ℕ → Bool) (q : Question) (few : (f : ℕ) → Few (held-by
   codable-strike-all (f ∷ fs) s b g =
       codable-strike-all fs (strike (acceptor-over among q) f s) (λ h d. b h (List·Memᴰ·tail d)) (codable-strike f s (b f (List·Memᴰ·head refl)) g)
 
-  codable-put : (c f : ℕ) (s : Situation PlaceSet) → c < characters → f < set-fields → Codable s → Codable (put-before (acceptor-over among q) c f s)
+  codable-put : (c f : ℕ) (s : Situation PlaceSet) → c < most-characters → f < set-fields → Codable s → Codable (put-before (acceptor-over among q) c f s)
   unfolding put-before acceptor-over
   codable-put c f s h b g =
       record {
@@ -88,27 +87,27 @@ module _ (among : ℕ → Bool) (q : Question) (few : (f : ℕ) → Few (held-by
             (cond-by Masked (among c) (λ _. masked-after (held-by q f) (getD (s .sets) f []) c (few f) (g .masked f)) (λ _. masked-none)) (g .masked);
       }
 
-  codable-put-all : (c : ℕ) (fs : List ℕ) (s : Situation PlaceSet) → c < characters → Known-fields fs → Codable s
+  codable-put-all : (c : ℕ) (fs : List ℕ) (s : Situation PlaceSet) → c < most-characters → Known-fields fs → Codable s
       → Codable (put-before-all (acceptor-over among q) c fs s)
   codable-put-all c [] s h b g = g
   codable-put-all c (f ∷ fs) s h b g =
       codable-put-all c fs (put-before (acceptor-over among q) c f s) h (λ k d. b k (List·Memᴰ·tail d))
       (codable-put c f s h (b f (List·Memᴰ·head refl)) g)
 
-  codable-moved : {m : Move} (s : Situation PlaceSet) → q .alphabet ≡ code-39 → Opened (acceptor-over among q) s m → Codable s
+  codable-moved : {m : Move} (s : Situation PlaceSet) → q .alphabet .characters ≤ most-characters → Opened (acceptor-over among q) s m → Codable s
       → Codable (moved (acceptor-over among q) s m)
   unfolding acceptor-over
-  codable-moved s in-39 (strikes-left e) g = codable-strike-all (front-field (s .left)) s (known-front (s .left) (g .left)) g
-  codable-moved s in-39 (strikes-right e) g = codable-strike-all (front-field (s .right)) s (known-front (s .right) (g .right)) g
-  codable-moved s in-39 (puts {c = c} h l r) g =
-      codable-put-all c (front-fields (s .left) (s .right)) s (subst (λ (a : Alphabet). c < a .characters) in-39 h) (known-fronts (s .left) (s .right) (g .left) (g .right)) g
+  codable-moved s most (strikes-left e) g = codable-strike-all (front-field (s .left)) s (known-front (s .left) (g .left)) g
+  codable-moved s most (strikes-right e) g = codable-strike-all (front-field (s .right)) s (known-front (s .right) (g .right)) g
+  codable-moved s most (puts {c = c} h l r) g =
+      codable-put-all c (front-fields (s .left) (s .right)) s (omega arith) (known-fronts (s .left) (s .right) (g .left) (g .right)) g
 
   -- every child of a codable situation is codable
-  pub child-codable : q .alphabet ≡ code-39 → (s : Situation PlaceSet) (m : Move) (t : Situation PlaceSet) → Codable s
+  pub child-codable : q .alphabet .characters ≤ most-characters → (s : Situation PlaceSet) (m : Move) (t : Situation PlaceSet) → Codable s
       → List·Memᴰ (child m t) (children (acceptor-over among q) longest-side s) → Codable t
-  child-codable in-39 s m t g d =
+  child-codable most s m t g d =
       let (i, e) = child-made (acceptor-over among q) longest-side s d in
-      subst Codable (sym e) (codable-trimmed (moved (acceptor-over among q) s m) (codable-moved s in-39 (move-opened (acceptor-over among q) s i) g))
+      subst Codable (sym e) (codable-trimmed (moved (acceptor-over among q) s m) (codable-moved s most (move-opened (acceptor-over among q) s i) g))
 
   -- the first situation of a question with known tokens
   pub question-codable : (l r : Side) → Known-side l → Known-side r → Codable (question (acceptor-over among q) l r)

@@ -9,7 +9,7 @@ use mathlib.Core.List.{List, [], _∷_}
 use lib.Dec.{leb, eqb, ltb}
 use lib.ListN.{length, drop, length-drop, length-set}
 use Rattle.paper.specs.Lists.{all, only, keep}
-use Rattle.paper.specs.Numbers.{characters, set-fields, longest-side}
+use Rattle.paper.specs.Numbers.{most-characters, set-fields, longest-side}
 use Rattle.paper.proofs.base.Lists.{all-true, every-all, all-append, mem-keep}
 use Rattle.paper.proofs.base.Tests.{cond-by, both-true, and-left, and-right, or-left-false, or-right-false, not-is-false, false-not, leb-true, ltb-true, neq-eqb}
 use Rattle.base_codes.specs.Inner.{field-code, no-token, is-code, is-field-code, field-of, front}
@@ -119,7 +119,7 @@ right-strike-short {k} last h f =
     let b = front (k .right) in
     struck-short b h (made-under (may-end-at (k .sets) last b && not (eqb b (front (k .left)))) (struck k b) f .1)
 
-pub put-short : {k t : Coded} (l r : Front) (c : ℕ) → c < characters → Short k → put-of k l r c ≡ made t → Short t
+pub put-short : {k t : Coded} (l r : Front) (c : ℕ) → c < most-characters → Short k → put-of k l r c ≡ made t → Short t
 unfolding put-of
 put-short {k} l r c i h f =
     put-child-short c (set-by l c) (set-by r c) (false-not (neq-eqb c no-token (λ e. omega arith))) h (made-under (both-take l r c) (put-child k c (set-by l c) (set-by r c)) f .1)

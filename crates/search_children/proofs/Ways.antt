@@ -1,16 +1,15 @@
 -- Ways by the codes of their moves: a way of moves that the search makes is known by their codes, and what a way spells grows by what
 -- its last move gives in the situation before it.
 -- Follows from the codes of moves being different, and from a child being what its move makes.
-use Prim.Native.Nat.{ℕ, _+_, _<_}
+use Prim.Native.Nat.{ℕ, _+_, _≤_, _<_}
 use native.Mathlib.Omega.{arith}
 use mathlib.Core.Path.{_≡_, refl, sym, ap, _∙_, subst}
 use mathlib.Core.Bool.{Bool}
 use mathlib.Core.List.{List, [], _∷_, _++_, map, reverse, reverse-cons, append-nil, append-assoc}
-use Rattle.paper.specs.Numbers.{characters, set-fields, longest-side}
+use Rattle.paper.specs.Numbers.{most-characters, set-fields, longest-side}
 use Rattle.paper.specs.Places.{PlaceSet}
 use Rattle.paper.specs.Leads.{Leads, start, step}
 use Rattle.paper.specs.Situation.{Acceptor, Situation, Move, strike-left, strike-right, put, trimmed, moved, children}
-use Rattle.paper.specs.Alphabet.{Alphabet, code-39}
 use Rattle.paper.specs.Question.{Question}
 use Rattle.paper_chosen.specs.Chosen.{acceptor-over}
 use Rattle.paper.specs.Way.{given, text-along}
@@ -27,7 +26,7 @@ use Rattle.search_children.proofs.CodedSets.{Codable}
 abbrev pub Known-move : Move → Type 0
 Known-move strike-left = Unit {0}
 Known-move strike-right = Unit {0}
-Known-move (put c) = c < characters
+Known-move (put c) = c < most-characters
 
 abbrev pub Known-way : List Move → Type 0
 Known-way [] = Unit {0}
@@ -62,12 +61,12 @@ pub way-last : (way : List Move) (c : ℕ) (before : List Move) → Known-way wa
 way-last [] c before h k e = absurd (let z : _≡_ {A = ℕ} 0 1 = cc in omega arith)
 way-last (m ∷ way) c before h k e = record { move = m; known = h .0; code = cc; is = cons-eq refl (way-equal way before (h .1) k (cc)) }
 
-module _ (among : ℕ → Bool) (q : Question) (in-39 : q .alphabet ≡ code-39) where
+module _ (among : ℕ → Bool) (q : Question) (most : q .alphabet .characters ≤ most-characters) where
   opened-known : {m : Move} (s : Situation PlaceSet) → Opened (acceptor-over among q) s m → Known-move m
   unfolding acceptor-over
   opened-known s (strikes-left e) = tt
   opened-known s (strikes-right e) = tt
-  opened-known s (puts {c = c} h l r) = subst (λ (a : Alphabet). c < a .characters) in-39 h
+  opened-known s (puts {c = c} h l r) = omega arith
 
   -- the moves that lead somewhere are known
   pub way-known : {s t : Situation PlaceSet} {way : List Move} → Leads (children (acceptor-over among q) longest-side) s way t → Known-way way
@@ -113,4 +112,4 @@ given-agrees among q f s (put c) b g h =
     let x = front (side-code (s .left)) in
     let y = front (side-code (s .right)) in
     let fronts = front-member f (s .left) (s .right) b (g .left) (g .right) in
-    rw (lt-ltb c characters h, fronts, eqb-symmetric x (field-code + f), eqb-symmetric y (field-code + f))
+    rw (lt-ltb c most-characters h, fronts, eqb-symmetric x (field-code + f), eqb-symmetric y (field-code + f))

@@ -7,15 +7,16 @@ use lib.Bits.{bitAnd}
 use lib.Dec.{leb, ltb, eqb}
 use lib.ListN.{length, getD, set, drop}
 use Rattle.paper.specs.Lists.{upto, only, keep, each}
-use Rattle.paper.specs.Numbers.{characters, longest-side}
+use Rattle.paper.specs.Numbers.{most-characters, longest-side}
 use Rattle.paper.specs.Search.{Child, child, long}
 use Rattle.base_codes.specs.Inner.{field-code, left-struck, right-struck, is-char, is-field-code, field-of, front}
 use Rattle.base_codes.specs.Coded.{Coded, none}
 use Rattle.search_trim.specs.Trimming.{alike-in-front}
 use Rattle.search_fronts.specs.Fronts.{Front, front-from, set-by, both-take}
 
--- what is worked out once of the fields: the follow sets, what each character lets through, which places may be last
+-- what is worked out once of the fields: how many characters there are, the follow sets, what each character lets through, which places may be last
 pub record Tables : Type 0 where
+  pub characters : ℕ
   pub follow : List (List ℕ)
   pub taking : List (List ℕ)
   pub last : List ℕ
@@ -87,18 +88,18 @@ as-child step dropped = []
 as-child step above = long ∷ []
 as-child step (made s) = child step s ∷ []
 
--- what puts make, for each character
-abbrev pub puts-of : Coded → Front → Front → List (Child Coded ℕ)
-puts-of s l r = each (λ (c : ℕ). as-child c (put-of s l r c)) (upto characters)
+-- what puts make, for each of n characters
+abbrev pub puts-of : ℕ → Coded → Front → Front → List (Child Coded ℕ)
+puts-of n s l r = each (λ (c : ℕ). as-child c (put-of s l r c)) (upto n)
 
 -- the children of a situation, in 01's order
 unfoldable pub children-coded : Tables → Coded → List (Child Coded ℕ)
 children-coded T s =
     as-child left-struck (left-strike (T .last) s)
     ++ (as-child right-struck (right-strike (T .last) s)
-    ++ puts-of s (front-from (T .follow) (T .taking) (s .sets) (front (s .left))) (front-from (T .follow) (T .taking) (s .sets) (front (s .right))))
+    ++ puts-of (T .characters) s (front-from (T .follow) (T .taking) (s .sets) (front (s .left))) (front-from (T .follow) (T .taking) (s .sets) (front (s .right))))
 
 -- the character, if the step from the situation put one before the field f
 unfoldable pub given-coded : ℕ → Coded → ℕ → List ℕ
 given-coded f s step =
-    only (ltb step characters && (eqb (front (s .left)) (field-code + f) || eqb (front (s .right)) (field-code + f))) step
+    only (ltb step most-characters && (eqb (front (s .left)) (field-code + f) || eqb (front (s .right)) (field-code + f))) step

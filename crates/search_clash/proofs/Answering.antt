@@ -1,15 +1,15 @@
 -- From what reading a sheet hands on to the entry's promises: a refused sheet, a good one whose question was searched, and demands 1, 2 and 3.
--- Follows from `search-told-every`, the definition of the outcome and the demands' theorems.
+-- Follows from `search-told-all`, the definition of the outcome and the demands' theorems.
 use Prim.Native.Nat.{ℕ}
 use mathlib.Core.Path.{_≡_, sym, subst}
 use mathlib.Core.Bool.{Bool}
 use mathlib.Core.List.{List}
-use Rattle.paper.specs.Numbers.{characters}
+use Rattle.paper.specs.Numbers.{most-characters}
 use Rattle.paper.specs.Buffers.{Demand1}
 use Rattle.paper.specs.Demands.{Demand2, Demand3}
 use Rattle.paper.specs.Outcome.{Outcome, outcome}
 use Rattle.paper.specs.Sheet.{read-sheet}
-use Rattle.paper.proofs.sheets.Asked.{sheet-good, left-39, right-39}
+use Rattle.paper.proofs.sheets.Asked.{sheet-good}
 use Rattle.paper.proofs.sheets.Hidden.{hidden-searchable}
 use Rattle.paper.proofs.demands.Demand1.{sheet-demand-1}
 use Rattle.paper.proofs.demands.Demand2.{sheet-demand-2}
@@ -21,7 +21,7 @@ use Rattle.base_answers.specs.declared.Ended.{Ended}
 use Rattle.base_answers.specs.declared.Fault as Code
 use Rattle.base_answers.specs.declared.Found.the-variants.{NoFault, Refused}
 use Rattle.search_tables.specs.Cut.{listed-by}
-use Rattle.search_question.proofs.Searched.{Searched, search-told-every}
+use Rattle.search_question.proofs.Searched.{SearchedAll, search-told-all}
 use Rattle.read_sheet.specs.SheetRead.{bodies-of, sheet-of}
 use Rattle.read_sheet.specs.declared.Sheet.{Sheet}
 use Rattle.read_sheet.proofs.SheetStruct.{sheet-asks, sheet-refused}
@@ -34,16 +34,16 @@ module _ (sheet : List ℕ) (s : Sheet) (e : s ≡ sheet-of (bodies-of sheet) (r
   refused-told x work answer h = rw (sheet-refused sheet s e x h)
 
   -- the question of a good sheet, searched over every character
-  pub searched-told : s .found ≡ NoFault → (all : List Bool) → all ≡ listed-by every characters
-      → (work answer after worked : List ℕ) (end : Ended) → Searched all (s .question) work answer after worked end
+  pub searched-told : s .found ≡ NoFault
+      → (work answer after worked : List ℕ) (end : Ended) → SearchedAll (s .question) work answer after worked end
       → told (Answer-as.Searched end) after worked ≡ outcome sheet work answer
   unfolding outcome
-  searched-told h all marks work answer after worked end p =
+  searched-told h work answer after worked end p =
       let a = sheet-asks sheet s e h in
       let q = a .question in
       let g = sheet-good sheet q (a .good) in
       rw (a .good)
-      (search-told-every q (g .alphabet) (left-39 g) (right-39 g) (hidden-searchable q g) (bodies-of sheet) (s .question) (a .is) work answer after worked end all marks p)
+      (search-told-all q (g .left) (g .right) (hidden-searchable q g) (bodies-of sheet) (s .question) (a .is) work answer after worked end p)
 
 -- The entry's four promises, from the first.
 pub promised : (sheet work answer : List ℕ) (o : Outcome) → o ≡ outcome sheet work answer

@@ -24,8 +24,7 @@ pub fn clash(sheet: &[u8], work: &mut [u8], answer: &mut [u8]) -> Answer
         },
         Found::NoFault => {
             let question = read.question;
-            let all = search_question::every();
-            let ended = search_question::search(question, all, work, answer);
+            let ended = search_question::search_all(question, work, answer);
             Answer::Searched { ended }
         }
     }

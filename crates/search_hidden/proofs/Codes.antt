@@ -2,11 +2,11 @@
 --   codes-are-tokens : the codes of a side whose tokens have place sets are tokens
 --   side-back     : a good side is read back from its codes
 --   side-behind   : a good side with a field behind it is read back from the codes of the side, with the field's code put behind them
---   fields-behind : of a question in Code 39, what is worked out of its own fields, and behind it twice what is worked out of any spaces, is what is worked out of
---                   the fields of the question with its hidden fields
+--   fields-behind : what is worked out of a question's own fields, and behind it twice what is worked out of any spaces, is what is worked out of the
+--                   fields of the question with its hidden fields
 --   left-hidden, right-hidden, part-hidden : so the struct of a question with its hidden fields has the sides and the tables of `hidden q`
 -- The first follows by induction on the side: the code of a token that has a place set is no 255. The second is computed.
-use Prim.Native.Nat.{ℕ, _+_, _<_}
+use Prim.Native.Nat.{ℕ, _+_, _≤_, _<_}
 use native.Mathlib.Omega.{arith}
 use mathlib.Core.Path.{_≡_, refl, sym, ap, _∙_}
 use mathlib.Core.Bool.{true}
@@ -14,9 +14,8 @@ use mathlib.Core.List.{List, [], _∷_, _++_, map, map-map, List·Memᴰ, List·
 use lib.ListN.{length, take, length-append, length-map}
 use lib.Seq.{take-all}
 use Rattle.paper.specs.Lists.{all, upto}
-use Rattle.paper.specs.Numbers.{characters, fields, set-fields, longest-side, hidden-left, hidden-right, space}
+use Rattle.paper.specs.Numbers.{most-characters, fields, set-fields, longest-side, hidden-left, hidden-right}
 use Rattle.paper.specs.Equation.{Token, chr, fld, Side}
-use Rattle.paper.specs.Alphabet.{Alphabet, code-39}
 use Rattle.paper.specs.Question.{Question, held-by, any-spaces, hidden}
 use Rattle.paper.proofs.base.Tests.{neq-eqb, false-not, both-true}
 use Rattle.paper.proofs.base.Lists.{map-append}
@@ -39,36 +38,39 @@ codes-are-tokens [] h = refl
 codes-are-tokens (t ∷ side) h =
     both-true (code-is-token t (h t (List·Memᴰ·head refl))) (codes-are-tokens side (λ u d. h u (List·Memᴰ·tail d)))
 
-pub side-back : (side : Side) → GoodSide characters side → tokens (padded (side-code side)) ≡ side-code side
-side-back side g = tokens-padded (side-code side) (codes-are-tokens side (λ t d. in-range-has-set t (g .tokens t d)))
+module _ (n : ℕ) (most : n ≤ most-characters) (side : Side) (g : GoodSide n side) where
+  pub side-back : tokens (padded (side-code side)) ≡ side-code side
+  side-back = tokens-padded (side-code side) (codes-are-tokens side (λ t d. in-range-has-set n most t (g .tokens t d)))
 
-module _ (side : Side) (g : GoodSide characters side) (f : ℕ) (h : f < set-fields) where
-  with-code : side-code side ++ ((field-code + f) ∷ []) ≡ side-code (side ++ (fld f ∷ []))
-  with-code = sym (map-append token-code side (fld f ∷ []))
+  module _ (f : ℕ) (h : f < set-fields) where
+    with-code : side-code side ++ ((field-code + f) ∷ []) ≡ side-code (side ++ (fld f ∷ []))
+    with-code = sym (map-append token-code side (fld f ∷ []))
 
-  pub side-behind : tokens (side-with (field-code + f) (padded (side-code side))) ≡ side-code (side ++ (fld f ∷ []))
-  side-behind =
-      let long : length (side-code side ++ ((field-code + f) ∷ [])) < longest-side =
-      omega (arith, length-append (side-code side) ((field-code + f) ∷ []), length-map side token-code, g .short) in
-      ap (λ (l : List ℕ). tokens (padded (take longest-side (l ++ ((field-code + f) ∷ []))))) (side-back side g)
-      ∙ ap (λ (l : List ℕ). tokens (padded l)) (take-all longest-side (side-code side ++ ((field-code + f) ∷ [])) (omega arith) ∙ with-code)
-      ∙ tokens-padded (side-code (side ++ (fld f ∷ []))) (codes-are-tokens (side ++ (fld f ∷ [])) (has-sets-with side f g h))
+    pub side-behind : tokens (side-with (field-code + f) (padded (side-code side))) ≡ side-code (side ++ (fld f ∷ []))
+    side-behind =
+        let long : length (side-code side ++ ((field-code + f) ∷ [])) < longest-side =
+        omega (arith, length-append (side-code side) ((field-code + f) ∷ []), length-map side token-code, g .short) in
+        ap (λ (l : List ℕ). tokens (padded (take longest-side (l ++ ((field-code + f) ∷ []))))) side-back
+        ∙ ap (λ (l : List ℕ). tokens (padded l)) (take-all longest-side (side-code side ++ ((field-code + f) ∷ [])) (omega arith) ∙ with-code)
+        ∙ tokens-padded (side-code (side ++ (fld f ∷ []))) (codes-are-tokens (side ++ (fld f ∷ [])) (has-sets-with n most side f g h))
 
-pub fields-behind : (q : Question) → q .alphabet ≡ code-39
-    → map (λ (f : ℕ). worked-out (held-by q f)) (upto fields) ++ (worked-out (any-spaces space) ∷ worked-out (any-spaces space) ∷ [])
+pub fields-behind : (q : Question)
+    → map (λ (f : ℕ). worked-out (held-by q f)) (upto fields)
+    ++ (worked-out (any-spaces (q .alphabet .space)) ∷ worked-out (any-spaces (q .alphabet .space)) ∷ [])
     ≡ map (λ (f : ℕ). worked-out (held-by (hidden q) f)) (upto set-fields)
-fields-behind q in-39 =
-    let own = map (λ (f : ℕ). worked-out (held-by q f)) (upto fields) in
-    ap (λ (a : Alphabet). own ++ (worked-out (any-spaces (a .space)) ∷ worked-out (any-spaces (a .space)) ∷ [])) (sym in-39)
+fields-behind q = refl
 
-module _ (q : Question) (in-39 : q .alphabet ≡ code-39) (bodies : List Body) where
-  pub left-hidden : GoodSide characters (q .left) → tokens (with-hidden (question-of q bodies) .left) ≡ side-code (hidden q .left)
-  left-hidden g = side-behind (q .left) g hidden-left (omega arith)
+module _ (q : Question) (bodies : List Body) where
+  module _ (most : q .alphabet .characters ≤ most-characters) where
+    pub left-hidden : GoodSide (q .alphabet .characters) (q .left)
+        → tokens (with-hidden (question-of q bodies) .left) ≡ side-code (hidden q .left)
+    left-hidden g = side-behind (q .alphabet .characters) most (q .left) g hidden-left (omega arith)
 
-  pub right-hidden : GoodSide characters (q .right) → tokens (with-hidden (question-of q bodies) .right) ≡ side-code (hidden q .right)
-  right-hidden g = side-behind (q .right) g hidden-right (omega arith)
+    pub right-hidden : GoodSide (q .alphabet .characters) (q .right)
+        → tokens (with-hidden (question-of q bodies) .right) ≡ side-code (hidden q .right)
+    right-hidden g = side-behind (q .alphabet .characters) most (q .right) g hidden-right (omega arith)
 
   -- a part of each field's tables
   pub part-hidden : {A : Type 0} (part : PlaceTables → A)
       → map part (with-hidden (question-of q bodies) .fields) ≡ map (λ (f : ℕ). part (worked-out (held-by (hidden q) f))) (upto set-fields)
-  part-hidden part = ap (map part) (fields-behind q in-39) ∙ map-map part (λ (f : ℕ). worked-out (held-by (hidden q) f)) (upto set-fields)
+  part-hidden part = ap (map part) (fields-behind q) ∙ map-map part (λ (f : ℕ). worked-out (held-by (hidden q) f)) (upto set-fields)

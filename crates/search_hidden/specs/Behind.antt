@@ -2,7 +2,7 @@
 use Prim.Native.Nat.{ℕ, _+_}
 use mathlib.Core.List.{List, [], _∷_, _++_}
 use lib.ListN.{take}
-use Rattle.paper.specs.Numbers.{longest-side, hidden-left, hidden-right, space}
+use Rattle.paper.specs.Numbers.{longest-side, hidden-left, hidden-right}
 use Rattle.paper.specs.Question.{any-spaces}
 use Rattle.base_codes.specs.Inner.{field-code, tokens, padded}
 use Rattle.base_places.specs.WorkedOut.{worked-out}
@@ -16,7 +16,8 @@ side-with token side = padded (take longest-side (tokens side ++ (token ∷ []))
 abbrev pub with-hidden : Question → Hidden
 with-hidden s =
     record {
+      characters = s .alphabet .characters;
       left = side-with (field-code + hidden-left) (s .left);
       right = side-with (field-code + hidden-right) (s .right);
-      fields = s .fields ++ (worked-out (any-spaces space) ∷ worked-out (any-spaces space) ∷ []);
+      fields = s .fields ++ (worked-out (any-spaces (s .alphabet .space)) ∷ worked-out (any-spaces (s .alphabet .space)) ∷ []);
     }

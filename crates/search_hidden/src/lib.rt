@@ -16,9 +16,10 @@ use base_question::Question;
 ghost use mathlib.Core.Path.{_≡_};
 ghost use mathlib.Core.List.{_∷_, [], _++_};
 ghost use lib.ListN.{replicate};
-ghost use Rattle.paper.specs.Numbers.{longest-side, space};
+ghost use Rattle.paper.specs.Numbers.{longest-side};
 ghost use Rattle.paper.specs.Question.{any-spaces};
 ghost use Rattle.base_codes.specs.Inner.{no-token};
+ghost use Rattle.base_places.specs.Masks.{taking-masks};
 ghost use Rattle.base_places.specs.WorkedOut.{worked-out};
 ghost use Rattle.search_hidden.specs.Behind.{side-with, with-hidden};
 
@@ -51,18 +52,27 @@ const LEAF: PlaceSet = 2;
 
 const START_AND_LEAF: PlaceSet = 3;
 
-// "Code 39, by value": the space
-const SPACE: usize = 38;
+// For each character the places of "any number of spaces" that take it: the leaf takes the space alone. Where the space is none that a table has room
+// for, no place takes any.
+fn taking_space(space: usize) -> [PlaceSet; CHARACTERS]
+    ensures { λ r. ⌜ r ≡ taking-masks (any-spaces space) ⌝ }
+{
+    let mut taking = [0; CHARACTERS];
+    if space < CHARACTERS {
+        taking[space] = LEAF;
+        return taking;
+    }
+    taking
+}
 
 // What is worked out of "any number of spaces": one leaf, which follows the start and itself and takes the space alone. Either may be the last.
-fn spaces() -> PlaceTables
+pub fn spaces(space: usize) -> PlaceTables
     ensures { λ r. ⌜ r ≡ worked-out (any-spaces space) ⌝ }
 {
     let mut follow = [0; PLACES];
     follow[0] = LEAF;
     follow[1] = LEAF;
-    let mut taking = [0; CHARACTERS];
-    taking[SPACE] = LEAF;
+    let taking = taking_space(space);
     PlaceTables {
         follow,
         taking,
@@ -70,11 +80,11 @@ fn spaces() -> PlaceTables
     }
 }
 
-// What is worked out of a sheet's fields, and behind it what is worked out of the hidden ones.
-pub fn fields(own: [PlaceTables; SHEET_FIELDS]) -> [PlaceTables; FIELDS]
+// What is worked out of a sheet's fields, and behind it what is worked out of the hidden ones, which hold this space.
+pub fn fields(own: [PlaceTables; SHEET_FIELDS], space: usize) -> [PlaceTables; FIELDS]
     ensures { λ r. ⌜ r ≡ own ++ (worked-out (any-spaces space) ∷ worked-out (any-spaces space) ∷ []) ⌝ }
 {
-    let hidden = spaces();
+    let hidden = spaces(space);
     let mut all = [hidden; FIELDS];
     let mut f = 0;
     while f < SHEET_FIELDS {
@@ -85,8 +95,9 @@ pub fn fields(own: [PlaceTables; SHEET_FIELDS]) -> [PlaceTables; FIELDS]
     all
 }
 
-// A question with its hidden fields.
+// A question with its hidden fields, and how many characters its alphabet has.
 pub struct Hidden {
+    pub characters: usize,
     pub left: CodedSide,
     pub right: CodedSide,
     pub fields: [PlaceTables; FIELDS],
@@ -95,13 +106,17 @@ pub struct Hidden {
 pub fn question(own: Question) -> Hidden
     ensures { λ r. ⌜ r ≡ with-hidden own ⌝ }
 {
+    let alphabet = own.alphabet;
+    let characters = alphabet.characters;
+    let space = alphabet.space;
     let own_left = own.left;
     let own_right = own.right;
     let own_fields = own.fields;
     let left = side(own_left, HIDDEN_LEFT);
     let right = side(own_right, HIDDEN_RIGHT);
-    let all = fields(own_fields);
+    let all = fields(own_fields, space);
     Hidden {
+        characters,
         left,
         right,
         fields: all,

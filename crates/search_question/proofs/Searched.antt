@@ -1,16 +1,16 @@
 -- A question that was searched tells the outcome of the paper's search:
---   search-told       : over the characters that pass a test, it is the search of `hidden q` over them
+--   search-told       : over the characters that pass a test, it is the search of `hidden q` over them. The marks tell it of the characters of q alone.
 --   search-told-every : over every character it is 01's search of `hidden q`
---   steps-told-every  : the same of the search that writes its way
+--   search-told-all   : the same where the tables are not cut
+--   steps-told-all    : the same of the search that writes its way
 -- for the struct of the question, wherever its patterns stand. Follows from `run-told-over`, from what the hidden fields and the cut tables are.
-use Prim.Native.Nat.{ℕ}
+use Prim.Native.Nat.{ℕ, _<_}
 use native.Mathlib.Omega.{arith}
 use mathlib.Core.Path.{_≡_, ap, _∙_}
-use mathlib.Core.Bool.{Bool}
+use mathlib.Core.Bool.{Bool, false}
 use mathlib.Core.List.{List, map}
-use lib.ListN.{length, replicate}
-use Rattle.paper.specs.Numbers.{characters}
-use Rattle.paper.specs.Alphabet.{code-39}
+use lib.ListN.{length, getD, replicate}
+use Rattle.paper.specs.Numbers.{most-characters}
 use Rattle.paper.specs.Question.{Question, held-by, hidden}
 use Rattle.paper.specs.Outcome.{room-of, searched, answered, count-of, how-of}
 use Rattle.paper.proofs.sheets.Asked.{GoodSide}
@@ -18,6 +18,9 @@ use Rattle.paper.proofs.sheets.Hidden.{Searchable}
 use Rattle.paper_steps.specs.StepsOutcome.{end-steps, with-steps}
 use Rattle.paper_chosen.specs.Chosen.{every, searched-over}
 use Rattle.paper_chosen.proofs.Over.{searched-every}
+use Rattle.paper.proofs.base.Tests.{le-leb}
+use Rattle.base_places.specs.Masks.{within}
+use Rattle.base_codes.specs.Coded.{Coded}
 use Rattle.base_codes.specs.Inner.{side-code, tokens}
 use Rattle.base_question.specs.Asked.{question-of}
 use Rattle.base_question.specs.declared.Body.{Body}
@@ -27,16 +30,20 @@ use Rattle.search_hidden.specs.declared.Hidden.{Hidden}
 use Rattle.search_hidden.proofs.Codes.{left-hidden, right-hidden, part-hidden}
 use Rattle.search_tables.specs.Cut.{listed-by, cut-coded}
 use Rattle.search_tables.specs.Tables.{follow-of, taking-of, last-of}
-use Rattle.search_tables.proofs.CutOver.{cut-over}
+use Rattle.search_tables.proofs.CutOver.{cut-by}
+use Rattle.search_tables.proofs.Listed.{getD-listed}
 use Rattle.search_trim.specs.Trimming.{question-coded}
-use Rattle.search_children.specs.Coding.{taking-over, tables-over}
+use Rattle.search_children.specs.Children.{children-coded}
+use Rattle.search_children.specs.Coding.{taking-over, tables-of, tables-over}
+use Rattle.search_children.proofs.CodedChildren.{children-every}
 use Rattle.search_run.specs.Ended.{room-for, ended-with, buffer-with, told-end}
 use Rattle.search_run.specs.Lent.{tables}
 use Rattle.search_run.specs.StepsEnded.{StepsRun, steps-with, told-run}
 use Rattle.search_run.proofs.RunIsSearch.{run-told-over}
+use Rattle.search_run.proofs.SameTables.{ended-same, buffer-same, steps-same}
 use Rattle.search_run.proofs.StepsRunIsSearch.{run-steps-told-over}
 use Rattle.base_answers.specs.declared.Ended.{Ended}
-use Rattle.search_question.specs.Over.{tables-among, first-of, ended-over, buffer-over, steps-over}
+use Rattle.search_question.specs.Over.{tables-among, first-of, ended-over, buffer-over, tables-all, ended-all, buffer-all, steps-all}
 
 -- what is promised of a search: how it ended, and both buffers then
 abbrev pub Searched : List Bool → Code.Question → List ℕ → List ℕ → List ℕ → List ℕ → Ended → Type 0
@@ -45,67 +52,127 @@ Searched among s work answer after worked e =
     × ((after ≡ buffer-over among s (length work) answer) × (worked ≡ replicate (length work) 0))
 
 -- the same by what `search` makes: the question with its hidden fields, and the tables
-pub searched-by : (among : List Bool) (s : Code.Question) (whole : Hidden) (follow taking some : List (List ℕ)) (last : List ℕ)
-    → whole ≡ with-hidden s
-    → follow ≡ map follow-of (whole .fields) → taking ≡ map taking-of (whole .fields) → last ≡ map last-of (whole .fields)
-    → some ≡ cut-coded taking among
+pub searched-by : (among : List Bool) (s : Code.Question) (whole : Hidden) (many : ℕ) (follow some : List (List ℕ)) (last : List ℕ)
+    → whole ≡ with-hidden s → many ≡ s .alphabet .characters
+    → follow ≡ map follow-of (whole .fields) → last ≡ map last-of (whole .fields) → some ≡ cut-coded many (map taking-of (whole .fields)) among
     → (work answer after worked : List ℕ) (e : Ended)
     → let first = question-coded (tokens (whole .left)) (tokens (whole .right)) in
-    (e ≡ ended-with (tables follow some last) (room-for (length work)) first answer)
-    × ((after ≡ buffer-with (tables follow some last) (room-for (length work)) first answer) × (worked ≡ replicate (length work) 0))
+    (e ≡ ended-with (tables (within many) follow some last) (room-for (length work)) first answer)
+    × ((after ≡ buffer-with (tables (within many) follow some last) (room-for (length work)) first answer) × (worked ≡ replicate (length work) 0))
     → Searched among s work answer after worked e
 unfolding ended-over buffer-over
-searched-by among s whole follow taking some last w a b c d work answer after worked e p =
-    (rw (p .0, d, a, b, c, w), (rw (p .1 .0, d, a, b, c, w), p .1 .1))
+searched-by among s whole many follow some last w m a c d work answer after worked e p =
+    (rw (p .0, d, a, c, m, w), (rw (p .1 .0, d, a, c, m, w), p .1 .1))
 
--- what is promised of a search with steps: how it ended, and the three buffers then
-abbrev pub SearchedSteps : List Bool → Code.Question → List ℕ → List ℕ → List ℕ → List ℕ → StepsRun → Type 0
-SearchedSteps among s work answer steps worked r =
-    (r ≡ steps-over among s (length work) answer steps) × (worked ≡ replicate (length work) 0)
+-- what is promised of a search over every character, and of one with steps
+abbrev pub SearchedAll : Code.Question → List ℕ → List ℕ → List ℕ → List ℕ → Ended → Type 0
+SearchedAll s work answer after worked e =
+    (e ≡ ended-all s (length work) answer) × ((after ≡ buffer-all s (length work) answer) × (worked ≡ replicate (length work) 0))
 
-pub steps-searched-by : (among : List Bool) (s : Code.Question) (whole : Hidden) (follow taking some : List (List ℕ)) (last : List ℕ)
-    → whole ≡ with-hidden s
-    → follow ≡ map follow-of (whole .fields) → taking ≡ map taking-of (whole .fields) → last ≡ map last-of (whole .fields)
-    → some ≡ cut-coded taking among
-    → (work answer steps worked : List ℕ) (r : StepsRun)
-    → let first = question-coded (tokens (whole .left)) (tokens (whole .right)) in
-    (r ≡ steps-with (tables follow some last) (room-for (length work)) first answer steps) × (worked ≡ replicate (length work) 0)
-    → SearchedSteps among s work answer steps worked r
-unfolding steps-over
-steps-searched-by among s whole follow taking some last w a b c d work answer steps worked r p = (rw (p .0, d, a, b, c, w), p .1)
+abbrev pub SearchedSteps : Code.Question → List ℕ → List ℕ → List ℕ → List ℕ → StepsRun → Type 0
+SearchedSteps s work answer steps worked r = (r ≡ steps-all s (length work) answer steps) × (worked ≡ replicate (length work) 0)
 
-module _ (q : Question) (in-39 : q .alphabet ≡ code-39) (l : GoodSide characters (q .left)) (r : GoodSide characters (q .right)) (good : Searchable (hidden q)) (bodies : List Body) where
-  taking-are : (test : ℕ → Bool) → cut-coded (map taking-of (with-hidden (question-of q bodies) .fields)) (listed-by test characters)
-      ≡ tables-over test (hidden q) .taking
+module _ (s : Code.Question) (whole : Hidden) (many : ℕ) (follow taking : List (List ℕ)) (last : List ℕ)
+    (w : whole ≡ with-hidden s) (m : many ≡ s .alphabet .characters)
+    (a : follow ≡ map follow-of (whole .fields)) (c : last ≡ map last-of (whole .fields)) (d : taking ≡ map taking-of (whole .fields))
+    (work answer : List ℕ) where
+  abbrev first : Coded
+  first = question-coded (tokens (whole .left)) (tokens (whole .right))
+
+  pub all-searched-by : (after worked : List ℕ) (e : Ended)
+      → (e ≡ ended-with (tables (within many) follow taking last) (room-for (length work)) first answer)
+      × ((after ≡ buffer-with (tables (within many) follow taking last) (room-for (length work)) first answer) × (worked ≡ replicate (length work) 0))
+      → SearchedAll s work answer after worked e
+  unfolding ended-all buffer-all
+  all-searched-by after worked e p = (rw (p .0, d, a, c, m, w), (rw (p .1 .0, d, a, c, m, w), p .1 .1))
+
+  pub steps-searched-by : (steps worked : List ℕ) (r : StepsRun)
+      → (r ≡ steps-with (tables (within many) follow taking last) (room-for (length work)) first answer steps) × (worked ≡ replicate (length work) 0)
+      → SearchedSteps s work answer steps worked r
+  unfolding steps-all
+  steps-searched-by steps worked r p = (rw (p .0, d, a, c, m, w), p .1)
+
+module _ (q : Question) (l : GoodSide (q .alphabet .characters) (q .left)) (r : GoodSide (q .alphabet .characters) (q .right)) (good : Searchable (hidden q))
+    (bodies : List Body) where
+  abbrev characters : ℕ
+  characters = q .alphabet .characters
+
+  -- the marks of its characters are those of a test; what is marked behind them says nothing
+  abbrev MarksOf : (ℕ → Bool) → List Bool → Type 0
+  MarksOf test among = (c : ℕ) → c < characters → getD among c false ≡ test c
+
+  taking-are : (test : ℕ → Bool) (among : List Bool) → MarksOf test among
+      → cut-coded characters (map taking-of (with-hidden (question-of q bodies) .fields)) among ≡ tables-over test (hidden q) .taking
   unfolding tables-over taking-over
-  taking-are test =
-      ap (λ (t : List (List ℕ)). cut-coded t (listed-by test characters)) (part-hidden q in-39 bodies taking-of) ∙ cut-over (held-by (hidden q)) test
+  taking-are test among marks =
+      ap (λ (t : List (List ℕ)). cut-coded characters t among) (part-hidden q bodies taking-of)
+      ∙ cut-by (held-by (hidden q)) characters test among (λ c h k. marks c h)
 
-  tables-are : (test : ℕ → Bool) → tables-among (listed-by test characters) (question-of q bodies) ≡ tables-over test (hidden q)
+  within-is : within characters ≡ characters
+  unfolding within
+  within-is = rw (le-leb characters most-characters (good .most))
+
+  tables-are : (test : ℕ → Bool) (among : List Bool) → MarksOf test among → tables-among among (question-of q bodies) ≡ tables-over test (hidden q)
   unfolding tables-over
-  tables-are test = λ i. tables (part-hidden q in-39 bodies follow-of i) (taking-are test i) (part-hidden q in-39 bodies last-of i)
+  tables-are test among marks =
+      λ i. tables (within-is i) (part-hidden q bodies follow-of i) (taking-are test among marks i) (part-hidden q bodies last-of i)
+
+  every-marked : (among : List Bool) → among ≡ listed-by every most-characters → MarksOf every among
+  every-marked among e c h = rw e (getD-listed every most-characters false c (omega (arith, good .most)))
 
   first-is : first-of (question-of q bodies) ≡ question-coded (side-code (hidden q .left)) (side-code (hidden q .right))
-  first-is = λ i. question-coded (left-hidden q in-39 bodies l i) (right-hidden q in-39 bodies r i)
+  first-is = λ i. question-coded (left-hidden q bodies (good .most) l i) (right-hidden q bodies (good .most) r i)
 
   module _ (s : Code.Question) (is : s ≡ question-of q bodies) (work answer after worked : List ℕ) (e : Ended) where
-    pub search-told : (test : ℕ → Bool) (among : List Bool) → among ≡ listed-by test characters → Searched among s work answer after worked e
+    pub search-told : (test : ℕ → Bool) (among : List Bool) → MarksOf test among → Searched among s work answer after worked e
         → let st = searched-over test (hidden q) (room-of work) in
         told-end e after worked ≡ answered (hidden q) (count-of st) (how-of st) work answer
     unfolding ended-over buffer-over room-of
     search-told test among marks p =
-        rw (p .0, p .1 .0, p .1 .1, is, marks, tables-are test, first-is) (run-told-over test (hidden q) good (room-of work) (omega arith) work answer)
+        rw (p .0, p .1 .0, p .1 .1, is, tables-are test among marks, first-is) (run-told-over test (hidden q) good (room-of work) (omega arith) work answer)
 
-    pub search-told-every : (among : List Bool) → among ≡ listed-by every characters → Searched among s work answer after worked e
+    pub search-told-every : (among : List Bool) → among ≡ listed-by every most-characters → Searched among s work answer after worked e
         → let st = searched (hidden q) (room-of work) in
         told-end e after worked ≡ answered (hidden q) (count-of st) (how-of st) work answer
-    search-told-every among marks p = rw (searched-every (hidden q) (room-of work)) at (search-told every among marks p)
+    search-told-every among marks p = rw (searched-every (hidden q) (room-of work)) at (search-told every among (every-marked among marks) p)
 
-  pub steps-told-every : (s : Code.Question) → s ≡ question-of q bodies → (work answer steps worked : List ℕ) (r : StepsRun) (among : List Bool)
-      → among ≡ listed-by every characters → SearchedSteps among s work answer steps worked r
+  -- the tables over every character need no cut: a situation has the same children by either
+  all-are : tables-all (question-of q bodies) ≡ tables-of (hidden q)
+  unfolding tables-of
+  all-are = λ i. tables (within-is i) (part-hidden q bodies follow-of i) (part-hidden q bodies taking-of i) (part-hidden q bodies last-of i)
+
+  abbrev same-children : (k : Coded) → children-coded (tables-of (hidden q)) k ≡ children-coded (tables-over every (hidden q)) k
+  same-children = children-every (hidden q) (good .most)
+
+  pub search-told-all : (s : Code.Question) → s ≡ question-of q bodies → (work answer after worked : List ℕ) (e : Ended)
+      → SearchedAll s work answer after worked e
+      → let st = searched (hidden q) (room-of work) in
+      told-end e after worked ≡ answered (hidden q) (count-of st) (how-of st) work answer
+  unfolding ended-all buffer-all room-of
+  search-told-all s is work answer after worked e p =
+      let T = tables-of (hidden q) in
+      let U = tables-over every (hidden q) in
+      let start = question-coded (side-code (hidden q .left)) (side-code (hidden q .right)) in
+      rw (
+        p .0,
+        p .1 .0,
+        p .1 .1,
+        is,
+        all-are,
+        first-is,
+        ended-same T U same-children (room-for (length work)) start answer,
+        buffer-same T U same-children (room-for (length work)) start answer,
+      )
+      (rw (searched-every (hidden q) (room-of work)) at (run-told-over every (hidden q) good (room-of work) (omega arith) work answer))
+
+  pub steps-told-all : (s : Code.Question) → s ≡ question-of q bodies → (work answer steps worked : List ℕ) (r : StepsRun)
+      → SearchedSteps s work answer steps worked r
       → let st = searched (hidden q) (room-of work) in
       told-run r worked ≡ with-steps (end-steps (how-of st)) (answered (hidden q) (count-of st) (how-of st) work answer) answer steps
-  unfolding steps-over room-of
-  steps-told-every s is work answer steps worked r among marks p =
-      rw (p .0, p .1, is, marks, tables-are every, first-is)
+  unfolding steps-all room-of
+  steps-told-all s is work answer steps worked r p =
+      let T = tables-of (hidden q) in
+      let U = tables-over every (hidden q) in
+      let start = question-coded (side-code (hidden q .left)) (side-code (hidden q .right)) in
+      rw (p .0, p .1, is, all-are, first-is, steps-same T U same-children (room-for (length work)) start answer steps)
       (rw (searched-every (hidden q) (room-of work)) at (run-steps-told-over every (hidden q) good (room-of work) (omega arith) work answer steps))

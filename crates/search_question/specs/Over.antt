@@ -3,6 +3,7 @@
 use Prim.Native.Nat.{ℕ}
 use mathlib.Core.Bool.{Bool}
 use mathlib.Core.List.{List, map}
+use Rattle.base_places.specs.Masks.{within}
 use Rattle.base_codes.specs.Inner.{tokens}
 use Rattle.base_codes.specs.Coded.{Coded}
 use Rattle.base_question.specs.declared.Question.{Question}
@@ -20,7 +21,7 @@ use Rattle.base_answers.specs.declared.Ended.{Ended}
 abbrev pub tables-among : List Bool → Question → Tables
 tables-among among s =
     let fields = with-hidden s .fields in
-    tables (map follow-of fields) (cut-coded (map taking-of fields) among) (map last-of fields)
+    tables (within (s .alphabet .characters)) (map follow-of fields) (cut-coded (s .alphabet .characters) (map taking-of fields) among) (map last-of fields)
 
 -- the first situation
 abbrev pub first-of : Question → Coded
@@ -33,6 +34,18 @@ ended-over among s bytes answer = ended-with (tables-among among s) (room-for by
 unfoldable pub buffer-over : List Bool → Question → ℕ → List ℕ → List ℕ
 buffer-over among s bytes answer = buffer-with (tables-among among s) (room-for bytes) (first-of s) answer
 
--- the same with the way in a third buffer
-unfoldable pub steps-over : List Bool → Question → ℕ → List ℕ → List ℕ → StepsRun
-steps-over among s bytes answer steps = steps-with (tables-among among s) (room-for bytes) (first-of s) answer steps
+-- the same over every character of the question
+abbrev pub tables-all : Question → Tables
+tables-all s =
+    let fields = with-hidden s .fields in
+    tables (within (s .alphabet .characters)) (map follow-of fields) (map taking-of fields) (map last-of fields)
+
+unfoldable pub ended-all : Question → ℕ → List ℕ → Ended
+ended-all s bytes answer = ended-with (tables-all s) (room-for bytes) (first-of s) answer
+
+unfoldable pub buffer-all : Question → ℕ → List ℕ → List ℕ
+buffer-all s bytes answer = buffer-with (tables-all s) (room-for bytes) (first-of s) answer
+
+-- and with the way in a third buffer
+unfoldable pub steps-all : Question → ℕ → List ℕ → List ℕ → StepsRun
+steps-all s bytes answer steps = steps-with (tables-all s) (room-for bytes) (first-of s) answer steps

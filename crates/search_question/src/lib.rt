@@ -8,15 +8,15 @@ use base_question::Question;
 use base_steps::StepsEnded;
 ghost use mathlib.Core.Path.{_≡_};
 ghost use lib.ListN.{length, replicate};
-ghost use Rattle.paper.specs.Numbers.{characters};
+ghost use Rattle.paper.specs.Numbers.{most-characters};
 ghost use Rattle.paper_chosen.specs.Chosen.{every};
 ghost use Rattle.search_tables.specs.Cut.{listed-by};
 ghost use Rattle.search_run.specs.StepsEnded.{steps-run};
-ghost use Rattle.search_question.specs.Over.{ended-over, buffer-over, steps-over};
+ghost use Rattle.search_question.specs.Over.{ended-over, buffer-over, ended-all, buffer-all, steps-all};
 
-// Every character.
+// Every character that a table has room for; a question is searched over its own.
 pub fn every() -> [bool; CHARACTERS]
-    ensures { λ r. ⌜ r ≡ listed-by every characters ⌝ }
+    ensures { λ r. ⌜ r ≡ listed-by every most-characters ⌝ }
 {
     [true; CHARACTERS]
 }
@@ -32,39 +32,91 @@ pub fn search(
     ensures answer { λ _. ⌜ now (answer .exit) ≡ buffer-over among question (length (now (work .entry))) (now (answer .entry)) ⌝ }
     ensures work { λ _. ⌜ now (work .exit) ≡ replicate (length (now (work .entry))) 0 ⌝ }
 {
+    let alphabet = question.alphabet;
+    let characters = alphabet.characters;
+    let space = alphabet.space;
     let own_left = question.left;
     let own_right = question.right;
     let own_fields = question.fields;
     let left = search_hidden::side(own_left, HIDDEN_LEFT);
     let right = search_hidden::side(own_right, HIDDEN_RIGHT);
-    let fields = search_hidden::fields(own_fields);
-    let follow = search_tables::follow_sets(fields);
-    let taking = search_tables::taking_sets(fields);
-    let last = search_tables::last_sets(fields);
-    let some = search_tables::only_taking(&taking, among);
-    search_run::run(left, right, follow, some, last, work, answer)
+    let hidden = search_hidden::spaces(space);
+    let follow = search_tables::follow_behind(own_fields, hidden);
+    let last = search_tables::last_behind(own_fields, hidden);
+    let taking = search_tables::taking_among(own_fields, hidden, among, characters);
+    search_run::run(
+        left,
+        right,
+        characters,
+        &follow,
+        &taking,
+        last,
+        work,
+        answer,
+    )
 }
 
-// The same, and after a clash the way is written into a third buffer.
+// The same over every character, whose tables need no cut.
+pub fn search_all(question: Question, work: &mut [u8], answer: &mut [u8]) -> Ended
+    ensures ended { λ r. ⌜ r ≡ ended-all question (length (now (work .entry))) (now (answer .entry)) ⌝ }
+    ensures answer { λ _. ⌜ now (answer .exit) ≡ buffer-all question (length (now (work .entry))) (now (answer .entry)) ⌝ }
+    ensures work { λ _. ⌜ now (work .exit) ≡ replicate (length (now (work .entry))) 0 ⌝ }
+{
+    let alphabet = question.alphabet;
+    let characters = alphabet.characters;
+    let space = alphabet.space;
+    let own_left = question.left;
+    let own_right = question.right;
+    let own_fields = question.fields;
+    let left = search_hidden::side(own_left, HIDDEN_LEFT);
+    let right = search_hidden::side(own_right, HIDDEN_RIGHT);
+    let hidden = search_hidden::spaces(space);
+    let follow = search_tables::follow_behind(own_fields, hidden);
+    let last = search_tables::last_behind(own_fields, hidden);
+    let taking = search_tables::taking_behind(own_fields, hidden);
+    search_run::run(
+        left,
+        right,
+        characters,
+        &follow,
+        &taking,
+        last,
+        work,
+        answer,
+    )
+}
+
+// And after a clash the way is written into a third buffer.
 pub fn search_steps(
     question: Question,
-    among: [bool; CHARACTERS],
     work: &mut [u8],
     answer: &mut [u8],
     steps: &mut [u8],
 ) -> StepsEnded
-    ensures ended { λ r. ⌜ steps-run r (now (answer .exit)) (now (steps .exit)) ≡ steps-over among question (length (now (work .entry))) (now (answer .entry)) (now (steps .entry)) ⌝ }
+    ensures ended { λ r. ⌜ steps-run r (now (answer .exit)) (now (steps .exit)) ≡ steps-all question (length (now (work .entry))) (now (answer .entry)) (now (steps .entry)) ⌝ }
     ensures work { λ _. ⌜ now (work .exit) ≡ replicate (length (now (work .entry))) 0 ⌝ }
 {
+    let alphabet = question.alphabet;
+    let characters = alphabet.characters;
+    let space = alphabet.space;
     let own_left = question.left;
     let own_right = question.right;
     let own_fields = question.fields;
     let left = search_hidden::side(own_left, HIDDEN_LEFT);
     let right = search_hidden::side(own_right, HIDDEN_RIGHT);
-    let fields = search_hidden::fields(own_fields);
-    let follow = search_tables::follow_sets(fields);
-    let taking = search_tables::taking_sets(fields);
-    let last = search_tables::last_sets(fields);
-    let some = search_tables::only_taking(&taking, among);
-    search_run::run_steps(left, right, follow, some, last, work, answer, steps)
+    let hidden = search_hidden::spaces(space);
+    let follow = search_tables::follow_behind(own_fields, hidden);
+    let last = search_tables::last_behind(own_fields, hidden);
+    let taking = search_tables::taking_behind(own_fields, hidden);
+    search_run::run_steps(
+        left,
+        right,
+        characters,
+        &follow,
+        &taking,
+        last,
+        work,
+        answer,
+        steps,
+    )
 }

@@ -7,7 +7,7 @@ use mathlib.Core.List.{List, [], _∷_, _++_}
 use lib.Dec.{leb, ltb, eqb}
 use lib.ListN.{length, getD, drop}
 use Rattle.paper.specs.Lists.{upto, only, keep, each}
-use Rattle.paper.specs.Numbers.{characters, fields, situation-bytes}
+use Rattle.paper.specs.Numbers.{most-characters, fields, situation-bytes}
 use Rattle.base_codes.specs.Inner.{field-code}
 use Rattle.search_slots.specs.LowFirst.{low-first-number, low-bytes}
 use Rattle.search_slots.specs.Slots.{number-width, key-bytes, right-at, part}
@@ -29,7 +29,7 @@ origin-in work i = record { parent = parent-in work i; step = step-in work i }
 -- did this step from slot i put its character before the field f: is it a character, and the field in front of a side?
 unfoldable pub puts-in : List ℕ → ℕ → ℕ → ℕ → Bool
 puts-in work i step f =
-    ltb step characters
+    ltb step most-characters
     && (eqb (getD work (situation-bytes * i) 0) (field-code + f) || eqb (getD work (situation-bytes * i + right-at) 0) (field-code + f))
 
 -- "A field's text is the characters put before it on the way from the start to the finish": from slot i back to slot 0, in at most so many

@@ -9,4 +9,5 @@ pub mod Concluding
 pub mod Ending
 pub mod StepsConcluding
 pub mod RunIsSearch
+pub mod SameTables
 pub mod StepsRunIsSearch

@@ -29,9 +29,8 @@ use Rattle.paper_chosen.specs.Chosen.{every, searched-over}
 use Rattle.paper_chosen.proofs.Over.{texts-over, short-over, searched-every}
 use Rattle.base_codes.specs.Inner.{field-code, token-code, side-code}
 use Rattle.search_trim.specs.Trimming.{first-mask, first-masks, question-coded}
-use Rattle.search_children.specs.Coding.{tables-of, tables-over}
+use Rattle.search_children.specs.Coding.{tables-over}
 use Rattle.search_children.proofs.CodedQuestion.{stands-coded, known-append}
-use Rattle.search_children.proofs.CodedSets.{tables-every}
 use Rattle.search_children.proofs.CodedSides.{known-side}
 use Rattle.search_run.specs.Ended.{told-end, clash-how, how-by, buffer-by, run-concluded, concluded-buffer, ended-with, buffer-with}
 use Rattle.search_run.specs.Way.{text-at}
@@ -123,6 +122,6 @@ module _ (among : ℕ → Bool) (q : Question) (good : Searchable q) where
 
 -- Over every character it is the paper's search of the question.
 pub run-told : (q : Question) → Searchable q → (room : ℕ) → room ≤ most-room → (work buffer : List ℕ)
-    → told-end (ended-with (tables-of q) room (start q) buffer) (buffer-with (tables-of q) room (start q) buffer) (cleared work)
+    → told-end (ended-with (tables-over every q) room (start q) buffer) (buffer-with (tables-over every q) room (start q) buffer) (cleared work)
     ≡ answered q (count-of (searched q room)) (how-of (searched q room)) work buffer
-run-told q good room at-most work buffer = rw (tables-every q, searched-every q room) at (run-told-over every q good room at-most work buffer)
+run-told q good room at-most work buffer = rw (searched-every q room) at (run-told-over every q good room at-most work buffer)

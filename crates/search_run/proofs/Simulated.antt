@@ -14,7 +14,7 @@ use mathlib.Core.List.{List, [], _∷_, _++_, map, reverse, List·Memᴰ}
 use lib.ListN.{length, getD, length-append, List·getD-map}
 use lib.Seq.{getD-at}
 use borrow.Author.Tests.{ne-eqb}
-use Rattle.paper.specs.Numbers.{characters, set-fields, longest-side}
+use Rattle.paper.specs.Numbers.{set-fields, longest-side}
 use Rattle.paper.specs.Pattern.{Held, some-text, pattern}
 use Rattle.paper.specs.Places.{PlaceSet}
 use Rattle.paper.specs.Search.{Entry, End, found, used-up, no-room, too-long, search, entries}
@@ -82,13 +82,13 @@ step-known strike-right h = refl
 step-known (put c) h =
     rw (ne-eqb c left-struck (λ (e : c ≡ left-struck). omega arith), ne-eqb c right-struck (λ (e : c ≡ right-struck). omega arith))
 
-few-leaves : (h : Held) → GoodHeld characters h → Few h
-few-leaves some-text g = tt
-few-leaves (pattern p) g = g .1
+few-leaves : (n : ℕ) (h : Held) → GoodHeld n h → Few h
+few-leaves n some-text g = tt
+few-leaves n (pattern p) g = g .1
 
 module _ (among : ℕ → Bool) (q : Question) (good : Searchable q) where
   few : (f : ℕ) → Few (held-by q f)
-  few f = few-leaves (held-by q f) (good .held f)
+  few f = few-leaves (q .alphabet .characters) (held-by q f) (good .held f)
 
   same-agrees : (s t : Situation PlaceSet) → Codable s → Codable t
       → same-coded (situation-code s) (situation-code t) ≡ same-situation (acceptor-over among q) s t
@@ -105,8 +105,8 @@ module _ (among : ℕ → Bool) (q : Question) (good : Searchable q) where
       record {
         same-alike = same-agrees;
         finished-alike = λ s g. finished-sides (acceptor-over among q) (s .left) (s .right);
-        children-alike = λ s g. children-agree among q few s g (good .alphabet);
-        child-good = child-codable among q few (good .alphabet);
+        children-alike = λ s g. children-agree among q (good .most) few s g;
+        child-good = child-codable among q few (good .most);
       }
 
   -- the trimmed question
@@ -183,7 +183,7 @@ module _ (among : ℕ → Bool) (q : Question) (good : Searchable q) where
       at-leads = Searched.way-leads _ _ _ equal same room first (paper-at i) at-mem
 
       at-codable : Codable (paper-at i .at)
-      at-codable = Searched.every-entry _ _ _ equal same room first Codable first-codable (child-codable among q few (good .alphabet)) (paper-at i) at-mem
+      at-codable = Searched.every-entry _ _ _ equal same room first Codable first-codable (child-codable among q few (good .most)) (paper-at i) at-mem
 
     -- the last move on the way of a slot, and the way of its parent
     last-step : (i : ℕ) → suc i < length (run .slots)
@@ -192,7 +192,7 @@ module _ (among : ℕ → Bool) (q : Question) (good : Searchable q) where
         let parent = slot-at (run .slots) (suc i) .parent in
         let below : parent < length (run .slots) = omega (arith, numbered .earlier i h) in
         way-last (paper-at (suc i) .way) (slot-at (run .slots) (suc i) .step) (paper-at parent .way)
-        (way-known among q (good .alphabet) (at-leads (suc i) h)) (way-known among q (good .alphabet) (at-leads parent below))
+        (way-known among q (good .most) (at-leads (suc i) h)) (way-known among q (good .most) (at-leads parent below))
         (rw (coded-at (suc i), coded-at parent) at (numbered .its-way i h))
 
     first-way : paper-at 0 .way ≡ []

@@ -4,7 +4,7 @@ use mathlib.Core.Path.{_≡_}
 use mathlib.Core.Bool.{false, _&&_}
 use mathlib.Core.List.{List}
 use lib.ListN.{length}
-use Rattle.paper.specs.Numbers.{characters, situation-bytes, most-room}
+use Rattle.paper.specs.Numbers.{situation-bytes, most-room}
 use Rattle.paper.specs.Search.{Child, child}
 use Rattle.base_codes.specs.Coded.{Coded, as-struct, Short}
 use Rattle.search_fronts.specs.Fronts.{takes-next}
@@ -31,20 +31,20 @@ pub record Roomy (work : List ℕ) (room n parent : ℕ) : Type 0 where
   pub numbered : parent ≤ most-room
 
 -- what is worked out once of the fields, as the search is handed it
-abbrev pub tables : List (List ℕ) → List (List ℕ) → List ℕ → Tables
-tables follow taking last = record { follow = follow; taking = taking; last = last }
+abbrev pub tables : ℕ → List (List ℕ) → List (List ℕ) → List ℕ → Tables
+tables characters follow taking last = record { characters = characters; follow = follow; taking = taking; last = last }
 
 -- a character that two tokens in front don't both take, whatever the sets of their fields are after it
 abbrev pub Not-put : ℕ → ℕ → ℕ → Type 0
 Not-put a b c = (m n : ℕ) → (takes-next a m c && takes-next b n c) ≡ false
 
--- no character below n is put
-abbrev pub Starts-puts : ℕ → ℕ → ℕ → Type 0
-Starts-puts a b n = (n ≤ characters) × ((c : ℕ) → c < n → Not-put a b c)
+-- no character below n is put, of so many
+abbrev pub Starts-puts : ℕ → ℕ → ℕ → ℕ → Type 0
+Starts-puts characters a b n = (n ≤ characters) × ((c : ℕ) → c < n → Not-put a b c)
 
 -- none from n on
-abbrev pub Ends-puts : ℕ → ℕ → ℕ → Type 0
-Ends-puts a b n = (n ≤ characters) × ((c : ℕ) → n ≤ c → c < characters → Not-put a b c)
+abbrev pub Ends-puts : ℕ → ℕ → ℕ → ℕ → Type 0
+Ends-puts characters a b n = (n ≤ characters) × ((c : ℕ) → n ≤ c → c < characters → Not-put a b c)
 
 -- What each function does to the buffer and the run, which are work and run before it, work′ and run′ after it: the slots stay within
 -- the room, and whatever search they stood for before, they stand after it for the one that the definition makes of that.

@@ -16,6 +16,7 @@ use search_records::Given;
 ghost use mathlib.Core.Path.{_≡_};
 ghost use Prim.Native.Nat.{_-_, _<_};
 ghost use lib.ListN.{length, replicate};
+ghost use Rattle.base_places.specs.Masks.{within};
 ghost use Rattle.base_codes.specs.Inner.{tokens};
 ghost use Rattle.search_trim.specs.Trimming.{question-coded};
 ghost use Rattle.search_run.specs.Ended.{room-for, ended-with, buffer-with, Clash-told, Search-over, Concluded};
@@ -27,23 +28,25 @@ ghost use Rattle.search_run.specs.Way.{Way-to};
 // "at most 65,535"
 const MOST_ROOM: usize = 65535;
 
-// Searches the question of these sides, whose fields have these tables. The working buffer is all zero afterwards.
+// Searches the question of these sides, over so many characters (a table has room for 128), whose fields have these tables. The working buffer is all zero afterwards.
 pub fn run(
     left: CodedSide,
     right: CodedSide,
-    follow: [[PlaceSet; PLACES]; FIELDS],
-    taking: [[PlaceSet; CHARACTERS]; FIELDS],
+    characters: usize,
+    follow: &[[PlaceSet; PLACES]; FIELDS],
+    taking: &[[PlaceSet; CHARACTERS]; FIELDS],
     last: [PlaceSet; FIELDS],
     work: &mut [u8],
     answer: &mut [u8],
 ) -> Ended
-    ensures ended { λ r. ⌜ r ≡ ended-with (tables follow taking last) (room-for (length (now (work .entry)))) (question-coded (tokens left) (tokens right)) (now (answer .entry)) ⌝ }
-    ensures answer { λ _. ⌜ now (answer .exit) ≡ buffer-with (tables follow taking last) (room-for (length (now (work .entry)))) (question-coded (tokens left) (tokens right)) (now (answer .entry)) ⌝ }
+    ensures ended { λ r. ⌜ r ≡ ended-with (tables (within characters) (now (follow .entry)) (now (taking .entry)) last) (room-for (length (now (work .entry)))) (question-coded (tokens left) (tokens right)) (now (answer .entry)) ⌝ }
+    ensures answer { λ _. ⌜ now (answer .exit) ≡ buffer-with (tables (within characters) (now (follow .entry)) (now (taking .entry)) last) (room-for (length (now (work .entry)))) (question-coded (tokens left) (tokens right)) (now (answer .entry)) ⌝ }
     ensures work { λ _. ⌜ now (work .exit) ≡ replicate (length (now (work .entry))) 0 ⌝ }
 {
     let first = search_trim::question(left, right);
     let room = room_for(work.len());
-    let run = search::search(work, room, first, &follow, &taking, last);
+    let many = base_places::within(characters);
+    let run = search::search(work, room, first, many, follow, taking, last);
     let sets = first.sets;
     let how = conclude(answer, work, run, sets);
     search_slots::clear(work);
@@ -57,19 +60,21 @@ pub fn run(
 pub fn run_steps(
     left: CodedSide,
     right: CodedSide,
-    follow: [[PlaceSet; PLACES]; FIELDS],
-    taking: [[PlaceSet; CHARACTERS]; FIELDS],
+    characters: usize,
+    follow: &[[PlaceSet; PLACES]; FIELDS],
+    taking: &[[PlaceSet; CHARACTERS]; FIELDS],
     last: [PlaceSet; FIELDS],
     work: &mut [u8],
     answer: &mut [u8],
     steps: &mut [u8],
 ) -> StepsEnded
-    ensures ended { λ r. ⌜ steps-run r (now (answer .exit)) (now (steps .exit)) ≡ steps-with (tables follow taking last) (room-for (length (now (work .entry)))) (question-coded (tokens left) (tokens right)) (now (answer .entry)) (now (steps .entry)) ⌝ }
+    ensures ended { λ r. ⌜ steps-run r (now (answer .exit)) (now (steps .exit)) ≡ steps-with (tables (within characters) (now (follow .entry)) (now (taking .entry)) last) (room-for (length (now (work .entry)))) (question-coded (tokens left) (tokens right)) (now (answer .entry)) (now (steps .entry)) ⌝ }
     ensures work { λ _. ⌜ now (work .exit) ≡ replicate (length (now (work .entry))) 0 ⌝ }
 {
     let first = search_trim::question(left, right);
     let room = room_for(work.len());
-    let run = search::search(work, room, first, &follow, &taking, last);
+    let many = base_places::within(characters);
+    let run = search::search(work, room, first, many, follow, taking, last);
     let sets = first.sets;
     let how = conclude_steps(answer, steps, work, run, sets);
     search_slots::clear(work);

@@ -16,7 +16,7 @@ ghost use mathlib.Core.Path.{_≡_};
 ghost use mathlib.Core.List.{List};
 ghost use Prim.Native.Nat.{_+_, _*_, _<_, _≤_};
 ghost use lib.ListN.{length};
-ghost use Rattle.paper.specs.Numbers.{situation-bytes, most-room, set-fields};
+ghost use Rattle.paper.specs.Numbers.{most-characters, situation-bytes, most-room, set-fields};
 ghost use Rattle.base_codes.specs.Coded.{Coded, as-struct};
 ghost use Rattle.search_fronts.specs.Fronts.{with-row};
 ghost use Rattle.search_children.specs.Children.{puts-of, children-coded};
@@ -148,32 +148,34 @@ fn offer(work: &mut [u8], room: usize, run: Run, parent: usize, step: u8, child:
 }
 
 // "a character in front must be c": no character below this one is put.
-fn first_put(a: u8, b: u8) -> usize
-    ensures { λ r. ⌜ Starts-puts a b r ⌝ }
+fn first_put(characters: usize, a: u8, b: u8) -> usize
+    requires { ⌜ characters ≤ most-characters ⌝ }
+    ensures { λ r. ⌜ Starts-puts characters a b r ⌝ }
 {
-    if (a as usize) < CHARACTERS {
+    if (a as usize) < characters {
         return a as usize;
     }
-    if (b as usize) < CHARACTERS {
+    if (b as usize) < characters {
         return b as usize;
     }
     0
 }
 
 // And none from this one on.
-fn first_not_put(a: u8, b: u8) -> usize
-    ensures { λ r. ⌜ Ends-puts a b r ⌝ }
+fn first_not_put(characters: usize, a: u8, b: u8) -> usize
+    requires { ⌜ characters ≤ most-characters ⌝ }
+    ensures { λ r. ⌜ Ends-puts characters a b r ⌝ }
 {
-    if (a as usize) < CHARACTERS {
+    if (a as usize) < characters {
         return a as usize + 1;
     }
-    if (b as usize) < CHARACTERS {
+    if (b as usize) < characters {
         return b as usize + 1;
     }
-    CHARACTERS
+    characters
 }
 
-// Child 3: "for each character c from 0 to 42". Most are not taken: that is seen before a child is made.
+// Child 3: "for each character c from 0 to 42", or behind `ED` to 127. Most are not taken: that is seen before a child is made.
 fn offer_puts(
     work: &mut [u8],
     room: usize,
@@ -182,16 +184,18 @@ fn offer_puts(
     s: Situation,
     left: FrontToken,
     right: FrontToken,
+    characters: usize,
     taking: &[[PlaceSet; CHARACTERS]; FIELDS],
 ) -> Run
     requires { ⌜ Roomy (now work) room (run .entered) parent ⌝ }
     requires { ⌜ 0 < run .entered ⌝ }
     requires { ⌜ (left .row < set-fields) × (right .row < set-fields) ⌝ }
-    ensures { λ r. ⌜ Offers room parent s (now (work .entry)) run (now (work .exit)) r (λ (k : Coded). puts-of k (with-row (now (taking .entry)) left) (with-row (now (taking .entry)) right)) ⌝ }
+    requires { ⌜ characters ≤ most-characters ⌝ }
+    ensures { λ r. ⌜ Offers room parent s (now (work .entry)) run (now (work .exit)) r (λ (k : Coded). puts-of characters k (with-row (now (taking .entry)) left) (with-row (now (taking .entry)) right)) ⌝ }
 {
     let mut now = run;
-    let first = first_put(left.token, right.token);
-    let end = first_not_put(left.token, right.token);
+    let first = first_put(characters, left.token, right.token);
+    let end = first_not_put(characters, left.token, right.token);
     let l = left.row;
     let r = right.row;
     let mut c = first;
@@ -214,13 +218,15 @@ fn offer_children(
     run: Run,
     parent: usize,
     s: Situation,
+    characters: usize,
     follow: &[[PlaceSet; PLACES]; FIELDS],
     taking: &[[PlaceSet; CHARACTERS]; FIELDS],
     last: [PlaceSet; FIELDS],
 ) -> Run
     requires { ⌜ Roomy (now work) room (run .entered) parent ⌝ }
     requires { ⌜ 0 < run .entered ⌝ }
-    ensures { λ r. ⌜ Offers room parent s (now (work .entry)) run (now (work .exit)) r (children-coded (tables (now (follow .entry)) (now (taking .entry)) last)) ⌝ }
+    requires { ⌜ characters ≤ most-characters ⌝ }
+    ensures { λ r. ⌜ Offers room parent s (now (work .entry)) run (now (work .exit)) r (children-coded (tables characters (now (follow .entry)) (now (taking .entry)) last)) ⌝ }
 {
     let sets = s.sets;
     let one = offer(
@@ -241,7 +247,7 @@ fn offer_children(
     );
     let left = search_fronts::front_with(s.left[0], sets, follow);
     let right = search_fronts::front_with(s.right[0], sets, follow);
-    offer_puts(work, room, two, parent, s, left, right, taking)
+    offer_puts(work, room, two, parent, s, left, right, characters, taking)
 }
 
 // The situation in the slot with the number i.
@@ -259,16 +265,18 @@ fn take(
     room: usize,
     run: Run,
     k: usize,
+    characters: usize,
     follow: &[[PlaceSet; PLACES]; FIELDS],
     taking: &[[PlaceSet; CHARACTERS]; FIELDS],
     last: [PlaceSet; FIELDS],
 ) -> Run
     requires { ⌜ Roomy (now work) room (run .entered) k ⌝ }
     requires { ⌜ k < run .entered ⌝ }
-    ensures { λ r. ⌜ Takes room (tables (now (follow .entry)) (now (taking .entry)) last) k (now (work .entry)) run (now (work .exit)) r ⌝ }
+    requires { ⌜ characters ≤ most-characters ⌝ }
+    ensures { λ r. ⌜ Takes room (tables characters (now (follow .entry)) (now (taking .entry)) last) k (now (work .entry)) run (now (work .exit)) r ⌝ }
 {
     let s = read_situation(work, k);
-    offer_children(work, room, run, k, s, follow, taking, last)
+    offer_children(work, room, run, k, s, characters, follow, taking, last)
 }
 
 // "The trimmed question is entered first, dead or not. .. When all are used up the answer is 1"
@@ -276,12 +284,14 @@ pub fn search(
     work: &mut [u8],
     room: usize,
     first: Situation,
+    characters: usize,
     follow: &[[PlaceSet; PLACES]; FIELDS],
     taking: &[[PlaceSet; CHARACTERS]; FIELDS],
     last: [PlaceSet; FIELDS],
 ) -> Run
     requires { ⌜ (situation-bytes * room ≤ length (now work)) × (room ≤ most-room) ⌝ }
-    ensures { λ r. ⌜ Searches room (tables (now (follow .entry)) (now (taking .entry)) last) first (now (work .exit)) r ⌝ }
+    requires { ⌜ characters ≤ most-characters ⌝ }
+    ensures { λ r. ⌜ Searches room (tables characters (now (follow .entry)) (now (taking .entry)) last) first (now (work .exit)) r ⌝ }
 {
     let mut run = enter_first(work, room, first);
     let mut k: usize = 0;
@@ -297,7 +307,7 @@ pub fn search(
                 status: Status::UsedUp,
             };
         }
-        run = take(work, room, run, k, follow, taking, last);
+        run = take(work, room, run, k, characters, follow, taking, last);
         k += 1;
     }
 }

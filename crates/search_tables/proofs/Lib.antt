@@ -1,4 +1,6 @@
 pub mod Spread
+pub mod Behind
 pub mod Listed
 pub mod Filled
 pub mod CutOver
+pub mod CutSteps

@@ -1,14 +1,14 @@
 -- From what reading a sheet hands on to the promises of `steps`: a refused sheet, a good one whose question was searched, and all that is promised.
--- Follows from `steps-told-every`, the definition of the outcome and the theorem of what is promised.
+-- Follows from `steps-told-all`, the definition of the outcome and the theorem of what is promised.
 use Prim.Native.Nat.{ℕ}
 use mathlib.Core.Path.{_≡_, refl, sym, subst}
 use mathlib.Core.Bool.{Bool, false}
 use mathlib.Core.List.{List, []}
 use lib.Dec.{eqb}
-use Rattle.paper.specs.Numbers.{characters}
+use Rattle.paper.specs.Numbers.{most-characters}
 use Rattle.paper.specs.Sheet as Paper
 use Rattle.paper.specs.Outcome.{Outcome, outcome-of}
-use Rattle.paper.proofs.sheets.Asked.{sheet-good, left-39, right-39}
+use Rattle.paper.proofs.sheets.Asked.{sheet-good}
 use Rattle.paper.proofs.sheets.Hidden.{hidden-searchable}
 use Rattle.paper_chosen.specs.Chosen.{every}
 use Rattle.paper_steps.specs.StepsOutcome.{StepsOutcome, without-steps, with-steps, steps-outcome}
@@ -22,7 +22,7 @@ use Rattle.base_steps.specs.declared.StepsAnswer.the-variants as Answer-as
 use Rattle.base_steps.specs.declared.StepsEnded.{StepsEnded}
 use Rattle.search_tables.specs.Cut.{listed-by}
 use Rattle.search_run.specs.StepsEnded.{steps-run}
-use Rattle.search_question.proofs.Searched.{SearchedSteps, steps-told-every}
+use Rattle.search_question.proofs.Searched.{SearchedSteps, steps-told-all}
 use Rattle.read_sheet.specs.SheetRead.{bodies-of, sheet-of}
 use Rattle.read_sheet.specs.declared.Sheet.{Sheet}
 use Rattle.read_sheet.proofs.SheetStruct.{sheet-asks, sheet-refused}
@@ -36,6 +36,7 @@ fault-not-0 Paper.wrong-length = refl
 fault-not-0 Paper.not-one-pattern = refl
 fault-not-0 Paper.too-many-leaves = refl
 fault-not-0 Paper.wrong-token = refl
+fault-not-0 Paper.wrong-edition = refl
 
 other-than-0 : (bytes : List ℕ) (o : Outcome) (answer steps : List ℕ) → eqb (o .number) 0 ≡ false → without-steps o steps ≡ with-steps bytes o answer steps
 unfolding with-steps
@@ -51,17 +52,17 @@ module _ (sheet : List ℕ) (s : Sheet) (e : s ≡ sheet-of (bodies-of sheet) (P
       (other-than-0 [] (outcome-of (Paper.refused (fault-of x) (s .place)) work answer) answer steps (fault-not-0 (fault-of x)))
 
   -- the question of a good sheet, searched over every character
-  pub searched-steps : s .found ≡ NoFault → (all : List Bool) → all ≡ listed-by every characters
+  pub searched-steps : s .found ≡ NoFault
       → (work answer steps after worked stepped : List ℕ) (end : StepsEnded)
-      → SearchedSteps all (s .question) work answer steps worked (steps-run end after stepped)
+      → SearchedSteps (s .question) work answer steps worked (steps-run end after stepped)
       → told-steps (Answer-as.Searched end) after worked stepped ≡ steps-outcome sheet work answer steps
   unfolding steps-outcome
-  searched-steps h all marks work answer steps after worked stepped end p =
+  searched-steps h work answer steps after worked stepped end p =
       let a = sheet-asks sheet s e h in
       let q = a .question in
       let g = sheet-good sheet q (a .good) in
       rw (a .good)
-      (steps-told-every q (g .alphabet) (left-39 g) (right-39 g) (hidden-searchable q g) (bodies-of sheet) (s .question) (a .is) work answer steps worked (steps-run end after stepped) all marks p)
+      (steps-told-all q (g .left) (g .right) (hidden-searchable q g) (bodies-of sheet) (s .question) (a .is) work answer steps worked (steps-run end after stepped) p)
 
 -- The two promises, from the first.
 pub steps-kept : (sheet work answer steps : List ℕ) (o : StepsOutcome) → o ≡ steps-outcome sheet work answer steps

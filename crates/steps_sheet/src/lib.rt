@@ -21,8 +21,7 @@ pub fn steps(sheet: &[u8], work: &mut [u8], answer: &mut [u8], steps: &mut [u8])
         },
         Found::NoFault => {
             let question = read.question;
-            let all = search_question::every();
-            let ended = search_question::search_steps(question, all, work, answer, steps);
+            let ended = search_question::search_steps(question, work, answer, steps);
             StepsAnswer::Searched { ended }
         }
     }

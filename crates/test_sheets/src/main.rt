@@ -3,8 +3,8 @@
 // of sheets is handed, or a text to be spelt or read back. The program ends where the input does, and also before a part or a case that is cut
 // short, has another mark or asks for more than is lent here. A read or a write that fails is told on standard error.
 //
-// The stored parts are these twelve; tools/part frames a part. The second program prints the same lines, but for those of the scripts, which it
-// reads. tools/compare tries fresh parts.
+// The stored parts are these twenty-one, from 13 on those of the second edition (request K10); tools/part frames a part. The second program prints
+// the same lines. tools/compare tries fresh parts.
 //
 // 1. `BY`: the known sheets of document 01
 //
@@ -88,7 +88,8 @@
 //
 // 6. `SC`: sheets written out as scripts
 //
-// What the second program's `sheets 4 60` makes; 26 of its sheets are refused. `second --scripts` reads what is printed.
+// What the second program's `sheets 4 60` makes; 26 of its sheets are refused. `second --write-scripts` prints the same, and `second --scripts`
+// reads it.
 //
 // 7. `SP`: sheets and rules carried over
 //
@@ -122,6 +123,65 @@
 // First what the second program's `sheets --play-each` makes: every damage of every record of three short ways, and single steps that are not
 // allowed. Then what `sheets --play 11 550` makes: good ways, ways with one record damaged, left out, doubled or exchanged, ways by chance, and
 // ways of other sheets, with answer buffers around the right length. `second --play` prints the same.
+//
+// 13. `BY`: sheets of the two editions
+//
+// First what the second program's `sheets --editions` makes: `ED` with each byte behind it, cut short, twice, and behind each other record; in
+// both editions each byte as a token, as a pattern and as a range's ends, and each pair of those next to a limit as lo and hi; good sheets with
+// each of the 128 characters. Then what `sheets --edition 2 21 3000` makes: sheets of the second edition by chance. `second --many` prints the
+// same.
+//
+// 14. `LI`: what the program `clash` prints of the second edition
+//
+// What the second program's `sheets --edition 2 --printed` makes: texts are printed spelt. `second --many --lines` prints the same.
+//
+//  1        the 128 characters, in the texts of six fields
+//  2        `Part 7`
+//  3, 4     `$%/+`, the shift signs as characters, and `+A/B%C$D`, each before a letter
+//  5        characters next to the ends of the rows of the spelling table, control characters among them
+//  6, 7     `a` and two spaces; the empty text
+//  8        fields 0 and 7, the later one first in the side
+//  9, 10    no field: `LT4` and `LT4` with a space; no clash
+// 11, 12    no room: after 356 situations, and after 2
+// 13, 14    an answer buffer of 5 bytes, too short, and one of 6
+// 15 to 17  11: `E`, `ED`, and `ED` and 2 alone
+// 18, 19    12: `ED` twice; 44: `ED` and 1
+// 20, 21    15: 128 in a pattern; 17: 200 in a side
+//
+// 15. `DE`: sheets of the two editions to decide
+//
+// First what the second program's `sheets --editions --few` makes: those of the thirteenth part with a byte next to a limit. Then what `sheets
+// --edition 2 --decide 27 400` makes, as in the fifth part. `second --decide` prints the same.
+//
+// 16. `SC`: sheets of the second edition written out as scripts
+//
+// What the second program's `sheets --edition 2 24 60` makes; 18 of its sheets are refused. `second --write-scripts` prints the same, and `second
+// --scripts` reads it.
+//
+// 17. `SP`: sheets of the two editions carried over
+//
+// First what the second program's `sheets --editions --few` makes, then what `sheets --edition 2 --spelt 26 600` makes. Rules have no edition:
+// some have an `ED` behind `RU`. `second --spelt` prints the same.
+//
+// 18. `WE`: sheets of either edition written by the program
+//
+// First what the second program's `sheets --editions --write` makes: edition numbers from 0 to 4, from 254 to 258 and such that no byte holds, each
+// with good and with faulty sides and patterns and with short output buffers; each byte as a token, as a pattern and as a range's ends; the longest
+// sheets, 1,622 and 1,625 bytes, and a byte less. Then what `sheets --edition 2 --write 28 800` makes, as in the eighth part. `second
+// --write-edition` prints the same.
+//
+// 19. `PL`: sheets of the second edition for the engine for plain rules
+//
+// What the second program's `sheets --edition 2 --plain 29 600` makes. `second --plain` prints the same.
+//
+// 20. `ST`: sheets of the second edition answered with their steps
+//
+// What the second program's `sheets --edition 2 --steps 30 300` makes. `second --steps` prints the same.
+//
+// 21. `PY`: ways of the second edition that are played
+//
+// What the second program's `sheets --edition 2 --play-each` makes, then what `sheets --edition 2 --play 31 200` makes. `second --play` prints the
+// same.
 mod ascii;
 mod part;
 mod plain;
@@ -200,6 +260,7 @@ fn answer_one(sheet: &mut [u8], work: &mut [u8], answer: &mut [u8], kind: Kind) 
     match kind {
         Kind::Sheets(shown) => answer_sheet(sheet, work, answer, shown),
         Kind::Written => written::show_written(),
+        Kind::Edition => written::show_edition(),
         Kind::Ascii => ascii::show_ascii(),
     }
 }
@@ -285,10 +346,10 @@ fn print_all(told: Numbers) -> How {
 // The lines, with just the room that the longest need.
 fn show_lines(sheet: &[u8], work: &mut [u8], answer: &mut [u8]) -> How {
     let mut out = [0u8; PRINTED];
-    let room = FIRST_LINE + answer.len();
-    if PRINTED < room {
+    if ANSWER < answer.len() {
         return How::Going;
     }
+    let room = FIRST_LINE + 2 * answer.len();
     print_lines(sheet, work, answer, &mut out[0..room])
 }
 

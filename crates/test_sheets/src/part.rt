@@ -10,6 +10,8 @@ pub enum Kind {
     Sheets(Shown),
     // `WR`: what the writer of sheets is handed (written.rt). A line: number, count, place and written length, and every byte of the output buffer
     Written,
+    // `WE`: the same with the edition in front. A line as of `WR`
+    Edition,
     // `FA`: texts to be spelt and spelt texts to be read back (ascii.rt). A line as of `WR`
     Ascii,
 }
@@ -66,6 +68,8 @@ const PLAYED: usize = b'P' as usize + 256 * (b'Y' as usize);
 
 const WRITTEN: usize = b'W' as usize + 256 * (b'R' as usize);
 
+const EDITION: usize = b'W' as usize + 256 * (b'E' as usize);
+
 const ASCII: usize = b'F' as usize + 256 * (b'A' as usize);
 
 // Reads the head of the next part.
@@ -90,6 +94,7 @@ fn part_of(mark: usize, number: usize) -> Part {
         STEPS => cases(How::Going, Kind::Sheets(Shown::Steps), number),
         PLAYED => cases(How::Going, Kind::Sheets(Shown::Played), number),
         WRITTEN => cases(How::Going, Kind::Written, number),
+        EDITION => cases(How::Going, Kind::Edition, number),
         ASCII => cases(How::Going, Kind::Ascii, number),
         _ => cases(How::Stopped, Kind::Written, 0),
     }

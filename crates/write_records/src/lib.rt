@@ -1,10 +1,12 @@
-// A record of the sheet that is to be written: judged by itself, by 01's checks in their order, and put if it is good.
+// A record of the sheet that is to be written: judged by itself, by 01's checks in their order, in the edition of the sheet, and put if it is good.
 use base_answers::Fault;
 use base_answers::Found;
 use base_codes::SHEET_FIELDS;
+use base_editions::Edition;
 use base_put::put;
 use base_put::put_all;
-use read_fields::PATTERN_BYTES;
+use read_codes::PATTERN_BYTES;
+use read_codes::codes_of;
 use read_pattern::Verdict;
 use read_side::SHEET_SIDE;
 ghost use mathlib.Core.Path.{_≡_};
@@ -14,6 +16,7 @@ ghost use Rattle.paper.specs.Saying.{mark-bytes};
 ghost use Rattle.paper.specs.Saying.{pattern-laid};
 ghost use Rattle.paper_write.specs.Laying.{record-laid, side-record-laid};
 ghost use Rattle.base_answers.specs.declared.Found.the-variants.{Refused};
+ghost use Rattle.base_editions.specs.Editions.{paper-edition};
 ghost use Rattle.base_put.specs.Counted.{Counted};
 ghost use Rattle.write_records.specs.RecordPut.{field-laid, Lays};
 
@@ -25,8 +28,15 @@ pub struct Laid {
 }
 
 // What is laid out for a field: the record of its pattern of so many bytes, the first of those lent, put from `at` on; nothing where it has none.
-pub fn field(out: &mut [u8], at: usize, f: usize, n: usize, patterns: &[u8]) -> Laid
-    ensures { λ r. ⌜ Lays (now (out .entry)) (now (out .exit)) at r (field-laid f n (now (patterns .entry))) ⌝ }
+pub fn field(
+    out: &mut [u8],
+    at: usize,
+    f: usize,
+    n: usize,
+    patterns: &[u8],
+    edition: Edition,
+) -> Laid
+    ensures { λ r. ⌜ Lays (now (out .entry)) (now (out .exit)) at r (field-laid (paper-edition edition) f n (now (patterns .entry))) ⌝ }
 {
     if n == 0 {
         return Laid {
@@ -34,11 +44,11 @@ pub fn field(out: &mut [u8], at: usize, f: usize, n: usize, patterns: &[u8]) -> 
             bytes: 0,
         };
     }
-    pattern(out, at, f, n, patterns)
+    pattern(out, at, f, n, patterns, edition)
 }
 
-fn pattern(out: &mut [u8], at: usize, f: usize, n: usize, patterns: &[u8]) -> Laid
-    ensures { λ r. ⌜ Lays (now (out .entry)) (now (out .exit)) at r (record-laid f n (now (patterns .entry))) ⌝ }
+fn pattern(out: &mut [u8], at: usize, f: usize, n: usize, patterns: &[u8], edition: Edition) -> Laid
+    ensures { λ r. ⌜ Lays (now (out .entry)) (now (out .exit)) at r (record-laid (paper-edition edition) f n (now (patterns .entry))) ⌝ }
 {
     if SHEET_FIELDS <= f {
         return refuse(Fault::WrongField, 2);
@@ -50,7 +60,8 @@ fn pattern(out: &mut [u8], at: usize, f: usize, n: usize, patterns: &[u8]) -> La
     if there < n {
         return refuse(Fault::CutShort, 4 + there);
     }
-    let worked = read_pattern::tables(&patterns[0..n]);
+    let codes = codes_of(edition, &patterns[0..n]);
+    let worked = read_pattern::tables(&codes[0..n]);
     let verdict = worked.verdict;
     match verdict {
         Verdict::NotOnePattern => refuse(Fault::NotOnePattern, 4 + worked.at),
@@ -77,14 +88,14 @@ fn put_pattern(out: &mut [u8], at: usize, f: usize, n: usize, code: &[u8]) -> us
 }
 
 // The record of a side, put behind its mark from `at` on.
-pub fn side(out: &mut [u8], at: usize, mark: &[u8], tokens: &[u8]) -> Laid
-    ensures { λ r. ⌜ ((m : Mark) → now (mark .entry) ≡ mark-bytes m → Lays (now (out .entry)) (now (out .exit)) at r (side-record-laid m (now (tokens .entry)))) ⌝ }
+pub fn side(out: &mut [u8], at: usize, mark: &[u8], tokens: &[u8], edition: Edition) -> Laid
+    ensures { λ r. ⌜ ((m : Mark) → now (mark .entry) ≡ mark-bytes m → Lays (now (out .entry)) (now (out .exit)) at r (side-record-laid (paper-edition edition) m (now (tokens .entry)))) ⌝ }
 {
     let n = tokens.len();
     if SHEET_SIDE < n {
         return refuse(Fault::WrongLength, 2);
     }
-    let good = read_side::leading_tokens(tokens);
+    let good = read_side::leading_tokens(tokens, edition);
     if good < n {
         return refuse(Fault::WrongToken, 3 + good);
     }

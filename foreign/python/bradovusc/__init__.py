@@ -17,6 +17,14 @@ both. Spaces at the end of a label are dropped before it is read. The two rules 
 An answer is an object of one of a few classes, with its ``number`` as in the tables of the rules and, as a string, its words. It is no
 truth value. ``clashes`` is true or false, and raises :class:`NotAnswered` where it is not decided: that is never to be read as "no".
 
+A sheet may be one of Full ASCII, with 128 characters. Its edition is said where it is written, and :func:`spell` spells a text of it:
+
+    >>> from bradovusc import Edition, full_ascii, signs, spell
+    >>> asked = sheet("Box {0}", "Box {1}!", {0: full_ascii.many(full_ascii.between(" ", "~"))}, Edition.FULL_ASCII)
+    >>> first = decide(asked).answer.texts[0]
+    >>> print(repr(str(first)), signs(spell(first.values).data))
+    ' !'  /A
+
 The functions are those of the C header, called in the shared library ``libbradovusc.so``, which is for x86-64 Linux. They keep nothing from
 one call to the next and touch nothing but the buffers that they are lent. The interpreter's lock is not held while they work, so that
 threads can ask at the same time; none may touch a buffer that another one has lent. The functions are proved to do what the rules say.
@@ -79,7 +87,7 @@ from ._answers import (
     Written,
     WrongStep,
 )
-from ._build import ANY, between, choice, many, row, rule, word
+from ._build import ANY, Patterns, between, choice, full_ascii, many, row, rule, word
 from ._catalogue import (
     DECIDED_PAIR_BYTES,
     MOST_RULES,
@@ -95,6 +103,7 @@ from ._catalogue import (
     spell_open_catalogue,
     withdraw,
 )
+from ._editions import MOST_CHARACTERS, Edition
 from ._library import VERSION, LibraryMissing, library
 from ._plain import PLAIN_BYTES, plain, plain_bytes
 from ._sheets import (
@@ -137,6 +146,7 @@ __all__ = [
     "DecidedPair",
     "Decision",
     "Done",
+    "Edition",
     "FIELDS",
     "Fault",
     "ForeignField",
@@ -146,6 +156,7 @@ __all__ = [
     "ListTooShort",
     "Listed",
     "ListedDecided",
+    "MOST_CHARACTERS",
     "MOST_RULES",
     "MOST_SITUATIONS",
     "MOST_STEPS",
@@ -164,6 +175,7 @@ __all__ = [
     "PAIR_BYTES",
     "PLAIN_BYTES",
     "Pair",
+    "Patterns",
     "PlainAnswer",
     "PlainBytes",
     "Played",
@@ -206,6 +218,7 @@ __all__ = [
     "clash",
     "decide",
     "decided_list_bytes",
+    "full_ascii",
     "library",
     "list_bytes",
     "many",

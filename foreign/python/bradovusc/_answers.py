@@ -6,7 +6,7 @@ import enum
 from dataclasses import dataclass
 from typing import ClassVar, NoReturn, Tuple, Union
 
-from ._signs import signs
+from ._editions import Edition
 
 
 class Fault(enum.Enum):
@@ -28,17 +28,20 @@ class Fault(enum.Enum):
     #: A pattern's length is not 1 to 192, or a side's is above 24. The place is the length byte.
     WRONG_LENGTH = 14
     #: The bytes of a pattern are not exactly one pattern. The place is, read from left to right, the first byte that is no code; the lo
-    #: byte of a range if lo is above 42, else the hi byte if that is above 42 or below lo; the first byte left over; where the code runs
-    #: out, the offset behind the pattern's last byte.
+    #: byte of a range if lo is no character, else the hi byte if that is no character or below lo; the first byte left over; where the
+    #: code runs out, the offset behind the pattern's last byte.
     NOT_ONE_PATTERN = 15
     #: A pattern has more than 63 leaves. The place is the first byte of the 64th.
     TOO_MANY_LEAVES = 16
     #: A side holds a byte that is neither a character nor a field 0 to 7. The place is the first such byte.
     WRONG_TOKEN = 17
+    #: The byte behind ``ED``, or the edition of a sheet that is to be written, is none. The place is the edition byte, 2. A rule has no
+    #: ``ED``, and never gets this.
+    WRONG_EDITION = 44
 
     @property
     def number(self) -> int:
-        """Its number, 11 to 17."""
+        """Its number, 11 to 17 or 44."""
         return int(self.value)
 
     def __str__(self) -> str:
@@ -53,6 +56,7 @@ _FAULTS = {
     Fault.NOT_ONE_PATTERN: "not one pattern",
     Fault.TOO_MANY_LEAVES: "a pattern with too many leaves",
     Fault.WRONG_TOKEN: "a wrong token",
+    Fault.WRONG_EDITION: "a wrong edition",
 }
 
 
@@ -107,14 +111,16 @@ class _Open(Told):
 
 @dataclass(frozen=True)
 class Text:
-    """What a field holds on the label that a clash found. As a string it is the signs."""
+    """What a field holds on the label that a clash found. As a string it is the signs; :func:`spell` spells a text of Full ASCII."""
 
     field: int
-    #: The characters by value, each below 43.
+    #: The characters by value, those of the edition.
     values: bytes
+    #: That of the sheet.
+    edition: Edition = Edition.CODE_39
 
     def __str__(self) -> str:
-        return signs(self.values)
+        return self.edition.signs(self.values)
 
 
 @dataclass(frozen=True)
@@ -151,7 +157,7 @@ class NoClash(Told):
 
 @dataclass(frozen=True)
 class Refused(_Open):
-    """11 to 17: the sheet, or the rule, is at fault, or what a sheet is to be written of."""
+    """11 to 17, 44: the sheet, or the rule, is at fault, or what a sheet is to be written of."""
 
     fault: Fault
     #: The offset of the byte at fault, as :class:`Fault` says.

@@ -36,6 +36,7 @@ _FUNCTIONS = {
     "bradovusc_plain": _READ + _LENT + _TOLD,
     "bradovusc_plain_bytes": _READ + _TOLD,
     "bradovusc_write": _READ + _NUMBERS + _READ + _READ + _LENT + _TOLD,
+    "bradovusc_write_edition": (ctypes.c_size_t,) + _READ + _NUMBERS + _READ + _READ + _LENT + _TOLD,
     "bradovusc_script": _READ + _LENT + _TOLD,
     "bradovusc_add": _LENT + _READ + _LENT + _TOLD,
     "bradovusc_withdraw": _LENT + (ctypes.c_size_t,),

@@ -14,7 +14,7 @@ PLAIN_BYTES = 9_731
 def plain(sheet: Readable, bits: Optional[Writable] = None) -> PlainAnswer:
     """Can the two rules of the sheet make the same label, where no field stands more than once?
 
-    The engine takes one bit for each pair of a left and a right standing, and no situations. A standing is how far a side is read, with one
+    The engine is lent one bit for each pair of a left and a right standing, and no situations. A standing is how far a side is read, with one
     place of the field in front. It is proved that it answers :class:`Clash` exactly if some texts solve the question, and :class:`NoClash`
     exactly if none do, of any length. So it agrees with :func:`clash` wherever that decides, and answers too where that has no room. It
     tells no texts, and its counts are 0.

@@ -18,6 +18,7 @@ from ._answers import (
     answer,
     refused,
 )
+from ._editions import Edition
 from ._library import Lent, Readable, Writable, call
 
 #: A situation of the search takes so many bytes of the working buffer.
@@ -30,8 +31,9 @@ DEFAULT_SITUATIONS = 356
 FIELDS = 8
 #: A record of the answer buffer has so many bytes before its text.
 RECORD_HEAD = 5
-#: A good sheet has at most so many bytes. An output buffer of so many is long enough for every sheet that is written or carried over.
-SHEET_BYTES = 1_622
+#: A good sheet has at most so many bytes, three fewer without ``ED``. An output buffer of so many is long enough for every sheet that is
+#: written or carried over.
+SHEET_BYTES = 1_625
 #: A good rule of a catalogue has at most so many bytes.
 RULE_BYTES = 813
 #: An output buffer of so many bytes is long enough for the script of every sheet.
@@ -53,8 +55,8 @@ def lent_work(work: Optional[Writable]) -> Lent:
     return Lent(bytearray(work_bytes(DEFAULT_SITUATIONS)) if work is None else work)
 
 
-def texts(written: Readable) -> Iterator[Text]:
-    """The texts that a clash has written: one for each field that stands in a side, by rising number.
+def texts(written: Readable, edition: Edition = Edition.CODE_39) -> Iterator[Text]:
+    """The texts that a clash of a sheet of this edition has written: one for each field that stands in a side, by rising number.
 
     Bytes that are not a whole record end them.
     """
@@ -63,7 +65,7 @@ def texts(written: Readable) -> Iterator[Text]:
         end = RECORD_HEAD + int.from_bytes(rest[3:RECORD_HEAD], "little")
         if len(rest) < end:
             return
-        yield Text(rest[2], rest[RECORD_HEAD:end])
+        yield Text(rest[2], rest[RECORD_HEAD:end], edition)
         rest = rest[end:]
 
 
@@ -74,7 +76,7 @@ def _asked(name: str, told: int, sheet: Readable, work: Optional[Writable], into
     records = Lent(bytearray(answer_bytes(room)) if into is None else into)
     number, numbers = call(name, bytes(sheet), lent, records, told=told)
     count, place, written = numbers[:3]
-    found = tuple(texts(records.front(written))) if number == Clash.number else ()
+    found = tuple(texts(records.front(written), Edition.of(bytes(sheet)))) if number == Clash.number else ()
     return answer(number, count, place, written, found), numbers[-1]
 
 
@@ -134,7 +136,7 @@ def spell_open(sheet: Readable, out: Optional[Writable] = None) -> SpeltOpen:
     """Carries a sheet from before version 0.6 over.
 
     Up to version 0.5 a field without a pattern held any text, the empty one included; since 0.6 it holds one character or more. This
-    writes the sheet with the pattern 68 65 0 42 for each field that stands in a side and has none. All else stays byte for byte as it
+    writes the sheet with the pattern 68 65 0 42, behind ``ED`` 196 193 0 127, for each field that stands in a side and has none. All else stays byte for byte as it
     was. It is proved that the new sheet's question has exactly the solutions that the old meaning gave the old sheet.
 
     Carry a sheet over once, and only one from before 0.6: nothing in its bytes says for which version it was written, and a sheet for 0.6

@@ -20,9 +20,9 @@ from ._answers import (
     answer as answered,
     refused,
 )
+from ._editions import Edition
 from ._library import Lent, Readable, Writable, call
 from ._sheets import MOST_SITUATIONS, SITUATION_BYTES, answer_bytes, lent_work, texts
-from ._signs import CHARACTERS, sign
 
 #: The longest record of a step, that of a character, has so many bytes.
 STEP_RECORD = 4
@@ -48,12 +48,14 @@ class Step:
     """A step: how a child is made of a situation. As a string it says what is done."""
 
     kind: Kind
-    #: The value of a character, below 43; none of the other kinds.
+    #: The value of a character of the edition; none of the other kinds.
     value: Optional[int] = None
+    #: That of the sheet.
+    edition: Edition = Edition.CODE_39
 
     def __str__(self) -> str:
         if self.value is not None:
-            return f"both read {sign(self.value)!r}"
+            return f"both read {self.edition.sign(self.value)!r}"
         return "the left front is struck" if self.kind == Kind.LEFT_STRUCK else "the right front is struck"
 
 
@@ -62,15 +64,15 @@ def steps_bytes(situations: int) -> int:
     return STEP_RECORD * max(situations - 1, 0)
 
 
-def way(records: Readable) -> Iterator[Step]:
-    """The steps of these records, the first one first. Bytes that are no record end them."""
+def way(records: Readable, edition: Edition = Edition.CODE_39) -> Iterator[Step]:
+    """The steps of these records, of a sheet of this edition, the first one first. Bytes that are no record end them."""
     rest = bytes(records)
     while len(rest) >= 3 and rest.startswith(_MARK):
         if rest[2] in (Kind.LEFT_STRUCK, Kind.RIGHT_STRUCK):
-            yield Step(Kind(rest[2]))
+            yield Step(Kind(rest[2]), None, edition)
             rest = rest[3:]
-        elif rest[2] == Kind.CHARACTER and len(rest) >= STEP_RECORD and rest[3] < CHARACTERS:
-            yield Step(Kind.CHARACTER, rest[3])
+        elif rest[2] == Kind.CHARACTER and len(rest) >= STEP_RECORD and rest[3] < edition.characters:
+            yield Step(Kind.CHARACTER, rest[3], edition)
             rest = rest[STEP_RECORD:]
         else:
             return
@@ -97,7 +99,7 @@ def steps(
     number, (count, place, written, length) = call("bradovusc_steps", bytes(sheet), lent, records, written_way, told=4)
     if number == StepsTooShort.number:
         return Stepped(StepsTooShort(count), b"")
-    found = tuple(texts(records.front(written))) if number == Clash.number else ()
+    found = tuple(texts(records.front(written), Edition.of(bytes(sheet)))) if number == Clash.number else ()
     return Stepped(answered(number, count, place, written, found), bytes(written_way.front(length)))
 
 
@@ -118,7 +120,7 @@ def play(sheet: Readable, steps: Readable, answer: Optional[Writable] = None) ->
     lent = Lent(bytearray(answer_bytes(len(records) // 3)) if answer is None else answer)
     number, (count, place, written) = call("bradovusc_play", bytes(sheet), records, lent, told=3)
     if number == Clash.number:
-        return Clash(count, tuple(texts(lent.front(written))), written)
+        return Clash(count, tuple(texts(lent.front(written), Edition.of(bytes(sheet)))), written)
     if number == SideTooLong.number:
         return SideTooLong(count)
     if number == AnswerTooShort.number:

@@ -6,28 +6,33 @@ from typing import Iterable, List, Mapping, Optional
 
 from ._answers import NotWritten, OutputTooShort, SheetWritten, Written, refused
 from ._build import tokens
+from ._editions import Edition
 from ._library import Lent, Numbers, Readable, Writable, call
 from ._sheets import FIELDS, SHEET_BYTES
 
 
-def write(patterns: Readable, lengths: Iterable[int], left: Readable, right: Readable, out: Optional[Writable] = None) -> SheetWritten:
-    """Writes the one sheet that says these sides and patterns.
+def write(
+    patterns: Readable, lengths: Iterable[int], left: Readable, right: Readable, out: Optional[Writable] = None, edition: int = Edition.CODE_39
+) -> SheetWritten:
+    """Writes the one sheet of an edition that says these sides and patterns.
 
-    ``left`` and ``right`` are the tokens of the two sides. ``patterns`` are the bytes of all patterns one behind the other, by rising field,
+    ``edition`` is an :class:`Edition` or its number; any other is ``Fault.WRONG_EDITION``. ``left`` and ``right`` are the tokens of the two sides. ``patterns`` are the bytes of all patterns one behind the other, by rising field,
     and ``lengths`` says how many of them each field has, by field number. A field has no pattern where its length is 0, and where no length
-    is there for it. Bytes behind the last pattern are not looked at. It is proved that reading the sheet gives the same sides and the same
-    patterns, byte for byte.
+    is there for it. Bytes behind the last pattern are not looked at. It is proved that reading the sheet gives the same edition, the same
+    sides and the same patterns, byte for byte.
 
     :class:`Refused` is the first fault that reading the sheet would meet: those of the patterns come first, by rising field, then those of
     the left side, then those of the right one. Its place is an offset in the sheet that would be written. A length that is not 0 for a field
     above 7 is ``Fault.WRONG_FIELD``; a pattern with fewer bytes than its length says is ``Fault.CUT_SHORT``.
 
     Only :class:`Written` changes the buffer, and only the bytes of the sheet. :data:`SHEET_BYTES` are always enough, and so many are taken
-    where no buffer is lent. Raises :class:`OverflowError` for a length below 0, or above what 64 bits hold.
+    where no buffer is lent. Raises :class:`OverflowError` for a length or an edition below 0, or above what 64 bits hold.
     """
+    if not 0 <= edition < 1 << 64:
+        raise OverflowError(f"{edition} is no number of an edition")
     lent = Lent(bytearray(SHEET_BYTES) if out is None else out)
     handed = bytes(patterns), Numbers(lengths), bytes(left), bytes(right)
-    number, (_, place, written) = call("bradovusc_write", *handed, lent, told=3)
+    number, (_, place, written) = call("bradovusc_write_edition", int(edition), *handed, lent, told=3)
     if number == Written.number:
         return Written(lent.front(written))
     if number == OutputTooShort.number:
@@ -35,11 +40,12 @@ def write(patterns: Readable, lengths: Iterable[int], left: Readable, right: Rea
     return refused(number, place)
 
 
-def sheet(left: str, right: str, patterns: Optional[Mapping[int, bytes]] = None) -> bytes:
+def sheet(left: str, right: str, patterns: Optional[Mapping[int, bytes]] = None, edition: Edition = Edition.CODE_39) -> bytes:
     """The sheet of two rules, with the patterns of their fields, as :func:`write` writes it.
 
     A template has the signs of the fixed characters, and ``{0}`` to ``{7}`` for the fields. A field without a pattern holds one character
-    or more. A field of the one rule and a field of the other should have different numbers, unless they are to hold the same text.
+    or more. A field of the one rule and a field of the other should have different numbers, unless they are to hold the same text. In a
+    sheet of Full ASCII the characters ``{`` and ``}`` are written twice, and the patterns are put together by :data:`full_ascii`.
 
     Raises :class:`NotWritten`, with the place of the fault, where no sheet says these rules, and :class:`ValueError` for a sign that is no
     character, a field below 0, and a pattern of no byte.
@@ -47,6 +53,9 @@ def sheet(left: str, right: str, patterns: Optional[Mapping[int, bytes]] = None)
     >>> from bradovusc import between, many
     >>> sheet("LT{0}", "{1}4", {0: many(between("0", "9"))}).hex(" ")
     '50 41 00 04 44 41 00 09 4c 45 03 15 1d 40 52 49 02 41 04'
+    >>> from bradovusc import Edition, full_ascii
+    >>> sheet("Box {0}", "{1}!", {0: full_ascii.word("ok!")}, Edition.FULL_ASCII)
+    b'ED\\x02PA\\x00\\x05\\xc2o\\xc2k!LE\\x05Box \\xc0RI\\x02\\xc1!'
     """
     lengths: List[int] = []
     rising = sorted((patterns or {}).items())
@@ -56,7 +65,7 @@ def sheet(left: str, right: str, patterns: Optional[Mapping[int, bytes]] = None)
         # every field above 7 is refused as field 8 is
         lengths += [0] * (min(field, FIELDS) - len(lengths))
         lengths.append(len(pattern))
-    answer = write(b"".join(pattern for _, pattern in rising), lengths, tokens(left), tokens(right))
+    answer = write(b"".join(pattern for _, pattern in rising), lengths, tokens(left, edition), tokens(right, edition), edition=edition)
     if isinstance(answer, Written):
         return answer.data
     raise NotWritten(answer)

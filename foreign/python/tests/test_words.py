@@ -4,7 +4,7 @@ import re
 import unittest
 
 import bradovusc
-from bradovusc import Clash, Done, Fault, Told
+from bradovusc import Clash, Done, Edition, Fault, Told
 from rules_page import TOP
 
 HEADER = (TOP / "foreign/c/bradovusc.h").read_text()
@@ -26,7 +26,7 @@ class Words(unittest.TestCase):
     def test_faults(self):
         for fault in Fault:
             self.assertEqual((fault.number, str(fault)), (NUMBERS[fault.name], WORDS[fault.name]))
-        self.assertEqual([fault.number for fault in Fault], list(range(11, 18)))
+        self.assertEqual([fault.number for fault in Fault], [*range(11, 18), 44])
 
     def test_answers(self):
         """Each class has its number and its words; those of faults are tried above."""
@@ -40,7 +40,7 @@ class Words(unittest.TestCase):
                 if name not in ("NotApart", "Written", "Listed", "ListedDecided", "Needed", "Done"):
                     self.assertEqual(kind._words, WORDS[upper], name)
                 seen.add(kind.number)
-        self.assertEqual(seen | set(range(11, 18)), set(NUMBERS[name] for name in WORDS))
+        self.assertEqual(seen | {fault.number for fault in Fault}, set(NUMBERS[name] for name in WORDS))
 
     def test_done(self):
         self.assertEqual([str(Done()), str(Clash(0))], ["done", "clash"])
@@ -48,6 +48,7 @@ class Words(unittest.TestCase):
     def test_constants(self):
         plain = {
             "CHARACTERS": bradovusc.CHARACTERS,
+            "MOST_CHARACTERS": bradovusc.MOST_CHARACTERS,
             "SHEET_BYTES": bradovusc.SHEET_BYTES,
             "SITUATION_BYTES": bradovusc.SITUATION_BYTES,
             "MOST_SITUATIONS": bradovusc.MOST_SITUATIONS,
@@ -86,6 +87,23 @@ class Words(unittest.TestCase):
         for wrong in ("", "a", "*", "01", "É"):
             with self.assertRaises(ValueError):
                 bradovusc.value(wrong)
+
+    def test_editions(self):
+        editions = re.search(r"^enum bradovusc_edition \{ (.*) \};$", HEADER, re.M)[1]
+        named = dict(re.findall(r"BRADOVUSC_([A-Z_0-9]+) = ([0-9]+)", editions))
+        self.assertEqual({name: int(number) for name, number in named.items()}, {one.name: int(one) for one in Edition})
+        for edition in Edition:
+            for number in range(edition.characters):
+                self.assertEqual(edition.value(edition.sign(number)), number)
+            self.assertEqual(edition.sign(edition.space), " ")
+            for wrong in (-1, edition.characters, 255):
+                with self.assertRaises(ValueError):
+                    edition.sign(wrong)
+            for wrong in ("", "01", "É"):
+                with self.assertRaises(ValueError):
+                    edition.value(wrong)
+        self.assertEqual([Edition.of(sheet) for sheet in (b"ED\2LE", b"ED\3LE", b"ED", b"LE\0RI\0")], [2, 0, 0, 0])
+        self.assertEqual(Edition.FULL_ASCII.signs(Edition.FULL_ASCII.values("a{\n\x7f")), "a{\n\x7f")
 
     def test_all_functions_of_the_header(self):
         from bradovusc import _library

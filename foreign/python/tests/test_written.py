@@ -8,6 +8,7 @@ import unittest
 
 from bradovusc import (
     SHEET_BYTES,
+    Edition,
     Fault,
     NotWritten,
     OutputTooShort,
@@ -16,9 +17,18 @@ from bradovusc import (
     _written,
     between,
     choice,
+    clash,
+    decide,
+    full_ascii,
     many,
+    play,
     row,
+    script,
     sheet,
+    signs,
+    spell,
+    steps,
+    way,
     word,
     write,
 )
@@ -119,8 +129,56 @@ class Calls(unittest.TestCase):
 
     def test_the_longest(self):
         longest = (bytes([68] * 191 + [0]) * 8, [192] * 8, bytes([71] * 24), bytes([42] * 24))
-        self.assertEqual(len(write(*longest).data), SHEET_BYTES)
-        self.assertEqual(write(*longest, bytearray(SHEET_BYTES - 1)), OutputTooShort())
+        self.assertEqual(len(write(*longest).data), SHEET_BYTES - 3)
+        self.assertEqual(write(*longest, bytearray(SHEET_BYTES - 4)), OutputTooShort())
+        longest = (bytes([196] * 191 + [0]) * 8, [192] * 8, bytes([199] * 24), bytes([42] * 24))
+        self.assertEqual(len(write(*longest, edition=2).data), SHEET_BYTES)
+        self.assertEqual(write(*longest, bytearray(SHEET_BYTES - 1), Edition.FULL_ASCII), OutputTooShort())
+
+    def test_editions(self):
+        self.assertEqual(write(b"@", [1], b"A\xc0", b"b", edition=Edition.FULL_ASCII), Written(b"ED\2PA\0\1@LE\2A\xc0RI\1b"))
+        self.assertEqual(write(*self.four, edition=0), Written(FOUR))
+        for number in (1, 3, 255, 256, 258, 2**32 + 2, 2**64 - 1):
+            self.assertEqual(write(b"", [193], b"\xff", b"", edition=number), Refused(Fault.WRONG_EDITION, 2))
+        self.assertEqual(write(*self.four, edition=2), Refused(Fault.NOT_ONE_PATTERN, 8))
+        for wrong in (-1, 2**64):
+            with self.assertRaises(OverflowError):
+                write(b"", [], b"", b"", edition=wrong)
+
+
+class FullAscii(unittest.TestCase):
+    def test_sheets(self):
+        for text, said in (("{{0}}", b"{0}"), ("}}{{", b"}{"), ("a\n\0\x7f", b"a\n\0\x7f"), ("{7}{0}", b"\xc7\xc0")):
+            wanted = b"ED\2LE" + bytes([len(said)]) + said + b"RI\0"
+            self.assertEqual(sheet(text, "", None, Edition.FULL_ASCII), wanted)
+        for wrong in ("é", "{", "}", "{x}", "a{0", "{0}}", "{{{"):
+            with self.assertRaises(ValueError) as raised:
+                sheet(wrong, "", None, Edition.FULL_ASCII)
+            self.assertNotIsInstance(raised.exception, NotWritten)
+        with self.assertRaises(NotWritten) as raised:
+            sheet("{8}", "", None, Edition.FULL_ASCII)
+        self.assertEqual(raised.exception.answer, Refused(Fault.WRONG_TOKEN, 6))
+
+    def test_patterns(self):
+        self.assertEqual(full_ascii.ANY, bytes([196, 193, 0, 127]))
+        self.assertEqual(full_ascii.word(""), bytes([192]))
+        self.assertEqual(full_ascii.choice(full_ascii.word("ab"), full_ascii.between("0", "~")), b"\xc3\xc2ab\xc10~")
+
+    def test_a_clash(self):
+        asked = sheet("{0}@", "b@ ", {0: full_ascii.many(full_ascii.between("a", "z"))}, Edition.FULL_ASCII)
+        for answer in (clash(asked), decide(asked).answer):
+            self.assertEqual([(text.values, str(text)) for text in answer.texts], [(b"b", "b")])
+            self.assertEqual(signs(spell(answer.texts[0].values).data), "+B")
+        stepped = steps(asked)
+        first = next(way(stepped.records, Edition.FULL_ASCII))
+        self.assertEqual((first.value, str(first)), (ord("b"), "both read 'b'"))
+        self.assertEqual(str(play(asked, stepped.records).texts[0]), "b")
+        self.assertIn(b'"@"', script(asked).data)
+
+    def test_a_wrong_edition(self):
+        answer = clash(b"ED\3LE\0RI\0")
+        self.assertEqual((answer, answer.number, str(answer)), (Refused(Fault.WRONG_EDITION, 2), 44, "a wrong edition, at offset 2"))
+        self.assertEqual(clash(b"ED"), Refused(Fault.CUT_SHORT, 2))
 
 
 class AsToolsSheet(unittest.TestCase):

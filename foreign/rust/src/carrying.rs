@@ -4,16 +4,16 @@ use std::fmt;
 
 use crate::Fault;
 
-/// A good sheet has at most so many bytes; an output buffer of so many is long enough for every
-/// sheet that is written or carried over, which is proved.
-pub const SHEET_BYTES: usize = 1622;
+/// A good sheet has at most so many bytes, three fewer without `ED`; an output buffer of so many is
+/// long enough for every sheet that is written or carried over, which is proved.
+pub const SHEET_BYTES: usize = 1625;
 
 /// The answer to a sheet or a rule that is to be carried over.
 #[derive(Clone, Copy, Debug, PartialEq, Eq)]
 pub enum SpeltOpen {
     /// 0: the new sheet, or the new rule, is the first `bytes` bytes of the buffer.
     Written { bytes: usize },
-    /// 11 to 17: the sheet or the rule is at fault. `place` is the offset of the byte at fault, as
+    /// 11 to 17, 44: the sheet or the rule is at fault. `place` is the offset of the byte at fault, as
     /// [`Fault`] says.
     Refused { fault: Fault, place: usize },
     /// 31: the rule names a field above 3. No place is told. A sheet never gets this.
@@ -112,7 +112,7 @@ impl fmt::Display for CarriedOver {
 /// Carries a sheet from before version 0.6 over.
 ///
 /// Up to version 0.5 a field without a pattern held any text, the empty one included; since 0.6 it
-/// holds one character or more. This writes the sheet with the pattern 68 65 0 42 for each field
+/// holds one character or more. This writes the sheet with the pattern 68 65 0 42, behind `ED` 196 193 0 127, for each field
 /// that stands in a side and has none. All else stays byte for byte as it was, so a sheet with
 /// nothing to add comes out unchanged. It is proved that the new sheet's question has exactly the
 /// solutions that the old meaning gave the old sheet.

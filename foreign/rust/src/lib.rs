@@ -108,6 +108,33 @@
 //! assert_eq!(refused, Written::Refused { fault: Fault::NotOnePattern, place: 7 });
 //! ```
 //!
+//! A sheet may be one of Full ASCII, with 128 characters: its [`Edition`] then stands in front.
+//! [`write_edition`] writes it. What the fields hold on the label of a clash are texts of Full ASCII,
+//! which [`spell`] spells.
+//!
+//! ```
+//! use bradovusc::{
+//!     clash, sign, spell, texts, write_edition, Edition, Spelt, Written, SHEET_BYTES,
+//!     SITUATION_BYTES,
+//! };
+//!
+//! // Field 0, small letters, then an exclamation mark; and the text "ok!".
+//! let (ascii, mut sheet) = (Edition::FullAscii, [0; SHEET_BYTES]);
+//! let pattern = [196, 193, b'a', b'z'];
+//! let written = write_edition(ascii, &pattern, &[4], &[192, b'!'], b"ok!", &mut sheet);
+//! let Written::Sheet { bytes } = written else {
+//!     panic!("sides and pattern are good, and the buffer is long enough");
+//! };
+//! assert_eq!(&sheet[..bytes], b"ED\x02PA\x00\x04\xC4\xC1azLE\x02\xC0!RI\x03ok!");
+//! let (mut work, mut answer) = ([0; 20 * SITUATION_BYTES], [0; 20]);
+//! let given = clash(&sheet[..bytes], &mut work, &mut answer);
+//! let text = texts(&answer[..given.written()]).next().unwrap();
+//! assert_eq!(ascii.text(text.values), "ok");
+//! let mut values = [0; 4];
+//! assert_eq!(spell(text.values, &mut values), Spelt::Written { bytes: 4 });
+//! assert!(values.map(sign).into_iter().flatten().eq("+O+K".chars()));
+//! ```
+//!
 //! [`script`] writes a sheet out as a script for string solvers.
 //!
 //! ```
@@ -224,6 +251,7 @@ mod carrying;
 mod catalogue;
 mod catalogue_decided;
 mod deciding;
+mod editions;
 mod plain;
 mod scripts;
 mod spelling;
@@ -242,14 +270,15 @@ pub use catalogue_decided::{
     RecheckedDecided, DECIDED_PAIR_BYTES,
 };
 pub use deciding::{decide, Decision};
+pub use editions::{Edition, MOST_CHARACTERS};
 pub use plain::{plain, plain_bytes, Plain, PlainBytes, PLAIN_BYTES};
 pub use scripts::{script, Scripted, SCRIPT_BYTES};
 pub use spelling::{read_spelt, spell, spelt_bytes, Spelt};
 pub use steps::{play, steps, steps_bytes, way, Played, Step, Stepped, Way, MOST_STEPS};
-pub use writing::{write, Written};
+pub use writing::{write, write_edition, Written};
 
 use std::error::Error;
-use std::fmt::{self, Write};
+use std::fmt;
 use std::iter::FusedIterator;
 
 /// The version of this package, of the C header and of the library.
@@ -310,19 +339,22 @@ pub enum Fault {
     /// byte.
     WrongLength,
     /// 15: the bytes of a pattern are not exactly one pattern. Its place is, read from left to
-    /// right, the first byte that is no code; the lo byte of a range if lo is above 42, else the hi
-    /// byte if that is above 42 or below lo; the first byte left over; where the code runs out, the
-    /// offset behind the pattern's last byte.
+    /// right, the first byte that is no code; the lo byte of a range if lo is no character, else the
+    /// hi byte if that is no character or below lo; the first byte left over; where the code runs
+    /// out, the offset behind the pattern's last byte.
     NotOnePattern,
     /// 16: a pattern has more than 63 leaves. Its place is the first byte of the 64th.
     TooManyLeaves,
     /// 17: a side holds a byte that is neither a character nor a field 0 to 7. Its place is the
     /// first such byte.
     WrongToken,
+    /// 44: the byte behind `ED` is not 2. Its place is that byte. A rule has no `ED`, and never gets
+    /// this.
+    WrongEdition,
 }
 
 impl Fault {
-    /// Its number, 11 to 17.
+    /// Its number, 11 to 17 or 44.
     pub fn number(self) -> u32 {
         match self {
             Fault::CutShort => 11,
@@ -332,6 +364,7 @@ impl Fault {
             Fault::NotOnePattern => 15,
             Fault::TooManyLeaves => 16,
             Fault::WrongToken => 17,
+            Fault::WrongEdition => 44,
         }
     }
 
@@ -345,6 +378,7 @@ impl Fault {
             15 => Fault::NotOnePattern,
             16 => Fault::TooManyLeaves,
             17 => Fault::WrongToken,
+            44 => Fault::WrongEdition,
             _ => unreachable!("the library promises its numbers"),
         }
     }
@@ -361,6 +395,7 @@ impl fmt::Display for Fault {
             Fault::NotOnePattern => "not one pattern",
             Fault::TooManyLeaves => "a pattern with too many leaves",
             Fault::WrongToken => "a wrong token",
+            Fault::WrongEdition => "a wrong edition",
         })
     }
 }
@@ -376,7 +411,7 @@ pub enum Answer {
     Clash { count: usize, written: usize },
     /// 1: no label, however long, and with whatever spaces at its end, can be made by both rules.
     NoClash { count: usize },
-    /// 11 to 17: the sheet is at fault. `place` is the offset of the byte at fault, as [`Fault`]
+    /// 11 to 17, 44: the sheet is at fault. `place` is the offset of the byte at fault, as [`Fault`]
     /// says.
     Refused { fault: Fault, place: usize },
     /// 18: neither yes nor no; the working buffer is full.
@@ -505,15 +540,15 @@ extern "C" {
 #[derive(Clone, Copy, Debug, PartialEq, Eq)]
 pub struct Text<'a> {
     pub field: u8,
-    /// The characters by value, each below 43.
+    /// The characters by value, those of the sheet's edition.
     pub values: &'a [u8],
 }
 
-/// By its signs; a byte that is no character, which a clash never writes, as U+FFFD.
+/// By its signs in Code 39; a byte that is no character of it, which a clash of a sheet without `ED`
+/// never writes, as U+FFFD. For a text of Full ASCII there is [`Edition::text`].
 impl fmt::Display for Text<'_> {
     fn fmt(&self, to: &mut fmt::Formatter<'_>) -> fmt::Result {
-        let sign = |&value| sign(value).unwrap_or(char::REPLACEMENT_CHARACTER);
-        self.values.iter().map(sign).try_for_each(|sign| to.write_char(sign))
+        to.write_str(&Edition::Code39.text(self.values))
     }
 }
 

@@ -15,7 +15,7 @@ pub enum Plain {
     Clash,
     /// 1: no label, however long, and with whatever spaces at its end, can be made by both rules.
     NoClash,
-    /// 11 to 17: the sheet is at fault. `place` is the offset of the byte at fault, as [`Fault`]
+    /// 11 to 17, 44: the sheet is at fault. `place` is the offset of the byte at fault, as [`Fault`]
     /// says.
     Refused { fault: Fault, place: usize },
     /// 42: a field stands more than once in the two sides together. Ask by
@@ -76,7 +76,7 @@ const NOT_PLAIN: &str = "a field stands more than once";
 pub enum PlainBytes {
     /// 0: the shortest bit buffer that will do has so many bytes.
     Needed { bytes: usize },
-    /// 11 to 17: the sheet is at fault. `place` is the offset of the byte at fault, as [`Fault`]
+    /// 11 to 17, 44: the sheet is at fault. `place` is the offset of the byte at fault, as [`Fault`]
     /// says.
     Refused { fault: Fault, place: usize },
     /// 42: a field stands more than once in the two sides together.
@@ -125,7 +125,7 @@ impl fmt::Display for PlainBytes {
 
 /// Can the two rules of the sheet make the same label, where no field stands more than once?
 ///
-/// The engine takes one bit for each pair of a left and a right standing, and no situations. A
+/// The engine is lent one bit for each pair of a left and a right standing, and no situations. A
 /// standing is how far a side is read, with one place of the field in front. [`PLAIN_BYTES`] are
 /// always enough. It is proved that it answers [`Plain::Clash`] exactly if some texts solve the
 /// question, and [`Plain::NoClash`] exactly if none do, of any length; so it agrees with

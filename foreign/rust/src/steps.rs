@@ -3,7 +3,7 @@
 use std::fmt;
 use std::iter::FusedIterator;
 
-use crate::{Answer, Fault, SIGNS};
+use crate::{Answer, Fault, MOST_CHARACTERS};
 
 /// A way has at most so many steps, and so many records are played.
 pub const MOST_STEPS: usize = 65_534;
@@ -69,7 +69,7 @@ impl Iterator for Way<'_> {
         let (step, rest) = match self.rest.strip_prefix(MARK)? {
             [0, rest @ ..] => (Step::StrikeLeft, rest),
             [1, rest @ ..] => (Step::StrikeRight, rest),
-            [2, value, rest @ ..] if usize::from(*value) < SIGNS.len() => (Step::Put(*value), rest),
+            [2, value, rest @ ..] if *value < MOST_CHARACTERS => (Step::Put(*value), rest),
             _ => return None,
         };
         self.rest = rest;
@@ -151,7 +151,7 @@ pub enum Played {
     /// 0: the steps lead to the finish. The first `written` bytes of the answer buffer hold the
     /// [`texts`](crate::texts()) of the fields.
     Finished { written: usize },
-    /// 11 to 17: the sheet is at fault. `place` is the offset of the byte at fault, as [`Fault`]
+    /// 11 to 17, 44: the sheet is at fault. `place` is the offset of the byte at fault, as [`Fault`]
     /// says.
     Refused { fault: Fault, place: usize },
     /// 19: a side grew above 48 tokens, the hidden field of spaces at its end counted.

@@ -2,7 +2,7 @@
 
 use std::fmt;
 
-use crate::Fault;
+use crate::{Edition, Fault};
 
 /// The answer to sides and patterns of which a sheet is to be written.
 #[derive(Clone, Copy, Debug, PartialEq, Eq)]
@@ -10,7 +10,8 @@ pub enum Written {
     /// 0: the sheet is the first `bytes` bytes of the buffer.
     Sheet { bytes: usize },
     /// 11, 13 to 17: a pattern or a side is at fault. `place` is the offset of the byte at fault in
-    /// the sheet that would be written, as [`Fault`] says. [`Fault::WrongMark`] never comes.
+    /// the sheet that would be written, as [`Fault`] says. [`Fault::WrongMark`] and
+    /// [`Fault::WrongEdition`] never come.
     Refused { fault: Fault, place: usize },
     /// 41: the output buffer is too short. Not a byte of it is written.
     TooShort,
@@ -58,14 +59,15 @@ impl fmt::Display for Written {
     }
 }
 
-/// Writes the one sheet that says these sides and patterns.
+/// Writes the one sheet of an edition that says these sides and patterns.
 ///
 /// `left` and `right` are the tokens of the two sides. `patterns` are the bytes of all patterns one
 /// behind the other, by rising field, and `lengths` says how many of them each field has, by field
 /// number. A field has no pattern where its length is 0, and where no length is there for it. Bytes
 /// behind the last pattern are not looked at.
 ///
-/// It is proved that reading the sheet gives the same sides and the same patterns, byte for byte.
+/// It is proved that reading the sheet gives the same edition, the same sides and the same patterns,
+/// byte for byte.
 ///
 /// [`Written::Refused`] is the first fault that reading the sheet would meet: those of the patterns
 /// come first, by rising field, then those of the left side, then those of the right one.
@@ -74,7 +76,8 @@ impl fmt::Display for Written {
 ///
 /// Only [`Written::Sheet`] changes the buffer, and only the bytes of the sheet.
 /// [`SHEET_BYTES`](crate::SHEET_BYTES) are always enough.
-pub fn write(
+pub fn write_edition(
+    edition: Edition,
     patterns: &[u8],
     lengths: &[u64],
     left: &[u8],
@@ -85,7 +88,8 @@ pub fn write(
     // SAFETY: each pointer and length are those of one slice. The two slices that are written
     // overlap no other, since they are borrowed mutably. The function keeps no pointer.
     let number = unsafe {
-        bradovusc_write(
+        bradovusc_write_edition(
+            edition.number(),
             patterns.as_ptr(),
             patterns.len(),
             lengths.as_ptr(),
@@ -109,8 +113,21 @@ pub fn write(
     }
 }
 
+/// Writes the one sheet without `ED` that says these sides and patterns: [`write_edition`] of
+/// [`Edition::Code39`].
+pub fn write(
+    patterns: &[u8],
+    lengths: &[u64],
+    left: &[u8],
+    right: &[u8],
+    out: &mut [u8],
+) -> Written {
+    write_edition(Edition::Code39, patterns, lengths, left, right, out)
+}
+
 extern "C" {
-    fn bradovusc_write(
+    fn bradovusc_write_edition(
+        edition: usize,
         patterns: *const u8,
         patterns_length: usize,
         lengths: *const u64,

@@ -9,6 +9,7 @@ use bradovusc::{
     CarriedOver, Fault, SpeltOpen, MOST_RULES, RULE_BYTES, SHEET_BYTES, SITUATION_BYTES,
 };
 use second::catalogue::RULE;
+use second::edition::{FIRST, SECOND};
 use second::make::{spelt::case, Dice};
 use second::spell_open::{rule_into, sheet_into, Spelt};
 
@@ -161,10 +162,10 @@ fn a_catalogue_that_is_not_carried_over() {
 
 #[test]
 fn generated_sheets_and_rules() {
-    let mut dice = Dice::new(39);
+    let mut dice = [FIRST, SECOND].map(|edition| Dice::of(39, edition));
     let mut seen = BTreeSet::new();
-    for _ in 0..4000 {
-        let case = case(&mut dice);
+    for number in 0..4000 {
+        let case = case(&mut dice[number % 2]);
         let rule = case.sheet.starts_with(RULE);
         let mut ours = vec![FILL; case.answer as usize];
         let mut theirs = ours.clone();
@@ -178,16 +179,16 @@ fn generated_sheets_and_rules() {
         assert_eq!(ours, theirs, "{case:?}");
         seen.insert((rule, number));
     }
-    let sheets = [0, 11, 12, 13, 14, 15, 16, 17, 41].map(|number| (false, number));
+    let sheets = [0, 11, 12, 13, 14, 15, 16, 17, 41, 44].map(|number| (false, number));
     let rules = [0, 11, 12, 13, 14, 15, 16, 17, 31, 41].map(|number| (true, number));
     assert_eq!(seen, sheets.into_iter().chain(rules).collect());
 }
 
 #[test]
 fn buffers_that_are_always_long_enough() {
-    let mut dice = Dice::new(41);
-    for _ in 0..4000 {
-        let old = case(&mut dice).sheet;
+    let mut dice = [FIRST, SECOND].map(|edition| Dice::of(41, edition));
+    for number in 0..4000 {
+        let old = case(&mut dice[number % 2]).sheet;
         assert_ne!(written(spell_open, &old, SHEET_BYTES).0, SpeltOpen::TooShort, "{old:?}");
         assert_ne!(written(spell_open_rule, &old, RULE_BYTES).0, SpeltOpen::TooShort, "{old:?}");
     }
@@ -197,7 +198,7 @@ fn buffers_that_are_always_long_enough() {
     let side = |mark: &[u8], token: u8| [mark, &[24], &[token; 24]].concat();
     let patterns = |fields: u8| (0..fields).flat_map(record).collect::<Vec<u8>>();
     let sheet = [patterns(7), side(b"LE", 71), side(b"RI", 71)].concat();
-    assert_eq!(written(spell_open, &sheet, SHEET_BYTES).0.written(), SHEET_BYTES - 188);
+    assert_eq!(written(spell_open, &sheet, SHEET_BYTES).0.written(), SHEET_BYTES - 3 - 188);
     let rule = [&RULE[..], &patterns(3), &side(b"LE", 67)].concat();
     assert_eq!(written(spell_open_rule, &rule, RULE_BYTES).0.written(), RULE_BYTES - 188);
 }

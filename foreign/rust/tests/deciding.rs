@@ -2,6 +2,7 @@
 //! number and byte; otherwise it says no less.
 
 use bradovusc::{answer_bytes, clash, decide, Answer, SITUATION_BYTES};
+use second::edition::{FIRST, SECOND};
 use second::make::{case, Dice};
 use second::Outcome;
 
@@ -13,9 +14,9 @@ fn outcome(answer: Answer) -> Outcome {
 
 #[test]
 fn generated_cases() {
-    let mut dice = Dice::new(43);
-    for _ in 0..4000 {
-        let case = case(&mut dice);
+    let mut dice = [FIRST, SECOND].map(|edition| Dice::of(43, edition));
+    for number in 0..4000 {
+        let case = case(&mut dice[number % 2]);
         let first = case.run(|sheet, work, answer| outcome(clash(sheet, work, answer)));
         let all = case.run(|sheet, work, answer| outcome(decide(sheet, work, answer).answer));
         let (mut work, mut answer) = (vec![0; case.work as usize], vec![0; case.answer as usize]);

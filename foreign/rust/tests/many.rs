@@ -4,6 +4,7 @@
 use std::collections::BTreeSet;
 
 use bradovusc::{answer_bytes, clash, Answer, SITUATION_BYTES};
+use second::edition::{FIRST, SECOND};
 use second::make::{case, long, Dice};
 use second::Outcome;
 
@@ -17,23 +18,23 @@ fn library(sheet: &[u8], work: &mut [u8], answer: &mut [u8]) -> Outcome {
 
 #[test]
 fn generated_cases() {
-    let mut dice = Dice::new(39);
+    let mut dice = [FIRST, SECOND].map(|edition| Dice::of(39, edition));
     let mut seen = BTreeSet::new();
-    for _ in 0..4000 {
-        let case = case(&mut dice);
+    for number in 0..4000 {
+        let case = case(&mut dice[number % 2]);
         let after = case.run(library);
         assert_eq!(after, case.run(second::answer), "{case:?}");
         seen.insert(after.outcome.number);
     }
-    assert!(seen.into_iter().eq([0, 1, 11, 12, 13, 14, 15, 16, 17, 18, 19, 20]));
+    assert!(seen.into_iter().eq([0, 1, 11, 12, 13, 14, 15, 16, 17, 18, 19, 20, 44]));
 }
 
 #[test]
 fn an_answer_buffer_that_is_always_long_enough() {
-    let mut dice = Dice::new(41);
+    let mut dice = [FIRST, SECOND].map(|edition| Dice::of(41, edition));
     let mut too_short = 0;
-    for _ in 0..4000 {
-        let mut case = case(&mut dice);
+    for number in 0..4000 {
+        let mut case = case(&mut dice[number % 2]);
         let given = case.run(library).outcome.number;
         case.answer = answer_bytes(case.work as usize / SITUATION_BYTES) as u32;
         let now = case.run(library).outcome.number;

@@ -5,6 +5,7 @@
 use std::collections::BTreeMap;
 
 use bradovusc::{clash, plain, plain_bytes, Fault, Plain, PlainBytes, PLAIN_BYTES};
+use second::edition::{FIRST, SECOND};
 use second::make::{pairs, plainly, Dice};
 use second::plain::{Needs, Told};
 
@@ -90,10 +91,10 @@ fn the_most_bits() {
 /// Each answer comes, and the buffer that is always enough is.
 #[test]
 fn generated_cases() {
-    let mut dice = Dice::new(39);
+    let mut dice = [FIRST, SECOND].map(|edition| Dice::of(39, edition));
     let mut seen = BTreeMap::new();
-    for _ in 0..4000 {
-        let case = plainly::case(&mut dice);
+    for number in 0..4000 {
+        let case = plainly::case(&mut dice[number % 2]);
         let (told, theirs) = case.plain();
         let mut ours = vec![FILL; case.work as usize];
         let given = plain(&case.sheet, &mut ours);
@@ -107,17 +108,17 @@ fn generated_cases() {
         assert!(bytes <= PLAIN_BYTES);
         assert_ne!(asked(&case.sheet, PLAIN_BYTES), Plain::BitsTooShort, "{case:?}");
     }
-    assert!(seen.keys().eq(&[0, 1, 11, 12, 13, 14, 15, 16, 17, 42, 43]));
+    assert!(seen.keys().eq(&[0, 1, 11, 12, 13, 14, 15, 16, 17, 42, 43, 44]));
     assert!(seen.values().all(|&times| times > 20), "{seen:?}");
 }
 
 /// It says what the search says, wherever that decides.
 #[test]
 fn as_the_search() {
-    let mut dice = Dice::new(41);
+    let mut dice = [FIRST, SECOND].map(|edition| Dice::of(41, edition));
     let (mut work, mut decided) = (vec![0; 65_520], 0);
-    for _ in 0..2000 {
-        let sheet = pairs::plain_case(&mut dice).sheet;
+    for number in 0..2000 {
+        let sheet = pairs::plain_case(&mut dice[number % 2]).sheet;
         let given = asked(&sheet, PLAIN_BYTES);
         if let Some(clashes) = clash(&sheet, &mut work, &mut []).clashes() {
             assert_eq!(given.clashes(), Some(clashes), "{sheet:?}");

@@ -2,6 +2,7 @@
 //! sheets, which the reader of the crate `second` compares with their sheets.
 
 use bradovusc::{script, Fault, Scripted, SCRIPT_BYTES, SIGNS};
+use second::edition::{FIRST, SECOND};
 use second::make::{case, Dice};
 use second::sheet;
 use second::smt::compare::says;
@@ -135,10 +136,10 @@ fn output(sheet: &[u8]) -> Vec<u8> {
 
 #[test]
 fn generated_sheets() {
-    let mut dice = Dice::new(39);
+    let mut dice = [FIRST, SECOND].map(|edition| Dice::of(39, edition));
     let (mut stream, mut printed) = (Vec::new(), Vec::new());
-    for _ in 0..4000 {
-        let case = case(&mut dice);
+    for number in 0..4000 {
+        let case = case(&mut dice[number % 2]);
         printed.extend(output(&case.sheet));
         case.write(&mut stream);
     }

@@ -8,6 +8,7 @@ use bradovusc::{
     answer_bytes, clash, play, steps, steps_bytes, way, Answer, Fault, Played, Step, Stepped,
     MOST_STEPS, SITUATION_BYTES,
 };
+use second::edition::{FIRST, SECOND};
 use second::make::{pairs, ways, Dice};
 use second::steps::STEPS_FILL;
 use second::Outcome;
@@ -128,10 +129,10 @@ fn the_most_steps() {
 
 #[test]
 fn generated_steps() {
-    let mut dice = Dice::new(39);
+    let mut dice = [FIRST, SECOND].map(|edition| Dice::of(39, edition));
     let mut seen = BTreeMap::new();
-    for _ in 0..2000 {
-        let case = ways::case(&mut dice);
+    for number in 0..2000 {
+        let case = ways::case(&mut dice[number % 2]);
         let theirs = case.run(second::steps::steps);
         let mut work = vec![90; case.case.work as usize];
         let mut answer = vec![ANSWER_FILL; case.case.answer as usize];
@@ -150,10 +151,10 @@ fn generated_steps() {
 
 #[test]
 fn generated_ways_that_are_played() {
-    let mut dice = Dice::new(40);
+    let mut dice = [FIRST, SECOND].map(|edition| Dice::of(40, edition));
     let mut seen = BTreeMap::new();
-    let made = (0..2000).map(|_| ways::played(&mut dice));
-    for case in made.chain(ways::each()) {
+    let made = (0..2000).map(|number| ways::played(&mut dice[number % 2]));
+    for case in made.chain([FIRST, SECOND].into_iter().flat_map(ways::each)) {
         let (told, theirs) = case.run();
         let mut ours = vec![ANSWER_FILL; case.case.answer as usize];
         let given = play(&case.case.sheet, &case.steps, &mut ours);
@@ -171,10 +172,10 @@ fn generated_ways_that_are_played() {
 /// and all else is as without the steps.
 #[test]
 fn ways_of_the_search() {
-    let mut dice = Dice::new(41);
+    let mut dice = [FIRST, SECOND].map(|edition| Dice::of(41, edition));
     let mut ways_found = 0;
-    for _ in 0..1000 {
-        let sheet = pairs::case(&mut dice, false, 356).sheet;
+    for number in 0..1000 {
+        let sheet = pairs::case(&mut dice[number % 2], false, 356).sheet;
         let mut work = vec![0; 356 * SITUATION_BYTES];
         let (mut plain, mut answer) = (vec![0; answer_bytes(356)], vec![0; answer_bytes(356)]);
         let mut lent = vec![0; steps_bytes(356)];
@@ -204,9 +205,10 @@ fn records_that_are_none() {
         part.by_ref().count();
         assert_eq!(part.rest(), &WAY[whole.unwrap()..end]);
     }
-    for wrong in [&b"SU\x00"[..], b"ST\x03", b"ST\x02\x2b", b"ST\x02", b"X", b""] {
+    for wrong in [&b"SU\x00"[..], b"ST\x03", b"ST\x02\x80", b"ST\x02", b"X", b""] {
         assert_eq!(way(wrong).next(), None);
     }
+    assert_eq!(way(b"ST\x02\x7F").next(), Some(Step::Put(127)));
     assert_eq!([0, 1, 2, 356].map(steps_bytes), [0, 0, 4, 1_420]);
     assert_eq!(steps_bytes(65_535), 4 * MOST_STEPS);
 }

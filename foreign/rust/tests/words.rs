@@ -2,15 +2,15 @@
 
 use bradovusc::{
     catalogue_bytes, decided_list_bytes, list_bytes, recheck, recheck_decided, sign, spelt_bytes,
-    texts, value, Added, AddedDecided, Answer, CarriedOver, DecidedPair, Fault, Pair, Plain,
-    PlainBytes, Played, Rechecked, RecheckedDecided, Scripted, Spelt, SpeltOpen, Stepped, Text,
-    Withdrawn, Written, DECIDED_PAIR_BYTES, MOST_RULES, MOST_STEPS, PAIR_BYTES, PLAIN_BYTES,
-    RULE_BYTES, RULE_FIELDS, SCRIPT_BYTES, SHEET_BYTES, SIGNS, VERSION,
+    texts, value, Added, AddedDecided, Answer, CarriedOver, DecidedPair, Edition, Fault, Pair,
+    Plain, PlainBytes, Played, Rechecked, RecheckedDecided, Scripted, Spelt, SpeltOpen, Stepped,
+    Text, Withdrawn, Written, DECIDED_PAIR_BYTES, MOST_CHARACTERS, MOST_RULES, MOST_STEPS,
+    PAIR_BYTES, PLAIN_BYTES, RULE_BYTES, RULE_FIELDS, SCRIPT_BYTES, SHEET_BYTES, SIGNS, VERSION,
 };
 
 const HEADER: &str = include_str!("../../c/bradovusc.h");
 
-const FAULTS: [Fault; 7] = [
+const FAULTS: [Fault; 8] = [
     Fault::CutShort,
     Fault::WrongMark,
     Fault::WrongField,
@@ -18,6 +18,7 @@ const FAULTS: [Fault; 7] = [
     Fault::NotOnePattern,
     Fault::TooManyLeaves,
     Fault::WrongToken,
+    Fault::WrongEdition,
 ];
 
 /// The answers that are no fault of the sheet, with count 7.
@@ -51,7 +52,7 @@ fn header_texts() -> Vec<(u32, &'static str)> {
 #[test]
 fn answers_in_words() {
     let expected = header_texts();
-    assert_eq!(expected.len(), 29);
+    assert_eq!(expected.len(), 30);
     let faults = FAULTS.map(|fault| (fault.number(), fault.to_string()));
     let others = OTHERS.map(|answer| (answer.number(), answer.to_string()));
     let added = [Added::ForeignField, Added::Full, Added::NoCatalogue]
@@ -276,6 +277,24 @@ fn signs_both_ways() {
     assert_eq!(found.count(), 43);
 }
 
+/// Each edition has its signs, both ways, and no other.
+#[test]
+fn signs_of_the_editions() {
+    for edition in [Edition::Code39, Edition::FullAscii] {
+        for at in 0..=255 {
+            let found = edition.sign(at);
+            assert_eq!(found.is_some(), at < edition.characters());
+            assert!(found.is_none_or(|found| edition.value(found) == Some(at)));
+        }
+        let found = ('\0'..='\u{FFFF}').filter(|&sign| edition.value(sign).is_some());
+        assert_eq!(found.count(), edition.characters().into());
+        assert_eq!(edition.sign(edition.space()), Some(' '));
+    }
+    assert_eq!(Edition::FullAscii.text(b"a\n\x7F\x80"), "a\n\x7F\u{FFFD}");
+    assert_eq!(Edition::Code39.text(&[42, 4, 43]), "%4\u{FFFD}");
+    assert_eq!(Edition::default(), Edition::Code39);
+}
+
 #[test]
 fn records_cut_short() {
     let records = b"VA\x00\x00\x00VA\x03\x02\x00\x2A\x04";
@@ -306,6 +325,12 @@ fn lengths_of_buffers() {
     defined("SHEET_BYTES", SHEET_BYTES);
     defined("PLAIN_BYTES", PLAIN_BYTES);
     defined("MOST_STEPS", MOST_STEPS);
+    defined("CHARACTERS", Edition::Code39.characters().into());
+    defined("MOST_CHARACTERS", MOST_CHARACTERS.into());
+    let editions = [Edition::Code39, Edition::FullAscii].map(Edition::number);
+    let words =
+        format!("BRADOVUSC_CODE_39 = {}, BRADOVUSC_FULL_ASCII = {} ", editions[0], editions[1]);
+    assert!(HEADER.contains(&words), "{words}");
     assert_eq!(catalogue_bytes(MOST_RULES), 26_016);
     assert_eq!([0, 1, 2, 3, MOST_RULES].map(list_bytes), [0, 0, 5, 15, 2_480]);
     assert_eq!([0, 1, 2, 3, MOST_RULES].map(decided_list_bytes), [0, 0, 7, 21, 3_472]);

@@ -4,7 +4,8 @@
 
 use std::collections::BTreeMap;
 
-use bradovusc::{clash, write, Answer, Fault, Written, SHEET_BYTES};
+use bradovusc::{clash, write, write_edition, Answer, Edition, Fault, Written, SHEET_BYTES};
+use second::edition::{FIRST, SECOND};
 use second::make::{self, written::case, Dice};
 use second::Outcome;
 
@@ -13,19 +14,26 @@ const FILL: u8 = 165;
 /// What is handed over.
 #[derive(Clone, Copy)]
 struct Parts<'a> {
+    edition: Edition,
     patterns: &'a [u8],
     lengths: &'a [u64],
     left: &'a [u8],
     right: &'a [u8],
 }
 
-const NOTHING: Parts = Parts { patterns: &[], lengths: &[], left: &[], right: &[] };
+const NOTHING: Parts =
+    Parts { edition: Edition::Code39, patterns: &[], lengths: &[], left: &[], right: &[] };
 
 /// The answer in a filled buffer of this length, and what was written. Looks at every byte behind it.
 fn written(parts: Parts, length: usize) -> (Written, Vec<u8>) {
-    let Parts { patterns, lengths, left, right } = parts;
+    let Parts { edition, patterns, lengths, left, right } = parts;
     let mut out = vec![FILL; length];
-    let given = write(patterns, lengths, left, right, &mut out);
+    let given = write_edition(edition, patterns, lengths, left, right, &mut out);
+    if edition == Edition::Code39 {
+        let mut same = vec![FILL; length];
+        assert_eq!(write(patterns, lengths, left, right, &mut same), given);
+        assert_eq!(same, out);
+    }
     let rest = out.split_off(given.written());
     assert!(rest.iter().all(|&byte| byte == FILL), "{given:?}");
     (given, out)
@@ -47,7 +55,13 @@ fn sheets() {
     known(NOTHING, b"LE\x00RI\x00");
     known(Parts { left: &[10], right: &[64, 11], ..NOTHING }, b"LE\x01\x0ARI\x02\x40\x0B");
     let sheet = b"PA\x00\x04\x44\x41\x00\x09PA\x01\x01\x04LE\x01\x40RI\x01\x41";
-    let four = Parts { patterns: &[68, 65, 0, 9, 4], lengths: &[4, 1], left: &[64], right: &[65] };
+    let four = Parts {
+        patterns: &[68, 65, 0, 9, 4],
+        lengths: &[4, 1],
+        left: &[64],
+        right: &[65],
+        ..NOTHING
+    };
     known(four, sheet);
     // zeros behind the last length, those of fields that no sheet has among them
     known(Parts { lengths: &[4, 1, 0, 0, 0, 0, 0, 0, 0, 0, 0], ..four }, sheet);
@@ -63,17 +77,53 @@ fn sheets() {
 #[test]
 fn parts_that_are_the_same() {
     let same = [4, 4];
-    let parts = Parts { patterns: &same, lengths: &[1, 1], left: &same, right: &same };
+    let parts = Parts { patterns: &same, lengths: &[1, 1], left: &same, right: &same, ..NOTHING };
     known(parts, b"PA\x00\x01\x04PA\x01\x01\x04LE\x02\x04\x04RI\x02\x04\x04");
 }
 
 #[test]
 fn the_longest_sheet() {
     let patterns = [vec![68; 191], vec![0]].concat().repeat(8);
-    let parts =
-        Parts { patterns: &patterns, lengths: &[192; 8], left: &[71; 24], right: &[42; 24] };
+    let (lengths, sides) = (&[192; 8], ([71; 24], [42; 24]));
+    let parts = Parts { patterns: &patterns, lengths, left: &sides.0, right: &sides.1, ..NOTHING };
+    assert_eq!(written(parts, SHEET_BYTES).0, Written::Sheet { bytes: SHEET_BYTES - 3 });
+    assert_eq!(written(parts, SHEET_BYTES - 4).0, Written::TooShort);
+    let patterns = [vec![196; 191], vec![0]].concat().repeat(8);
+    let (edition, left) = (Edition::FullAscii, [199; 24]);
+    let parts = Parts { edition, patterns: &patterns, left: &left, ..parts };
     assert_eq!(written(parts, SHEET_BYTES).0, Written::Sheet { bytes: SHEET_BYTES });
     assert_eq!(written(parts, SHEET_BYTES - 1).0, Written::TooShort);
+}
+
+/// Behind `ED` 64 to 68 are characters, and every place is three bytes further on.
+#[test]
+fn in_full_ascii() {
+    let ascii = Parts { edition: Edition::FullAscii, ..NOTHING };
+    known(ascii, b"ED\x02LE\x00RI\x00");
+    known(
+        Parts {
+            patterns: b"@\xC4D",
+            lengths: &[1, 0, 2],
+            left: b"A\xC2",
+            right: b"\0\x7F",
+            ..ascii
+        },
+        b"ED\x02PA\x00\x01@PA\x02\x02\xC4DLE\x02A\xC2RI\x02\0\x7F",
+    );
+    let refused = |parts, fault, place| {
+        assert_eq!(written(parts, SHEET_BYTES).0, Written::Refused { fault, place });
+    };
+    refused(Parts { patterns: &[68, 4], lengths: &[2], ..ascii }, Fault::NotOnePattern, 8);
+    refused(Parts { patterns: &[197], lengths: &[1], ..ascii }, Fault::NotOnePattern, 7);
+    refused(Parts { patterns: &[193, 0, 128], lengths: &[3], ..ascii }, Fault::NotOnePattern, 9);
+    refused(Parts { left: &[128], ..ascii }, Fault::WrongToken, 6);
+    refused(Parts { right: &[200], ..ascii }, Fault::WrongToken, 9);
+    refused(Parts { left: &[192], ..NOTHING }, Fault::WrongToken, 3);
+    for (sheet, edition) in [(&b"ED\x02LE"[..], Edition::FullAscii), (b"ED\x03", Edition::Code39)] {
+        assert_eq!(Edition::of(sheet), edition);
+    }
+    let wrong = clash(b"ED\x03LE\x00RI\x00", &mut [], &mut []);
+    assert_eq!(wrong, Answer::Refused { fault: Fault::WrongEdition, place: 2 });
 }
 
 /// The first fault that the sheet would meet, before 41.
@@ -85,7 +135,7 @@ fn faults() {
         }
     }
     fn of<'a>(patterns: &'a [u8], lengths: &'a [u64]) -> Parts<'a> {
-        Parts { patterns, lengths, left: &[43], right: &[43] }
+        Parts { patterns, lengths, left: &[43], right: &[43], ..NOTHING }
     }
     let leaves = [[66; 63].to_vec(), [7; 64].to_vec()].concat();
     // behind a record of five bytes; 13 before 14 and before the sides
@@ -106,16 +156,28 @@ fn faults() {
     refused(Parts { left: &[4], right: &[71, 72], ..NOTHING }, Fault::WrongToken, 8);
 }
 
-/// 12 never comes, and each of the other answers does.
+/// The edition with this number.
+fn edition(number: u64) -> Option<Edition> {
+    [Edition::Code39, Edition::FullAscii].into_iter().find(|each| each.number() as u64 == number)
+}
+
+/// 12 and 44 never come, and each of the other answers does.
 #[test]
 fn generated_cases() {
-    let mut dice = Dice::new(39);
+    let mut dice = [FIRST, SECOND].map(|edition| Dice::of(39, edition));
     let mut seen = BTreeMap::new();
-    for _ in 0..4000 {
-        let case = case(&mut dice);
+    for number in 0..4000 {
+        let case = case(&mut dice[number % 2]);
         let (told, theirs) = case.run();
         let mut ours = vec![FILL; case.output.into()];
-        let given = write(&case.patterns, &case.lengths, &case.left, &case.right, &mut ours);
+        let Some(edition) = edition(case.edition) else {
+            assert_eq!(told.number, 44);
+            continue;
+        };
+        let write = |out: &mut [u8]| {
+            write_edition(edition, &case.patterns, &case.lengths, &case.left, &case.right, out)
+        };
+        let given = write(&mut ours);
         let (number, place, written) = (given.number() as u8, given.place(), given.written());
         assert_eq!(Outcome { number, count: 0, place, written }, told, "{case:?}");
         assert_eq!(ours, theirs, "{case:?}");
@@ -126,8 +188,7 @@ fn generated_cases() {
             assert!(matches!(answer, Answer::NoRoom { .. }), "{case:?}: {answer}");
         }
         let mut longest = [FILL; SHEET_BYTES];
-        let given = write(&case.patterns, &case.lengths, &case.left, &case.right, &mut longest);
-        assert_ne!(given, Written::TooShort, "{case:?}");
+        assert_ne!(write(&mut longest), Written::TooShort, "{case:?}");
     }
     assert!(seen.keys().eq(&[0, 11, 13, 14, 15, 16, 17, 41]));
     assert!(seen.values().all(|&times| times > 100), "{seen:?}");
@@ -136,14 +197,16 @@ fn generated_cases() {
 /// Writing what stands in a good sheet gives the same bytes.
 #[test]
 fn sheets_written_again() {
-    let mut dice = Dice::new(41);
+    let mut dice = [FIRST, SECOND].map(|edition| Dice::of(41, edition));
     let mut good = 0;
-    for _ in 0..4000 {
-        let sheet = make::case(&mut dice).sheet;
+    for number in 0..4000 {
+        let sheet = make::case(&mut dice[number % 2]).sheet;
         if matches!(clash(&sheet, &mut [], &mut []), Answer::Refused { .. }) {
             continue;
         }
-        let (mut patterns, mut lengths, mut rest) = (Vec::new(), [0; 8], &sheet[..]);
+        let edition = Edition::of(&sheet);
+        let front = if edition == Edition::FullAscii { 3 } else { 0 };
+        let (mut patterns, mut lengths, mut rest) = (Vec::new(), [0; 8], &sheet[front..]);
         while rest.starts_with(b"PA") {
             let (record, behind) = rest.split_at(4 + usize::from(rest[3]));
             patterns.extend_from_slice(&record[4..]);
@@ -151,7 +214,8 @@ fn sheets_written_again() {
             rest = behind;
         }
         let (left, behind) = rest[3..].split_at(usize::from(rest[2]));
-        known(Parts { patterns: &patterns, lengths: &lengths, left, right: &behind[3..] }, &sheet);
+        let (patterns, lengths, right) = (&patterns[..], &lengths[..], &behind[3..]);
+        known(Parts { edition, patterns, lengths, left, right }, &sheet);
         good += 1;
     }
     assert!(good > 2000, "{good}");

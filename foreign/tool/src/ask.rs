@@ -52,7 +52,8 @@ pub struct Asked {
 /// A label that two rules make, without spaces at its end.
 #[derive(Clone, Debug)]
 pub struct Shared {
-    pub label: String,
+    /// By value.
+    pub label: Vec<u8>,
     /// What the fields of the rules hold on it.
     pub left: Vec<Text>,
     pub right: Vec<Text>,
@@ -123,7 +124,7 @@ impl Buffers {
         let shared = match decision.answer {
             Answer::Clash { written, .. } => {
                 let (left, right) = texts(answer.get(..written).unwrap_or_default());
-                Some(Shared { label: String::new(), left, right })
+                Some(Shared { label: Vec::new(), left, right })
             }
             _ => None,
         };
@@ -136,7 +137,7 @@ impl Buffers {
 mod tests {
     use super::*;
     use crate::sides::Title;
-    use bradovusc::Fault;
+    use bradovusc::{Edition, Fault};
 
     #[test]
     fn the_room_grows_fourfold() {
@@ -147,8 +148,9 @@ mod tests {
 
     #[test]
     fn a_rule_that_the_library_refuses() {
-        let (title, patterns, tokens) = (Title::Number(0), Vec::new(), vec![4, 43]);
-        let side = Side { title, patterns, tokens, fields: Vec::new() };
+        let (edition, title) = (Edition::Code39, Title::Number(0));
+        let side =
+            Side { edition, title, patterns: Vec::new(), tokens: vec![4, 43], fields: Vec::new() };
         let asked = Buffers::new().ask(&side, &side, Room::Growing);
         assert_eq!(asked.answer, Answer::Refused { fault: Fault::WrongToken, place: 4 });
         assert!(asked.shared.is_none());

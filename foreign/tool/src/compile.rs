@@ -1,11 +1,11 @@
 //! Rules as bytes, for the library. Of each byte it is known from which part of the source it was
 //! made, so that a fault which the library finds can be shown there.
 
-use bradovusc::{Added, Fault, RULE_BYTES, RULE_FIELDS};
+use bradovusc::{Answer, Edition, Fault, RULE_FIELDS};
 
 use crate::notation::{Field, Rule, Stands};
 use crate::plain::{plain, Form, Plain};
-use crate::sides::{Side, Title, FIELD};
+use crate::sides::{Side, Title};
 use crate::source::{Mistake, Span};
 
 /// A pattern has at most so many bytes.
@@ -15,17 +15,22 @@ const LEAVES: usize = 63;
 /// A side has at most so many tokens.
 const TOKENS: usize = 24;
 
-/// The codes of a pattern.
-const EMPTY: u8 = 64;
-const RANGE: u8 = 65;
-const THEN: u8 = 66;
-const OR: u8 = 67;
-const MANY: u8 = 68;
+/// The codes of a pattern, from the first one of an edition on.
+const EMPTY: u8 = 0;
+const RANGE: u8 = 1;
+const THEN: u8 = 2;
+const OR: u8 = 3;
+const MANY: u8 = 4;
+
+/// The record in front of a sheet of Full ASCII.
+const FULL_ASCII: &[u8] = b"ED\x02";
+/// A right side that is empty.
+const NO_RIGHT: &[u8] = b"RI\x00";
 
 /// What a byte says.
 #[derive(Clone, Copy, Debug, PartialEq, Eq)]
 enum Says {
-    /// A mark, or a part of it.
+    /// A mark, or a part of it, or the edition.
     Mark,
     /// For which of the rule's fields a pattern is.
     Field(usize),
@@ -59,7 +64,7 @@ impl Traced {
         self.origins.push(Origin { span, says });
     }
 
-    fn mark(&mut self, mark: &[u8; 2], span: Span) {
+    fn mark(&mut self, mark: &[u8], span: Span) {
         mark.iter().for_each(|&byte| self.put(byte, span, Says::Mark));
     }
 
@@ -69,27 +74,26 @@ impl Traced {
     }
 }
 
-/// The rule as the library reads it, if the library would enter it into an empty catalogue; else what
+/// The rule as the library reads it, if the library takes it as the left side of a sheet; else what
 /// the library says, at the part of the source from which the byte at fault was made.
 pub fn judge(rule: &Rule) -> Result<Side, Mistake> {
-    let Compiled { side, record } = compile(rule);
-    let mut catalogue = [0; RULE_BYTES];
-    match bradovusc::add(&mut catalogue, &record.bytes, &mut []) {
-        Added::Entered => Ok(side),
-        Added::Refused { fault, place } => Err(record.mistake(fault, place)),
-        // the library tells no place of it: it is the first field that is one too many
-        Added::ForeignField => {
-            let span = rule.fields.get(RULE_FIELDS).map_or(rule.span, |field| field.span);
-            Err(too_many_fields(span, RULE_FIELDS))
-        }
-        other => Err(Mistake::new(rule.span, format!("the library says: {other}"))),
+    let Compiled { side, front } = compile(rule);
+    let sheet = [&front.bytes, NO_RIGHT].concat();
+    // no room: the sheet is only read
+    if let Answer::Refused { fault, place } = bradovusc::clash(&sheet, &mut [], &mut []) {
+        return Err(front.mistake(fault, place));
+    }
+    // a sheet has as many for each of its two rules
+    match rule.fields.get(RULE_FIELDS) {
+        Some(field) => Err(too_many_fields(field.span, RULE_FIELDS)),
+        None => Ok(side),
     }
 }
 
-/// A rule, and its record with the origin of each byte.
+/// A rule, and the front of a sheet with it on the left, with the origin of each byte.
 struct Compiled {
     side: Side,
-    record: Traced,
+    front: Traced,
 }
 
 /// A number as a byte. What no byte can say is said by 255, which is above every limit.
@@ -98,80 +102,83 @@ fn byte(number: usize) -> u8 {
 }
 
 fn compile(rule: &Rule) -> Compiled {
-    let mut record = Traced::default();
+    let (edition, codes) = (rule.edition, rule.edition.codes());
+    let mut front = Traced::default();
     let mut patterns = Vec::new();
-    record.mark(b"RU", rule.span);
+    if edition == Edition::FullAscii {
+        front.mark(FULL_ASCII, rule.span);
+    }
     for (index, field) in rule.fields.iter().enumerate() {
         let Some(pattern) = &field.pattern else {
             continue;
         };
         let mut body = Traced::default();
         let wanted = plain(pattern).map(|plain| {
-            put(&plain, &mut body);
+            put(codes, &plain, &mut body);
             body.bytes.len()
         });
-        record.mark(b"PA", field.span);
-        record.put(byte(index), field.span, Says::Field(index));
+        front.mark(b"PA", field.span);
+        front.put(byte(index), field.span, Says::Field(index));
         let length = byte(wanted.unwrap_or(usize::MAX));
-        record.put(length, pattern.span, Says::PatternLength(wanted));
-        record.append(&body);
+        front.put(length, pattern.span, Says::PatternLength(wanted));
+        front.append(&body);
         patterns.push((byte(index), body.bytes));
     }
-    record.mark(b"LE", rule.span);
+    front.mark(b"LE", rule.span);
     let wanted = rule.template.len();
     let last = rule.template.get(TOKENS).or(rule.template.last());
     let span = last.map_or(rule.span, |token| token.span);
-    record.put(byte(wanted), span, Says::SideLength(wanted));
+    front.put(byte(wanted), span, Says::SideLength(wanted));
     let mut tokens = Vec::new();
     for token in &rule.template {
         let (code, field) = match token.stands {
             Stands::Character(value) => (value, None),
-            Stands::Field(index) => (byte(index.saturating_add(usize::from(FIELD))), Some(index)),
+            Stands::Field(index) => (byte(index.saturating_add(codes.into())), Some(index)),
         };
-        record.put(code, token.span, Says::Token(field));
+        front.put(code, token.span, Says::Token(field));
         tokens.push(code);
     }
     let name = |(index, field): (usize, &Field)| (byte(index), field.name.clone());
     let fields = rule.fields.iter().enumerate().map(name).collect();
     Compiled {
-        side: Side { title: Title::Name(rule.name.clone()), patterns, tokens, fields },
-        record,
+        side: Side { edition, title: Title::Name(rule.name.clone()), patterns, tokens, fields },
+        front,
     }
 }
 
-/// A pattern, operator first.
-fn put(plain: &Plain, to: &mut Traced) {
+/// A pattern, operator first, in the codes of an edition.
+fn put(codes: u8, plain: &Plain, to: &mut Traced) {
     let span = plain.span;
     match &plain.form {
-        Form::Empty => to.put(EMPTY, span, Says::Pattern),
+        Form::Empty => to.put(codes + EMPTY, span, Says::Pattern),
         Form::One(set) => {
             let ranges = set.ranges();
             for (index, &(low, high)) in ranges.iter().enumerate() {
                 if index + 1 < ranges.len() {
-                    to.put(OR, span, Says::Pattern);
+                    to.put(codes + OR, span, Says::Pattern);
                 }
                 if low < high {
-                    to.put(RANGE, span, Says::Pattern);
+                    to.put(codes + RANGE, span, Says::Pattern);
                     to.put(low, span, Says::Pattern);
                 }
                 to.put(high, span, Says::Pattern);
             }
         }
-        Form::Then(parts) => put_row(THEN, parts, span, to),
-        Form::Or(parts) => put_row(OR, parts, span, to),
+        Form::Then(parts) => put_row(codes, THEN, parts, span, to),
+        Form::Or(parts) => put_row(codes, OR, parts, span, to),
         Form::Many(part) => {
-            to.put(MANY, span, Says::Pattern);
-            put(part, to);
+            to.put(codes + MANY, span, Says::Pattern);
+            put(codes, part, to);
         }
     }
 }
 
-fn put_row(operator: u8, parts: &[Plain], span: Span, to: &mut Traced) {
+fn put_row(codes: u8, operator: u8, parts: &[Plain], span: Span, to: &mut Traced) {
     for (index, part) in parts.iter().enumerate() {
         if index + 1 < parts.len() {
-            to.put(operator, span, Says::Pattern);
+            to.put(codes + operator, span, Says::Pattern);
         }
-        put(part, to);
+        put(codes, part, to);
     }
 }
 
@@ -240,6 +247,16 @@ mod tests {
         assert_eq!(
             sheet(&rules[0], &rules[1]).unwrap(),
             b"PA\x01\x04\x44\x41\x00\x09PA\x04\x05\x43\x0A\x42\x0B\x1BLE\x04\x15\x1D\x40\x41RI\x03\x44\x04\x44"
+        );
+    }
+
+    #[test]
+    fn in_full_ascii() {
+        let rules =
+            judged("full ascii\na = Lt{x}\\<GS>\n x = [a-z]*\nb = {n}\\#@{n}\n n = \\{|()\n");
+        assert_eq!(
+            sheet(&rules[0], &rules[1]).unwrap(),
+            b"ED\x02PA\x00\x04\xC4\xC1azPA\x04\x03\xC3{\xC0LE\x04Lt\xC0\x1DRI\x04\xC4#@\xC4"
         );
     }
 }

@@ -1,12 +1,18 @@
 //! Rules of a catalogue, from their bytes, in the notation: fields are named a to d, a rule by its
 //! number.
 
-use bradovusc::Withdrawn;
+use bradovusc::{Edition, Withdrawn};
 
 use crate::characters::Set;
 use crate::notation::{Field, Kind, Pattern, Rule, Stands, Token};
-use crate::sides::{Side, Title, FIELD, RIGHT};
+use crate::sides::{Side, Title, RIGHT};
 use crate::source::Span;
+
+/// The edition of every rule of a catalogue.
+const EDITION: Edition = Edition::Code39;
+
+/// The token of field 0.
+const FIELD: u8 = EDITION.codes();
 
 /// A rule of a catalogue.
 #[derive(Clone, Debug)]
@@ -78,7 +84,8 @@ impl<'a> Reader<'a> {
         let tokens = self.take_many(length)?.to_vec();
         let (rule, stray) = rule(number, &tokens, given);
         let fields = standing(&tokens).map(|field| (field, field_name(field))).collect();
-        let side = Side { title: Title::Number(number), patterns: bodies, tokens, fields };
+        let (edition, title) = (EDITION, Title::Number(number));
+        let side = Side { edition, title, patterns: bodies, tokens, fields };
         Some(Entry { rule, stray, side, bytes: self.at - start })
     }
 
@@ -87,7 +94,7 @@ impl<'a> Reader<'a> {
             64 => Kind::Empty,
             65 => {
                 let low = self.take()?;
-                Kind::One(Set::range(low, self.take()?))
+                Kind::One(Set::range(EDITION, low, self.take()?))
             }
             66 => {
                 let (first, second) = (self.pattern()?, self.pattern()?);
@@ -98,7 +105,7 @@ impl<'a> Reader<'a> {
                 return Some(or(first, second));
             }
             68 => Kind::Repeat { part: Box::new(self.pattern()?), least: 0, most: None },
-            value => Kind::One(Set::one(value)),
+            value => Kind::One(Set::one(EDITION, value)),
         };
         Some(Pattern { kind, span: Span::default() })
     }
@@ -162,5 +169,6 @@ fn rule(number: usize, tokens: &[u8], given: Vec<(u8, Pattern)>) -> (Rule, Vec<(
     let astray = |(field, _): &&(u8, Pattern)| place(FIELD + field).is_none();
     let named = |(field, pattern): &(u8, Pattern)| (field_name(*field), pattern.clone());
     let stray = given.iter().filter(astray).map(named).collect();
-    (Rule { name: number.to_string(), span: Span::default(), template, fields }, stray)
+    let (name, span) = (number.to_string(), Span::default());
+    (Rule { edition: EDITION, name, span, template, fields }, stray)
 }

@@ -8,8 +8,10 @@ mod print;
 mod read;
 mod template;
 
-pub use print::{pattern_text, rule_text, template_text};
+pub use print::{character_text, pattern_text, rule_text, template_text, told_text, Place};
 pub use read::read;
+
+use bradovusc::Edition;
 
 use crate::characters::Set;
 use crate::source::Span;
@@ -17,6 +19,8 @@ use crate::source::Span;
 /// A rule: how a label is made.
 #[derive(Clone, Debug)]
 pub struct Rule {
+    /// Which characters it has: that of its file.
+    pub edition: Edition,
     pub name: String,
     /// Where the name stands.
     pub span: Span,
@@ -74,8 +78,9 @@ pub enum Kind {
 /// Two rules are the same wherever they are written.
 impl PartialEq for Rule {
     fn eq(&self, other: &Rule) -> bool {
-        let Rule { name, span: _, template, fields } = self;
-        (name, template, fields) == (&other.name, &other.template, &other.fields)
+        let Rule { edition, name, span: _, template, fields } = self;
+        (edition, name, template, fields)
+            == (&other.edition, &other.name, &other.template, &other.fields)
     }
 }
 

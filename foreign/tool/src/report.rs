@@ -1,9 +1,10 @@
 //! What the library said, in words or in JSON.
 
-use bradovusc::Answer;
+use bradovusc::{spelt_bytes, Answer, Edition};
 
 use crate::ask::{Asked, Shared};
 use crate::json::Object;
+use crate::notation::told_text;
 use crate::sides::{Side, Text, Title};
 use crate::source::{Mistake, Source};
 use crate::status::{Problem, Status};
@@ -78,10 +79,24 @@ pub fn pair_words(left: &Side, right: &Side, asked: &Asked) -> String {
         (_, Some(shared)) => {
             let Shared { label, left: on_left, right: on_right } = shared;
             let fields = [fields_words(left, on_left), fields_words(right, on_right)].concat();
-            format!("{titles} clash: \"{label}\"\n{fields}")
+            let spelt = spelt(left.edition, label);
+            let spelt = spelt.map_or(String::new(), |signs| format!(", spelt \"{signs}\""));
+            format!("{titles} clash: {}{spelt}\n{fields}", told_text(left.edition, label))
         }
         (answer, None) if answer.clashes() == Some(true) => format!("{titles} {answer}\n"),
         (answer, None) => format!("{titles}: {}\n", not_decided_words(answer, asked.room)),
+    }
+}
+
+/// The label as it stands in Code 39, if it is one of Full ASCII.
+fn spelt(edition: Edition, label: &[u8]) -> Option<String> {
+    let mut values = vec![0; spelt_bytes(label.len())];
+    match edition {
+        Edition::Code39 => None,
+        Edition::FullAscii => {
+            let written = bradovusc::spell(label, &mut values).written();
+            Some(Edition::Code39.text(values.get(..written)?))
+        }
     }
 }
 
@@ -105,7 +120,7 @@ fn not_decided_words(answer: Answer, room: usize) -> String {
 fn fields_words(side: &Side, texts: &[Text]) -> String {
     let held = |(field, name): &(u8, String)| {
         let text = texts.iter().find(|text| text.field == *field);
-        text.map(|text| format!("{name} = \"{}\"", text.signs))
+        text.map(|text| format!("{name} = {}", told_text(side.edition, &text.values)))
     };
     let held: Vec<String> = side.fields.iter().filter_map(held).collect();
     let held = if held.is_empty() { "no fields".to_string() } else { held.join(", ") };
@@ -146,8 +161,11 @@ pub fn pair_in(object: Object, left: &Side, right: &Side, asked: &Asked) -> Obje
         _ => (),
     }
     if let Some(shared) = &asked.shared {
+        object = object.text("label", &left.edition.text(&shared.label));
+        if let Some(signs) = spelt(left.edition, &shared.label) {
+            object = object.text("spelt", &signs);
+        }
         object = object
-            .text("label", &shared.label)
             .object("left_fields", fields_object(left, &shared.left))
             .object("right_fields", fields_object(right, &shared.right));
     }
@@ -157,7 +175,7 @@ pub fn pair_in(object: Object, left: &Side, right: &Side, asked: &Asked) -> Obje
 fn fields_object(side: &Side, texts: &[Text]) -> Object {
     side.fields.iter().fold(Object::new(), |object, (field, name)| {
         match texts.iter().find(|text| text.field == *field) {
-            Some(text) => object.text(name, &text.signs),
+            Some(text) => object.text(name, &side.edition.text(&text.values)),
             None => object,
         }
     })

@@ -7,7 +7,8 @@ use std::io::{self, Read, Write};
 use std::path::Path;
 
 use bradovusc::{
-    Added, AddedDecided, Answer, RecheckedDecided, Scripted, Withdrawn, MOST_RULES, SCRIPT_BYTES,
+    Added, AddedDecided, Answer, Edition, RecheckedDecided, Scripted, Withdrawn, MOST_RULES,
+    SCRIPT_BYTES,
 };
 
 use crate::ask::{Asked, Buffers};
@@ -342,6 +343,12 @@ impl Run<'_> {
     fn add(&mut self, path: &Path, file: &Path, rule: &str) -> Outcome {
         let rules = self.rules(file)?;
         let side = named(&rules, file, rule)?;
+        if side.edition == Edition::FullAscii {
+            return Err(Problem::Fault(format!(
+                "{} is Full ASCII, and a catalogue takes plain rules only, those of Code 39",
+                file.display()
+            )));
+        }
         let catalogue = match self.options.new {
             true => Catalogue::empty(path, self.bytes())?,
             false => Catalogue::read_to_replace(path, self.bytes())?,

@@ -2,12 +2,7 @@
 
 use std::fmt;
 
-use bradovusc::{Written, RULE_FIELDS, SHEET_BYTES};
-
-use crate::characters::sign;
-
-/// The token of field 0.
-pub const FIELD: u8 = 64;
+use bradovusc::{Edition, Written, RULE_FIELDS, SHEET_BYTES};
 
 /// The fields of a right side stand behind those of the left one: 4 to 7 for 0 to 3.
 pub const RIGHT: u8 = RULE_FIELDS as u8;
@@ -33,6 +28,8 @@ impl fmt::Display for Title {
 /// A rule that the library takes, with the names by which it is told.
 #[derive(Clone, Debug)]
 pub struct Side {
+    /// Which characters it has. Two rules that are asked about have the same.
+    pub edition: Edition,
     pub title: Title,
     /// The fields with a pattern, by rising number, each with the pattern's bytes.
     pub patterns: Vec<(u8, Vec<u8>)>,
@@ -45,11 +42,12 @@ pub struct Side {
 #[derive(Clone, Debug, PartialEq, Eq)]
 pub struct Text {
     pub field: u8,
-    pub signs: String,
+    /// Its characters by value.
+    pub values: Vec<u8>,
 }
 
 impl Side {
-    /// The record of a catalogue.
+    /// The record of a catalogue, for a rule of Code 39.
     pub fn record(&self) -> Vec<u8> {
         let mut bytes = b"RU".to_vec();
         for (field, body) in &self.patterns {
@@ -63,27 +61,33 @@ impl Side {
         bytes
     }
 
-    /// The label that the rule makes of these texts, without the spaces at its end.
-    pub fn label(&self, texts: &[Text]) -> String {
-        let mut label = String::new();
+    /// The label that the rule makes of these texts, by value, without the spaces at its end.
+    pub fn label(&self, texts: &[Text]) -> Vec<u8> {
+        let mut label = Vec::new();
         for &token in &self.tokens {
-            match token.checked_sub(FIELD) {
-                None => label.push(sign(token)),
+            match token.checked_sub(self.edition.codes()) {
+                None => label.push(token),
                 Some(field) => {
                     let text = texts.iter().find(|text| text.field == field);
-                    label += text.map_or("", |text| &text.signs);
+                    label.extend(text.map_or(&[][..], |text| &text.values));
                 }
             }
         }
-        label.truncate(label.trim_end_matches(' ').len());
+        without_spaces(self.edition, &mut label);
         label
     }
 
     /// The tokens, with so much added to each field's number.
     pub fn renamed(&self, first: u8) -> Vec<u8> {
-        let renamed = |&token: &u8| if token < FIELD { token } else { token.saturating_add(first) };
+        let codes = self.edition.codes();
+        let renamed = |&token: &u8| if token < codes { token } else { token.saturating_add(first) };
         self.tokens.iter().map(renamed).collect()
     }
+}
+
+/// Drops the spaces at the end of a label.
+pub fn without_spaces(edition: Edition, label: &mut Vec<u8>) {
+    while label.pop_if(|last| *last == edition.space()).is_some() {}
 }
 
 /// The sheet that asks whether two rules make the same label. The library writes it, or says what is
@@ -100,9 +104,10 @@ pub fn sheet(left: &Side, right: &Side) -> Result<Vec<u8>, Written> {
             patterns.extend(body);
         }
     }
-    let mut sheet = vec![0; SHEET_BYTES];
+    let (mut sheet, edition) = (vec![0; SHEET_BYTES], left.edition);
+    debug_assert_eq!(edition, right.edition);
     let (left, right) = (left.renamed(0), right.renamed(RIGHT));
-    match bradovusc::write(&patterns, &lengths, &left, &right, &mut sheet) {
+    match bradovusc::write_edition(edition, &patterns, &lengths, &left, &right, &mut sheet) {
         Written::Sheet { bytes } => {
             sheet.truncate(bytes);
             Ok(sheet)
@@ -113,7 +118,7 @@ pub fn sheet(left: &Side, right: &Side) -> Result<Vec<u8>, Written> {
 
 /// The texts that a clash has written, those of the left rule and those of the right one.
 pub fn texts(written: &[u8]) -> (Vec<Text>, Vec<Text>) {
-    let text = |text: bradovusc::Text| Text { field: text.field, signs: text.to_string() };
+    let text = |text: bradovusc::Text| Text { field: text.field, values: text.values.to_vec() };
     let (left, mut right): (Vec<Text>, Vec<Text>) =
         bradovusc::texts(written).map(text).partition(|text| text.field < RIGHT);
     right.iter_mut().for_each(|text| text.field -= RIGHT);
@@ -127,7 +132,21 @@ mod tests {
 
     fn side(patterns: &[(u8, &[u8])], tokens: &[u8]) -> Side {
         let patterns = patterns.iter().map(|&(field, body)| (field, body.to_vec())).collect();
-        Side { title: Title::Number(0), patterns, tokens: tokens.to_vec(), fields: Vec::new() }
+        let (edition, title) = (Edition::Code39, Title::Number(0));
+        Side { edition, title, patterns, tokens: tokens.to_vec(), fields: Vec::new() }
+    }
+
+    #[test]
+    fn a_sheet_of_full_ascii() {
+        let ascii = |patterns: &[(u8, &[u8])], tokens: &[u8]| Side {
+            edition: Edition::FullAscii,
+            ..side(patterns, tokens)
+        };
+        let (left, right) = (ascii(&[(0, b"@")], b"A\xC0"), ascii(&[(1, b"\xC4D")], b"\xC0\xC1 "));
+        let expected = b"ED\x02PA\x00\x01@PA\x05\x02\xC4DLE\x02A\xC0RI\x03\xC4\xC5 ";
+        assert_eq!(sheet(&left, &right).unwrap(), expected);
+        let texts = [(0, "a &"), (1, " ")].map(|(field, text)| Text { field, values: text.into() });
+        assert_eq!(right.label(&texts), b"a &");
     }
 
     #[test]

@@ -1,14 +1,17 @@
 //! The way to a clash as a person follows it: both sides with what is still to be read, the label
 //! read so far, and each step in words.
 
-use bradovusc::Step;
+use bradovusc::{Edition, Step};
 
-use crate::characters::sign;
 use crate::json::Object;
-use crate::sides::{Side, FIELD, RIGHT};
+use crate::notation::{character_text, told_text, Place};
+use crate::sides::{Side, RIGHT};
 
-/// The hidden fields: the spaces at the end of the left side and of the right one.
-const HIDDEN: [u8; 2] = [FIELD + 2 * RIGHT, FIELD + 2 * RIGHT + 1];
+/// The hidden fields of a sheet: the spaces at the end of the left side and of the right one.
+fn hidden(edition: Edition) -> [u8; 2] {
+    let first = edition.codes() + 2 * RIGHT;
+    [first, first + 1]
+}
 
 /// How a hidden field is shown. No field has this name.
 const SPACES: &str = "\\s*";
@@ -17,8 +20,8 @@ const SPACES: &str = "\\s*";
 #[derive(Clone, Debug, PartialEq, Eq)]
 pub struct Row {
     pub done: Done,
-    /// The characters that both sides have read.
-    pub label: String,
+    /// The characters that both sides have read, by value.
+    pub label: Vec<u8>,
     /// The tokens that are still to be read, left and right, those of the sheet.
     pub sides: [Vec<u8>; 2],
 }
@@ -37,43 +40,44 @@ pub enum Done {
 /// The rows of a way, the start and then one for each step; none where a step can't be made there,
 /// which never is so of a way that the library has written.
 pub fn follow(left: &Side, right: &Side, steps: &[Step]) -> Option<Vec<Row>> {
+    let (codes, hidden) = (left.edition.codes(), hidden(left.edition));
     let tokens = |side: &Side, first, hidden| [side.renamed(first), vec![hidden]].concat();
-    let sides = [tokens(left, 0, HIDDEN[0]), tokens(right, RIGHT, HIDDEN[1])];
-    let mut rows = vec![trimmed(Done::Start, String::new(), sides)];
+    let sides = [tokens(left, 0, hidden[0]), tokens(right, RIGHT, hidden[1])];
+    let mut rows = vec![trimmed(codes, Done::Start, Vec::new(), sides)];
     for &step in steps {
         let Row { label, mut sides, .. } = rows.last()?.clone();
         let fronts = [sides[0].first().copied(), sides[1].first().copied()];
         let done = match step {
-            Step::StrikeLeft => struck(&mut sides, 0, fronts[0]?)?,
-            Step::StrikeRight => struck(&mut sides, 1, fronts[1]?)?,
-            Step::Put(character) => put(&mut sides, character, [fronts[0]?, fronts[1]?])?,
+            Step::StrikeLeft => struck(codes, &mut sides, 0, fronts[0]?)?,
+            Step::StrikeRight => struck(codes, &mut sides, 1, fronts[1]?)?,
+            Step::Put(character) => put(codes, &mut sides, character, [fronts[0]?, fronts[1]?])?,
         };
-        rows.push(trimmed(done, label, sides));
+        rows.push(trimmed(codes, done, label, sides));
     }
     Some(rows)
 }
 
-/// Equal characters in front of both sides go to the label.
-fn trimmed(done: Done, mut label: String, mut sides: [Vec<u8>; 2]) -> Row {
+/// Equal characters, which are below the codes, in front of both sides go to the label.
+fn trimmed(codes: u8, done: Done, mut label: Vec<u8>, mut sides: [Vec<u8>; 2]) -> Row {
     let [left, right] = &sides;
     let equal =
-        left.iter().zip(right).take_while(|(one, other)| one == other && **one < FIELD).count();
-    label.extend(left[..equal].iter().map(|&value| sign(value)));
+        left.iter().zip(right).take_while(|(one, other)| one == other && **one < codes).count();
+    label.extend(&left[..equal]);
     sides.iter_mut().for_each(|side| drop(side.drain(..equal)));
     Row { done, label, sides }
 }
 
-fn struck(sides: &mut [Vec<u8>; 2], side: usize, field: u8) -> Option<Done> {
+fn struck(codes: u8, sides: &mut [Vec<u8>; 2], side: usize, field: u8) -> Option<Done> {
     sides.iter_mut().for_each(|side| side.retain(|&token| token != field));
-    (field >= FIELD).then_some(Done::Struck { side, field })
+    (field >= codes).then_some(Done::Struck { side, field })
 }
 
-fn put(sides: &mut [Vec<u8>; 2], character: u8, fronts: [u8; 2]) -> Option<Done> {
-    let taken = |front: u8| (front >= FIELD).then_some(front);
-    if fronts.iter().any(|&front| front < FIELD && front != character) {
+fn put(codes: u8, sides: &mut [Vec<u8>; 2], character: u8, fronts: [u8; 2]) -> Option<Done> {
+    let taken = |front: u8| (front >= codes).then_some(front);
+    if fronts.iter().any(|&front| front < codes && front != character) {
         return None;
     }
-    let before = |token: u8| (token >= FIELD && fronts.contains(&token)).then_some(character);
+    let before = |token: u8| (token >= codes && fronts.contains(&token)).then_some(character);
     for side in sides {
         *side = side.iter().flat_map(|&token| before(token).into_iter().chain([token])).collect();
     }
@@ -86,9 +90,17 @@ struct Names<'a> {
 }
 
 impl Names<'_> {
+    fn edition(&self) -> Edition {
+        self.sides[0].edition
+    }
+
+    fn is_hidden(&self, field: u8) -> bool {
+        hidden(self.edition()).contains(&field)
+    }
+
     /// The field's name in its rule; none of a hidden field.
     fn own(&self, field: u8) -> Option<&str> {
-        let (side, number) = match field.checked_sub(FIELD)? {
+        let (side, number) = match field.checked_sub(self.edition().codes())? {
             number if number < RIGHT => (self.sides[0], number),
             number => (self.sides[1], number - RIGHT),
         };
@@ -102,10 +114,11 @@ impl Names<'_> {
 
     /// In words: where both rules have a field of that name, with its side.
     fn words(&self, field: u8) -> String {
+        let hidden = hidden(self.edition());
         let place = match field {
-            _ if field == HIDDEN[0] => return "the spaces on the left".to_string(),
-            _ if field == HIDDEN[1] => return "the spaces on the right".to_string(),
-            _ if field < FIELD + RIGHT => "left",
+            _ if field == hidden[0] => return "the spaces on the left".to_string(),
+            _ if field == hidden[1] => return "the spaces on the right".to_string(),
+            _ if field < self.edition().codes() + RIGHT => "left",
             _ => "right",
         };
         let name = self.shown(field);
@@ -120,7 +133,9 @@ impl Names<'_> {
     fn side(&self, tokens: &[u8]) -> String {
         let shown = |&token: &u8| match self.own(token) {
             Some(name) => format!("{{{name}}}"),
-            None if token < FIELD => template_sign(token),
+            None if token < self.edition().codes() => {
+                character_text(self.edition(), token, Place::Template)
+            }
             None => SPACES.to_string(),
         };
         tokens.iter().map(shown).collect()
@@ -129,36 +144,28 @@ impl Names<'_> {
     fn done(&self, row: &Row) -> String {
         match &row.done {
             Done::Start if row.label.is_empty() => "the two rules".to_string(),
-            Done::Start => format!("both begin with \"{}\"", row.label),
+            Done::Start => format!("both begin with {}", told_text(self.edition(), &row.label)),
             Done::Struck { field, .. } => {
-                let are = if HIDDEN.contains(field) { "are" } else { "is" };
+                let are = if self.is_hidden(*field) { "are" } else { "is" };
                 format!("{} {are} struck", self.words(*field))
             }
             Done::Read { character, fields } => {
-                let character = sign(*character);
+                let character = told_text(self.edition(), &[*character]);
                 match fields {
                     [Some(left), Some(right)] => {
                         let (left, right) = (self.words(*left), self.words(*right));
-                        format!("{left} and {right} read \"{character}\"")
+                        format!("{left} and {right} read {character}")
                     }
                     [Some(field), None] | [None, Some(field)] => {
                         let other = if fields[0].is_none() { "left" } else { "right" };
-                        let reads = if HIDDEN.contains(field) { "read" } else { "reads" };
+                        let reads = if self.is_hidden(*field) { "read" } else { "reads" };
                         let field = self.words(*field);
-                        format!("{field} {reads} \"{character}\", which stands on the {other}")
+                        format!("{field} {reads} {character}, which stands on the {other}")
                     }
-                    [None, None] => format!("both read \"{character}\""),
+                    [None, None] => format!("both read {character}"),
                 }
             }
         }
-    }
-}
-
-/// A character as it is written in a template.
-fn template_sign(value: u8) -> String {
-    match sign(value) {
-        ' ' => "\\s".to_string(),
-        sign => sign.to_string(),
     }
 }
 
@@ -176,7 +183,7 @@ pub fn way_words(left: &Side, right: &Side, rows: &[Row]) -> String {
     ]];
     for (number, row) in rows.iter().enumerate() {
         let [on_left, on_right] = row.sides.each_ref().map(|side| names.side(side));
-        let label = format!("\"{}\"", row.label);
+        let label = told_text(left.edition, &row.label);
         table.push([number.to_string(), label, on_left, on_right, names.done(row)]);
     }
     let width = |column: usize| {
@@ -207,7 +214,7 @@ pub fn way_objects(left: &Side, right: &Side, rows: &[Row]) -> Vec<Object> {
             }
             Done::Read { character, fields } => {
                 let object = object.text("kind", "character");
-                let object = object.text("character", &sign(*character).to_string());
+                let object = object.text("character", &left.edition.text(&[*character]));
                 keys.iter().zip(fields).fold(object, |object, (key, field)| match field {
                     Some(field) => object.text(key, names.shown(*field)),
                     None => object,
@@ -215,7 +222,10 @@ pub fn way_objects(left: &Side, right: &Side, rows: &[Row]) -> Vec<Object> {
             }
         };
         let [on_left, on_right] = row.sides.each_ref().map(|side| names.side(side));
-        object.text("label", &row.label).text("left", &on_left).text("right", &on_right)
+        object
+            .text("label", &left.edition.text(&row.label))
+            .text("left", &on_left)
+            .text("right", &on_right)
     };
     rows.iter().map(object).collect()
 }
@@ -228,8 +238,8 @@ mod tests {
 
     fn side(name: &str, fields: &[&str], tokens: &[u8]) -> Side {
         let fields = (0..).zip(fields).map(|(field, name)| (field, name.to_string())).collect();
-        let title = Title::Name(name.to_string());
-        Side { title, patterns: Vec::new(), tokens: tokens.to_vec(), fields }
+        let (edition, title) = (Edition::Code39, Title::Name(name.to_string()));
+        Side { edition, title, patterns: Vec::new(), tokens: tokens.to_vec(), fields }
     }
 
     /// `LT{size}{finish}` and `LT{set}C{turn}`
@@ -305,7 +315,7 @@ mod tests {
         assert_eq!(names.done(&rows[1]), "the left n and the right n read \"4\"");
         assert_eq!(names.done(&rows[2]), "the left n is struck");
         assert_eq!(names.done(&rows[3]), "the right n reads \"-\", which stands on the left");
-        assert_eq!(rows[7].label, "4-4");
+        assert_eq!(rows[7].label, [4, 36, 4]);
         assert!(rows[7].sides.iter().all(Vec::is_empty));
     }
 
@@ -317,7 +327,7 @@ mod tests {
         let rows = follow(&left, &right, &steps).unwrap();
         let names = Names { sides: [&left, &right] };
         assert_eq!(names.done(&rows[1]), "the spaces on the left and x read \" \"");
-        assert_eq!(rows[1].label, "4 ");
+        assert_eq!(rows[1].label, [4, 38]);
         assert_eq!(names.side(&[38, 68]), "\\s{x}");
         let left = side("spaced", &[], &[4, 38]);
         let rows = follow(&left, &side("plain", &[], &[4]), &[Put(38)]).unwrap();

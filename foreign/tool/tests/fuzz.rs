@@ -5,6 +5,7 @@ mod common;
 
 use std::fs;
 
+use bradovusc::Edition;
 use bradovusc_tool::ask::{Buffers, Room};
 use bradovusc_tool::notation::{read, rule_text};
 use bradovusc_tool::report::{problem_objects, problem_words};
@@ -16,7 +17,7 @@ use common::{files, golden, Dice};
 const FILES: usize = 10_000;
 
 /// Pieces that stand in rules, and some that don't.
-const PIECES: [&str; 44] = [
+const PIECES: [&str; 50] = [
     "{",
     "}",
     "[",
@@ -61,6 +62,12 @@ const PIECES: [&str; 44] = [
     "\\d",
     "%$/.",
     "{x}{y}",
+    "full ascii\n",
+    "\\<LF>",
+    "\\<7F>",
+    "\\<",
+    "\\#",
+    "[ -~]",
 ];
 
 fn mutated(dice: &mut Dice, good: &[Vec<u8>]) -> Vec<u8> {
@@ -131,7 +138,9 @@ fn ten_thousand_files() {
         let lengths = lengths(&bytes);
         let source = Source::new("fuzzed", &bytes);
         if let Ok(rules) = read(&source) {
-            let printed: String = rules.iter().map(rule_text).collect();
+            let ascii = rules.first().is_some_and(|rule| rule.edition == Edition::FullAscii);
+            let front = if ascii { "full ascii\n" } else { "" };
+            let printed = front.to_string() + &rules.iter().map(rule_text).collect::<String>();
             let again = read(&Source::new("printed", printed.as_bytes()));
             assert!(again.is_ok_and(|again| again == rules), "{number}: {printed}");
         }

@@ -8,10 +8,13 @@ use std::fs;
 
 use bradovusc_tool::compile::judge;
 use bradovusc_tool::decompile::entries;
-use bradovusc_tool::notation::{pattern_text, read, rule_text, Kind, Pattern, Rule};
+use bradovusc_tool::notation::{
+    character_text, pattern_text, read, rule_text, Kind, Pattern, Place, Rule, Stands,
+};
 use bradovusc_tool::sides::Side;
 use bradovusc_tool::source::Source;
 use common::{files, golden, Dice};
+use second::edition::{Edition, FIRST, SECOND};
 use second::pattern::{Allowed, Pattern as Bytes, Places, ONLY_START};
 
 fn rules(text: &str) -> Vec<Rule> {
@@ -19,8 +22,26 @@ fn rules(text: &str) -> Vec<Rule> {
         .unwrap_or_else(|mistakes| panic!("{text}: {mistakes:?}"))
 }
 
+/// The front of a file of an edition.
+fn front(edition: Edition) -> &'static str {
+    if edition == SECOND {
+        "full ascii\n"
+    } else {
+        ""
+    }
+}
+
 fn printed(rules: &[Rule]) -> String {
-    rules.iter().map(rule_text).collect()
+    let edition = rules.first().map_or(FIRST, |rule| of(rule.edition));
+    front(edition).to_string() + &rules.iter().map(rule_text).collect::<String>()
+}
+
+/// The same edition in the second program.
+fn of(edition: bradovusc::Edition) -> Edition {
+    match edition {
+        bradovusc::Edition::Code39 => FIRST,
+        bradovusc::Edition::FullAscii => SECOND,
+    }
 }
 
 /// Printing reads back, and is the same when it is done again.
@@ -91,16 +112,57 @@ fn what_is_printed() {
     assert_eq!(printed(&rules(every)), every);
 }
 
+const SETS: [&str; 13] =
+    ["A", "B", "0", "[0-9]", "[AB]", "[^A]", ".", "\\s", "\\.", "[+-9]", "-", "[A0]", "C"];
+
+/// Those that only Full ASCII has.
+const FULL_ASCII_SETS: [&str; 13] = [
+    "a",
+    "[a-z]",
+    "[^a-zA-Z]",
+    "\\<LF>",
+    "[\\<00>-\\<US>\\<DEL>]",
+    "\\#",
+    "\\\\",
+    "[\\]\\[\\^\\-]",
+    "\\{",
+    "\"",
+    "<",
+    "[!-~]",
+    "~",
+];
+
+/// Every character, in each place.
+#[test]
+fn each_character_of_full_ascii() {
+    let ascii = bradovusc::Edition::FullAscii;
+    for value in 0..128 {
+        let [alone, part, member] = [Place::Template, Place::Pattern, Place::Class]
+            .map(|place| character_text(ascii, value, place));
+        let text = format!(
+            "full ascii\nr = {alone}{{x}}{alone}\n  x = {part}[{member}][{member}-{member}]\n"
+        );
+        let rule = rules(&text).remove(0);
+        assert_eq!(rule.template[0].stands, Stands::Character(value), "{text}");
+        let side = judge(&rule).unwrap();
+        assert_eq!(side.patterns[0].1, [194, value, 194, value, value], "{text}");
+        assert_eq!(side.tokens, [value, 192, value]);
+        round_trip(&text);
+        // by its code too
+        let coded = format!("full ascii\nr = \\<{value:02X}>\n");
+        assert_eq!(rules(&coded)[0].template[0].stands, Stands::Character(value));
+    }
+}
+
 /// A pattern at random, in the notation.
-fn pattern(dice: &mut Dice, depth: usize) -> String {
-    let sets =
-        ["A", "B", "0", "[0-9]", "[AB]", "[^A]", ".", "\\s", "\\.", "[+-9]", "-", "[A0]", "C"];
+fn pattern(dice: &mut Dice, edition: Edition, depth: usize) -> String {
     if depth == 0 || dice.one_in(4) {
+        let sets = if edition == SECOND && dice.one_in(2) { FULL_ASCII_SETS } else { SETS };
         return dice.pick(&sets).to_string();
     }
     let parts = 2 + dice.below(3);
     let mut several = |between: &str| {
-        let parts: Vec<String> = (0..parts).map(|_| pattern(dice, depth - 1)).collect();
+        let parts: Vec<String> = (0..parts).map(|_| pattern(dice, edition, depth - 1)).collect();
         format!("({})", parts.join(between))
     };
     match parts {
@@ -110,7 +172,7 @@ fn pattern(dice: &mut Dice, depth: usize) -> String {
             let times =
                 ["*", "+", "?", "{2}", "{0}", "{1,2}", "{0,3}", "{2,}", "|()", "|AB|AC|BB|BC"];
             let times = dice.pick(&times);
-            format!("({}){times}", pattern(dice, depth - 1))
+            format!("({}){times}", pattern(dice, edition, depth - 1))
         }
     }
 }
@@ -118,8 +180,10 @@ fn pattern(dice: &mut Dice, depth: usize) -> String {
 #[test]
 fn patterns_at_random_read_back() {
     let mut dice = Dice::new(1);
-    for _ in 0..1_000 {
-        round_trip(&format!("r = {{x}}\n  x = {}\n", pattern(&mut dice, 4)));
+    for number in 0..2_000 {
+        let edition = [FIRST, SECOND][number % 2];
+        let pattern = pattern(&mut dice, edition, 4);
+        round_trip(&format!("{}r = {{x}}\n  x = {pattern}\n", front(edition)));
     }
 }
 
@@ -193,18 +257,18 @@ impl Automaton {
 }
 
 /// Whether the pattern and the bytes take the same texts, all of them.
-fn same_texts(pattern: &Pattern, bytes: &[u8]) -> bool {
+fn same_texts(edition: Edition, pattern: &Pattern, bytes: &[u8]) -> bool {
     let mut automaton = Automaton::default();
     let start = automaton.state();
     let end = automaton.through(pattern, start);
-    let allowed = Allowed::Pattern(Box::new(Places::of(&Bytes::read(bytes).unwrap())));
+    let allowed = Allowed::Pattern(Box::new(Places::of(&Bytes::read(edition, bytes).unwrap())));
     let first = (automaton.closed(BTreeSet::from([start])), ONLY_START);
     let (mut seen, mut waiting) = (HashSet::from([first.clone()]), vec![first]);
     while let Some((states, places)) = waiting.pop() {
         if states.contains(&end) != allowed.may_end(places) {
             return false;
         }
-        for value in 0..43 {
+        for value in 0..edition.characters {
             let step = |state: &usize| match automaton.steps[*state] {
                 Some((set, next)) if set.has(value) => Some(next),
                 _ => None,
@@ -229,12 +293,16 @@ fn leaves(bytes: &[u8]) -> usize {
             Bytes::AnyTimes(a) => count(a),
         }
     }
-    count(&Bytes::read(bytes).unwrap())
+    count(&Bytes::read(FIRST, bytes).unwrap())
 }
 
 /// The rule with one field of this pattern, if the library takes it.
 fn one_field(text: &str) -> Option<(Pattern, Side)> {
-    let rule = rules(&format!("r = {{x}}\n  x = {text}\n")).remove(0);
+    one_field_of(FIRST, text)
+}
+
+fn one_field_of(edition: Edition, text: &str) -> Option<(Pattern, Side)> {
+    let rule = rules(&format!("{}r = {{x}}\n  x = {text}\n", front(edition))).remove(0);
     let side = judge(&rule).ok()?;
     Some((rule.fields[0].pattern.clone().unwrap(), side))
 }
@@ -243,14 +311,15 @@ fn one_field(text: &str) -> Option<(Pattern, Side)> {
 fn bytes_take_the_same_texts() {
     let mut dice = Dice::new(2);
     let mut taken = 0;
-    for _ in 0..1_000 {
-        let text = pattern(&mut dice, 3);
-        if let Some((pattern, side)) = one_field(&text) {
-            assert!(same_texts(&pattern, &side.patterns[0].1), "{text}");
+    for number in 0..2_000 {
+        let edition = [FIRST, SECOND][number % 2];
+        let text = pattern(&mut dice, edition, 3);
+        if let Some((pattern, side)) = one_field_of(edition, &text) {
+            assert!(same_texts(edition, &pattern, &side.patterns[0].1), "{text}");
             taken += 1;
         }
     }
-    assert!(taken > 700, "{taken}");
+    assert!(taken > 1_400, "{taken}");
 }
 
 /// Words at random, of few letters, so that many begin alike.
@@ -270,7 +339,7 @@ fn grouped_words_are_the_same_words() {
     for _ in 0..1_500 {
         let text = words(&mut dice);
         let (pattern, side) = one_field(&text).unwrap_or_else(|| panic!("{text}"));
-        assert!(same_texts(&pattern, &side.patterns[0].1), "{text}");
+        assert!(same_texts(FIRST, &pattern, &side.patterns[0].1), "{text}");
     }
 }
 
@@ -299,7 +368,7 @@ fn leaves_that_are_saved() {
     for (text, wanted) in cases {
         let (pattern, side) = one_field(text).unwrap();
         assert_eq!(leaves(&side.patterns[0].1), wanted, "{text}");
-        assert!(same_texts(&pattern, &side.patterns[0].1), "{text}");
+        assert!(same_texts(FIRST, &pattern, &side.patterns[0].1), "{text}");
     }
     // all words of two digits or letters: 2,592 leaves as they are written
     let signs = || ('0'..='9').chain('A'..='Z');
@@ -317,7 +386,7 @@ fn leaves_that_are_saved() {
 fn rules_of_a_catalogue_read_back() {
     let mut dice = Dice::new(4);
     for _ in 0..500 {
-        let text = if dice.one_in(2) { pattern(&mut dice, 3) } else { words(&mut dice) };
+        let text = if dice.one_in(2) { pattern(&mut dice, FIRST, 3) } else { words(&mut dice) };
         let Some((pattern, side)) = one_field(&text) else {
             continue;
         };
@@ -326,6 +395,6 @@ fn rules_of_a_catalogue_read_back() {
         let again = rules(&printed).remove(0);
         assert!(again == entry.rule, "{printed}");
         let side = judge(&again).unwrap_or_else(|mistake| panic!("{text}: {printed}: {mistake:?}"));
-        assert!(same_texts(&pattern, &side.patterns[0].1), "{text}: {printed}");
+        assert!(same_texts(FIRST, &pattern, &side.patterns[0].1), "{text}: {printed}");
     }
 }

@@ -7,19 +7,19 @@ use std::fs;
 
 use bradovusc_tool::ask::{Asked, Buffers, Room, Shared};
 use bradovusc_tool::run::judged;
-use bradovusc_tool::sides::{Side, FIELD, RIGHT};
+use bradovusc_tool::sides::{without_spaces, Side, RIGHT};
 use bradovusc_tool::source::Source;
 use bradovusc_tool::way::{follow, way_objects, way_words, Done, Row};
 
 use common::{files, golden};
 
 /// What a field has read on the way.
-fn read(rows: &[Row], field: u8) -> String {
+fn read(rows: &[Row], field: u8) -> Vec<u8> {
     let read = rows.iter().filter_map(|row| match row.done {
         Done::Read { character, fields } if fields.contains(&Some(field)) => Some(character),
         _ => None,
     });
-    read.map(|value| bradovusc::sign(value).unwrap()).collect()
+    read.collect()
 }
 
 fn look(left: &Side, right: &Side, asked: &Asked, shared: &Shared) {
@@ -28,10 +28,12 @@ fn look(left: &Side, right: &Side, asked: &Asked, shared: &Shared) {
     assert_eq!(rows.len(), steps.len() + 1);
     let last = rows.last().unwrap();
     assert!(last.sides.iter().all(Vec::is_empty));
-    assert_eq!(last.label.trim_end_matches(' '), shared.label);
-    for (first, texts) in [(FIELD, &shared.left), (FIELD + RIGHT, &shared.right)] {
+    let (mut label, codes) = (last.label.clone(), left.edition.codes());
+    without_spaces(left.edition, &mut label);
+    assert_eq!(label, shared.label);
+    for (first, texts) in [(codes, &shared.left), (codes + RIGHT, &shared.right)] {
         for text in texts {
-            assert_eq!(read(&rows, first + text.field), text.signs);
+            assert_eq!(read(&rows, first + text.field), text.values);
         }
     }
     // the label only grows

@@ -7,13 +7,15 @@
 //! - `calls --full`: 32 rules added, none of which clash
 //! - `calls --serial`: twenty rules with a serial number that stands twice, each
 //!   refused by `AD` and entered by `AE`
+//! - `calls --editions`: rules with a record `ED` or with bytes of the second
+//!   edition, and catalogues that hold such
 //! - `calls --share SEED NUMBER`: no stream; of so many rules as storerooms write
 //!   them, how many are refused though they clash with none, by `AD` and by `AE`
 
 use std::io::{self, Write};
 use std::process::ExitCode;
 
-use second::make::{calls, pairs, Dice};
+use second::make::{calls, editions, pairs, Dice};
 use second::share::share;
 use second::storeroom;
 
@@ -24,6 +26,11 @@ fn main() -> ExitCode {
         ["--storeroom"] => storeroom::stream(),
         ["--full"] => storeroom::full_stream(),
         ["--serial"] => storeroom::serial_stream(),
+        ["--editions"] => {
+            let mut stream = Vec::new();
+            editions::calls().iter().for_each(|operation| operation.write(&mut stream));
+            stream
+        }
         ["--decided", seed, number] => match parsed(seed, number) {
             Some((mut dice, number)) => calls::decided_stream(&mut dice, number),
             None => return usage(),
@@ -68,6 +75,6 @@ fn shares(mut dice: Dice, number: usize) -> String {
 
 fn usage() -> ExitCode {
     eprintln!("usage: calls [--decided] SEED NUMBER | calls --storeroom | calls --full");
-    eprintln!("       calls --serial | calls --share SEED NUMBER");
+    eprintln!("       calls --serial | calls --editions | calls --share SEED NUMBER");
     ExitCode::from(2)
 }

@@ -16,6 +16,8 @@
 //! - `second --scripts STREAM`: what was printed for a stream of cases, scripts
 //!   among it; does each script say its sheet?
 //! - `second --script SHEET`: one script; does it say this sheet?
+//! - `second --write-scripts`: a stream of cases; what is printed of their sheets,
+//!   scripts among it
 //! - `second --spell-open`: an old sheet with the old meaning of its fields
 //!   without a pattern written out; a refusal's number and place on standard
 //!   error
@@ -24,6 +26,7 @@
 //!   `--spell-open-rule` writes where it begins with `RU`, and `--spell-open`
 //!   where not, into a buffer of the answer buffer's length
 //! - `second --write`: a stream of cases of the writer of sheets, a line for each
+//! - `second --write-edition`: the same with the edition in front of each case
 //! - `second --plain`: a stream of cases, a line for each: what the engine for
 //!   plain rules says, with a bit buffer of the working buffer's length, and how
 //!   many bytes it needs
@@ -39,11 +42,11 @@ use std::io::{self, BufWriter, Read, Write};
 use std::process::ExitCode;
 
 use second::calls::{self, Calls, Operation};
-use second::cases::{Answerer, Case};
+use second::cases::{edition_of, Answerer, Case};
 use second::catalogue::{Searcher, HASHING, SCANNING};
 use second::decide::{self, SEARCHES};
 use second::fault::Fault;
-use second::smt::{compare, output, Told};
+use second::smt::{self, compare, output, Told};
 use second::{full_ascii, sheet, shown, spell_open, steps, writer};
 use second::{ANSWER_BUFFER_TOO_SHORT, CLASH, NO_CLASH, NO_ROOM, SIDE_TOO_LONG};
 
@@ -67,6 +70,7 @@ fn main() -> ExitCode {
         ["--decide", "--left"] => many(left),
         ["--decide", "--table"] => table(),
         ["--write"] => each(writer::Case::read, |case| case.line() + "\n"),
+        ["--write-edition"] => each(writer::Case::read_edition, |case| case.line() + "\n"),
         ["--plain"] => many(|case| case.plain_line() + "\n"),
         ["--plain", "--lines"] => many(Case::plain_lines),
         ["--ascii"] => each(full_ascii::Case::read, |case| case.line() + "\n"),
@@ -84,6 +88,7 @@ fn main() -> ExitCode {
         ["--calls", "--lines"] => calls(HASHING, calls::After::numbers),
         ["--scripts", stream] => scripts(stream),
         ["--script", sheet] => script(sheet),
+        ["--write-scripts"] => many(|case| smt::write::told(&case.sheet)),
         [work, answer] => match (work.parse(), answer.parse()) {
             (Ok(work), Ok(answer)) => one(work, answer),
             _ => return usage(),
@@ -106,9 +111,10 @@ fn status(done: io::Result<()>) -> ExitCode {
 fn usage() -> ExitCode {
     eprintln!("usage: second | second WORK ANSWER | second --many|--calls [--scan | --lines]");
     eprintln!("       second --decide [--scan | --lines | --table | --left]");
-    eprintln!("       second --scripts STREAM | second --script SHEET");
+    eprintln!("       second --scripts STREAM | second --script SHEET | second --write-scripts");
     eprintln!("       second --spell-open | second --spell-open-rule | second --spelt");
-    eprintln!("       second --write | second --plain [--lines] | second --ascii");
+    eprintln!("       second --write | second --write-edition | second --ascii");
+    eprintln!("       second --plain [--lines]");
     eprintln!("       second --steps [--scan | --lines] | second --play");
     ExitCode::from(2)
 }
@@ -126,7 +132,8 @@ fn one(work_length: usize, answer_length: usize) -> io::Result<()> {
     let mut work = vec![0; work_length];
     let mut answer = vec![0; answer_length];
     let outcome = second::answer(&sheet, &mut work, &mut answer);
-    io::stdout().lock().write_all(second::lines(&outcome, &answer).as_bytes())
+    let lines = second::lines(edition_of(&sheet), &outcome, &answer);
+    io::stdout().lock().write_all(lines.as_bytes())
 }
 
 /// One sheet or rule with the old meaning written out. None has more bytes than

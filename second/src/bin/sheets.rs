@@ -29,18 +29,38 @@
 //!   as storerooms write them, or of those with a field that stands twice; with
 //!   room for so many situations, or for 356
 //! - `sheets --decide SEED NUMBER`: so many cases to decide, made from the seed
+//! - `sheets --editions`: every damage of a record `ED`, and each code on both sides
+//!   of each limit in both editions
+//! - `sheets --editions --few`: those of them with a byte next to a limit
+//! - `sheets --editions --write`: the same for the writer of sheets, the edition in
+//!   front of each case
+//!
+//! With `--edition 2` in front, what is made from a seed is of the second edition,
+//! and so are `--play-each` and `--printed`; a case of the writer has the edition in
+//! front.
 
 use std::io::{self, Write};
 use std::process::ExitCode;
 
 use second::cases::Case;
-use second::make::{ascii, case, decided, long, pairs, plainly, spelt, ways, written, Dice};
-use second::{printed, storeroom, MOST_ROOM};
+use second::edition::{Edition, FIRST, SECOND};
+use second::make::editions::Tried;
+use second::make::{
+    ascii, case, decided, editions, long, pairs, plainly, spelt, ways, written, Dice,
+};
+use second::{printed, storeroom, writer, MOST_ROOM};
 
 fn main() -> ExitCode {
     let arguments: Vec<String> = std::env::args().skip(1).collect();
     let arguments: Vec<&str> = arguments.iter().map(String::as_str).collect();
-    let cases: Vec<Case> = match arguments[..] {
+    let (edition, arguments) = match &arguments[..] {
+        // What is the same in both editions, or of the first one alone.
+        ["--edition", "2", "--long" | "--growing" | "--ascii" | "--editions", ..]
+        | ["--edition", "2", "--pairs"] => return usage(),
+        ["--edition", "2", rest @ ..] => (SECOND, rest),
+        all => (FIRST, all),
+    };
+    let cases: Vec<Case> = match *arguments {
         ["--long", room] => match filling(room) {
             Some(cases) => cases,
             None => return usage(),
@@ -51,58 +71,64 @@ fn main() -> ExitCode {
                 None => usage(),
             };
         }
-        ["--printed"] => printed::cases(),
+        ["--printed"] => printed_of(edition),
         ["--pairs"] => storeroom::full_pairs(),
-        ["--printed", number] => return put_one(&printed::cases(), number),
-        ["--spelt", seed, number] => match made(seed, number, spelt::case) {
+        ["--printed", number] => return put_one(&printed_of(edition), number),
+        ["--spelt", seed, number] => match made(edition, seed, number, spelt::case) {
             Some(cases) => cases,
             None => return usage(),
         },
         ["--write", seed, number] => {
-            return match made(seed, number, written::case) {
-                Some(cases) => put_all(&cases, |case, stream| case.write(stream)),
+            return match made(edition, seed, number, written::case) {
+                Some(cases) if edition == FIRST => put_all(&cases, writer::Case::write),
+                Some(cases) => put_all(&cases, writer::Case::write_edition),
                 None => usage(),
             };
         }
+        ["--editions"] => editions::cases(Tried::All),
+        ["--editions", "--few"] => editions::cases(Tried::AtLimits),
+        ["--editions", "--write"] => {
+            return put_all(&editions::written(), writer::Case::write_edition)
+        }
         ["--ascii"] => return put_all(&ascii::stored(), |case, stream| case.write(stream)),
         ["--ascii", seed, number] => {
-            return match made(seed, number, ascii::made) {
+            return match made(edition, seed, number, ascii::made) {
                 Some(cases) => put_all(&cases, |case, stream| case.write(stream)),
                 None => usage(),
             };
         }
         ["--steps", seed, number] => {
-            return match made(seed, number, ways::case) {
+            return match made(edition, seed, number, ways::case) {
                 Some(cases) => put_all(&cases, |case, stream| case.write(stream)),
                 None => usage(),
             };
         }
         ["--play", seed, number] => {
-            return match made(seed, number, ways::played) {
+            return match made(edition, seed, number, ways::played) {
                 Some(cases) => put_all(&cases, |case, stream| case.write(stream)),
                 None => usage(),
             };
         }
-        ["--play-each"] => return put_all(&ways::each(), |case, stream| case.write(stream)),
-        ["--pairs", seed, number, ref rest @ ..] => match paired(seed, number, rest) {
+        ["--play-each"] => return put_all(&ways::each(edition), |case, stream| case.write(stream)),
+        ["--pairs", seed, number, ref rest @ ..] => match paired(edition, seed, number, rest) {
             Some(cases) => cases,
             None => return usage(),
         },
-        ["--plain", seed, number] => match made(seed, number, plainly::case) {
+        ["--plain", seed, number] => match made(edition, seed, number, plainly::case) {
             Some(cases) => cases,
             None => return usage(),
         },
-        ["--plain-pairs", seed, number] => match made(seed, number, pairs::plain_case) {
+        ["--plain-pairs", seed, number] => match made(edition, seed, number, pairs::plain_case) {
             Some(cases) => cases,
             None => return usage(),
         },
         ["--growing"] => plainly::growing(),
         ["--growing", number] => return put_one(&plainly::growing(), number),
-        ["--decide", seed, number] => match made(seed, number, decided::case) {
+        ["--decide", seed, number] => match made(edition, seed, number, decided::case) {
             Some(cases) => cases,
             None => return usage(),
         },
-        [seed, number] => match made(seed, number, case) {
+        [seed, number] => match made(edition, seed, number, case) {
             Some(cases) => cases,
             None => return usage(),
         },
@@ -121,14 +147,19 @@ fn put_all<C>(cases: &[C], write: impl Fn(&C, &mut Vec<u8>)) -> ExitCode {
 }
 
 /// So many cases from a seed.
-fn made<C>(seed: &str, number: &str, case: impl Fn(&mut Dice) -> C) -> Option<Vec<C>> {
+fn made<C>(
+    edition: Edition,
+    seed: &str,
+    number: &str,
+    case: impl Fn(&mut Dice) -> C,
+) -> Option<Vec<C>> {
     let (seed, number) = (seed.parse().ok()?, number.parse::<usize>().ok()?);
-    let mut dice = Dice::new(seed);
+    let mut dice = Dice::of(seed, edition);
     Some((0..number).map(|_| case(&mut dice)).collect())
 }
 
 /// So many pairs of rules with room for so many situations.
-fn paired(seed: &str, number: &str, rest: &[&str]) -> Option<Vec<Case>> {
+fn paired(edition: Edition, seed: &str, number: &str, rest: &[&str]) -> Option<Vec<Case>> {
     let (twice, rest) = match rest {
         ["--twice", rest @ ..] => (true, rest),
         rest => (false, rest),
@@ -138,7 +169,16 @@ fn paired(seed: &str, number: &str, rest: &[&str]) -> Option<Vec<Case>> {
         ["--room", room] => room.parse().ok().filter(|&room| room <= MOST_ROOM)?,
         _ => return None,
     };
-    made(seed, number, |dice| pairs::case(dice, twice, room))
+    made(edition, seed, number, |dice| pairs::case(dice, twice, room))
+}
+
+/// Those whose lines tell wrong printers apart.
+fn printed_of(edition: Edition) -> Vec<Case> {
+    if edition == FIRST {
+        printed::cases()
+    } else {
+        printed::second_cases()
+    }
 }
 
 /// The long cases for a room.
@@ -172,7 +212,8 @@ fn usage() -> ExitCode {
     eprintln!("       sheets --steps SEED NUMBER | sheets --play SEED NUMBER | sheets --play-each");
     eprintln!("       sheets --long ROOM [N] | sheets --printed [N] | sheets --decide SEED NUMBER");
     eprintln!("       sheets --pairs [SEED NUMBER [--twice] [--room ROOM]]");
-    eprintln!("       sheets --ascii [SEED NUMBER]");
+    eprintln!("       sheets --ascii [SEED NUMBER] | sheets --editions [--few | --write]");
+    eprintln!("       sheets --edition 2 ..");
     eprintln!("ROOM is at most 65535");
     ExitCode::from(2)
 }

@@ -7,12 +7,11 @@
 
 use super::decided;
 use super::{alphabet, damaged, patterns, random_bytes, sides, some_fields, spaces, write_out};
-use super::{big_pattern, Dice, Record, Sides, MOST_SIDE};
+use super::{big_pattern, Dice, Record, Sides, CHARACTERS, MOST_SIDE, SPACE};
 use crate::calls::MOST_DECIDED_LIST;
 use crate::calls::{After, Call, Calls, Operation, MOST_CATALOGUE, MOST_LIST, MOST_WORK};
 use crate::catalogue::DECIDED_PAIR_BYTES;
 use crate::catalogue::{read, HASHING, MOST_RULES, PAIR_BYTES, RULE, RULE_FIELDS};
-use crate::pattern::{CHARACTERS, SPACE};
 use crate::sheet::{FIELDS, LEFT, PATTERN};
 use crate::spell_open;
 use crate::storeroom::{by_first_letter, FINISHES};

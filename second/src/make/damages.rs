@@ -1,13 +1,24 @@
 //! Sheets and rules with faults: each kind of wrong byte, at every place, in
 //! the first record and in later ones.
 
-use super::{alphabet, joined, parts, pattern, write_out};
-use super::{Dice, Record, MOST_PATTERN, MOST_SIDE};
-use crate::pattern::{CHARACTERS, MOST_LEAVES};
+use super::{alphabet, joined, parts, pattern, said, write_out};
+use super::{Dice, Record, CHARACTERS, MOST_PATTERN, MOST_SIDE};
+use crate::edition::FIRST;
+use crate::pattern::MOST_LEAVES;
 use crate::sheet::FIELDS;
 
 /// Bytes that are no sheet, some of them beginning like one.
 pub(super) fn random_bytes(dice: &mut Dice) -> Vec<u8> {
+    let bytes = any_bytes(dice);
+    if dice.edition == FIRST {
+        return bytes;
+    }
+    let record = dice.edition.record;
+    let front = dice.pick(&[record, record, record, &record[..2], &record[..1], b""]);
+    [front, &bytes].concat()
+}
+
+fn any_bytes(dice: &mut Dice) -> Vec<u8> {
     match dice.below(4) {
         0 => (0..dice.below(4)).map(|_| dice.byte()).collect(),
         1 => (0..dice.below(30)).map(|_| dice.byte()).collect(),
@@ -36,7 +47,11 @@ pub(super) fn damaged(
     for _ in 0..at_records {
         damage(dice, &mut records);
     }
-    let mut bytes = [front, &write_out(&records)].concat();
+    // What has a front is a rule, and that has no edition.
+    let mut bytes = match front {
+        [] => with_edition(dice, &records),
+        _ => [front, &write_out(&records)].concat(),
+    };
     match dice.below(if at_records == 0 { 2 } else { 8 }) {
         // "sheet cut short", at every place
         0 => bytes.truncate(dice.below(bytes.len().max(1))),
@@ -45,6 +60,29 @@ pub(super) fn damaged(
         _ => {}
     }
     bytes
+}
+
+/// The records in the dice's edition, now and then with another edition byte, with
+/// the record of the edition twice, behind the first record or not at all, or with
+/// records of the first edition behind it.
+fn with_edition(dice: &mut Dice, records: &[Record]) -> Vec<u8> {
+    let mut bytes = said(dice, records);
+    let record = dice.edition.record;
+    if dice.edition == FIRST || !dice.one_in(4) {
+        return bytes;
+    }
+    let behind = bytes.split_off(record.len());
+    match dice.below(5) {
+        0 => bytes[record.len() - 1] = dice.pick(&[0, 1, 3, 4, 130, 254, 255]),
+        1 => bytes.extend_from_slice(record),
+        2 => bytes.clear(),
+        3 => return [record, &write_out(records)].concat(),
+        _ => {
+            let (first, rest) = records.split_at(records.len().min(1));
+            return [&write_out(first)[..], record, &write_out(rest)].concat();
+        }
+    }
+    [bytes, behind].concat()
 }
 
 /// One to three patterns for fields that have none, before the sides.

@@ -1,7 +1,7 @@
 //! Cases to decide: pairs of rules, other good sheets and damaged ones, with
 //! rooms and answer buffers near the bounds of the search that decides.
 
-use super::{any_answer_length, good, pairs, with_any_buffers, work_length, write_out, Dice};
+use super::{any_answer_length, good_sheet, pairs, with_any_buffers, work_length, Dice};
 use crate::cases::Case;
 use crate::decide::{decides, questions, HASHING, SEARCHES};
 use crate::sheet::read;
@@ -15,7 +15,7 @@ pub fn case(dice: &mut Dice) -> Case {
             let sheet = super::case(dice).sheet;
             return with_any_buffers(dice, sheet);
         }
-        2..=4 => write_out(&good(dice)),
+        2..=4 => good_sheet(dice),
         5 | 6 => pairs::pair(dice),
         7..=9 => pairs::with_a_field_twice(dice),
         _ => return decided_later(dice),
@@ -30,7 +30,7 @@ fn decided_later(dice: &mut Dice) -> Case {
     let wanted = dice.between(2, SEARCHES);
     loop {
         let sheet = match dice.below(3) {
-            0 => write_out(&good(dice)),
+            0 => good_sheet(dice),
             1 => pairs::pair(dice),
             _ => pairs::with_a_field_twice(dice),
         };

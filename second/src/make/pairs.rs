@@ -7,9 +7,11 @@
 //! near copy of it, two rules of one article, or of two articles. Now and then
 //! both have a field in common, as a shelf whose number stands on both labels.
 
+use super::said::said_sheet;
 use super::Dice;
 use crate::cases::Case;
 use crate::catalogue::DONE;
+use crate::edition::FIRST;
 use crate::pattern::{Allowed, Pattern, Places};
 use crate::plain::{plain_bytes, stands_twice};
 use crate::sheet::{read, PATTERN};
@@ -83,7 +85,7 @@ pub(super) fn pair(dice: &mut Dice) -> Vec<u8> {
         }
         let in_common = dice.one_in(25);
         if let Some(sheet) = written(&left, &right, in_common) {
-            return sheet;
+            return said_sheet(dice, &sheet);
         }
     }
 }
@@ -377,7 +379,7 @@ fn other(dice: &mut Dice, pattern: Option<&[u8]>) -> Option<Vec<u8>> {
 /// A few leaves may still be added.
 fn fits(pattern: &[u8]) -> bool {
     let leaves = |read: Pattern| Allowed::Pattern(Box::new(Places::of(&read))).leaves().len();
-    Pattern::read(pattern).map(leaves).is_ok_and(|leaves| leaves < 60) && pattern.len() < 180
+    Pattern::read(FIRST, pattern).map(leaves).is_ok_and(|leaves| leaves < 60) && pattern.len() < 180
 }
 
 // ------------------------------------------------------------------ parts

@@ -4,9 +4,10 @@
 
 use super::damages::{damaged, random_bytes};
 use super::{alphabet, codes, exactly, field_pattern, good, joined, pairs, parts, pattern, spaces};
-use super::{write_out, Dice, Record, MOST_SIDE};
+use super::{said, write_out, Dice, Record, MOST_SIDE, SPACE};
 use crate::cases::Case;
-use crate::pattern::{Pattern, MOST_LEAVES, SPACE};
+use crate::edition::FIRST;
+use crate::pattern::{Pattern, MOST_LEAVES};
 use crate::plain::plain_bytes;
 use crate::sheet::{FIELDS, LEFT, MOST_PATTERN, RIGHT};
 use crate::write::{choice, many, row};
@@ -23,12 +24,21 @@ pub fn case(dice: &mut Dice) -> Case {
             let records = if dice.one_in(2) { good(dice) } else { any(dice) };
             damaged(dice, &[], 2, records)
         }
-        10..=13 => write_out(&good(dice)),
+        10..=13 => {
+            let records = good(dice);
+            said(dice, &records)
+        }
         14..=17 => once_more(dice),
         18 => pairs::with_a_field_twice(dice),
         19..=27 => pairs::pair(dice),
-        28 | 29 => write_out(&large(dice)),
-        _ => write_out(&any(dice)),
+        28 | 29 => {
+            let records = large(dice);
+            said(dice, &records)
+        }
+        _ => {
+            let records = any(dice);
+            said(dice, &records)
+        }
     };
     let work = bits(dice, &sheet);
     Case { work, answer: 0, sheet }
@@ -58,7 +68,7 @@ fn once_more(dice: &mut Dice) -> Vec<u8> {
         tokens.insert(dice.below(tokens.len() + 1), standing[at]);
         if tokens.len() <= MOST_SIDE {
             side.set(tokens);
-            return write_out(&records);
+            return said(dice, &records);
         }
     }
 }
@@ -163,7 +173,8 @@ fn planted(dice: &mut Dice) -> Vec<Record> {
 
 /// The sheet of such sides.
 pub(super) fn planted_sheet(dice: &mut Dice) -> Vec<u8> {
-    write_out(&planted(dice))
+    let records = planted(dice);
+    said(dice, &records)
 }
 
 /// A side that makes this label: the fields hold parts of it, often of no or of
@@ -282,7 +293,7 @@ fn long_pattern(dice: &mut Dice, alphabet: &[u8], text: &[u8]) -> Vec<u8> {
 
 /// It is not too long, and has not too many leaves.
 fn is_good(pattern: &[u8]) -> bool {
-    pattern.len() <= MOST_PATTERN && Pattern::read(pattern).is_ok()
+    pattern.len() <= MOST_PATTERN && Pattern::read(FIRST, pattern).is_ok()
 }
 
 /// Up to four fields a side, most of them with 63 leaves, and characters up to

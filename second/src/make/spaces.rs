@@ -1,8 +1,7 @@
 //! The ends of labels: spaces, fields, and patterns that take spaces or just do
 //! not.
 
-use super::{exactly, Dice, MOST_SIDE};
-use crate::pattern::SPACE;
+use super::{exactly, Dice, MOST_SIDE, SPACE};
 use crate::write::{choice, many, row};
 
 /// Drops the spaces at the end.

@@ -2,10 +2,12 @@
 //! without patterns, patterns of fields that do not stand, damaged ones, and
 //! buffers around the length that is needed.
 
+use super::said::Said;
 use super::{alphabet, any_answer_length, damaged, field_pattern, random_bytes, sides};
-use super::{work_length, write_out, Dice, Record, MOST_SIDE};
+use super::{said, work_length, Dice, Record, MOST_SIDE};
 use crate::cases::Case;
 use crate::catalogue::{RULE, RULE_FIELDS};
+use crate::edition::FIRST;
 use crate::sheet::{FIELDS, LEFT, RIGHT};
 use crate::{spell_open, write};
 
@@ -44,7 +46,7 @@ fn sheet(dice: &mut Dice) -> Vec<u8> {
     if dice.one_in(4) {
         return damaged(dice, &[], 2, records);
     }
-    write_out(&records)
+    said(dice, &records)
 }
 
 fn rule(dice: &mut Dice) -> Vec<u8> {
@@ -64,7 +66,9 @@ fn rule(dice: &mut Dice) -> Vec<u8> {
         };
         return damaged(dice, &mark, sides.len(), records);
     }
-    [RULE, &write_out(&records)[..]].concat()
+    // A rule never has an edition's record.
+    let edition = if dice.edition != FIRST && dice.one_in(4) { dice.edition } else { FIRST };
+    [RULE, &Said::by_sign(edition).records(&records)[..]].concat()
 }
 
 /// Fields below this one, in one or two sides, each with a pattern or without.

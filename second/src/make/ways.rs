@@ -4,9 +4,10 @@
 //! same situations, to the finish, to a long side, or to no end.
 
 use super::damages::{damaged, random_bytes};
-use super::{any_answer_length, any_room, good, pairs, plainly, work_length, write_out, Dice};
+use super::said::{said_sheet, Said};
+use super::{any_answer_length, any_room, good, good_sheet, pairs, plainly, work_length, Dice};
 use crate::cases;
-use crate::pattern::CHARACTERS;
+use crate::edition::Edition;
 use crate::search::{search, Ending};
 use crate::sheet::{read, LEFT, RIGHT};
 use crate::situation::{Situation, State};
@@ -25,7 +26,7 @@ pub const MOST_STEPS_BYTES: usize = 2_048;
 /// One case of the steps.
 pub fn case(dice: &mut Dice) -> Case {
     let sheet = match dice.below(200) {
-        0 => long_way(),
+        0 => said_sheet(dice, &long_way()),
         1..=25 => any(dice),
         _ => clashing(dice),
     };
@@ -120,7 +121,9 @@ fn good_way(dice: &mut Dice) -> (Vec<u8>, Vec<Vec<u8>>) {
 /// The records of the search's way, one by one.
 fn way(sheet: &[u8]) -> Option<Vec<Vec<u8>>> {
     match search(&read(sheet).ok()?, ROOM).ending {
-        Ending::Clash(way) => Some(way.steps.iter().map(|step| written(&[step.clone()])).collect()),
+        Ending::Clash(way) => {
+            Some(way.steps.iter().map(|step| written(std::slice::from_ref(step))).collect())
+        }
         _ => None,
     }
 }
@@ -128,7 +131,7 @@ fn way(sheet: &[u8]) -> Option<Vec<Vec<u8>>> {
 /// One thing is wrong with a record.
 fn spoilt(dice: &mut Dice, way: Vec<Vec<u8>>) -> Vec<u8> {
     let at = dice.below(way.len());
-    let all = damages(&way, at);
+    let all = damages(dice.edition, &way, at);
     let kind = dice.below(all.len());
     all.into_iter().nth(kind).unwrap_or_default()
 }
@@ -136,7 +139,8 @@ fn spoilt(dice: &mut Dice, way: Vec<Vec<u8>>) -> Vec<u8> {
 /// All that is tried with one record of a way: cut short behind each of its
 /// bytes, another mark, kind or value, the record left out, doubled, exchanged
 /// with the next one or made another, and one more behind the finish.
-fn damages(way: &[Vec<u8>], at: usize) -> Vec<Vec<u8>> {
+fn damages(edition: Edition, way: &[Vec<u8>], at: usize) -> Vec<Vec<u8>> {
+    let Edition { characters, codes, space, .. } = edition;
     let (before, own, behind) = (join(&way[..at]), &way[at], join(&way[at + 1..]));
     let with = |record: &[u8]| [&before[..], record, &behind].concat();
     let mut all: Vec<Vec<u8>> = Vec::new();
@@ -150,7 +154,7 @@ fn damages(way: &[Vec<u8>], at: usize) -> Vec<Vec<u8>> {
         other[offset] = byte;
         all.push(with(&other));
     }
-    for value in [43, 64, 255] {
+    for value in [characters, codes, 255] {
         all.push(with(&[STEP[0], STEP[1], A_CHARACTER, value]));
     }
     // Records that are good by themselves.
@@ -158,7 +162,7 @@ fn damages(way: &[Vec<u8>], at: usize) -> Vec<Vec<u8>> {
         all.push(with(&[STEP[0], STEP[1], kind]));
     }
     let value = own.get(3).copied().unwrap_or(0);
-    for value in [value, (value + 1) % CHARACTERS, (value + CHARACTERS - 1) % CHARACTERS, 38] {
+    for value in [value, (value + 1) % characters, (value + characters - 1) % characters, space] {
         all.push(with(&[STEP[0], STEP[1], A_CHARACTER, value]));
     }
     all.push(with(&[&own[..], own].concat()));
@@ -183,7 +187,7 @@ fn wandering(dice: &mut Dice) -> (Vec<u8>, Vec<u8>) {
     let sheet = match dice.below(4) {
         0 => growing(dice),
         1 => clashing(dice),
-        _ => write_out(&good(dice)),
+        _ => good_sheet(dice),
     };
     let Ok(question) = read(&sheet) else { return (sheet, random_records(dice)) };
     let mut situation = Situation::of(&question).trimmed();
@@ -216,7 +220,7 @@ fn growing(dice: &mut Dice) -> Vec<u8> {
     let digits = many(vec![65, 0, 1]);
     let sides = [vec![64; times], vec![65, dice.pick(&[0, 1, 10]), 64]];
     let [left, right] = if dice.one_in(2) { sides } else { [sides[1].clone(), sides[0].clone()] };
-    sheet(&[(0, digits)], &left, &right)
+    said_sheet(dice, &sheet(&[(0, digits)], &left, &right))
 }
 
 fn random_records(dice: &mut Dice) -> Vec<u8> {
@@ -226,7 +230,8 @@ fn random_records(dice: &mut Dice) -> Vec<u8> {
             0 => Record::LeftStruck.write(&mut bytes),
             1 => Record::RightStruck.write(&mut bytes),
             2 => bytes.push(dice.byte()),
-            _ => Record::Character(dice.below(CHARACTERS.into()) as u8).write(&mut bytes),
+            _ => Record::Character(dice.below(dice.edition.characters.into()) as u8)
+                .write(&mut bytes),
         }
     }
     bytes
@@ -240,7 +245,7 @@ fn clashing(dice: &mut Dice) -> Vec<u8> {
         let sheet = match dice.below(8) {
             0..=2 => pairs::pair(dice),
             3 | 4 => plainly::planted_sheet(dice),
-            _ => write_out(&good(dice)),
+            _ => good_sheet(dice),
         };
         if way(&sheet).is_some() {
             return sheet;
@@ -262,7 +267,7 @@ fn any(dice: &mut Dice) -> Vec<u8> {
             damaged(dice, &[], 2, records)
         }
         3 => pairs::pair(dice),
-        _ => write_out(&good(dice)),
+        _ => good_sheet(dice),
     }
 }
 
@@ -270,9 +275,11 @@ fn any(dice: &mut Dice) -> Vec<u8> {
 
 /// Every damage of every record of a few short ways, each with an answer buffer
 /// of just the right length, and what else is not allowed.
-pub fn each() -> Vec<Played> {
+pub fn each(edition: Edition) -> Vec<Played> {
+    let said = Said::by_sign(edition);
     let mut cases = Vec::new();
     for sheet in [latches(), sheet_s(), on_both_sides()] {
+        let sheet = said.sheet(&sheet);
         let way = way(&sheet).expect("a way");
         let answer = match search(&read(&sheet).unwrap(), ROOM).ending {
             Ending::Clash(way) => records(&way.texts).len() as u32,
@@ -281,7 +288,7 @@ pub fn each() -> Vec<Played> {
         let whole = join(&way);
         let mut all = vec![whole.clone()];
         for at in 0..way.len() {
-            for steps in damages(&way, at) {
+            for steps in damages(edition, &way, at) {
                 if !all.contains(&steps) {
                     all.push(steps);
                 }
@@ -293,7 +300,7 @@ pub fn each() -> Vec<Played> {
             cases.push(Played { case: case(answer), steps: whole.clone() });
         }
     }
-    cases.extend(not_allowed());
+    cases.extend(not_allowed(&said));
     cases
 }
 
@@ -318,7 +325,7 @@ fn on_both_sides() -> Vec<u8> {
 }
 
 /// Single steps that are not allowed, and a sheet that is dead or refused.
-fn not_allowed() -> Vec<Played> {
+fn not_allowed(said: &Said) -> Vec<Played> {
     let one = |sheet: Vec<u8>, records: &[Record]| {
         let mut steps = Vec::new();
         records.iter().for_each(|record| record.write(&mut steps));
@@ -327,9 +334,10 @@ fn not_allowed() -> Vec<Played> {
     let of = |patterns: &[(u8, &[u8])], left: &str, right: &str| {
         let patterns: Vec<(u8, Vec<u8>)> =
             patterns.iter().map(|(field, body)| (*field, body.to_vec())).collect();
-        sheet(&patterns, &tokens(left), &tokens(right))
+        said.sheet(&sheet(&patterns, &tokens(left), &tokens(right)))
     };
-    let (left, right, put) = (Record::LeftStruck, Record::RightStruck, Record::Character);
+    let (left, right) = (Record::LeftStruck, Record::RightStruck);
+    let put = |character: u8| Record::Character(said.character(character));
     let many_times = "a".repeat(24);
     let grown = [put(10); 3];
     vec![

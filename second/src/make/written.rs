@@ -4,7 +4,9 @@
 //! is needed.
 
 use super::damages::{more_patterns, wrong_pattern, wrong_tokens};
+use super::said::said_parts;
 use super::{alphabet, good, parts, spelt, Dice, Record, MOST_SIDE};
+use crate::edition::FIRST;
 use crate::pattern::MOST_LEAVES;
 use crate::sheet::{FIELDS, LEFT, MOST_PATTERN, RIGHT};
 use crate::writer::{self, Case, MOST_SHEET};
@@ -155,7 +157,11 @@ fn field_above_7(dice: &mut Dice, made: &mut Made) {
 
 /// The lengths reach to the last pattern's field, or there are zeros behind.
 fn put_together(dice: &mut Dice, made: Made) -> Case {
-    let Made { patterns, sides: [left, right] } = made;
+    let Made { mut patterns, mut sides } = made;
+    let mut bodies: Vec<&mut Vec<u8>> = patterns.iter_mut().map(|(_, _, body)| body).collect();
+    said_parts(dice, &mut bodies, &mut sides);
+    let [left, right] = sides;
+    let edition = edition(dice);
     let needed = patterns.iter().map(|(field, ..)| field + 1).max().unwrap_or(0);
     let number = match dice.below(48) {
         0..=17 => needed,
@@ -169,14 +175,30 @@ fn put_together(dice: &mut Dice, made: Made) -> Case {
         lengths[*field] = *length;
     }
     let patterns = patterns.into_iter().flat_map(|(_, _, body)| body).collect();
-    Case { lengths, patterns, left, right, output: 0 }
+    Case { edition, lengths, patterns, left, right, output: 0 }
+}
+
+/// That of the dice. In the second one now and then another: none, or a number
+/// that is none, among them such whose low byte is 2.
+fn edition(dice: &mut Dice) -> u64 {
+    let own = dice.edition.number();
+    if dice.edition == FIRST || !dice.one_in(8) {
+        return own;
+    }
+    match dice.below(3) {
+        0 => FIRST.number(),
+        1 => dice.pick(&[1, 3, 4, 255]),
+        _ => own + dice.pick(&[1 << 8, 1 << 16, 1 << 32, 1 << 63]),
+    }
 }
 
 /// A length of the output buffer: just what is needed, or a few bytes less or
 /// more, none, plenty.
 fn output(dice: &mut Dice, case: &Case) -> u16 {
-    let sheet = writer::sheet(&case.patterns, &case.lengths, &case.left, &case.right);
+    let Case { edition, patterns, lengths, left, right, .. } = case;
+    let sheet = writer::sheet(*edition, patterns, lengths, left, right);
     let needed = sheet.map_or(0, |sheet| sheet.len());
+    let most = dice.edition.record.len() + MOST_SHEET;
     let length = match dice.below(16) {
         0..=4 => needed,
         5..=7 => needed.saturating_sub(1),
@@ -186,7 +208,7 @@ fn output(dice: &mut Dice, case: &Case) -> u16 {
         12 => dice.below(needed + 1),
         13 => 0,
         14 => dice.below(200),
-        _ => dice.pick(&[MOST_SHEET - 1, MOST_SHEET, MOST_SHEET + 1, 2_048]),
+        _ => dice.pick(&[most - 1, most, most + 1, 2_048]),
     };
     length as u16
 }

@@ -3,21 +3,22 @@
 use std::collections::BTreeSet;
 
 use super::language::{difference, Difference};
-use super::literal::{shown, Sign};
+use super::literal::shown;
 use super::script::{self, Piece, Script};
 use super::Told;
+use crate::edition::Edition;
 use crate::sheet::{Question, Token};
-use crate::CODE_39;
 
 /// Reads a script and compares it with the question.
 pub fn says(script: &[u8], question: &Question) -> Told<()> {
     let script = script::read(script)?;
     declared(&script, question)?;
-    side("left", &script.left, &question.left)?;
-    side("right", &script.right, &question.right)?;
+    side(question.edition, "left", &script.left, &question.left)?;
+    side(question.edition, "right", &script.right, &question.right)?;
     memberships(&script, question)?;
     for (field, membership) in &script.memberships {
-        if let Some(found) = difference(membership, &question.allowed[usize::from(*field)]) {
+        let allowed = &question.allowed[usize::from(*field)];
+        if let Some(found) = difference(question.edition, membership, allowed) {
             return Err(told(*field, &found));
         }
     }
@@ -57,8 +58,8 @@ fn declared(script: &Script, question: &Question) -> Told<()> {
 }
 
 /// "a reader in our tests gives back the sheet's sides"
-fn side(name: &str, pieces: &[Piece], tokens: &[Token]) -> Told<()> {
-    let tokens: Vec<Piece> = tokens.iter().map(piece).collect();
+fn side(edition: Edition, name: &str, pieces: &[Piece], tokens: &[Token]) -> Told<()> {
+    let tokens: Vec<Piece> = tokens.iter().map(|token| piece(edition, token)).collect();
     let longer = pieces.len().max(tokens.len());
     match (0..longer).find(|&at| pieces.get(at) != tokens.get(at)) {
         None => Ok(()),
@@ -72,9 +73,9 @@ fn side(name: &str, pieces: &[Piece], tokens: &[Token]) -> Told<()> {
 }
 
 /// A character as its sign.
-fn piece(token: &Token) -> Piece {
+fn piece(edition: Edition, token: &Token) -> Piece {
     match token {
-        Token::Character(value) => Piece::Sign(Sign::from(CODE_39[usize::from(*value)])),
+        Token::Character(value) => Piece::Sign(edition.ascii(*value).into()),
         Token::Field(field) => Piece::Field(*field),
     }
 }

@@ -5,7 +5,7 @@ use super::lexemes::{self, Kind};
 use super::{wrong, Told};
 
 /// Lists stand in each other at most so many deep. A pattern of 192 bytes and a
-/// range of 43 characters need far less.
+/// range of 128 characters need far less.
 pub const MOST_NESTED: usize = 1_000;
 
 /// An expression and the line in which it begins.

@@ -9,8 +9,8 @@ use std::ops::Range;
 
 use super::literal::{Sign, LAST_SIGN};
 use super::regular::{Machine, Regular, Set};
+use crate::edition::Edition;
 use crate::pattern::{Allowed, PlaceSet, ONLY_START};
-use crate::CODE_39;
 
 /// A shortest text that only one of the two takes.
 #[derive(Clone, Debug, PartialEq, Eq)]
@@ -49,9 +49,9 @@ struct Letter {
 }
 
 /// The first difference, if there is any.
-pub fn difference(membership: &Regular, allowed: &Allowed) -> Option<Difference> {
+pub fn difference(edition: Edition, membership: &Regular, allowed: &Allowed) -> Option<Difference> {
     let machine = Machine::of(membership);
-    let letters = letters(&machine, allowed);
+    let letters = letters(edition, &machine, allowed);
     let start = Standing { states: machine.start(), places: ONLY_START };
     let reached = vec![Reached { standing: start, behind: None }];
     let mut walk = Walk { machine, allowed, letters, reached, equal: Vec::new() };
@@ -116,7 +116,7 @@ impl Walk<'_> {
     }
 }
 
-/// Nothing outside the 43 characters stands in a field.
+/// Nothing outside the edition's characters stands in a field.
 fn place_set(allowed: &Allowed, places: PlaceSet, value: Option<u8>) -> PlaceSet {
     value.map_or(0, |value| allowed.after(places, value))
 }
@@ -159,12 +159,12 @@ fn joined(equal: &[Standing], mut set: Standing) -> Standing {
 /// A character of each kind. Two are of one kind if the same states read them
 /// and they lead from all places to the same: then no text tells them apart.
 /// Between two borders all characters are of one kind: the borders are those of
-/// each set that the machine reads, and of each of the 43.
-fn letters(machine: &Machine, allowed: &Allowed) -> Vec<Letter> {
+/// each set that the machine reads, and of each of the edition's.
+fn letters(edition: Edition, machine: &Machine, allowed: &Allowed) -> Vec<Letter> {
     let mut kinds = BTreeSet::new();
     let mut letters = Vec::new();
-    for sign in signs(machine) {
-        let value = CODE_39.iter().position(|&other| Sign::from(other) == sign).map(|at| at as u8);
+    for sign in signs(edition, machine) {
+        let value = u8::try_from(sign).ok().and_then(|sign| edition.of_ascii(sign));
         let reading = machine.reading(sign);
         if kinds.insert((reading.clone(), place_set(allowed, PlaceSet::MAX, value))) {
             letters.push(Letter { sign, reading, value });
@@ -175,9 +175,10 @@ fn letters(machine: &Machine, allowed: &Allowed) -> Vec<Letter> {
 
 /// A character from each stretch between two borders, printable where there is
 /// such a one; the printable ones first.
-fn signs(machine: &Machine) -> Vec<Sign> {
-    let code_39 = CODE_39.iter().map(|&sign| Sign::from(sign)..=Sign::from(sign));
-    let ranges = machine.signs().flatten().cloned().chain(code_39);
+fn signs(edition: Edition, machine: &Machine) -> Vec<Sign> {
+    let signs = (0..edition.characters).map(|character| Sign::from(edition.ascii(character)));
+    let characters = signs.map(|sign| sign..=sign);
+    let ranges = machine.signs().flatten().cloned().chain(characters);
     let borders: BTreeSet<Sign> = ranges
         .flat_map(|range| [*range.start(), range.end() + 1])
         .chain([0, LAST_SIGN + 1])

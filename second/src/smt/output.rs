@@ -16,7 +16,7 @@ use crate::sheet;
 /// "success is 0"
 const DONE: usize = 0;
 /// "Refusals: the sheet's own, then 40 if the output buffer is too short."
-const OUTPUT_TOO_SHORT: usize = 40;
+pub const OUTPUT_TOO_SHORT: usize = 40;
 
 /// How many cases there were, by what they gave.
 #[derive(Clone, Copy, Debug, Default, PartialEq, Eq)]

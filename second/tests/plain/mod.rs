@@ -3,6 +3,7 @@
 
 use std::collections::{BTreeMap, BTreeSet};
 
+use second::edition::{Edition, FIRST, SECOND};
 use second::pattern::Pattern;
 use second::CODE_39;
 
@@ -28,32 +29,39 @@ pub const LAYOUTS: [Layout; 4] = [
 
 /// A good sheet, taken apart once more.
 pub struct Parts {
+    pub edition: Edition,
     pub patterns: BTreeMap<u8, Pattern>,
     pub left: Vec<u8>,
     pub right: Vec<u8>,
 }
 
 pub fn parts(sheet: &[u8]) -> Parts {
+    let (edition, mut rest) = match sheet.strip_prefix(b"ED\x02") {
+        Some(behind) => (SECOND, behind),
+        None => (FIRST, sheet),
+    };
     let mut patterns = BTreeMap::new();
-    let mut rest = sheet;
     while rest.starts_with(b"PA") {
         let end = 4 + usize::from(rest[3]);
-        patterns.insert(rest[2], Pattern::read(&rest[4..end]).unwrap());
+        patterns.insert(rest[2], Pattern::read(edition, &rest[4..end]).unwrap());
         rest = &rest[end..];
     }
     let (left, rest) = rest[3..].split_at(usize::from(rest[2]));
-    let space = Pattern::AnyTimes(Box::new(Pattern::Leaf { lo: 38, hi: 38 }));
+    let Edition { space, .. } = edition;
+    let space = Pattern::AnyTimes(Box::new(Pattern::Leaf { lo: space, hi: space }));
     patterns.insert(8, space.clone());
     patterns.insert(9, space);
-    Parts { patterns, left: [left, &[72]].concat(), right: [&rest[3..], &[73]].concat() }
+    let (left, right) =
+        ([left, &[edition.field(8)]].concat(), [&rest[3..], &[edition.field(9)]].concat());
+    Parts { edition, patterns, left, right }
 }
 
 /// The script of a good sheet.
 pub fn script(sheet: &[u8], layout: Layout) -> String {
-    let Parts { patterns, left, right } = parts(sheet);
+    let Parts { edition, patterns, left, right } = parts(sheet);
     let tokens = left.iter().chain(&right);
     let fields: BTreeSet<u8> =
-        tokens.filter(|&&token| token >= 64).map(|&token| token - 64).collect();
+        tokens.filter_map(|token| token.checked_sub(edition.codes)).collect();
     let mut script = "(set-logic QF_S)".to_string();
     for field in &fields {
         script += &match layout.functions {
@@ -61,11 +69,12 @@ pub fn script(sheet: &[u8], layout: Layout) -> String {
             false => format!("(declare-const f{field} String)"),
         };
     }
-    let mut terms = vec![format!("(= {} {})", side(&left, layout), side(&right, layout))];
+    let mut terms =
+        vec![format!("(= {} {})", side(edition, &left, layout), side(edition, &right, layout))];
     for field in &fields {
         let regular = match patterns.get(field) {
-            Some(pattern) => regular(pattern, layout),
-            None => format!("(re.+ {})", leaf(0, 42, layout)),
+            Some(pattern) => regular(edition, pattern, layout),
+            None => format!("(re.+ {})", leaf(edition, 0, edition.characters - 1, layout)),
         };
         terms.push(format!("(str.in_re f{field} {regular})"));
     }
@@ -104,30 +113,36 @@ fn applied(operator: &str, parts: &[String], layout: Layout) -> String {
     }
 }
 
-fn sign(value: u8) -> String {
-    format!("\"{}\"", char::from(CODE_39[usize::from(value)]))
+/// In the second edition each character stands as its code, or doubled.
+fn sign(edition: Edition, value: u8) -> String {
+    match (edition, value) {
+        (FIRST, _) => format!("\"{}\"", char::from(CODE_39[usize::from(value)])),
+        (_, b'"') => "\"\"\"\"".to_string(),
+        _ => format!("\"\\u{value:04X}\""),
+    }
 }
 
-fn side(tokens: &[u8], layout: Layout) -> String {
-    let term = |&token: &u8| match token {
-        0..=42 => sign(token),
-        _ => format!("f{}", token - 64),
+fn side(edition: Edition, tokens: &[u8], layout: Layout) -> String {
+    let term = |&token: &u8| match token.checked_sub(edition.codes) {
+        None => sign(edition, token),
+        Some(field) => format!("f{field}"),
     };
     applied("str.++", &tokens.iter().map(term).collect::<Vec<String>>(), layout)
 }
 
-fn leaf(lo: u8, hi: u8, layout: Layout) -> String {
-    let one = |value| format!("(str.to_re {})", sign(value));
+fn leaf(edition: Edition, lo: u8, hi: u8, layout: Layout) -> String {
+    let one = |value| format!("(str.to_re {})", sign(edition, value));
     applied("re.union", &(lo..=hi).map(one).collect::<Vec<String>>(), layout)
 }
 
-pub fn regular(pattern: &Pattern, layout: Layout) -> String {
+pub fn regular(edition: Edition, pattern: &Pattern, layout: Layout) -> String {
+    let part = |part: &Pattern| regular(edition, part, layout);
     match pattern {
         Pattern::Empty => "(str.to_re \"\")".to_string(),
-        Pattern::Leaf { lo, hi } => leaf(*lo, *hi, layout),
-        Pattern::Then(a, b) => format!("(re.++ {} {})", regular(a, layout), regular(b, layout)),
-        Pattern::Or(a, b) => format!("(re.union {} {})", regular(a, layout), regular(b, layout)),
-        Pattern::AnyTimes(a) => format!("(re.* {})", regular(a, layout)),
+        Pattern::Leaf { lo, hi } => leaf(edition, *lo, *hi, layout),
+        Pattern::Then(a, b) => format!("(re.++ {} {})", part(a), part(b)),
+        Pattern::Or(a, b) => format!("(re.union {} {})", part(a), part(b)),
+        Pattern::AnyTimes(a) => format!("(re.* {})", part(a)),
     }
 }
 

@@ -26,9 +26,32 @@ pub enum Shown {
     Range,
     FirstToken,
     LaterToken,
+    EditionByte,
 }
 
 use Shown::*;
+
+/// The record of the second edition.
+pub const SECOND: &[u8] = b"ED\x02";
+
+/// What a byte is in a side or in a pattern.
+#[derive(Clone, Copy, PartialEq, Eq)]
+enum Kind {
+    Character,
+    /// A field's token or, up to 4, a pattern's code.
+    Code(u8),
+    None,
+}
+
+/// In the second edition or in the first.
+fn kind(second: bool, byte: u8) -> Kind {
+    match (second, byte) {
+        (false, 0..=42) | (true, 0..=127) => Kind::Character,
+        (false, 64..=71) => Kind::Code(byte - 64),
+        (true, 192..=199) => Kind::Code(byte - 192),
+        _ => Kind::None,
+    }
+}
 
 /// Number, place, and what shows the fault; of a pattern, the place is counted
 /// from its first byte.
@@ -45,11 +68,16 @@ pub struct Met {
 }
 
 /// The first fault of records that stand behind this front, the last of them
-/// sides with these marks.
+/// sides with these marks. A sheet, which has no front, may have an edition.
 pub fn met(bytes: &[u8], front: &[u8], sides: &[&[u8; 2]]) -> Option<Met> {
     let mut sides = sides.iter().peekable();
     let mut field_before = None;
-    let mut at = 0;
+    let second = front.is_empty() && bytes.starts_with(b"ED");
+    let first = if second { SECOND.len() } else { front.len() };
+    if let Some((number, place, shown)) = second.then(|| of_edition(bytes)).flatten() {
+        return Some(Met { number, place, shown, later: false });
+    }
+    let mut at = if second { first } else { 0 };
     loop {
         let next_side = sides.peek().map(|mark| &mark[..]);
         let read = match (next_side, &bytes[at..]) {
@@ -59,24 +87,38 @@ pub fn met(bytes: &[u8], front: &[u8], sides: &[&[u8; 2]]) -> Option<Met> {
             (Some(_), rest) if at < front.len() => {
                 rest.starts_with(front).then_some(front.len()).ok_or((12, at, Mark))
             }
-            (Some(b"LE"), [b'P', b'A', ..]) => pattern_record(bytes, at, &mut field_before),
+            (Some(b"LE"), [b'P', b'A', ..]) => pattern_record(second, bytes, at, &mut field_before),
             (Some(side), rest) if rest.starts_with(side) => {
                 sides.next();
-                side_record(bytes, at)
+                side_record(second, bytes, at)
             }
             _ => Err((12, at, Mark)),
         };
         match read {
             Ok(end) => at = end,
             Err((number, place, shown)) => {
-                return Some(Met { number, place, shown, later: at > front.len() });
+                return Some(Met { number, place, shown, later: at > first });
             }
         }
     }
 }
 
+/// The fault of bytes that begin with `ED` there.
+fn of_edition(bytes: &[u8]) -> Option<Fault> {
+    match bytes {
+        [_, _] => Some((11, 2, CutShort)),
+        [_, _, 2, ..] => None,
+        _ => Some((44, 2, EditionByte)),
+    }
+}
+
 /// Where the record ends, or its fault.
-fn pattern_record(bytes: &[u8], at: usize, before: &mut Option<u8>) -> Result<usize, Fault> {
+fn pattern_record(
+    second: bool,
+    bytes: &[u8],
+    at: usize,
+    before: &mut Option<u8>,
+) -> Result<usize, Fault> {
     let body = at + 4;
     if bytes.len() < body {
         return Err((11, bytes.len(), CutShort));
@@ -89,7 +131,7 @@ fn pattern_record(bytes: &[u8], at: usize, before: &mut Option<u8>) -> Result<us
         Err((14, at + 3, PatternLength))
     } else if bytes.len() < end {
         Err((11, bytes.len(), CutShort))
-    } else if let Some((number, place, shown)) = of_pattern(&bytes[body..end]) {
+    } else if let Some((number, place, shown)) = of_pattern(second, &bytes[body..end]) {
         Err((number, body + place, shown))
     } else {
         *before = Some(field);
@@ -97,7 +139,7 @@ fn pattern_record(bytes: &[u8], at: usize, before: &mut Option<u8>) -> Result<us
     }
 }
 
-fn side_record(bytes: &[u8], at: usize) -> Result<usize, Fault> {
+fn side_record(second: bool, bytes: &[u8], at: usize) -> Result<usize, Fault> {
     let body = at + 3;
     if bytes.len() < body {
         return Err((11, bytes.len(), CutShort));
@@ -109,16 +151,16 @@ fn side_record(bytes: &[u8], at: usize) -> Result<usize, Fault> {
     if bytes.len() < end {
         return Err((11, bytes.len(), CutShort));
     }
-    match bytes[body..end].iter().position(|token| !matches!(token, 0..=42 | 64..=71)) {
+    match bytes[body..end].iter().position(|&token| kind(second, token) == Kind::None) {
         None => Ok(end),
         Some(0) => Err((17, body, FirstToken)),
         Some(number) => Err((17, body + number, LaterToken)),
     }
 }
 
-fn of_pattern(body: &[u8]) -> Option<Fault> {
+fn of_pattern(second: bool, body: &[u8]) -> Option<Fault> {
     let mut leaves = Vec::new();
-    let wrong = of_codes(body, &mut leaves);
+    let wrong = of_codes(second, body, &mut leaves);
     match (wrong, leaves.get(63)) {
         (Some((place, _)), Some(_)) => Some((15, place, BehindThe64thLeaf)),
         (Some((place, shown)), None) => Some((15, place, shown)),
@@ -128,43 +170,47 @@ fn of_pattern(body: &[u8]) -> Option<Fault> {
 }
 
 /// Where the bytes are not one pattern; the leaves up to there are gathered.
-fn of_codes(body: &[u8], leaves: &mut Vec<(usize, Shown)>) -> Option<(usize, Shown)> {
+fn of_codes(second: bool, body: &[u8], leaves: &mut Vec<(usize, Shown)>) -> Option<(usize, Shown)> {
+    // A character, a code from 0 to 4, or neither.
+    let kind = |byte: u8| match kind(second, byte) {
+        Kind::Code(5..) => Kind::None,
+        kind => kind,
+    };
+    let is_character = |byte: u8| kind(byte) == Kind::Character;
     // So many patterns have still to come.
     let mut missing = 1;
     let mut at = 0;
     while missing > 0 {
-        match body[at..] {
-            [] | [65] | [65, 0..=42] => return Some((body.len(), RunsOut)),
-            [65, 43..=255] => return Some((at + 1, LoAbove42WithoutHi)),
-            [65, 43..=255, ..] => return Some((at + 1, LoAbove42)),
-            [65, _, 43..=255, ..] => return Some((at + 2, HiAbove42)),
-            [65, lo, hi, ..] if hi < lo => return Some((at + 2, HiBelowLo)),
-            [65, ..] => {
+        let Some((&code, behind)) = body[at..].split_first() else {
+            return Some((body.len(), RunsOut));
+        };
+        match (kind(code), behind) {
+            (Kind::None, _) => return Some((at, NoCode)),
+            (Kind::Code(1), []) => return Some((body.len(), RunsOut)),
+            (Kind::Code(1), [lo]) if is_character(*lo) => return Some((body.len(), RunsOut)),
+            (Kind::Code(1), [_]) => return Some((at + 1, LoAbove42WithoutHi)),
+            (Kind::Code(1), [lo, ..]) if !is_character(*lo) => return Some((at + 1, LoAbove42)),
+            (Kind::Code(1), [_, hi, ..]) if !is_character(*hi) => return Some((at + 2, HiAbove42)),
+            (Kind::Code(1), [lo, hi, ..]) if hi < lo => return Some((at + 2, HiBelowLo)),
+            (Kind::Code(1), _) => {
                 leaves.push((at, Range));
                 missing -= 1;
-                at += 3;
+                at += 2;
             }
-            [0..=42, ..] => {
+            (Kind::Character, _) => {
                 leaves.push((at, Character));
                 missing -= 1;
-                at += 1;
             }
-            [64, ..] => {
-                missing -= 1;
-                at += 1;
-            }
-            [66 | 67, ..] => {
-                missing += 1;
-                at += 1;
-            }
-            [68, ..] => at += 1,
-            _ => return Some((at, NoCode)),
+            (Kind::Code(0), _) => missing -= 1,
+            (Kind::Code(2 | 3), _) => missing += 1,
+            (Kind::Code(_), _) => {}
         }
+        at += 1;
     }
-    match body[at..] {
-        [] => None,
-        [0..=42 | 64..=68, ..] => Some((at, LeftOver)),
-        _ => Some((at, LeftOverNoCode)),
+    match body.get(at) {
+        None => None,
+        Some(&byte) if kind(byte) == Kind::None => Some((at, LeftOverNoCode)),
+        Some(_) => Some((at, LeftOver)),
     }
 }
 
@@ -218,7 +264,7 @@ pub fn sizes(bytes: &[u8], front: &[u8], seen: &mut BTreeMap<Size, usize>) {
             return;
         };
         let mut leaves = Vec::new();
-        if of_codes(body, &mut leaves).is_none() {
+        if of_codes(front == SECOND, body, &mut leaves).is_none() {
             let sizes = [
                 (Size::From97To192Bytes, (97..=192).contains(&body.len())),
                 (Size::Bytes192, body.len() == 192),

@@ -37,7 +37,7 @@ in-places : (c : tie.Else1 Inv-loop μ-loop) → c .before .before .loop .i + st
 in-places c =
     let s = c .before .before .before in
     let fits : s .args .set < 2 ^ places = s .fits .set .fits in
-    next-below (s .args .follow .now) (s .args .set) (c .before .before .loop .i) fits (c .if1 .left)
+    next-below (s .args .set) (c .before .before .loop .i) fits (c .if1 .left)
 
 cast-next : tie.Need-cast-next Inv-loop μ-loop
 cast-next c = record { fits = lt-of-le-of-lt (trailing-le places (c .before .before .before .args .set / 2 ^ c .before .before .loop .i)) (omega arith) }

@@ -9,8 +9,11 @@ open-tables-requires c κs = search needs
 no-bodies-requires : tie.Need-no-bodies-requires
 no-bodies-requires c κs = search needs
 
+alphabet-of-requires : tie.Need-alphabet-of-requires
+alphabet-of-requires c κs = search needs
+
 returns : tie.Need-returns
-returns c = rw (c .before .open-tables .ensures, c .no-bodies .ensures)
+returns c = rw (c .before .before .open-tables .ensures, c .before .no-bodies .ensures, c .alphabet-of .ensures)
 
 pub no-question-spec : {M : Type 1} → statement M
-no-question-spec = tie.close (tie.spec open-tables-requires no-bodies-requires returns)
+no-question-spec = tie.close (tie.spec open-tables-requires no-bodies-requires alphabet-of-requires returns)

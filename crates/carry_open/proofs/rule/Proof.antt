@@ -6,6 +6,7 @@ use mathlib.Core.List.{List}
 use denote.Ref.{now}
 use lib.ListN.{length}
 use lib.Seq.{take-all}
+use Rattle.paper.specs.Alphabet.{edition-1}
 use Rattle.paper.specs.Rule.{foreign-field, read-rule}
 use Rattle.paper_catalogue.proofs.Local.{rule-whole, rule-bounds}
 use Rattle.paper_catalogue.proofs.GoodRule.{new-good}
@@ -58,7 +59,7 @@ own e = sym (told (e .before) .foreign) ∙ e .if1 .left
 whole : (s : tie.After-rule-counts) →
     let e = s .before .before .before in
     let r = e .before .before .before in
-    put-whole (now (r .before .before .before .args .rule)) 2 (r .read .result .bodies) (s .rule-counts .result) ≡ rule-open (told (e .before) .rule)
+    put-whole edition-1 (now (r .before .before .before .args .rule)) 2 (r .read .result .bodies) (s .rule-counts .result) ≡ rule-open (told (e .before) .rule)
 whole s =
     let e = s .before .before .before in
     let r = e .before .before .before in
@@ -66,10 +67,10 @@ whole s =
     let bytes = now (r .before .before .before .args .rule) in
     let (front, all) = rule-whole bytes (t .reads) in
     let good = new-good bytes (t .reads) (own e) in
-    let stand = subst (λ (b : List Body). AllStand bytes b (t .rule .fields .held)) (sym (t .bodies-are)) (front-stands bytes front) in
+    let stand = subst (λ (b : List Body). AllStand edition-1 bytes b (t .rule .fields .held)) (sym (t .bodies-are)) (front-stands bytes front) in
     Whole.rule-whole (t .rule) good bytes (rule-said-back bytes front ∙ take-all (r .read .result .bytes) bytes (omega (arith, all)))
     _ (t .side) (r .read .result .bodies)
-    (Whole.have-bytes bytes (t .rule .fields .held) (r .read .result .bodies) (good .held .each-field) stand)
+    (Whole.have-bytes edition-1 bytes (t .rule .fields .held) (r .read .result .bodies) (good .held .each-field) stand)
     _ (s .rule-counts .ensures)
 
 rule-counts-requires : tie.Need-rule-counts-requires

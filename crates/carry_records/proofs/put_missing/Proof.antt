@@ -1,6 +1,8 @@
 -- `put_missing` meets its contract: nothing, or the record's parts one behind the other.
 use borrow.Author.Tests.{eq-eqb, ne-eqb}
 use Rattle.base_put.proofs.Counting.{counted-none, counted-then}
+use Rattle.base_editions.specs.Editions.{paper-edition}
+use Rattle.carry_records.proofs.FromSaid.{out-said}
 use borrow.Author.Needs.{needs}
 use Rattle.carry_records.proofs.put_missing.Statement.{statement}
 use Rattle.carry_records.proofs.put_missing.Tie as tie
@@ -20,14 +22,11 @@ cast-put c = search needs
 put-requires : tie.Need-put-requires
 put-requires c κs = search needs
 
-sub-put-all : tie.Need-sub-put-all
-sub-put-all c = search needs
+written-out-requires : tie.Need-written-out-requires
+written-out-requires c κs = search needs
 
-part-put-all-start : tie.Need-part-put-all-start
-part-put-all-start c = search needs
-
-part-put-all-end : tie.Need-part-put-all-end
-part-put-all-end c = search needs
+slice-aggregate-put-all-2 : tie.Need-slice-aggregate-put-all-2
+slice-aggregate-put-all-2 c = search needs
 
 put-all-requires-2 : tie.Need-put-all-requires-2
 put-all-requires-2 c κs = search needs
@@ -38,11 +37,13 @@ same-length c = search needs
 returns-2 : tie.Need-returns-2
 returns-2 c =
     let code = c .before .before in
-    let named = code .before .before .before .before .before .before in
+    let written = code .before .before .before in
+    let named = written .before .before .before in
     let marked = named .before .before .before .before in
     let test = marked .before .before .before in
-    rw (ne-eqb (test .before .before .args .count) 0 (test .if1 .left))
-    (counted-then (counted-then (marked .put-all .ensures) (named .put .ensures)) (code .put-all2 .ensures))
+    let a = test .before .before .args in
+    rw (ne-eqb (a .count) 0 (test .if1 .left), ← out-said (paper-edition (a .edition)) (a .f))
+    (counted-then (counted-then (marked .put-all .ensures) (named .put .ensures)) (rw (written .written-out .ensures) at (code .put-all2 .ensures)))
 
 pub put-missing-spec : {M : Type 1} → statement M
 put-missing-spec =
@@ -53,9 +54,8 @@ put-missing-spec =
     put-all-requires
     cast-put
     put-requires
-    sub-put-all
-    part-put-all-start
-    part-put-all-end
+    written-out-requires
+    slice-aggregate-put-all-2
     put-all-requires-2
     same-length
     returns-2)

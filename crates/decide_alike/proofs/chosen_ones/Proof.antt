@@ -5,20 +5,20 @@ use mathlib.Core.Path.{_≡_, sym, ap, _∙_}
 use mathlib.Core.Bool.{false}
 use lib.ListN.{replicate}
 use borrow.Author.Needs.{needs}
-use Rattle.paper.specs.Numbers.{characters, set-fields}
+use Rattle.paper.specs.Numbers.{most-characters, set-fields}
 use Rattle.decide_alike.specs.AlikeCoded.{stepped, chosen-of, chosen-coded}
 use Rattle.decide_alike.proofs.AlikeTurns.{no-step, step-more}
 use Rattle.decide_alike.proofs.chosen_ones.Statement.{statement}
 use Rattle.decide_alike.proofs.chosen_ones.Tie as tie
 
 abbrev Inv-loop : tie.InvT-loop
-Inv-loop free least taking standing chosen₀ f₀ chosen f = (f ≤ set-fields) × (chosen ≡ stepped (chosen-of free least standing taking) f (replicate characters false))
+Inv-loop free least taking n standing chosen₀ f₀ chosen f = (f ≤ set-fields) × (chosen ≡ stepped (chosen-of n free least standing taking) f (replicate most-characters false))
 
 abbrev μ-loop : tie.MeasureT-loop
-μ-loop free least taking standing chosen₀ f₀ chosen f = set-fields - f
+μ-loop free least taking n standing chosen₀ f₀ chosen f = set-fields - f
 
 loop-holds : tie.Need-loop-holds Inv-loop μ-loop
-loop-holds c = let a = c .args in (omega arith, sym (no-step (chosen-of (a .free) (a .least) (a .t3) (a .taking .now)) (replicate characters false)))
+loop-holds c = let a = c .args in (omega arith, sym (no-step (chosen-of (a .n) (a .free) (a .least) (a .t3) (a .taking .now)) (replicate most-characters false)))
 
 mul-row : tie.Need-mul-row Inv-loop μ-loop
 mul-row c = search needs
@@ -43,8 +43,8 @@ unfolding chosen-of
 loop-again c =
     let l = c .before .before .before .loop in
     let a = c .before .before .before .before .args in
-    let step = chosen-of (a .free) (a .least) (a .t3) (a .taking .now) in
-    (omega arith, c .chosen-of .ensures ∙ ap (step (l .f)) (l .inv .1) ∙ sym (step-more step (replicate characters false) (l .f)))
+    let step = chosen-of (a .n) (a .free) (a .least) (a .t3) (a .taking .now) in
+    (omega arith, c .chosen-of .ensures ∙ ap (step (l .f)) (l .inv .1) ∙ sym (step-more step (replicate most-characters false) (l .f)))
 
 returns : tie.Need-returns Inv-loop μ-loop
 unfolding chosen-coded

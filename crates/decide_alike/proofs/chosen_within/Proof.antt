@@ -10,13 +10,13 @@ use Rattle.decide_alike.proofs.chosen_within.Statement.{statement}
 use Rattle.decide_alike.proofs.chosen_within.Tie as tie
 
 abbrev Inv-loop : tie.InvT-loop
-Inv-loop free least row chosen₀ p₀ chosen p = (p ≤ places) × (chosen ≡ stepped (chosen-at free least row) p chosen₀)
+Inv-loop free least row n chosen₀ p₀ chosen p = (p ≤ places) × (chosen ≡ stepped (chosen-at n free least row) p chosen₀)
 
 abbrev μ-loop : tie.MeasureT-loop
-μ-loop free least row chosen₀ p₀ chosen p = places - p
+μ-loop free least row n chosen₀ p₀ chosen p = places - p
 
 loop-holds : tie.Need-loop-holds Inv-loop μ-loop
-loop-holds c = let a = c .args in (omega arith, sym (no-step (chosen-at (a .free) (a .least) (a .row)) (a .earlier)))
+loop-holds c = let a = c .args in (omega arith, sym (no-step (chosen-at (a .n) (a .free) (a .least) (a .row)) (a .earlier)))
 
 chosen-at-requires : tie.Need-chosen-at-requires Inv-loop μ-loop
 chosen-at-requires c κs = search needs
@@ -31,7 +31,7 @@ loop-again : tie.Need-loop-again Inv-loop μ-loop
 loop-again c =
     let l = c .before .before .loop in
     let a = c .before .before .before .args in
-    let step = chosen-at (a .free) (a .least) (a .row) in
+    let step = chosen-at (a .n) (a .free) (a .least) (a .row) in
     (omega arith, c .chosen-at .ensures ∙ ap (step (l .p)) (l .inv .1) ∙ sym (step-more step (a .earlier) (l .p)))
 
 returns : tie.Need-returns Inv-loop μ-loop

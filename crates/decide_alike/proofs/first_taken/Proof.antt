@@ -3,20 +3,19 @@ use Prim.Native.Nat.{ℕ, suc, _+_, _-_, _≤_}
 use native.Mathlib.Omega.{arith}
 use mathlib.Core.Path.{_≡_, sym, _∙_}
 use borrow.Author.Needs.{needs}
-use Rattle.paper.specs.Numbers.{characters}
 use Rattle.decide_alike.specs.AlikeCoded.{first-from, taken-coded, first-taken}
 use Rattle.decide_alike.proofs.AlikeTurns.{first-here, first-behind, first-none, first-of-all}
 use Rattle.decide_alike.proofs.first_taken.Statement.{statement}
 use Rattle.decide_alike.proofs.first_taken.Tie as tie
 
 abbrev Inv-loop : tie.InvT-loop
-Inv-loop p among row c₀ c = (c ≤ characters) × ((n : ℕ) → n + c ≡ characters → first-taken among row p ≡ first-from (taken-coded among row p) c n)
+Inv-loop p n among row c₀ c = (c ≤ n) × ((m : ℕ) → m + c ≡ n → first-taken n among row p ≡ first-from (taken-coded among row p) c m)
 
 abbrev μ-loop : tie.MeasureT-loop
-μ-loop p among row c₀ c = characters - c
+μ-loop p n among row c₀ c = n - c
 
 loop-holds : tie.Need-loop-holds Inv-loop μ-loop
-loop-holds c = (omega arith, first-of-all (c .args .t1) (c .args .t2) (c .args .p))
+loop-holds c = (omega arith, first-of-all (c .args .n) (c .args .t1) (c .args .t2) (c .args .p))
 
 array-read-is-taken : tie.Need-array-read-is-taken Inv-loop μ-loop
 array-read-is-taken c = search needs
@@ -34,7 +33,7 @@ returns : tie.Need-returns Inv-loop μ-loop
 returns c =
     let l = c .before .before .before .loop in
     let a = c .before .before .before .before .args in
-    sym (l .inv .1 (characters - l .c) (omega arith) ∙ first-here (taken-coded (a .t1) (a .t2) (a .p)) (l .c) (characters - l .c) (omega arith) (sym (c .before .is-taken .ensures) ∙ c .if1 .taken))
+    sym (l .inv .1 (a .n - l .c) (omega arith) ∙ first-here (taken-coded (a .t1) (a .t2) (a .p)) (l .c) (a .n - l .c) (omega arith) (sym (c .before .is-taken .ensures) ∙ c .if1 .taken))
 
 add-c : tie.Need-add-c Inv-loop μ-loop
 add-c c = search needs
@@ -46,7 +45,7 @@ loop-again : tie.Need-loop-again Inv-loop μ-loop
 loop-again c =
     let l = c .before .before .before .loop in
     let a = c .before .before .before .before .args in
-    (omega arith, λ n e. l .inv .1 (suc n) (omega arith) ∙ first-behind (taken-coded (a .t1) (a .t2) (a .p)) (l .c) n (sym (c .before .is-taken .ensures) ∙ c .if1 .left))
+    (omega arith, λ m e. l .inv .1 (suc m) (omega arith) ∙ first-behind (taken-coded (a .t1) (a .t2) (a .p)) (l .c) m (sym (c .before .is-taken .ensures) ∙ c .if1 .left))
 
 returns-2 : tie.Need-returns-2 Inv-loop μ-loop
 returns-2 c =

@@ -1,25 +1,24 @@
--- `fixed_ones` meets its contract. The loop's invariant: the characters below `c` are marked (`Filled`).
-use Prim.Native.Nat.{ℕ, _-_}
+-- `fixed_ones` meets its contract. The loop's invariant: the characters below `c` are marked (`Marks`).
+use Prim.Native.Nat.{ℕ, _-_, _≤_}
 use native.Mathlib.Omega.{arith}
-use mathlib.Core.Path.{refl}
+use mathlib.Core.Path.{_≡_}
 use mathlib.Core.List.{_++_}
 use borrow.Author.Needs.{needs}
-use Rattle.paper.specs.Numbers.{characters}
 use Rattle.paper.specs.Lists.{member}
 use Rattle.base_codes.specs.Inner.{tokens}
-use Rattle.decide_alike.specs.AlikeCoded.{fixed-coded}
-use Rattle.search_tables.proofs.Filled.{Filled, filled-none, filled-more, filled-all}
+use Rattle.decide_alike.specs.AlikeCoded.{marked-by, fixed-coded}
+use Rattle.decide_alike.proofs.Marks.{marks-none, marks-more}
 use Rattle.decide_alike.proofs.fixed_ones.Statement.{statement}
 use Rattle.decide_alike.proofs.fixed_ones.Tie as tie
 
 abbrev Inv-loop : tie.InvT-loop
-Inv-loop left right fixed₀ c₀ fixed c = Filled (λ (x : ℕ). member x (tokens left ++ tokens right)) characters fixed c
+Inv-loop left right n fixed₀ c₀ fixed c = (c ≤ n) × (fixed ≡ marked-by (λ (x : ℕ). member x (tokens left ++ tokens right)) c)
 
 abbrev μ-loop : tie.MeasureT-loop
-μ-loop left right fixed₀ c₀ fixed c = characters - c
+μ-loop left right n fixed₀ c₀ fixed c = n - c
 
 loop-holds : tie.Need-loop-holds Inv-loop μ-loop
-loop-holds c = let a = c .args in filled-none (λ (x : ℕ). member x (tokens (a .left) ++ tokens (a .right))) characters _ refl
+loop-holds c = let a = c .args in (omega arith, marks-none (λ (x : ℕ). member x (tokens (a .left) ++ tokens (a .right))))
 
 cast-stands-in-either : tie.Need-cast-stands-in-either Inv-loop μ-loop
 cast-stands-in-either c = search needs
@@ -39,15 +38,17 @@ loop-less c = search needs
 loop-again : tie.Need-loop-again Inv-loop μ-loop
 loop-again c =
     let l = c .before .before .loop in
-    let a = c .before .before .before .args in
-    filled-more (λ (x : ℕ). member x (tokens (a .left) ++ tokens (a .right))) characters _ (l .c) (l .inv) (omega arith) _ (c .stands-in-either .ensures)
+    let start = c .before .before .before in
+    let a = start .args in
+    (omega arith, rw (l .inv .1) (marks-more (λ (x : ℕ). member x (tokens (a .left) ++ tokens (a .right))) (l .c) _ (omega (arith, start .pre)) (c .stands-in-either .ensures)))
 
 returns : tie.Need-returns Inv-loop μ-loop
 unfolding fixed-coded
 returns c =
     let l = c .before .loop in
-    let a = c .before .before .args in
-    filled-all (λ (x : ℕ). member x (tokens (a .left) ++ tokens (a .right))) characters _ (l .c) (l .inv) (omega arith)
+    let n = c .before .before .args .n in
+    let same : l .c ≡ n = omega arith in
+    rw (l .inv .1, same)
 
 pub fixed-ones-spec : {M : Type 1} → statement M
 fixed-ones-spec =

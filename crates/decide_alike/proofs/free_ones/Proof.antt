@@ -1,24 +1,23 @@
--- `free_ones` meets its contract. The loop's invariant: the characters below `c` are marked (`Filled`).
-use Prim.Native.Nat.{ℕ, _-_}
+-- `free_ones` meets its contract. The loop's invariant: the characters below `c` are marked (`Marks`).
+use Prim.Native.Nat.{ℕ, _-_, _≤_}
 use native.Mathlib.Omega.{arith}
-use mathlib.Core.Path.{refl}
+use mathlib.Core.Path.{_≡_}
 use mathlib.Core.Bool.{false, _&&_, not}
 use lib.ListN.{getD}
 use borrow.Author.Needs.{needs}
-use Rattle.paper.specs.Numbers.{characters}
-use Rattle.decide_alike.specs.AlikeCoded.{free-coded}
-use Rattle.search_tables.proofs.Filled.{Filled, filled-none, filled-more, filled-all}
+use Rattle.decide_alike.specs.AlikeCoded.{marked-by, free-coded}
+use Rattle.decide_alike.proofs.Marks.{marks-none, marks-more}
 use Rattle.decide_alike.proofs.free_ones.Statement.{statement}
 use Rattle.decide_alike.proofs.free_ones.Tie as tie
 
 abbrev Inv-loop : tie.InvT-loop
-Inv-loop fixed least free₀ c₀ free c = Filled (λ (x : ℕ). getD least x false && not (getD fixed x false)) characters free c
+Inv-loop n fixed least free₀ c₀ free c = (c ≤ n) × (free ≡ marked-by (λ (x : ℕ). getD least x false && not (getD fixed x false)) c)
 
 abbrev μ-loop : tie.MeasureT-loop
-μ-loop fixed least free₀ c₀ free c = characters - c
+μ-loop n fixed least free₀ c₀ free c = n - c
 
 loop-holds : tie.Need-loop-holds Inv-loop μ-loop
-loop-holds c = let a = c .args in filled-none (λ (x : ℕ). getD (a .t2) x false && not (getD (a .t1) x false)) characters _ refl
+loop-holds c = let a = c .args in (omega arith, marks-none (λ (x : ℕ). getD (a .t2) x false && not (getD (a .t1) x false)))
 
 array-read-is-free : tie.Need-array-read-is-free Inv-loop μ-loop
 array-read-is-free c = search needs
@@ -41,15 +40,17 @@ loop-less c = search needs
 loop-again : tie.Need-loop-again Inv-loop μ-loop
 loop-again c =
     let l = c .before .before .loop in
-    let a = c .before .before .before .args in
-    filled-more (λ (x : ℕ). getD (a .t2) x false && not (getD (a .t1) x false)) characters _ (l .c) (l .inv) (omega arith) _ (c .is-free .ensures)
+    let start = c .before .before .before in
+    let a = start .args in
+    (omega arith, rw (l .inv .1) (marks-more (λ (x : ℕ). getD (a .t2) x false && not (getD (a .t1) x false)) (l .c) _ (omega (arith, start .pre)) (c .is-free .ensures)))
 
 returns : tie.Need-returns Inv-loop μ-loop
 unfolding free-coded
 returns c =
     let l = c .before .loop in
-    let a = c .before .before .args in
-    filled-all (λ (x : ℕ). getD (a .t2) x false && not (getD (a .t1) x false)) characters _ (l .c) (l .inv) (omega arith)
+    let n = c .before .before .args .n in
+    let same : l .c ≡ n = omega arith in
+    rw (l .inv .1, same)
 
 pub free-ones-spec : {M : Type 1} → statement M
 free-ones-spec =

@@ -1,22 +1,21 @@
--- `least_from` meets its contract. The loop's invariant: the characters below `c` are marked (`Filled`).
-use Prim.Native.Nat.{_-_}
+-- `least_from` meets its contract. The loop's invariant: the characters below `c` are marked (`Marks`).
+use Prim.Native.Nat.{_-_, _≤_}
 use native.Mathlib.Omega.{arith}
-use mathlib.Core.Path.{refl}
+use mathlib.Core.Path.{_≡_}
 use borrow.Author.Needs.{needs}
-use Rattle.paper.specs.Numbers.{characters}
-use Rattle.decide_alike.specs.AlikeCoded.{is-least-coded, least-from}
-use Rattle.search_tables.proofs.Filled.{Filled, filled-none, filled-more, filled-all}
+use Rattle.decide_alike.specs.AlikeCoded.{marked-by, is-least-coded, least-from}
+use Rattle.decide_alike.proofs.Marks.{marks-none, marks-more}
 use Rattle.decide_alike.proofs.least_from.Statement.{statement}
 use Rattle.decide_alike.proofs.least_from.Tie as tie
 
 abbrev Inv-loop : tie.InvT-loop
-Inv-loop fixed standing taking least₀ c₀ least c = Filled (is-least-coded fixed standing taking) characters least c
+Inv-loop fixed standing taking n least₀ c₀ least c = (c ≤ n) × (least ≡ marked-by (is-least-coded fixed standing taking) c)
 
 abbrev μ-loop : tie.MeasureT-loop
-μ-loop fixed standing taking least₀ c₀ least c = characters - c
+μ-loop fixed standing taking n least₀ c₀ least c = n - c
 
 loop-holds : tie.Need-loop-holds Inv-loop μ-loop
-loop-holds c = let a = c .args in filled-none (is-least-coded (a .fixed) (a .standing) (a .taking .now)) characters _ refl
+loop-holds c = let a = c .args in (omega arith, marks-none (is-least-coded (a .fixed) (a .standing) (a .taking .now)))
 
 is-least-requires : tie.Need-is-least-requires Inv-loop μ-loop
 is-least-requires c κs = search needs
@@ -33,15 +32,17 @@ loop-less c = search needs
 loop-again : tie.Need-loop-again Inv-loop μ-loop
 loop-again c =
     let l = c .before .before .loop in
-    let a = c .before .before .before .args in
-    filled-more (is-least-coded (a .fixed) (a .standing) (a .taking .now)) characters _ (l .c) (l .inv) (omega arith) _ (c .is-least .ensures)
+    let start = c .before .before .before in
+    let a = start .args in
+    (omega arith, rw (l .inv .1) (marks-more (is-least-coded (a .fixed) (a .standing) (a .taking .now)) (l .c) _ (omega (arith, start .pre)) (c .is-least .ensures)))
 
 returns : tie.Need-returns Inv-loop μ-loop
 unfolding least-from
 returns c =
     let l = c .before .loop in
-    let a = c .before .before .args in
-    filled-all (is-least-coded (a .fixed) (a .standing) (a .taking .now)) characters _ (l .c) (l .inv) (omega arith)
+    let n = c .before .before .args .n in
+    let same : l .c ≡ n = omega arith in
+    rw (l .inv .1, same)
 
 pub least-from-spec : {M : Type 1} → statement M
 least-from-spec =

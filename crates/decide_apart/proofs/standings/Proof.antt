@@ -22,11 +22,11 @@ add-if1 c = omega (arith, c .before .count .ensures .0, c .count2 .ensures .0)
 returns : tie.Need-returns
 returns c =
     let n = c .before in
-    too-many (n .before .before .before .before .before .args .own) (omega (arith, c .if1 .taken, n .before .count .ensures .1, n .count2 .ensures .1))
+    too-many (n .before .before .before .before .before .before .args .own) (omega (arith, c .if1 .taken, n .before .count .ensures .1, n .count2 .ensures .1))
 
 -- at most 8 standings
 few : (c : tie.Else1)
-    → let own = c .before .before .before .before .before .before .args .own in
+    → let own = c .before .before .before .before .before .before .before .args .own in
     length (standings-coded (own .left)) + length (standings-coded (own .right)) ≤ fields
 few c =
     let n = c .before in
@@ -59,7 +59,7 @@ returns-2 c =
     let all = left .before in
     let some = all .before in
     let e = some .before .before in
-    let own = e .before .before .before .before .before .before .args .own in
+    let own = e .before .before .before .before .before .before .before .args .own in
     let n = e .before .before .count .ensures .1 in
     each-apart own (few e) _ _ _ _ (left .numbered .ensures) (rw (sym n) (right .numbered2 .ensures))
     (rw (all .filled2 .ensures, some .filled .ensures, some .before .open-fields .ensures, n)

@@ -4,13 +4,14 @@
 -- Follows from the rows of the table of answers, from the laws of good questions, and from the laws of the search of a question.
 use Prim.Native.Nat.{ℕ}
 use native.Mathlib.Omega.{arith}
-use mathlib.Core.Path.{_≡_, _∙_}
+use mathlib.Core.Path.{_≡_, _∙_, refl}
 use mathlib.Core.Bool.{true}
 use mathlib.Core.List.{List, [], _∷_, _++_}
 use lib.ListN.{length, drop, length-append, length-drop}
 use lib.Seq.{take-append-seam, drop-append-seam}
 use Rattle.paper.specs.Lists.{upto, member}
 use Rattle.paper.specs.Numbers.{fields}
+use Rattle.paper.proofs.base.Tests.{true-false}
 use Rattle.paper.proofs.base.Lists.{keep-mem, upto-mem}
 use Rattle.paper.specs.Places.{PlaceSet}
 use Rattle.paper.specs.Search.{Entry, found}
@@ -42,7 +43,7 @@ demand-2 r good work answer =
       too-short = λ e. short (row 20 e);
       not-good = refused-outcome r work answer;
       count-within = by-reading r
-          (λ x at e. let (low, high, none) = refused-outcome r work answer x at e in omega arith)
+          (λ x at e. let (n, none) = refused-outcome r work answer x at e in omega arith)
           (λ q g. rw (good-outcome r work answer q g .1) (count-in-room (hidden q) work));
     }
   where
@@ -63,7 +64,7 @@ demand-2 r good work answer =
         }
 
     clash : Row r work answer o 0 → Clash r work answer o
-    clash (faulty x at e low high c) = absurd (omega arith)
+    clash (faulty x at e n c) = absurd (true-false n refl)
     clash (clashes q e g h fits w a) =
         let bytes = found-records q e in
         let rest = drop (length bytes) answer in
@@ -78,7 +79,7 @@ demand-2 r good work answer =
         }
 
     no-clash : Row r work answer o 1 → NoClash r
-    no-clash (faulty x at e low high c) = absurd (omega arith)
+    no-clash (faulty x at e n c) = absurd (true-false n refl)
     no-clash (clashes-not q g h) =
         record {
           question = q;
@@ -89,19 +90,19 @@ demand-2 r good work answer =
         }
 
     full : Row r work answer o 18 → NoRoom r work o
-    full (faulty x at e low high c) = absurd (omega arith)
+    full (faulty x at e n c) = absurd (true-false n refl)
     full (has-no-room q g h) =
         let (f, out) = no-room-left (hidden q) work h in
         record { question = q; good = g; full = good-outcome r work answer q g .1 ∙ f; left-out = out }
 
     long : Row r work answer o 19 → TooLong r work
-    long (faulty x at e low high c) = absurd (omega arith)
+    long (faulty x at e n c) = absurd (true-false n refl)
     long (is-too-long q g h) =
         let (s, m, t, i, c, above) = too-long-left (hidden q) work h in
         record { question = q; good = g; parent = s; move = m; long = t; parent-entered = i; is-child = c; above = above }
 
     short : Row r work answer o 20 → TooShort r work answer
-    short (faulty x at e low high c) = absurd (omega arith)
+    short (faulty x at e n c) = absurd (true-false n refl)
     short (is-too-short q e g h k) = record { solved = solved q e g h; short = k }
 
     in-order : (q : Question) → Good r q → InOrder q work answer o

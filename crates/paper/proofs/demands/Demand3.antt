@@ -14,11 +14,12 @@ use Rattle.paper.specs.Written.{judge}
 use Rattle.paper.specs.Search.{no-room, too-long, enter, offer, take-next, search}
 use Rattle.paper.specs.Equation.{fld}
 use Rattle.paper.specs.Plain.{plain, Reaches}
-use Rattle.paper.specs.Alphabet.{code-39}
+use Rattle.paper.specs.Alphabet.{code-39, code}
 use Rattle.paper.specs.Question.{Question, held-by, hidden, acceptor}
-use Rattle.paper.specs.Sheet.{marked, pattern-record, side-record, Reading, read-end, marked-side, next-is, read-sheet}
+use Rattle.paper.specs.Sheet.{marked, pattern-record, side-record, Reading, read-end, marked-side, next-is, edition-front, read-sheet}
 use Rattle.paper.specs.Outcome.{room-of, searched, count-of, how-of, outcome-of, outcome}
 use Rattle.paper.specs.Demands.{Good, end-of, bound-of, Demand3}
+use Rattle.paper.proofs.base.Tests.{true-false}
 use Rattle.paper.proofs.places.PlaceSets.{same-equal, equal-same}
 use Rattle.paper.proofs.places.Reachable.{reachable-first, reachable-after}
 use Rattle.paper.proofs.plain.Plain.{plain-count, plain-has-room, plain-not-long}
@@ -54,7 +55,7 @@ demand-3 r good work answer =
 
     has-room : (q : Question) → Good r q → plain (q .left) (q .right) ≡ true → bound-of q ≤ room-of work
         → Row r work answer (outcome-of r work answer) 18 → ⊥
-    has-room q g p enough (faulty x at e low high c) = omega arith
+    has-room q g p enough (faulty x at e n c) = true-false n refl
     has-room q g p enough (has-no-room q′ g′ h) =
         let same : q′ ≡ q = cc in
         plain-has-room (acceptor (hidden q)) same-equal equal-same (reach (hidden q)) (reaches (hidden q)) longest-side (room-of work) (hidden q .left) (hidden q .right)
@@ -63,7 +64,7 @@ demand-3 r good work answer =
 
     not-long : (q : Question) → Good r q → plain (q .left) (q .right) ≡ true
         → Row r work answer (outcome-of r work answer) 19 → ⊥
-    not-long q g p (faulty x at e low high c) = omega arith
+    not-long q g p (faulty x at e n c) = true-false n refl
     not-long q g p (is-too-long q′ g′ h) =
         let same : q′ ≡ q = cc in
         plain-not-long (acceptor (hidden q)) same-equal equal-same (reach (hidden q)) (reaches (hidden q)) longest-side (room-of work) (hidden q .left) (hidden q .right)
@@ -86,7 +87,7 @@ question-S =
     }
 
 pub sheet-S-asks : Good (read-sheet sheet-S) question-S
-unfolding judge marked pattern-record side-record read-end marked-side next-is read-sheet
+unfolding judge marked pattern-record side-record read-end marked-side next-is code edition-front read-sheet
 sheet-S-asks = refl
 
 pub sheet-S-bound : bound-of question-S ≡ 25

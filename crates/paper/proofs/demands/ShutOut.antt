@@ -20,12 +20,13 @@ use Rattle.paper.specs.Search.{Entry, End, found, used-up, no-room, too-
 use Rattle.paper.specs.Situation.{Situation, Move, trimmed, strike, put-before, open-moves, child-by, children, question}
 use Rattle.paper.specs.Way.{search-from, texts-of}
 use Rattle.paper.specs.Question.{Question, hidden, acceptor}
-use Rattle.paper.specs.Sheet.{marked, pattern-record, side-record, Reading, read-end, marked-side, next-is, read-sheet}
+use Rattle.paper.specs.Alphabet.{code}
+use Rattle.paper.specs.Sheet.{marked, pattern-record, side-record, Reading, read-end, marked-side, next-is, edition-front, read-sheet}
 use Rattle.paper.specs.Outcome.{Outcome, outcome, room-of, searched, standing, value-record, records, cleared, clash, count-of, how-of}
 use Rattle.paper.specs.Demands.{Good, end-of, Solved, texts-found, records-of, Clash, Demand2}
 use Rattle.paper.proofs.base.Tests.{le-leb}
 use Rattle.paper.proofs.known.KnownSheet.{sheet-S}
-use Rattle.paper.proofs.sheets.Rows.{by-reading}
+use Rattle.paper.proofs.sheets.Rows.{fault-above, refused-number, by-reading}
 use Rattle.paper.proofs.demands.Demand2.{sheet-demand-2}
 use Rattle.paper.proofs.demands.Demand3.{question-S, sheet-S-asks}
 
@@ -57,7 +58,7 @@ module _ (r : Reading) (work answer : List ℕ) where
     pub same-count : o .count ≡ p .count
     same-count =
         by-reading r
-        (λ x at f. d .not-good x at f .2 ∙ sym (e .not-good x at f .2))
+        (λ x at f. d .not-good x at f .1 ∙ sym (e .not-good x at f .1))
         (λ q g. d .in-order q g .count ∙ sym (e .in-order q g .count))
 
     pub same-bytes : o .number ≡ 0 → p .number ≡ 0 → (o .written ≡ p .written) × (o .answer ≡ p .answer)
@@ -114,7 +115,7 @@ unfolding clash
 written-S answer h = rw (records-S, le-leb 12 (length answer) h)
 
 number-AB : outcome sheet-AB roomy [] .number ≡ 1
-unfolding set-after may-end judge enter offer take-next search trimmed strike put-before open-moves child-by children question search-from texts-of acceptor marked pattern-record side-record read-end marked-side next-is read-sheet outcome room-of searched clash count-of how-of
+unfolding set-after may-end judge enter offer take-next search trimmed strike put-before open-moves child-by children question search-from texts-of acceptor marked pattern-record side-record read-end marked-side next-is code edition-front read-sheet outcome room-of searched clash count-of how-of
 number-AB = refl
 
 outcome-S : (answer : List ℕ) → 12 ≤ length answer
@@ -126,9 +127,10 @@ module _ (F : List ℕ → List ℕ → List ℕ → Outcome) (meets : (sheet wo
   -- a number below 11 in the outcome of 01 is F's too
   searched-number : (sheet work answer : List ℕ) → outcome sheet work answer .number < 11
       → F sheet work answer .number ≡ outcome sheet work answer .number
+  unfolding outcome
   searched-number sheet work answer h =
       by-reading (read-sheet sheet)
-      (λ x at r. let low = sheet-demand-2 sheet work answer .not-good x at r .0 in absurd (omega arith))
+      (λ x at r. let low = fault-above x in let same = refused-number (read-sheet sheet) work answer x at r in absurd (omega arith))
       (same-number (read-sheet sheet) work answer (F sheet work answer) (outcome sheet work answer) (meets sheet work answer) (sheet-demand-2 sheet work answer))
 
   sheet-S-clashes : (answer : List ℕ) → 12 ≤ length answer → F sheet-S roomy answer .number ≡ 0

@@ -1,5 +1,5 @@
 -- The known sheets that an edit of `paper` needs: what no theorem of `paper` says, the place of a wrong token, how many bytes a situation takes, how
--- many leaves a pattern may have. The checker computes them. All other known sheets stand in `paper_vectors` (`Known`), since each edit of `paper`
+-- many leaves a pattern may have, and of the second edition its byte, its tokens and its space. The checker computes them. All other known sheets stand in `paper_vectors` (`Known`), since each edit of `paper`
 -- pays for what is computed here.
 use Prim.Native.Nat.{ℕ}
 use mathlib.Core.Path.{_≡_, refl}
@@ -11,9 +11,10 @@ use Rattle.paper.specs.Search.{enter, offer, take-next, search}
 use Rattle.paper.specs.Situation.{trimmed, strike, put-before, open-moves, child-by, children, question}
 use Rattle.paper.specs.Way.{search-from, texts-of}
 use Rattle.paper.specs.Question.{acceptor}
-use Rattle.paper.specs.Sheet.{marked, pattern-record, side-record, read-end, marked-side, next-is, read-sheet}
+use Rattle.paper.specs.Alphabet.{code}
+use Rattle.paper.specs.Sheet.{marked, pattern-record, side-record, read-end, marked-side, next-is, edition-front, read-sheet}
 use Rattle.paper.specs.Outcome.{outcome, room-of, searched, standing, value-record, records, clash, count-of, how-of}
-use Rattle.paper.proofs.known.KnownSheet.{Known, answer-row, fault-row, got, wanted, PA, LE, RI, A}
+use Rattle.paper.proofs.known.KnownSheet.{Known, answer-row, fault-row, got, wanted, ED-2, PA, LE, RI, A}
 
 -- a pattern of a field that stands in neither side: only judged
 abbrev pub judged-only : List ℕ → List ℕ
@@ -31,8 +32,14 @@ few-sheets =
     answer-row (LE [] ++ RI []) 183 20 18 0 [] ∷
     -- 64 leaves
     fault-row (judged-only (leaves-by 66 63)) 16 130 ∷
+    -- an edition byte other than 2
+    fault-row (69 ∷ 68 ∷ 1 ∷ []) 44 2 ∷
+    -- behind `ED` the last character, the tokens of the fields 0 and 7, and the first that is none
+    fault-row (ED-2 ++ LE (127 ∷ 192 ∷ 199 ∷ 200 ∷ [])) 17 9 ∷
+    -- behind `ED` a label that is one space, and the empty side
+    answer-row (ED-2 ++ LE (32 ∷ []) ++ RI []) 1150 20 0 6 [] ∷
     []
 
 pub few-sheets-met : map got few-sheets ≡ map wanted few-sheets
-unfolding set-after may-end judge enter offer take-next search trimmed strike put-before open-moves child-by children question search-from texts-of acceptor marked pattern-record side-record read-end marked-side next-is read-sheet outcome room-of searched standing value-record records clash count-of how-of
+unfolding set-after may-end judge enter offer take-next search trimmed strike put-before open-moves child-by children question search-from texts-of acceptor marked pattern-record side-record read-end marked-side next-is code edition-front read-sheet outcome room-of searched standing value-record records clash count-of how-of
 few-sheets-met = refl

@@ -47,7 +47,10 @@ wanted k =
       work = cond (k .all-zero) (replicate (k .work-bytes) 0) (work-before k);
     }
 
--- the records of a sheet and of an answer
+-- the records of a sheet and of an answer; `ED` and the byte 2 (request K10)
+abbrev pub ED-2 : List ℕ
+ED-2 = 69 ∷ 68 ∷ 2 ∷ []
+
 abbrev pub PA : ℕ → List ℕ → List ℕ
 PA f p = 80 ∷ 65 ∷ f ∷ length p ∷ p
 

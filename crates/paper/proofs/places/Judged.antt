@@ -1,6 +1,6 @@
 -- Patterns that a sheet can hold: in every pattern that `judge` yields each leaf takes some character and nothing but characters, and the
 -- leaves are not too many.
---   judged-takes  : judge s ≡ judged p → leaves-take characters p
+--   judged-takes  : judge (codes e s) ≡ judged p → leaves-take n p, where the edition e has n characters
 --   judged-leaves : judge s ≡ judged p → leaves p ≤ most-leaves
 -- So what fits it is over the characters (`fits-over` of `NotStuck`). The offset of a fault is within the bytes, or behind the last where they are
 -- not one pattern; where the leaves are too many, there is a byte at it:
@@ -11,13 +11,15 @@ use Prim.Native.Nat.{ℕ, suc, _+_, _-_, _≤_, _<_}
 use native.Mathlib.Omega.{arith}
 use mathlib.Core.Path.{_≡_, refl, sym, subst}
 use mathlib.Core.Logic.{⊎-elim}
-use mathlib.Core.List.{List, List·Memᴰ, List·Memᴰ·not-nil, List·Memᴰ·append-cases}
+use mathlib.Core.List.{List, [], _∷_, List·Memᴰ, List·Memᴰ·not-nil, List·Memᴰ·append-cases}
 use lib.Dec.{leb}
 use lib.ListN.{length, getD, length-append}
-use Rattle.paper.specs.Numbers.{characters, most-leaves}
+use Rattle.paper.specs.Numbers.{most-characters, most-leaves}
 use Rattle.paper.proofs.base.Tests.{and-right, both-true, leb-true, le-leb, eqb-true, eqb-same}
 use Rattle.paper.proofs.base.Lists.{mem-cons-by}
 use Rattle.paper.proofs.base.Listed.{getD-mem}
+use Rattle.paper.specs.Alphabet.{Edition, alphabet-of, codes}
+use Rattle.paper.proofs.sheets.Editions.{code-below}
 use Rattle.paper.specs.Pattern.{char, range, Pattern}
 use Rattle.paper.specs.Places.{leaves}
 use Rattle.paper.specs.Taken.{LeafTakes, leaves-take}
@@ -25,11 +27,11 @@ use Rattle.paper.specs.Written.{part, not-one-pattern, too-many-leaves, 
 use Rattle.paper.proofs.places.Reader.{Operator, is-then, is-or, Reads, a-character, empty-text, a-range, both-parts, starred, shorter}
 use Rattle.paper.proofs.places.Reader.{Judges, at-fault, left-over, above-most, as-pattern, judges}
 
-char-takes : (b : ℕ) → b < characters → LeafTakes characters (char b)
-char-takes b h = record { some = b; taken = eqb-same b; character = λ c t. let e = eqb-true b c t in omega arith }
+char-takes : (n b : ℕ) → b < n → LeafTakes n (char b)
+char-takes n b h = record { some = b; taken = eqb-same b; character = λ c t. let e = eqb-true b c t in omega arith }
 
-pub range-takes : (lo hi : ℕ) → lo ≤ hi → hi < characters → LeafTakes characters (range lo hi)
-range-takes lo hi h k =
+pub range-takes : (n lo hi : ℕ) → lo ≤ hi → hi < n → LeafTakes n (range lo hi)
+range-takes n lo hi h k =
     record {
       some = hi;
       taken = both-true (le-leb lo hi h) (le-leb hi hi (omega arith));
@@ -37,27 +39,48 @@ range-takes lo hi h k =
     }
 
 -- an operator's leaves are those of both patterns
-pub both-take : {code : ℕ} {op : Pattern → Pattern → Pattern} (a b : Pattern) → Operator code op
-    → leaves-take characters a → leaves-take characters b → leaves-take characters (op a b)
-both-take a b is-then h k = (h, k)
-both-take a b is-or h k = (h, k)
+pub both-take : {code : ℕ} {op : Pattern → Pattern → Pattern} (n : ℕ) (a b : Pattern) → Operator code op
+    → leaves-take n a → leaves-take n b → leaves-take n (op a b)
+both-take n a b is-then h k = (h, k)
+both-take n a b is-or h k = (h, k)
 
-pub read-takes : {s starts rest : List ℕ} {p : Pattern} → Reads s (part p starts rest) → leaves-take characters p
-read-takes (a-character {b = b} h) = char-takes b h
+pub read-takes : {s starts rest : List ℕ} {p : Pattern} → Reads s (part p starts rest) → leaves-take most-characters p
+read-takes (a-character {b = b} h) = char-takes most-characters b h
 read-takes empty-text = tt
-read-takes (a-range {lo = lo} {hi = hi} h k) = range-takes lo hi h k
-read-takes (both-parts {a = a} {b = b} o d e) = both-take a b o (read-takes d) (read-takes e)
+read-takes (a-range {lo = lo} {hi = hi} h k) = range-takes most-characters lo hi h k
+read-takes (both-parts {a = a} {b = b} o d e) = both-take most-characters a b o (read-takes d) (read-takes e)
 read-takes (starred d) = read-takes d
 
-both-judged : {s : List ℕ} {p : Pattern} → Judges s (judged p) → leaves-take characters p × (leaves p ≤ most-leaves)
-both-judged (as-pattern d h) = (read-takes d, h)
+-- codes of which each that is a character is below n
+abbrev Within : ℕ → List ℕ → Type 0
+Within n [] = Unit {0}
+Within n (b ∷ s) = (b < most-characters → b < n) × Within n s
 
-module _ (s : List ℕ) {p : Pattern} (e : judge s ≡ judged p) where
-  pub judged-takes : leaves-take characters p
-  judged-takes = both-judged (subst (Judges s) e (judges s)) .0
+codes-within : (e : Edition) (bytes : List ℕ) → Within (alphabet-of e .characters) (codes e bytes)
+codes-within e [] = tt
+codes-within e (b ∷ bytes) = (code-below e b, codes-within e bytes)
 
-  pub judged-leaves : leaves p ≤ most-leaves
-  judged-leaves = both-judged (subst (Judges s) e (judges s)) .1
+-- then the leaves take nothing else
+read-within : (n : ℕ) {s starts rest : List ℕ} {p : Pattern} → Reads s (part p starts rest) → Within n s → leaves-take n p × Within n rest
+read-within n (a-character {b = b} h) w = (char-takes n b (w .0 h), w .1)
+read-within n empty-text w = (tt, w .1)
+read-within n (a-range {lo = lo} {hi = hi} h k) w = (range-takes n lo hi h (w .1 .1 .0 k), w .1 .1 .1)
+read-within n (both-parts {a = a} {b = b} o d e) w =
+    let (t, u) = read-within n d (w .1) in let (v, x) = read-within n e u in (both-take n a b o t v, x)
+read-within n (starred d) w = read-within n d (w .1)
+
+judged-within : (n : ℕ) {s : List ℕ} {p : Pattern} → Judges s (judged p) → Within n s → leaves-take n p
+judged-within n (as-pattern d h) w = read-within n d w .0
+
+both-judged : {s : List ℕ} {p : Pattern} → Judges s (judged p) → leaves p ≤ most-leaves
+both-judged (as-pattern d h) = h
+
+pub judged-takes : (e : Edition) (bytes : List ℕ) {p : Pattern} → judge (codes e bytes) ≡ judged p → leaves-take (alphabet-of e .characters) p
+judged-takes e bytes h =
+    judged-within (alphabet-of e .characters) (subst (Judges (codes e bytes)) h (judges (codes e bytes))) (codes-within e bytes)
+
+pub judged-leaves : (s : List ℕ) {p : Pattern} → judge s ≡ judged p → leaves p ≤ most-leaves
+judged-leaves s e = both-judged (subst (Judges s) e (judges s))
 
 -- Each leaf has a start (`starts-length`), and there is a byte at it (`starts-inside`).
 pub both-leaves : {code : ℕ} {op : Pattern → Pattern → Pattern} (a b : Pattern) → Operator code op → leaves (op a b) ≡ leaves a + leaves b

@@ -9,7 +9,7 @@ use mathlib.Core.Bool.{false, _&&_}
 use mathlib.Core.List.{List, [], _∷_, _++_}
 use lib.Dec.{leb, ltb, eqb}
 use lib.ListN.{length, getD}
-use Rattle.paper.specs.Numbers.{characters, empty-code, range-code, then-code, or-code, many-code, most-leaves}
+use Rattle.paper.specs.Numbers.{most-characters, empty-code, range-code, then-code, or-code, many-code, most-leaves}
 use Rattle.paper.proofs.base.Tests.{cond-by, and-left, and-right, leb-true, leb-false, ltb-true, eqb-true}
 use Rattle.paper.specs.Pattern.{char, range, Pattern, leaf, empty, then, either, many}
 use Rattle.paper.specs.Places.{leaves}
@@ -23,14 +23,14 @@ pub data Operator : ℕ → (Pattern → Pattern → Pattern) → Type 0 where
 
 pub data Reads : List ℕ → Part → Type 0 where
   runs-out : Reads [] (no-pattern 0)
-  a-character : {b : ℕ} {s : List ℕ} → b < characters → Reads (b ∷ s) (part (leaf (char b)) (length (b ∷ s) ∷ []) s)
+  a-character : {b : ℕ} {s : List ℕ} → b < most-characters → Reads (b ∷ s) (part (leaf (char b)) (length (b ∷ s) ∷ []) s)
   empty-text : {s : List ℕ} → Reads (empty-code ∷ s) (part empty [] s)
   lo-missing : Reads (range-code ∷ []) (no-pattern 0)
-  lo-wrong : {lo : ℕ} {s : List ℕ} → ltb lo characters ≡ false → Reads (range-code ∷ lo ∷ s) (no-pattern (length (lo ∷ s)))
-  hi-missing : {lo : ℕ} → lo < characters → Reads (range-code ∷ lo ∷ []) (no-pattern 0)
-  hi-wrong : {lo hi : ℕ} {s : List ℕ} → lo < characters → leb lo hi && ltb hi characters ≡ false
+  lo-wrong : {lo : ℕ} {s : List ℕ} → ltb lo most-characters ≡ false → Reads (range-code ∷ lo ∷ s) (no-pattern (length (lo ∷ s)))
+  hi-missing : {lo : ℕ} → lo < most-characters → Reads (range-code ∷ lo ∷ []) (no-pattern 0)
+  hi-wrong : {lo hi : ℕ} {s : List ℕ} → lo < most-characters → leb lo hi && ltb hi most-characters ≡ false
       → Reads (range-code ∷ lo ∷ hi ∷ s) (no-pattern (length (hi ∷ s)))
-  a-range : {lo hi : ℕ} {s : List ℕ} → lo ≤ hi → hi < characters
+  a-range : {lo hi : ℕ} {s : List ℕ} → lo ≤ hi → hi < most-characters
       → Reads (range-code ∷ lo ∷ hi ∷ s) (part (leaf (range lo hi)) (length (range-code ∷ lo ∷ hi ∷ s) ∷ []) s)
   first-wrong : {code : ℕ} {op : Pattern → Pattern → Pattern} {s : List ℕ} {left : ℕ}
       → Operator code op → Reads s (no-pattern left) → Reads (code ∷ s) (no-pattern left)
@@ -40,7 +40,7 @@ pub data Reads : List ℕ → Part → Type 0 where
       → Operator code op → Reads s (part a starts r) → Reads r (part b more rest) → Reads (code ∷ s) (part (op a b) (starts ++ more) rest)
   starred-wrong : {s : List ℕ} {left : ℕ} → Reads s (no-pattern left) → Reads (many-code ∷ s) (no-pattern left)
   starred : {s starts rest : List ℕ} {a : Pattern} → Reads s (part a starts rest) → Reads (many-code ∷ s) (part (many a) starts rest)
-  no-code : {b : ℕ} {s : List ℕ} → ltb b characters ≡ false → eqb b empty-code ≡ false → eqb b range-code ≡ false → eqb b then-code ≡ false
+  no-code : {b : ℕ} {s : List ℕ} → ltb b most-characters ≡ false → eqb b empty-code ≡ false → eqb b range-code ≡ false → eqb b then-code ≡ false
       → eqb b or-code ≡ false → eqb b many-code ≡ false → Reads (b ∷ s) (no-pattern (length (b ∷ s)))
 
 -- every pattern has a byte
@@ -51,17 +51,17 @@ shorter (a-range h k) = omega arith
 shorter (both-parts o a b) = omega (arith, shorter a, shorter b)
 shorter (starred a) = omega (arith, shorter a)
 
-reads-hi : (lo : ℕ) (s : List ℕ) → lo < characters → Reads (range-code ∷ lo ∷ s) (read-hi lo s)
+reads-hi : (lo : ℕ) (s : List ℕ) → lo < most-characters → Reads (range-code ∷ lo ∷ s) (read-hi lo s)
 reads-hi lo [] h = hi-missing h
 reads-hi lo (hi ∷ s) h =
-    cond-by (Reads (range-code ∷ lo ∷ hi ∷ s)) (leb lo hi && ltb hi characters)
-    (λ e. a-range (leb-true lo hi (and-left (leb lo hi) (ltb hi characters) e)) (ltb-true hi characters (and-right (leb lo hi) (ltb hi characters) e)))
+    cond-by (Reads (range-code ∷ lo ∷ hi ∷ s)) (leb lo hi && ltb hi most-characters)
+    (λ e. a-range (leb-true lo hi (and-left (leb lo hi) (ltb hi most-characters) e)) (ltb-true hi most-characters (and-right (leb lo hi) (ltb hi most-characters) e)))
     (hi-wrong h)
 
 reads-range : (s : List ℕ) → Reads (range-code ∷ s) (read-range s)
 reads-range [] = lo-missing
 reads-range (lo ∷ s) =
-    cond-by (Reads (range-code ∷ lo ∷ s)) (ltb lo characters) (λ e. reads-hi lo s (ltb-true lo characters e)) lo-wrong
+    cond-by (Reads (range-code ∷ lo ∷ s)) (ltb lo most-characters) (λ e. reads-hi lo s (ltb-true lo most-characters e)) lo-wrong
 
 reads-second : {code : ℕ} {op : Pattern → Pattern → Pattern} {s starts r : List ℕ} {a : Pattern}
     → Operator code op → Reads s (part a starts r) → (x : Part) → Reads r x → Reads (code ∷ s) (second-part op a starts x)
@@ -81,7 +81,7 @@ reads-many (part a starts rest) d = starred d
 by-code : (n b : ℕ) (s : List ℕ) → Reads s (read-part n s) → ((r : List ℕ) → length r < length s → Reads r (read-part n r))
     → Reads (b ∷ s) (read-part (suc n) (b ∷ s))
 by-code n b s d rest =
-    cond-by (Reads (b ∷ s)) (ltb b characters) (λ e. a-character (ltb-true b characters e))
+    cond-by (Reads (b ∷ s)) (ltb b most-characters) (λ e. a-character (ltb-true b most-characters e))
     (λ h0. cond-by (Reads (b ∷ s)) (eqb b empty-code) (λ e. rw (eqb-true b empty-code e) empty-text)
     (λ h1. cond-by (Reads (b ∷ s)) (eqb b range-code) (λ e. rw (eqb-true b range-code e) (reads-range s))
     (λ h2. cond-by (Reads (b ∷ s)) (eqb b then-code)

@@ -15,7 +15,7 @@ use mathlib.Core.List.{List, [], _∷_, _++_, append-assoc, append-nil}
 use lib.Dec.{ltb}
 use lib.ListN.{length, getD, take, length-append}
 use lib.Seq.{length-take-le, take-all, take-suc, take-append-seam, getD-append-seam, append-snoc}
-use Rattle.paper.specs.Numbers.{characters, empty-code, range-code, many-code}
+use Rattle.paper.specs.Numbers.{most-characters, empty-code, range-code, many-code}
 use Rattle.paper.proofs.base.Tests.{by-bool, ltb-true, lt-ltb, ltb-false}
 use Rattle.paper.proofs.base.Lists.{cons-eq}
 use Rattle.paper.specs.Pattern.{range, Pattern, leaf, empty, many}
@@ -31,7 +31,7 @@ use Rattle.paper.proofs.saying.Code.{read-code, both-code, read-says, c
 pub record Continues (u : List ℕ) : Type 0 where
   pub its : Pattern
   pub behind : List ℕ
-  pub takes : leaves-take characters its
+  pub takes : leaves-take most-characters its
   pub code : pattern-code its ≡ u ++ behind
 
 -- What they are continued to is judged as one pattern.
@@ -44,10 +44,10 @@ abbrev pub none-continues : Continues []
 none-continues = record { its = empty; behind = empty-code ∷ []; takes = tt; code = refl }
 
 range-continues : Continues (range-code ∷ [])
-range-continues = record { its = leaf (range 0 0); behind = 0 ∷ 0 ∷ []; takes = range-takes 0 0 (omega arith) (omega arith); code = refl }
+range-continues = record { its = leaf (range 0 0); behind = 0 ∷ 0 ∷ []; takes = range-takes most-characters 0 0 (omega arith) (omega arith); code = refl }
 
-lo-continues : (lo : ℕ) → lo < characters → Continues (range-code ∷ lo ∷ [])
-lo-continues lo h = record { its = leaf (range lo lo); behind = lo ∷ []; takes = range-takes lo lo (omega arith) h; code = refl }
+lo-continues : (lo : ℕ) → lo < most-characters → Continues (range-code ∷ lo ∷ [])
+lo-continues lo h = record { its = leaf (range lo lo); behind = lo ∷ []; takes = range-takes most-characters lo lo (omega arith) h; code = refl }
 
 -- with an operator in front of them, with an operator and its first pattern, with a star
 module _ (u : List ℕ) (c : Continues u) where
@@ -56,17 +56,17 @@ module _ (u : List ℕ) (c : Continues u) where
       record {
         its = op (c .its) empty;
         behind = c .behind ++ empty-code ∷ [];
-        takes = both-take (c .its) empty o (c .takes) tt;
+        takes = both-take most-characters (c .its) empty o (c .takes) tt;
         code = rw (both-code (c .its) empty o, c .code) (cons-eq refl (append-assoc u (c .behind) (empty-code ∷ [])));
       }
 
-  abbrev pub second-continues : {code : ℕ} {op : Pattern → Pattern → Pattern} (a : Pattern) → Operator code op → leaves-take characters a
+  abbrev pub second-continues : {code : ℕ} {op : Pattern → Pattern → Pattern} (a : Pattern) → Operator code op → leaves-take most-characters a
       → Continues (code ∷ pattern-code a ++ u)
   second-continues {op = op} a o h =
       record {
         its = op a (c .its);
         behind = c .behind;
-        takes = both-take a (c .its) o h (c .takes);
+        takes = both-take most-characters a (c .its) o h (c .takes);
         code = rw (both-code a (c .its) o, c .code) (cons-eq refl (sym (append-assoc (pattern-code a) u (c .behind))));
       }
 
@@ -87,7 +87,7 @@ module _ (u : List ℕ) (b : ℕ) (h : ReadSettled u b) where
   first-settled o zero k t = absurd (omega arith)
   first-settled o (suc n) k t = rw (operator-read (suc n) (u ++ b ∷ t) o, h n (omega arith) t)
 
-  second-settled : {code : ℕ} {op : Pattern → Pattern → Pattern} (a : Pattern) → Operator code op → leaves-take characters a
+  second-settled : {code : ℕ} {op : Pattern → Pattern → Pattern} (a : Pattern) → Operator code op → leaves-take most-characters a
       → ReadSettled (code ∷ pattern-code a ++ u) b
   second-settled a o g zero k t = absurd (omega arith)
   second-settled a o g (suc n) k t =
@@ -146,7 +146,7 @@ read-stops lo-missing = at-end range-continues
 read-stops (lo-wrong {lo = lo} {s = s} h) = at-byte (parted (range-code ∷ []) lo s refl (range-continues, λ n k t. rw h))
 read-stops (hi-missing {lo = lo} h) = at-end (lo-continues lo h)
 read-stops (hi-wrong {lo = lo} {hi = hi} {s = s} h k) =
-    at-byte (parted (range-code ∷ lo ∷ []) hi s refl (lo-continues lo h, λ n i t. rw (lt-ltb lo characters h, k)))
+    at-byte (parted (range-code ∷ lo ∷ []) hi s refl (lo-continues lo h, λ n i t. rw (lt-ltb lo most-characters h, k)))
 read-stops (first-wrong {code = code} {s = s} o d) =
     stops-behind (code ∷ []) s (λ u c. first-continues u c o) (λ u b h. first-settled u b h o) (read-stops d)
 read-stops (second-wrong {code = code} {r = r} {a = a} {left = left} o d e) =
@@ -167,7 +167,7 @@ read-judge : (u : List ℕ) (b : ℕ) → ReadSettled u b → JudgeSettled u b
 unfolding judge
 read-judge u b h t = rw (length-more u b t, h (length u + length t) (omega arith) t) (ap not-one-pattern (omega arith))
 
-over-judge : (p : Pattern) (b : ℕ) → leaves-take characters p → JudgeSettled (pattern-code p) b
+over-judge : (p : Pattern) (b : ℕ) → leaves-take most-characters p → JudgeSettled (pattern-code p) b
 unfolding judge
 over-judge p b h t =
     let u = pattern-code p in
@@ -181,7 +181,7 @@ judged-so (at-end c) = at-end c
 judged-so {s} (at-byte d) = at-byte (parted-behind ReadStop JudgeStop [] s (λ u b h. (h .0, read-judge u b (h .1))) d)
 
 -- the pattern whose code stands before the bytes left over
-over-continues : (p : Pattern) → leaves-take characters p → Continues (pattern-code p)
+over-continues : (p : Pattern) → leaves-take most-characters p → Continues (pattern-code p)
 over-continues p h = record { its = p; behind = []; takes = h; code = sym (append-nil (pattern-code p)) }
 
 judge-stops : {s : List ℕ} {i : ℕ} → Judges s (not-one-pattern i) → (left : ℕ) × Stops JudgeStop s left × (i ≡ length s - left)

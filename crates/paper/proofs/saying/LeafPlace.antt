@@ -14,7 +14,7 @@ use lib.Dec.{ltb, eqb}
 use lib.ListN.{getD, take, List·getD-append}
 use lib.Seq.{getD-append-add}
 use Rattle.paper.specs.Lists.{all}
-use Rattle.paper.specs.Numbers.{characters, empty-code, range-code, many-code, most-leaves}
+use Rattle.paper.specs.Numbers.{most-characters, empty-code, range-code, many-code, most-leaves}
 use Rattle.paper.proofs.base.Tests.{by-bool, both-true, left-true, lt-ltb, ltb-true, ltb-false}
 use Rattle.paper.proofs.base.Lists.{all-append}
 use Rattle.paper.specs.Pattern.{Pattern, empty}
@@ -30,7 +30,7 @@ use Rattle.paper.proofs.saying.Continued.{Parted, parted, parted-behind
 
 -- a character, or a range
 abbrev pub leaf-code : ℕ → Bool
-leaf-code b = ltb b characters || eqb b range-code
+leaf-code b = ltb b most-characters || eqb b range-code
 
 -- the bytes continued by empty texts alone, to a pattern of k leaves
 pub record HasLeaves (u : List ℕ) (k : ℕ) : Type 0 where
@@ -51,7 +51,7 @@ module _ (u : List ℕ) (k : ℕ) (h : HasLeaves u k) where
         count = omega (arith, both-leaves (c .its) empty o, h .count);
       }
 
-  second-has : {code : ℕ} {op : Pattern → Pattern → Pattern} (a : Pattern) → Operator code op → leaves-take characters a
+  second-has : {code : ℕ} {op : Pattern → Pattern → Pattern} (a : Pattern) → Operator code op → leaves-take most-characters a
       → HasLeaves (code ∷ pattern-code a ++ u) (leaves a + k)
   second-has a o g =
       record {
@@ -72,7 +72,7 @@ behind : (front s : List ℕ) (k j : ℕ) {left : ℕ} → ((u : List ℕ) → H
 behind front s k j f = parted-behind (LeafAt k) (LeafAt j) front s (λ u b h. (f u (h .0), h .1))
 
 leaf-of : {s starts rest : List ℕ} {p : Pattern} → Reads s (part p starts rest) → (k : ℕ) → k < leaves p → Parted (LeafAt k) s (getD starts k 0)
-leaf-of (a-character {b = b} {s = s} h) zero i = parted [] b s refl (none-has, left-true _ _ (lt-ltb b characters h))
+leaf-of (a-character {b = b} {s = s} h) zero i = parted [] b s refl (none-has, left-true _ _ (lt-ltb b most-characters h))
 leaf-of (a-character h) (suc k) i = absurd (omega arith)
 leaf-of empty-text k i = absurd (omega arith)
 leaf-of (a-range {lo = lo} {hi = hi} {s = s} h g) zero i = parted [] range-code (lo ∷ hi ∷ s) refl (none-has, refl)

@@ -6,14 +6,14 @@ use native.Mathlib.Omega.{arith}
 use mathlib.Core.Path.{_≡_, subst}
 use mathlib.Core.List.{List}
 use lib.Dec.{ltb}
-use lib.ListN.{length, getD, drop, length-take}
+use lib.ListN.{length, getD, drop, length-take, length-map}
 use Rattle.paper.specs.Numbers.{fields}
 use Rattle.paper.specs.Pattern.{Held, some-text, pattern}
 use Rattle.paper.specs.Equation.{Side}
-use Rattle.paper.specs.Alphabet.{code-39}
+use Rattle.paper.specs.Alphabet.{Edition, alphabet-of, code}
 use Rattle.paper.specs.Question.{Question}
-use Rattle.paper.specs.Sheet.{Checked, fault, read, FieldPattern, byte-at, body, LE, RI, marked-side, Records, faulty, records, Fields, open-fields}
-use Rattle.paper.specs.Sheet.{with-pattern, read-patterns, Reading, refused, asked, read-end, right-read, left-read, sides-read, read-sheet}
+use Rattle.paper.specs.Sheet.{Checked, fault, read, FieldPattern, byte-at, body, body-codes, LE, RI, marked-side, Records, faulty, records, Fields, open-fields}
+use Rattle.paper.specs.Sheet.{with-pattern, read-patterns, Reading, refused, asked, read-end, right-read, left-read, sides-read, edition-front, edition-read, read-sheet}
 use Rattle.paper.proofs.base.Tests.{cond-by}
 use Rattle.paper.proofs.sheets.Asked.{PatternRead, set-by, open-by, Listed, patterns-by, sheet-good}
 use Rattle.paper.proofs.saying.Code.{judged-code}
@@ -26,14 +26,14 @@ Short held = (f : ℕ) → ShortCode (getD held f some-text)
 abbrev ShortFields : Fields → Type 0
 ShortFields fs = Short (fs .held)
 
-one-pattern : (s : List ℕ) (at : ℕ) (fs : Fields) (fp : FieldPattern) → ShortFields fs → PatternRead s at (fs .above) fp
+one-pattern : (e : Edition) (s : List ℕ) (at : ℕ) (fs : Fields) (fp : FieldPattern) → ShortFields fs → PatternRead e s at (fs .above) fp
     → ShortFields (with-pattern fs fp)
-one-pattern s at fs fp h g = set-by ShortCode (fs .held) (fp .field) (pattern (fp .its)) code h
+one-pattern e s at fs fp h g = set-by ShortCode (fs .held) (fp .field) (pattern (fp .its)) its h
   where
-    code : ShortCode (pattern (fp .its))
-    code =
+    its : ShortCode (pattern (fp .its))
+    its =
         let n = byte-at s (at + 3) in
-        rw (judged-code (body s (at + 4) n) (g .its-bytes), length-take n (drop (at + 4) s)) (omega (arith, g .short))
+        rw (judged-code (body-codes e s (at + 4) n) (g .its-bytes), length-map (body s (at + 4) n) (code e), length-take n (drop (at + 4) s)) (omega (arith, g .short))
 
 -- the question that a reading asks
 abbrev AsksShort : Reading → Type 0
@@ -44,23 +44,28 @@ end-short : (s : List ℕ) (at : ℕ) (q : Question) → Short (q .held) → Ask
 unfolding read-end
 end-short s at q h = cond-by AsksShort (ltb at (length s)) (λ _. tt) (λ _. h)
 
-right-short : (s : List ℕ) (held : List Held) (l : Side) (x : Checked Side) → Short held → AsksShort (right-read s held l x)
-right-short s held l (fault x at) h = tt
-right-short s held l (read r next) h = end-short s next (record { alphabet = code-39; left = l; right = r; held = held }) h
+module _ (e : Edition) (s : List ℕ) where
+  right-short : (held : List Held) (l : Side) (x : Checked Side) → Short held → AsksShort (right-read e s held l x)
+  right-short held l (fault x at) h = tt
+  right-short held l (read r next) h = end-short s next (record { alphabet = alphabet-of e; left = l; right = r; held = held }) h
 
-left-short : (s : List ℕ) (held : List Held) (x : Checked Side) → Short held → AsksShort (left-read s held x)
-left-short s held (fault x at) h = tt
-left-short s held (read l next) h = right-short s held l (marked-side RI s next) h
+  left-short : (held : List Held) (x : Checked Side) → Short held → AsksShort (left-read e s held x)
+  left-short held (fault x at) h = tt
+  left-short held (read l next) h = right-short held l (marked-side e RI s next) h
 
-sides-short : (s : List ℕ) (x : Records Fields) → Listed ShortFields x → AsksShort (sides-read s x)
-sides-short s (faulty x at) h = tt
-sides-short s (records fs at) h = left-short s (fs .held) (marked-side LE s at) h
+  sides-short : (x : Records Fields) → Listed ShortFields x → AsksShort (sides-read e s x)
+  sides-short (faulty x at) h = tt
+  sides-short (records fs at) h = left-short (fs .held) (marked-side e LE s at) h
+
+edition-short : (s : List ℕ) (x : Checked Edition) → AsksShort (edition-read s x)
+edition-short s (fault x at) = tt
+edition-short s (read e at) =
+    sides-short e s (read-patterns e (suc (length s)) s at open-fields)
+    (patterns-by e ShortFields (one-pattern e) (suc (length s)) s at open-fields (open-by ShortCode tt fields))
 
 sheet-short : (s : List ℕ) → AsksShort (read-sheet s)
 unfolding read-sheet
-sheet-short s =
-    sides-short s (read-patterns (suc (length s)) s 0 open-fields)
-    (patterns-by ShortFields one-pattern (suc (length s)) s 0 open-fields (open-by ShortCode tt fields))
+sheet-short s = edition-short s (edition-front s)
 
 pub sheet-sayable : (s : List ℕ) (q : Question) → read-sheet s ≡ asked q → Sayable q
 sheet-sayable s q e = record { good = sheet-good s q e; codes = subst AsksShort e (sheet-short s) }

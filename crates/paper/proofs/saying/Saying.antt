@@ -15,20 +15,21 @@ use lib.Dec.{ltb, eqb}
 use lib.ListN.{length, getD, take, drop, replicate, length-append, length-drop, length-map}
 use lib.Seq.{getD-drop, drop-drop, take-append-seam, drop-append-seam, take-at, drop-at, set-at, append-snoc}
 use Rattle.paper.specs.Lists.{all}
-use Rattle.paper.specs.Numbers.{characters, fields, field-token, pattern-bytes, sheet-side}
+use Rattle.paper.specs.Numbers.{most-characters, fields, field-token, pattern-bytes, sheet-side}
 use Rattle.paper.proofs.base.Tests.{cond-by, both-true, le-leb, lt-leb, le-ltb, lt-ltb, neq-eqb, eqb-same}
 use Rattle.paper.proofs.base.Lists.{cons-eq}
 use Rattle.paper.specs.Pattern.{Pattern, leaf, char, range, empty, then, either, many, Held, some-text, pattern}
 use Rattle.paper.specs.Equation.{Token, chr, fld, Side}
-use Rattle.paper.specs.Alphabet.{code-39}
+use Rattle.paper.specs.Alphabet.{Edition, edition-1, edition-2, alphabet-of, edition-of, code, codes, byte-of, bytes-of}
 use Rattle.paper.specs.Question.{Question}
-use Rattle.paper.specs.Sheet.{read, byte-at, bytes-left, body, Mark, PA, LE, RI, first-letter, second-letter, marked}
+use Rattle.paper.specs.Sheet.{read, byte-at, bytes-left, body, Mark, PA, LE, RI, ED, first-letter, second-letter, marked}
 use Rattle.paper.specs.Sheet.{pattern-record, is-token, token, side-record, marked-side, Records, records, Fields}
-use Rattle.paper.specs.Sheet.{open-fields, next-is, read-patterns, asked, read-end, left-read, read-sheet}
-use Rattle.paper.specs.Saying.{pattern-code, token-byte, pattern-saying, patterns-saying, side-saying, sheet-saying}
-use Rattle.paper.proofs.sheets.Asked.{InRange, GoodSide, GoodHeld, GoodQuestion, left-39, right-39, held-39}
-use Rattle.paper.proofs.saying.Code.{code-judged}
-use Rattle.paper.proofs.saying.SaidParts.{code-bytes, said-parts}
+use Rattle.paper.specs.Sheet.{open-fields, next-is, read-patterns, asked, read-end, left-read, edition-front, read-sheet}
+use Rattle.paper.specs.Saying.{edition-laid, edition-byte, pattern-code, token-byte, pattern-saying, patterns-saying, side-saying, sheet-saying}
+use Rattle.paper.proofs.sheets.Asked.{InRange, GoodSide, GoodHeld, GoodQuestion, characters}
+use Rattle.paper.proofs.sheets.Editions.{most-of, code-character, code-sign}
+use Rattle.paper.proofs.saying.Code.{code-judged, said-codes, takes-more}
+use Rattle.paper.proofs.saying.SaidParts.{code-bytes, behind-edition, said-parts}
 
 -- "length byte n 1 to 192": the code of what a field may hold fits into a record
 abbrev pub ShortCode : Held → Type 0
@@ -60,21 +61,23 @@ module _ (s : List ℕ) (at : ℕ) (t : List ℕ) (e : drop at s ≡ t) where
       ap₂ (λ (a b : ℕ). eqb a (first-letter m) && eqb b (second-letter m)) (ap (byte-at s) (sym (add-zero at)) ∙ byte-there 0) (byte-there 1)
 
 -- A pattern's record.
-module _ (s : List ℕ) (at f : ℕ) (p : Pattern) (rest : List ℕ) (e : drop at s ≡ pattern-saying f (pattern p) ++ rest) where
+module _ (ed : Edition) (s : List ℕ) (at f : ℕ) (p : Pattern) (rest : List ℕ) (e : drop at s ≡ pattern-saying ed f (pattern p) ++ rest) where
   pub record-next : next-is PA s at ≡ true
   unfolding next-is marked
   record-next =
-      let t = pattern-saying f (pattern p) ++ rest in
+      let t = pattern-saying ed f (pattern p) ++ rest in
       rw (left-there s at t e, mark-there s at t e PA, le-ltb (length t) 2 (omega arith))
 
-  record-said : (least : ℕ) → f < fields → least ≤ f → GoodHeld characters (pattern p) → ShortCode (pattern p)
-      → pattern-record s at least ≡ read (record { field = f; its = p }) (at + (4 + length (pattern-code p)))
+  record-said : (least : ℕ) → f < fields → least ≤ f → GoodHeld (characters ed) (pattern p) → ShortCode (pattern p)
+      → pattern-record ed s at least ≡ read (record { field = f; its = p }) (at + (4 + length (pattern-code p)))
   unfolding pattern-record
   record-said least known rises good short =
-      let t = pattern-saying f (pattern p) ++ rest in
+      let t = pattern-saying ed f (pattern p) ++ rest in
       let code = pattern-code p in
+      let bytes = bytes-of ed code in
       let some = code-bytes p in
-      let sum = length-append code rest in
+      let same = length-map code (byte-of ed) in
+      let sum = length-append bytes rest in
       rw (
         left-there s at t e,
         byte-there s at t e 2,
@@ -86,14 +89,16 @@ module _ (s : List ℕ) (at f : ℕ) (p : Pattern) (rest : List ℕ) (e : drop a
         neq-eqb (length code) 0 (λ (z : length code ≡ 0). omega arith),
         le-ltb pattern-bytes (length code) short,
         le-ltb (length t) (4 + length code) (omega arith),
-        take-append-seam code rest,
-        code-judged p (good .0) (good .1),
+        take-at bytes rest (length code) same,
+        said-codes ed p (good .0),
+        code-judged p (takes-more (characters ed) most-characters (most-of ed) p (good .0)) (good .1),
       )
 
   pub record-behind : drop (at + (4 + length (pattern-code p))) s ≡ rest
   record-behind =
-      behind-there s at (pattern-saying f (pattern p) ++ rest) e (4 + length (pattern-code p))
-      ∙ sym (drop-drop (length (pattern-code p)) 4 (pattern-saying f (pattern p) ++ rest)) ∙ drop-append-seam (pattern-code p) rest
+      behind-there s at (pattern-saying ed f (pattern p) ++ rest) e (4 + length (pattern-code p))
+      ∙ sym (drop-drop (length (pattern-code p)) 4 (pattern-saying ed f (pattern p) ++ rest))
+      ∙ drop-at (bytes-of ed (pattern-code p)) rest (length (pattern-code p)) (length-map (pattern-code p) (byte-of ed))
 
 -- What comes next is no pattern.
 pub none-next : (s : List ℕ) (at : ℕ) (rest : List ℕ) → drop at s ≡ rest → marked PA rest 0 ≡ false → next-is PA s at ≡ false
@@ -111,144 +116,185 @@ pub record Said (s : List ℕ) (held : List Held) (rest : List ℕ) (x : Records
 abbrev pub partly : List Held → List Held → ℕ → Fields
 partly done left above = record { held = done ++ replicate (length left) some-text; above = above }
 
--- an open field has no record
-open-done : (done left : List Held) (n : ℕ) (s : List ℕ) (at above : ℕ) (rest : List ℕ)
-    → Said s (done ++ (some-text ∷ []) ++ left) rest (read-patterns n s at (partly (done ++ (some-text ∷ [])) left above))
-    → Said s (done ++ some-text ∷ left) rest (read-patterns n s at (partly done (some-text ∷ left) above))
-open-done done left n s at above rest h =
-    rw (append-snoc done some-text left, append-snoc done some-text (replicate (length left) some-text)) at h
+module _ (ed : Edition) where
+  -- an open field has no record
+  open-done : (done left : List Held) (n : ℕ) (s : List ℕ) (at above : ℕ) (rest : List ℕ)
+      → Said s (done ++ (some-text ∷ []) ++ left) rest (read-patterns ed n s at (partly (done ++ (some-text ∷ [])) left above))
+      → Said s (done ++ some-text ∷ left) rest (read-patterns ed n s at (partly done (some-text ∷ left) above))
+  open-done done left n s at above rest h =
+      rw (append-snoc done some-text left, append-snoc done some-text (replicate (length left) some-text)) at h
 
--- a pattern's record is read
-module _ (done left : List Held) (p : Pattern) (s : List ℕ) (at f : ℕ) (behind : List ℕ) (e : drop at s ≡ pattern-saying f (pattern p) ++ behind) where
-  abbrev with-it : ℕ → Records Fields
-  with-it n = read-patterns n s (at + (4 + length (pattern-code p))) (partly (done ++ (pattern p ∷ [])) left (suc f))
+  -- a pattern's record is read
+  module _ (done left : List Held) (p : Pattern) (s : List ℕ) (at f : ℕ) (behind : List ℕ) (e : drop at s ≡ pattern-saying ed f (pattern p) ++ behind) where
+    abbrev with-it : ℕ → Records Fields
+    with-it n = read-patterns ed n s (at + (4 + length (pattern-code p))) (partly (done ++ (pattern p ∷ [])) left (suc f))
 
-  pattern-done : (n above : ℕ) (rest : List ℕ) → length done ≡ f → f < fields → above ≤ f → GoodHeld characters (pattern p) → ShortCode (pattern p)
-      → Said s (done ++ (pattern p ∷ []) ++ left) rest (with-it n)
-      → Said s (done ++ pattern p ∷ left) rest (read-patterns (suc n) s at (partly done (pattern p ∷ left) above))
-  pattern-done n above rest d known rises good short h =
-      let others = replicate (length left) some-text in
-      rw (record-next s at f p behind e, record-said s at f p behind e above known rises good short, set-at done some-text others (pattern p) f d)
-      (rw (append-snoc done (pattern p) left, append-snoc done (pattern p) others) at h)
+    pattern-done : (n above : ℕ) (rest : List ℕ) → length done ≡ f → f < fields → above ≤ f → GoodHeld (characters ed) (pattern p) → ShortCode (pattern p)
+        → Said s (done ++ (pattern p ∷ []) ++ left) rest (with-it n)
+        → Said s (done ++ pattern p ∷ left) rest (read-patterns ed (suc n) s at (partly done (pattern p ∷ left) above))
+    pattern-done n above rest d known rises good short h =
+        let others = replicate (length left) some-text in
+        rw (record-next ed s at f p behind e, record-said ed s at f p behind e above known rises good short, set-at done some-text others (pattern p) f d)
+        (rw (append-snoc done (pattern p) left, append-snoc done (pattern p) others) at h)
 
--- The patterns of the fields from f on are read behind those done.
-pub patterns-said : (left done : List Held) (n : ℕ) (s : List ℕ) (at f above : ℕ) (rest : List ℕ)
-    → drop at s ≡ patterns-saying f left ++ rest → marked PA rest 0 ≡ false → length (patterns-saying f left) < n
-    → length done ≡ f → f + length left ≡ fields → above ≤ f
-    → ((i : ℕ) → GoodHeld characters (getD left i some-text)) → ((i : ℕ) → ShortCode (getD left i some-text))
-    → Said s (done ++ left) rest (read-patterns n s at (partly done left above))
-patterns-said [] done zero s at f above rest e u k d l r good short = absurd (omega arith)
-patterns-said [] done (suc n) s at f above rest e u k d l r good short =
-    record { last = above; next = at; reads = rw (none-next s at rest e u); behind = e }
-patterns-said (some-text ∷ left) done n s at f above rest e u k d l r good short =
-    let more = length-append done (some-text ∷ []) in
-    open-done done left n s at above rest
-    (patterns-said left (done ++ (some-text ∷ [])) n s at (suc f) above rest e u k (omega arith) (omega arith) (omega arith)
-    (λ i. good (suc i)) (λ i. short (suc i)))
-patterns-said (pattern p ∷ left) done zero s at f above rest e u k d l r good short = absurd (omega arith)
-patterns-said (pattern p ∷ left) done (suc n) s at f above rest e u k d l r good short =
-    let behind = patterns-saying (suc f) left ++ rest in
-    let here = e ∙ append-assoc (pattern-saying f (pattern p)) (patterns-saying (suc f) left) rest in
-    let more = length-append done (pattern p ∷ []) in
-    let bytes = length-append (pattern-code p) (patterns-saying (suc f) left) in
-    pattern-done done left p s at f behind here n above rest d (omega arith) r (good 0) (short 0)
-    (patterns-said left (done ++ (pattern p ∷ [])) n s (at + (4 + length (pattern-code p))) (suc f) (suc f) rest (record-behind s at f p behind here) u
-    (omega arith) (omega arith) (omega arith) (omega arith) (λ i. good (suc i)) (λ i. short (suc i)))
+  -- The patterns of the fields from f on are read behind those done.
+  pub patterns-said : (left done : List Held) (n : ℕ) (s : List ℕ) (at f above : ℕ) (rest : List ℕ)
+      → drop at s ≡ patterns-saying ed f left ++ rest → marked PA rest 0 ≡ false → length (patterns-saying ed f left) < n
+      → length done ≡ f → f + length left ≡ fields → above ≤ f
+      → ((i : ℕ) → GoodHeld (characters ed) (getD left i some-text)) → ((i : ℕ) → ShortCode (getD left i some-text))
+      → Said s (done ++ left) rest (read-patterns ed n s at (partly done left above))
+  patterns-said [] done zero s at f above rest e u k d l r good short = absurd (omega arith)
+  patterns-said [] done (suc n) s at f above rest e u k d l r good short =
+      record { last = above; next = at; reads = rw (none-next s at rest e u); behind = e }
+  patterns-said (some-text ∷ left) done n s at f above rest e u k d l r good short =
+      let more = length-append done (some-text ∷ []) in
+      open-done done left n s at above rest
+      (patterns-said left (done ++ (some-text ∷ [])) n s at (suc f) above rest e u k (omega arith) (omega arith) (omega arith)
+      (λ i. good (suc i)) (λ i. short (suc i)))
+  patterns-said (pattern p ∷ left) done zero s at f above rest e u k d l r good short = absurd (omega arith)
+  patterns-said (pattern p ∷ left) done (suc n) s at f above rest e u k d l r good short =
+      let behind = patterns-saying ed (suc f) left ++ rest in
+      let here = e ∙ append-assoc (pattern-saying ed f (pattern p)) (patterns-saying ed (suc f) left) rest in
+      let more = length-append done (pattern p ∷ []) in
+      let bytes = length-append (bytes-of ed (pattern-code p)) (patterns-saying ed (suc f) left) in
+      pattern-done done left p s at f behind here n above rest d (omega arith) r (good 0) (short 0)
+      (patterns-said left (done ++ (pattern p ∷ [])) n s (at + (4 + length (pattern-code p))) (suc f) (suc f) rest (record-behind ed s at f p behind here) u
+      (omega arith) (omega arith) (omega arith) (omega arith) (λ i. good (suc i)) (λ i. short (suc i)))
 
--- Sides: a token's byte is a token, and says it.
-token-byte-is : (t : Token) → InRange characters t → is-token (token-byte t) ≡ true
-token-byte-is (chr c) h = rw (lt-ltb c characters h)
-token-byte-is (fld f) h =
-    let b = token-byte (fld f) in
-    rw (le-ltb b characters (omega arith), le-leb field-token b (omega arith), lt-ltb b (field-token + fields) (omega arith))
+  -- Sides: a token's byte has a token's code, and says it.
+  field-code : (f : ℕ) → f < fields → code ed (token-byte ed (fld f)) ≡ field-token + f
+  field-code f h = code-sign ed f h
 
-token-byte-says : (t : Token) → InRange characters t → token (token-byte t) ≡ t
-token-byte-says (chr c) h = rw (lt-ltb c characters h)
-token-byte-says (fld f) h = rw (le-ltb (token-byte (fld f)) characters (omega arith)) (ap fld (omega arith))
+  token-byte-is : (t : Token) → InRange (characters ed) t → is-token (code ed (token-byte ed t)) ≡ true
+  token-byte-is (chr c) h = rw (code-character ed c h, lt-ltb c most-characters (omega (arith, most-of ed)))
+  token-byte-is (fld f) h =
+      let b = field-token + f in
+      rw (field-code f h, le-ltb b most-characters (omega arith), le-leb field-token b (omega arith), lt-ltb b (field-token + fields) (omega arith))
 
-bytes-are : (side : Side) → ((t : Token) → List·Memᴰ t side → InRange characters t) → all is-token (map token-byte side) ≡ true
-bytes-are [] h = refl
-bytes-are (t ∷ side) h = both-true (token-byte-is t (h t (List·Memᴰ·head refl))) (bytes-are side (λ u d. h u (List·Memᴰ·tail d)))
+  token-byte-says : (t : Token) → InRange (characters ed) t → token (code ed (token-byte ed t)) ≡ t
+  token-byte-says (chr c) h = rw (code-character ed c h, lt-ltb c most-characters (omega (arith, most-of ed)))
+  token-byte-says (fld f) h = rw (field-code f h, le-ltb (field-token + f) most-characters (omega arith)) (ap fld (omega arith))
 
-bytes-say : (side : Side) → ((t : Token) → List·Memᴰ t side → InRange characters t) → map token (map token-byte side) ≡ side
-bytes-say [] h = refl
-bytes-say (t ∷ side) h = cons-eq (token-byte-says t (h t (List·Memᴰ·head refl))) (bytes-say side (λ u d. h u (List·Memᴰ·tail d)))
+  bytes-are : (side : Side) → ((t : Token) → List·Memᴰ t side → InRange (characters ed) t) → all is-token (codes ed (map (token-byte ed) side)) ≡ true
+  bytes-are [] h = refl
+  bytes-are (t ∷ side) h = both-true (token-byte-is t (h t (List·Memᴰ·head refl))) (bytes-are side (λ u d. h u (List·Memᴰ·tail d)))
 
--- A side's record.
-module _ (m : Mark) (s : List ℕ) (at : ℕ) (side : Side) (rest : List ℕ) (e : drop at s ≡ side-saying m side ++ rest) where
-  record-side : GoodSide characters side → side-record s at ≡ read side (at + (3 + length side))
-  unfolding side-record
-  record-side good =
-      let t = side-saying m side ++ rest in
-      let bytes = map token-byte side in
-      let sum = length-append bytes rest in
-      let same = length-map side token-byte in
-      rw (
-        left-there s at t e,
-        byte-there s at t e 2,
-        body-there s at t e 3 (length side),
-        le-ltb (length t) 3 (omega arith),
-        le-ltb sheet-side (length side) (good .short),
-        le-ltb (length t) (3 + length side) (omega arith),
-        take-at bytes rest (length side) same,
-        bytes-are side (good .tokens),
-        bytes-say side (good .tokens),
-      )
+  bytes-say : (side : Side) → ((t : Token) → List·Memᴰ t side → InRange (characters ed) t) → map token (codes ed (map (token-byte ed) side)) ≡ side
+  bytes-say [] h = refl
+  bytes-say (t ∷ side) h = cons-eq (token-byte-says t (h t (List·Memᴰ·head refl))) (bytes-say side (λ u d. h u (List·Memᴰ·tail d)))
 
-  pub side-said : GoodSide characters side → marked-side m s at ≡ read side (at + (3 + length side))
-  unfolding marked-side marked
-  side-said good =
-      let t = side-saying m side ++ rest in
-      rw (left-there s at t e, mark-there s at t e m, le-ltb (length t) 2 (omega arith), eqb-same (first-letter m), eqb-same (second-letter m))
-      (record-side good)
+  -- A side's record.
+  module _ (m : Mark) (s : List ℕ) (at : ℕ) (side : Side) (rest : List ℕ) (e : drop at s ≡ side-saying ed m side ++ rest) where
+    record-side : GoodSide (characters ed) side → side-record ed s at ≡ read side (at + (3 + length side))
+    unfolding side-record
+    record-side good =
+        let t = side-saying ed m side ++ rest in
+        let bytes = map (token-byte ed) side in
+        let sum = length-append bytes rest in
+        let same = length-map side (token-byte ed) in
+        rw (
+          left-there s at t e,
+          byte-there s at t e 2,
+          body-there s at t e 3 (length side),
+          le-ltb (length t) 3 (omega arith),
+          le-ltb sheet-side (length side) (good .short),
+          le-ltb (length t) (3 + length side) (omega arith),
+          take-at bytes rest (length side) same,
+          bytes-are side (good .tokens),
+          bytes-say side (good .tokens),
+        )
 
-  pub side-behind : drop (at + (3 + length side)) s ≡ rest
-  side-behind =
-      behind-there s at (side-saying m side ++ rest) e (3 + length side)
-      ∙ sym (drop-drop (length side) 3 (side-saying m side ++ rest)) ∙ drop-at (map token-byte side) rest (length side) (length-map side token-byte)
+    pub side-said : GoodSide (characters ed) side → marked-side ed m s at ≡ read side (at + (3 + length side))
+    unfolding marked-side marked
+    side-said good =
+        let t = side-saying ed m side ++ rest in
+        rw (left-there s at t e, mark-there s at t e m, le-ltb (length t) 2 (omega arith), eqb-same (first-letter m), eqb-same (second-letter m))
+        (record-side good)
+
+    pub side-behind : drop (at + (3 + length side)) s ≡ rest
+    side-behind =
+        behind-there s at (side-saying ed m side ++ rest) e (3 + length side)
+        ∙ sym (drop-drop (length side) 3 (side-saying ed m side ++ rest)) ∙ drop-at (map (token-byte ed) side) rest (length side) (length-map side (token-byte ed))
 
 -- The end: nothing is left.
 end-said : (s : List ℕ) (at : ℕ) (q : Question) → drop at s ≡ [] → read-end s at q ≡ asked q
 unfolding read-end
 end-said s at q e = let none = left-there s at [] e in rw (le-ltb at (length s) (omega arith))
 
--- Both sides' records, behind the patterns'.
-sides-said : (s : List ℕ) (at : ℕ) (q : Question) → GoodQuestion q → drop at s ≡ side-saying LE (q .left) ++ side-saying RI (q .right)
-    → left-read s (q .held) (marked-side LE s at) ≡ asked q
-sides-said s at q good e =
-    let left = q .left in
-    let right = q .right in
-    let after-left = side-behind LE s at left (side-saying RI right) e ∙ sym (append-nil (side-saying RI right)) in
-    let next = at + (3 + length left) in
-    rw (side-said LE s at left (side-saying RI right) e (left-39 good), side-said RI s next right [] after-left (right-39 good))
-    (end-said s (next + (3 + length right)) (record { alphabet = code-39; left = left; right = right; held = q .held }) (side-behind RI s next right [] after-left)
-    ∙ ap asked (λ i. record { alphabet = sym (good .alphabet) i; left = left; right = right; held = q .held }))
+module _ (q : Question) where
+  abbrev ed : Edition
+  ed = edition-of (q .alphabet)
 
-pub not-marked : (side : Side) (rest : List ℕ) → marked PA (side-saying LE side ++ rest) 0 ≡ false
+  -- Both sides' records, behind the patterns'.
+  sides-said : (s : List ℕ) (at : ℕ) → GoodQuestion q → drop at s ≡ side-saying ed LE (q .left) ++ side-saying ed RI (q .right)
+      → left-read ed s (q .held) (marked-side ed LE s at) ≡ asked q
+  sides-said s at good e =
+      let left = q .left in
+      let right = q .right in
+      let after-left = side-behind ed LE s at left (side-saying ed RI right) e ∙ sym (append-nil (side-saying ed RI right)) in
+      let next = at + (3 + length left) in
+      rw (
+        side-said ed LE s at left (side-saying ed RI right) e (rw (good .alphabet) at (good .left)),
+        side-said ed RI s next right [] after-left (rw (good .alphabet) at (good .right)),
+      )
+      (end-said s (next + (3 + length right)) (record { alphabet = alphabet-of ed; left = left; right = right; held = q .held })
+      (side-behind ed RI s next right [] after-left)
+      ∙ ap asked (λ i. record { alphabet = sym (good .alphabet) i; left = left; right = right; held = q .held }))
+
+pub not-marked : (ed : Edition) (side : Side) (rest : List ℕ) → marked PA (side-saying ed LE side ++ rest) 0 ≡ false
 unfolding marked
-not-marked side rest = refl
+not-marked ed side rest = refl
 
--- All the patterns' records, from the sheet's start.
-abbrev patterns-of : List ℕ → Records Fields
-patterns-of s = read-patterns (suc (length s)) s 0 open-fields
+-- The edition's record, in front of what is said in it.
+pub edition-said : (ed : Edition) (t : List ℕ) → next-is ED t 0 ≡ false
+    → edition-front (edition-laid (edition-byte ed) ++ t) ≡ read ed (length (edition-laid (edition-byte ed)))
+unfolding edition-front next-is marked
+edition-said edition-1 t h = rw h
+edition-said edition-2 t h = let s = edition-laid 2 ++ t in rw (le-ltb (bytes-left s 0) 2 (omega arith), le-ltb (length s) 3 (omega arith))
 
+pub edition-behind : (ed : Edition) (t : List ℕ) → drop (length (edition-laid (edition-byte ed))) (edition-laid (edition-byte ed) ++ t) ≡ t
+edition-behind edition-1 t = refl
+edition-behind edition-2 t = refl
+
+-- another mark stands in front
+pub not-next : (m : Mark) (t : List ℕ) → marked m t 0 ≡ false → next-is m t 0 ≡ false
+unfolding next-is
+not-next m t h = cond-by (λ (b : Bool). b ≡ false) (ltb (bytes-left t 0) 2) (λ _. refl) (λ _. h)
+
+-- What stands behind it is a pattern's record or the left side's.
+pub no-edition : (ed : Edition) (f : ℕ) (held : List Held) (side : Side) (rest : List ℕ)
+    → next-is ED (patterns-saying ed f held ++ (side-saying ed LE side ++ rest)) 0 ≡ false
+unfolding marked
+no-edition ed f [] side rest = not-next ED (side-saying ed LE side ++ rest) refl
+no-edition ed f (some-text ∷ held) side rest = no-edition ed (suc f) held side rest
+no-edition ed f (pattern p ∷ held) side rest =
+    not-next ED (patterns-saying ed f (pattern p ∷ held) ++ (side-saying ed LE side ++ rest)) refl
+
+-- All the patterns' records, from where the edition's ends.
 all-said : (q : Question) → Sayable q
-    → Said (sheet-saying q) (q .held) (side-saying LE (q .left) ++ side-saying RI (q .right)) (patterns-of (sheet-saying q))
+    → (let ed = edition-of (q .alphabet) in let start = length (edition-laid (edition-byte ed)) in let s = sheet-saying q in
+    Said s (q .held) (side-saying ed LE (q .left) ++ side-saying ed RI (q .right)) (read-patterns ed (suc (length s)) s start open-fields))
 all-said q h =
+    let ed = edition-of (q .alphabet) in
+    let start = length (edition-laid (edition-byte ed)) in
     let s = sheet-saying q in
-    let patterns = patterns-saying 0 (q .held) in
-    let left = side-saying LE (q .left) in
-    let right = side-saying RI (q .right) in
+    let patterns = patterns-saying ed 0 (q .held) in
+    let left = side-saying ed LE (q .left) in
+    let right = side-saying ed RI (q .right) in
     let bytes = length-append patterns (left ++ right) in
     let parts = said-parts q in
+    let here = ap (drop start) parts ∙ edition-behind ed (behind-edition ed q) in
     let sum = ap length parts in
+    let whole = length-append (edition-laid (edition-byte ed)) (behind-edition ed q) in
     let every = h .good .held .each-field in
     rw every at
-    (patterns-said (q .held) [] (suc (length s)) s 0 0 0 (left ++ right) parts (not-marked (q .left) right)
-    (omega arith) refl (omega arith) (omega arith) (held-39 (h .good) .good) (h .codes))
+    (patterns-said ed (q .held) [] (suc (length s)) s start 0 0 (left ++ right) here (not-marked ed (q .left) right)
+    (omega arith) refl (omega arith) (omega arith) (rw (h .good .alphabet) at (h .good .held .good)) (h .codes))
 
 pub reads-back : (q : Question) → Sayable q → read-sheet (sheet-saying q) ≡ asked q
 unfolding read-sheet
 reads-back q h =
+    let ed = edition-of (q .alphabet) in
     let said = all-said q h in
-    rw (said .reads) (sides-said (sheet-saying q) (said .next) q (h .good) (said .behind))
+    rw (ap edition-front (said-parts q) ∙ edition-said ed (behind-edition ed q) (no-edition ed 0 (q .held) (q .left) (side-saying ed RI (q .right))), said .reads)
+    (sides-said q (sheet-saying q) (said .next) (h .good) (said .behind))

@@ -5,7 +5,7 @@
 use Prim.Native.Nat.{ℕ, _+_, _*_, _≤_}
 use native.Mathlib.Nat.{mul-le-mul-right, suc-mul}
 use native.Mathlib.Omega.{arith}
-use mathlib.Core.Path.{_≡_}
+use mathlib.Core.Path.{_≡_, refl}
 use mathlib.Core.Bool.{Bool}
 use mathlib.Core.List.{List, [], _∷_, _++_}
 use lib.ListN.{length, length-append}
@@ -19,6 +19,7 @@ use Rattle.paper.specs.Question.{Question, hidden}
 use Rattle.paper.specs.Sheet.{Reading}
 use Rattle.paper.specs.Outcome.{room-of, standing, value-record, outcome-of}
 use Rattle.paper.specs.Demands.{end-of, texts-spelt, records-of}
+use Rattle.paper.proofs.base.Tests.{true-false}
 use Rattle.paper.proofs.base.Lists.{length-only, length-from}
 use Rattle.paper.proofs.sheets.TextLength.{text-below-room}
 use Rattle.paper.proofs.sheets.Rows.{Row, faulty, is-too-short, in-row}
@@ -58,5 +59,5 @@ pub answer-enough : (r : Reading) (work answer : List ℕ) → fields * (record-
 answer-enough r work answer h n = too-short (in-row r work answer 20 n)
   where
     too-short : Row r work answer (outcome-of r work answer) 20 → ⊥
-    too-short (faulty x at e low high z) = omega arith
+    too-short (faulty x at e n z) = true-false n refl
     too-short (is-too-short q e g end k) = omega (arith, records-short q work e end)

@@ -5,19 +5,19 @@
 --   fields-have-sets : and a situation has a place set for it
 --   good-space       : its space is one of its characters
 -- The tokens are its alphabet's characters and 01's fields, a side has at most 24 of them, there is a pattern or none for each field, and a pattern
--- has at most 63 leaves, of which each takes some character and nothing but characters. The alphabet is Code 39; what rests on that alone is
--- `good-space`, and how a question is coded (`left-39`, `right-39`, `held-39`).
+-- has at most 63 leaves, of which each takes some character and nothing but characters. The alphabet is that of an edition; what rests on that alone
+-- is that there are at most 128 characters (`good-most`) and that the space is one (`good-space`).
 -- Follows from the checks on the records, test by test, and from the laws of judged patterns.
 use Prim.Native.Nat.{ℕ, zero, suc, _+_, _≤_, _<_}
 use native.Mathlib.Omega.{arith}
-use mathlib.Core.Path.{_≡_, refl, sym, _∙_, subst}
+use mathlib.Core.Path.{_≡_, refl, sym, _∙_, ap, subst}
 use mathlib.Core.Logic.{⊎-elim}
 use mathlib.Core.Bool.{true, _&&_, _||_}
 use mathlib.Core.List.{List, [], _∷_, _++_, List·Memᴰ}
 use lib.Dec.{leb, ltb, eqb}
 use lib.ListN.{length, getD, drop, set, replicate, length-set, length-map, length-take, length-replicate}
 use Rattle.paper.specs.Lists.{all}
-use Rattle.paper.specs.Numbers.{characters, fields, set-fields, field-token, pattern-bytes, most-leaves, sheet-side}
+use Rattle.paper.specs.Numbers.{most-characters, fields, set-fields, field-token, pattern-bytes, most-leaves, sheet-side}
 use Rattle.paper.proofs.base.Tests.{cond-by, true-false, and-right, or-is-true, or-right-false, ltb-true, ltb-false, eqb-true}
 use Rattle.paper.proofs.base.Lists.{all-true, any-true, any-append, mem-map}
 use Rattle.paper.specs.Pattern.{Held, some-text, pattern}
@@ -26,12 +26,13 @@ use Rattle.paper.specs.Taken.{leaves-take}
 use Rattle.paper.specs.Written.{Judged, judged, judge}
 use Rattle.paper.specs.Written as Written
 use Rattle.paper.specs.Equation.{Token, chr, fld, Side, is-field, stands-in}
-use Rattle.paper.specs.Alphabet.{code-39}
+use Rattle.paper.specs.Alphabet.{Edition, edition-1, edition-2, alphabet-of, edition-of, code, codes}
 use Rattle.paper.specs.Question.{Question}
-use Rattle.paper.specs.Sheet.{Checked, fault, read, FieldPattern, byte-at, bytes-left, body, Mark, PA, LE, RI, marked}
+use Rattle.paper.specs.Sheet.{Checked, fault, read, FieldPattern, byte-at, bytes-left, body, body-codes, Mark, PA, LE, RI, ED, marked}
 use Rattle.paper.specs.Sheet.{pattern-judged, pattern-record, is-token, token, side-record, marked-side, Records, faulty, records, Fields}
-use Rattle.paper.specs.Sheet.{open-fields, next-is, with-pattern, pattern-read, read-patterns, Reading, refused, asked, read-end, right-read, left-read, sides-read, read-sheet}
+use Rattle.paper.specs.Sheet.{open-fields, next-is, with-pattern, pattern-read, read-patterns, Reading, refused, asked, read-end, right-read, left-read, sides-read, edition-front, edition-read, read-sheet}
 use Rattle.paper.proofs.places.Judged.{judged-takes, judged-leaves}
+use Rattle.paper.proofs.sheets.Editions.{known-edition, most-of, space-of, code-below}
 
 -- "A token is 0 to 42 (a character) or 64 to 71 (field 0 to 7)", where there are n characters
 abbrev pub InRange : ℕ → Token → Type 0
@@ -52,7 +53,7 @@ pub record GoodFields (n : ℕ) (held : List Held) : Type 0 where
   pub good : (f : ℕ) → GoodHeld n (getD held f some-text)
 
 pub record GoodQuestion (q : Question) : Type 0 where
-  pub alphabet : q .alphabet ≡ code-39
+  pub alphabet : q .alphabet ≡ alphabet-of (edition-of (q .alphabet))
   pub left : GoodSide (q .alphabet .characters) (q .left)
   pub right : GoodSide (q .alphabet .characters) (q .right)
   pub held : GoodFields (q .alphabet .characters) (q .held)
@@ -61,58 +62,67 @@ pub record GoodQuestion (q : Question) : Type 0 where
 abbrev pub AsksGood : Reading → Type 0
 AsksGood r = (q : Question) → r ≡ asked q → GoodQuestion q
 
+-- the characters of an edition
+abbrev pub characters : Edition → ℕ
+characters e = alphabet-of e .characters
+
 -- Sides.
-token-in-range : (b : ℕ) → is-token b ≡ true → InRange characters (token b)
-token-in-range b e =
-    cond-by (InRange characters) (ltb b characters) (ltb-true b characters)
+token-in-range : (e : Edition) (b : ℕ) → is-token (code e b) ≡ true → InRange (characters e) (token (code e b))
+token-in-range e b h =
+    let c = code e b in
+    cond-by (InRange (characters e)) (ltb c most-characters) (λ k. code-below e b (ltb-true c most-characters k))
     (λ n. ⊎-elim
-    (λ (h : ltb b characters ≡ true). let k = ltb-true b characters h in let l = ltb-false b characters n in absurd (omega arith))
-    (λ h. let k = ltb-true b (field-token + fields) (and-right (leb field-token b) (ltb b (field-token + fields)) h) in omega arith)
-    (or-is-true (ltb b characters) (leb field-token b && ltb b (field-token + fields)) e))
+    (λ (k : ltb c most-characters ≡ true). let l = ltb-true c most-characters k in let m = ltb-false c most-characters n in absurd (omega arith))
+    (λ k. let l = ltb-true c (field-token + fields) (and-right (leb field-token c) (ltb c (field-token + fields)) k) in omega arith)
+    (or-is-true (ltb c most-characters) (leb field-token c && ltb c (field-token + fields)) h))
 
 -- what a check on a record finds, if it is no fault
 abbrev pub Found : {A : Type 0} → (A → Type 0) → Checked A → Type 0
 Found Good (fault x at) = Unit {0}
 Found Good (read a next) = Good a
 
-side-good : (s : List ℕ) (at : ℕ) → Found (GoodSide characters) (side-record s at)
+side-good : (e : Edition) (s : List ℕ) (at : ℕ) → Found (GoodSide (characters e)) (side-record e s at)
 unfolding side-record
-side-good s at =
+side-good e s at =
     let n = byte-at s (at + 2) in
     let b = body s (at + 3) n in
-    cond-by (Found (GoodSide characters)) (ltb (bytes-left s at) 3) (λ _. tt)
-    (λ _. cond-by (Found (GoodSide characters)) (ltb sheet-side n) (λ _. tt)
-    (λ h. cond-by (Found (GoodSide characters)) (ltb (bytes-left s at) (3 + n)) (λ _. tt)
-    (λ _. cond-by (Found (GoodSide characters)) (all is-token b)
+    let cs = codes e b in
+    cond-by (Found (GoodSide (characters e))) (ltb (bytes-left s at) 3) (λ _. tt)
+    (λ _. cond-by (Found (GoodSide (characters e))) (ltb sheet-side n) (λ _. tt)
+    (λ h. cond-by (Found (GoodSide (characters e))) (ltb (bytes-left s at) (3 + n)) (λ _. tt)
+    (λ _. cond-by (Found (GoodSide (characters e))) (all is-token cs)
     (λ t. record {
-      tokens = λ x d. let (c, i, e) = mem-map token b d in subst (InRange characters) (sym e) (token-in-range c (all-true is-token b t i));
-      short = rw (length-map b token, length-take n (drop (at + 3) s)) (omega (arith, ltb-false sheet-side n h));
+      tokens = λ x d.
+          let (c, i, same) = mem-map token cs d in
+          let (byte, j, its) = mem-map (code e) b i in
+          subst (InRange (characters e)) (sym same) (rw its (token-in-range e byte (rw its at (all-true is-token cs t i))));
+      short = rw (length-map cs token, length-map b (code e), length-take n (drop (at + 3) s)) (omega (arith, ltb-false sheet-side n h));
     })
     (λ _. tt))))
 
 -- Patterns: what the checks on a record say of the field and the pattern that were read.
-pub record PatternRead (s : List ℕ) (at least : ℕ) (fp : FieldPattern) : Type 0 where
+pub record PatternRead (e : Edition) (s : List ℕ) (at least : ℕ) (fp : FieldPattern) : Type 0 where
   pub rises : least ≤ fp .field
   pub short : byte-at s (at + 3) ≤ pattern-bytes
-  pub its-bytes : judge (body s (at + 4) (byte-at s (at + 3))) ≡ judged (fp .its)
+  pub its-bytes : judge (body-codes e s (at + 4) (byte-at s (at + 3))) ≡ judged (fp .its)
 
-judged-read : (s : List ℕ) (at least start f next : ℕ) (j : Judged) → judge (body s (at + 4) (byte-at s (at + 3))) ≡ j
-    → least ≤ f → byte-at s (at + 3) ≤ pattern-bytes → Found (PatternRead s at least) (pattern-judged j start f next)
-judged-read s at least start f next (Written.not-one-pattern i) e rises short = tt
-judged-read s at least start f next (Written.too-many-leaves i) e rises short = tt
-judged-read s at least start f next (judged p) e rises short = record { rises = rises; short = short; its-bytes = e }
+judged-read : (e : Edition) (s : List ℕ) (at least start f next : ℕ) (j : Judged) → judge (body-codes e s (at + 4) (byte-at s (at + 3))) ≡ j
+    → least ≤ f → byte-at s (at + 3) ≤ pattern-bytes → Found (PatternRead e s at least) (pattern-judged j start f next)
+judged-read e s at least start f next (Written.not-one-pattern i) h rises short = tt
+judged-read e s at least start f next (Written.too-many-leaves i) h rises short = tt
+judged-read e s at least start f next (judged p) h rises short = record { rises = rises; short = short; its-bytes = h }
 
-record-read : (s : List ℕ) (at least : ℕ) → Found (PatternRead s at least) (pattern-record s at least)
+record-read : (e : Edition) (s : List ℕ) (at least : ℕ) → Found (PatternRead e s at least) (pattern-record e s at least)
 unfolding pattern-record
-record-read s at least =
+record-read e s at least =
     let f = byte-at s (at + 2) in
     let n = byte-at s (at + 3) in
-    let b = body s (at + 4) n in
-    cond-by (Found (PatternRead s at least)) (ltb (bytes-left s at) 4) (λ _. tt)
-    (λ _. cond-by (Found (PatternRead s at least)) (leb fields f || ltb f least) (λ _. tt)
-    (λ i. cond-by (Found (PatternRead s at least)) (eqb n 0 || ltb pattern-bytes n) (λ _. tt)
-    (λ j. cond-by (Found (PatternRead s at least)) (ltb (bytes-left s at) (4 + n)) (λ _. tt)
-    (λ _. judged-read s at least (at + 4) f (at + (4 + n)) (judge b) refl
+    let b = body-codes e s (at + 4) n in
+    cond-by (Found (PatternRead e s at least)) (ltb (bytes-left s at) 4) (λ _. tt)
+    (λ _. cond-by (Found (PatternRead e s at least)) (leb fields f || ltb f least) (λ _. tt)
+    (λ i. cond-by (Found (PatternRead e s at least)) (eqb n 0 || ltb pattern-bytes n) (λ _. tt)
+    (λ j. cond-by (Found (PatternRead e s at least)) (ltb (bytes-left s at) (4 + n)) (λ _. tt)
+    (λ _. judged-read e s at least (at + 4) f (at + (4 + n)) (judge b) refl
     (ltb-false f least (or-right-false (leb fields f) (ltb f least) i))
     (ltb-false pattern-bytes n (or-right-false (eqb n 0) (ltb pattern-bytes n) j))))))
 
@@ -131,20 +141,21 @@ module _ (P : Held → Type 0) where
   open-by g (suc n) zero = g
   open-by g (suc n) (suc f) = open-by g n f
 
-abbrev pub Goods : Fields → Type 0
-Goods fs = GoodFields characters (fs .held)
+abbrev pub Goods : Edition → Fields → Type 0
+Goods e fs = GoodFields (characters e) (fs .held)
 
-pub fields-with : (s : List ℕ) (at : ℕ) (fs : Fields) (fp : FieldPattern) → Goods fs → PatternRead s at (fs .above) fp → Goods (with-pattern fs fp)
-fields-with s at fs fp h g =
+pub fields-with : (e : Edition) (s : List ℕ) (at : ℕ) (fs : Fields) (fp : FieldPattern) → Goods e fs → PatternRead e s at (fs .above) fp
+    → Goods e (with-pattern fs fp)
+fields-with e s at fs fp h g =
     let b = body s (at + 4) (byte-at s (at + 3)) in
     record {
       each-field = length-set (fs .held) (fp .field) (pattern (fp .its)) ∙ h .each-field;
-      good = set-by (GoodHeld characters) (fs .held) (fp .field) (pattern (fp .its)) (judged-takes b (g .its-bytes), judged-leaves b (g .its-bytes)) (h .good);
+      good = set-by (GoodHeld (characters e)) (fs .held) (fp .field) (pattern (fp .its)) (judged-takes e b (g .its-bytes), judged-leaves (codes e b) (g .its-bytes)) (h .good);
     }
 
 -- "before the first record every field is" open
-pub opens-good : GoodFields characters (open-fields .held)
-opens-good = record { each-field = length-replicate fields some-text; good = open-by (GoodHeld characters) tt fields }
+pub opens-good : (n : ℕ) → GoodFields n (open-fields .held)
+opens-good n = record { each-field = length-replicate fields some-text; good = open-by (GoodHeld n) tt fields }
 
 -- The patterns' records, up to the first record that is none.
 abbrev pub Listed : {A : Type 0} → (A → Type 0) → Records A → Type 0
@@ -153,30 +164,31 @@ Listed Good (records a next) = Good a
 
 -- what every pattern's record keeps
 module _
+    (e : Edition)
     (Good : Fields → Type 0)
-    (kept : (s : List ℕ) (at : ℕ) (fs : Fields) (fp : FieldPattern) → Good fs → PatternRead s at (fs .above) fp → Good (with-pattern fs fp)) where
+    (kept : (s : List ℕ) (at : ℕ) (fs : Fields) (fp : FieldPattern) → Good fs → PatternRead e s at (fs .above) fp → Good (with-pattern fs fp)) where
   behind-by : (s : List ℕ) (at : ℕ) (fs : Fields) (go-on : ℕ → Fields → Records Fields) (x : Checked FieldPattern)
       → ((next : ℕ) (more : Fields) → Good more → Listed Good (go-on next more))
-      → Good fs → Found (PatternRead s at (fs .above)) x → Listed Good (pattern-read fs go-on x)
+      → Good fs → Found (PatternRead e s at (fs .above)) x → Listed Good (pattern-read fs go-on x)
   behind-by s at fs go-on (fault x place) i h k = tt
   behind-by s at fs go-on (read fp next) i h k = i next (with-pattern fs fp) (kept s at fs fp h k)
 
-  pub patterns-by : (n : ℕ) (s : List ℕ) (at : ℕ) (fs : Fields) → Good fs → Listed Good (read-patterns n s at fs)
+  pub patterns-by : (n : ℕ) (s : List ℕ) (at : ℕ) (fs : Fields) → Good fs → Listed Good (read-patterns e n s at fs)
   patterns-by zero s at fs h = tt
   patterns-by (suc n) s at fs h =
       cond-by (Listed Good) (next-is PA s at)
-      (λ _. behind-by s at fs (read-patterns n s) (pattern-record s at (fs .above)) (patterns-by n s) h (record-read s at (fs .above)))
+      (λ _. behind-by s at fs (read-patterns e n s) (pattern-record e s at (fs .above)) (patterns-by n s) h (record-read e s at (fs .above)))
       (λ _. h)
 
-pub patterns-good : (n : ℕ) (s : List ℕ) (at : ℕ) (fs : Fields) → Goods fs → Listed Goods (read-patterns n s at fs)
-patterns-good = patterns-by Goods fields-with
+pub patterns-good : (e : Edition) (n : ℕ) (s : List ℕ) (at : ℕ) (fs : Fields) → Goods e fs → Listed (Goods e) (read-patterns e n s at fs)
+patterns-good e = patterns-by e (Goods e) (fields-with e)
 
 -- A side behind its mark, and the sides.
-pub marked-good : (m : Mark) (s : List ℕ) (at : ℕ) → Found (GoodSide characters) (marked-side m s at)
+pub marked-good : (e : Edition) (m : Mark) (s : List ℕ) (at : ℕ) → Found (GoodSide (characters e)) (marked-side e m s at)
 unfolding marked-side
-marked-good m s at =
-    cond-by (Found (GoodSide characters)) (ltb (bytes-left s at) 2) (λ _. tt)
-    (λ _. cond-by (Found (GoodSide characters)) (marked m s at) (λ _. side-good s at) (λ _. tt))
+marked-good e m s at =
+    cond-by (Found (GoodSide (characters e))) (ltb (bytes-left s at) 2) (λ _. tt)
+    (λ _. cond-by (Found (GoodSide (characters e))) (marked m s at) (λ _. side-good e s at) (λ _. tt))
 
 abbrev Asks : Reading → Type 0
 Asks (refused x at) = Unit {0}
@@ -186,25 +198,30 @@ end-asks : (s : List ℕ) (at : ℕ) (q : Question) → GoodQuestion q → Asks 
 unfolding read-end
 end-asks s at q g = cond-by Asks (ltb at (length s)) (λ _. tt) (λ _. g)
 
-right-asks : (s : List ℕ) (held : List Held) (l : Side) (x : Checked Side)
-    → GoodFields characters held → GoodSide characters l → Found (GoodSide characters) x → Asks (right-read s held l x)
-right-asks s held l (fault x at) h g k = tt
-right-asks s held l (read r next) h g k =
-    end-asks s next (record { alphabet = code-39; left = l; right = r; held = held }) (record { alphabet = refl; left = g; right = k; held = h })
+module _ (e : Edition) (s : List ℕ) where
+  right-asks : (held : List Held) (l : Side) (x : Checked Side)
+      → GoodFields (characters e) held → GoodSide (characters e) l → Found (GoodSide (characters e)) x → Asks (right-read e s held l x)
+  right-asks held l (fault x at) h g k = tt
+  right-asks held l (read r next) h g k =
+      end-asks s next (record { alphabet = alphabet-of e; left = l; right = r; held = held })
+      (record { alphabet = ap alphabet-of (sym (known-edition e)); left = g; right = k; held = h })
 
-left-asks : (s : List ℕ) (held : List Held) (x : Checked Side) → GoodFields characters held → Found (GoodSide characters) x
-    → Asks (left-read s held x)
-left-asks s held (fault x at) h k = tt
-left-asks s held (read l next) h k = right-asks s held l (marked-side RI s next) h k (marked-good RI s next)
+  left-asks : (held : List Held) (x : Checked Side) → GoodFields (characters e) held → Found (GoodSide (characters e)) x → Asks (left-read e s held x)
+  left-asks held (fault x at) h k = tt
+  left-asks held (read l next) h k = right-asks held l (marked-side e RI s next) h k (marked-good e RI s next)
 
-sides-ask : (s : List ℕ) (x : Records Fields) → Listed Goods x → Asks (sides-read s x)
-sides-ask s (faulty x at) h = tt
-sides-ask s (records fs at) h = left-asks s (fs .held) (marked-side LE s at) h (marked-good LE s at)
+  sides-ask : (x : Records Fields) → Listed (Goods e) x → Asks (sides-read e s x)
+  sides-ask (faulty x at) h = tt
+  sides-ask (records fs at) h = left-asks (fs .held) (marked-side e LE s at) h (marked-good e LE s at)
+
+edition-asks : (s : List ℕ) (x : Checked Edition) → Asks (edition-read s x)
+edition-asks s (fault x at) = tt
+edition-asks s (read e at) =
+    sides-ask e s (read-patterns e (suc (length s)) s at open-fields) (patterns-good e (suc (length s)) s at open-fields (opens-good (characters e)))
 
 pub sheet-good : (sheet : List ℕ) → AsksGood (read-sheet sheet)
 unfolding read-sheet
-sheet-good sheet q e =
-    subst Asks e (sides-ask sheet (read-patterns (suc (length sheet)) sheet 0 open-fields) (patterns-good (suc (length sheet)) sheet 0 open-fields opens-good))
+sheet-good sheet q e = subst Asks e (edition-asks sheet (edition-front sheet))
 
 -- Every field that stands in the sides is one of the fields.
 standing-known : (n f : ℕ) (side : Side) → GoodSide n side → stands-in f side ≡ true → f < fields
@@ -225,16 +242,10 @@ module _ (q : Question) (g : GoodQuestion q) (f : ℕ) (e : stands-in f (q .left
   pub fields-have-sets : f < set-fields
   fields-have-sets = omega (arith, fields-known)
 
--- What rests on the alphabet being Code 39.
+-- What rests on the alphabet being an edition's.
 module _ {q : Question} (g : GoodQuestion q) where
   pub good-space : q .alphabet .space < q .alphabet .characters
-  good-space = rw (g .alphabet) (omega arith)
+  good-space = rw (g .alphabet) (space-of (edition-of (q .alphabet)))
 
-  pub left-39 : GoodSide characters (q .left)
-  left-39 = rw (g .alphabet) at (g .left)
-
-  pub right-39 : GoodSide characters (q .right)
-  right-39 = rw (g .alphabet) at (g .right)
-
-  pub held-39 : GoodFields characters (q .held)
-  held-39 = rw (g .alphabet) at (g .held)
+  pub good-most : q .alphabet .characters ≤ most-characters
+  good-most = rw (g .alphabet) (most-of (edition-of (q .alphabet)))

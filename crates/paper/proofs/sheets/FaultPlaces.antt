@@ -7,22 +7,22 @@
 use Prim.Native.Nat.{ℕ, zero, suc, _+_, _-_, _≤_, _<_}
 use native.Mathlib.Omega.{arith}
 use mathlib.Core.Path.{_≡_, refl, subst}
-use mathlib.Core.Bool.{Bool, true, false, _||_}
+use mathlib.Core.Bool.{Bool, true, false, cond, _||_}
 use mathlib.Core.List.{List, [], _∷_}
 use lib.Dec.{leb, ltb, eqb}
-use lib.ListN.{length, drop, length-take, length-drop}
+use lib.ListN.{length, drop, length-take, length-drop, length-map}
 use Rattle.paper.specs.Lists.{all, leading}
 use Rattle.paper.specs.Numbers.{fields, pattern-bytes, sheet-side}
 use Rattle.paper.specs.Pattern.{Held}
 use Rattle.paper.specs.Written.{Judged, judged, judge}
 use Rattle.paper.specs.Written as Written
 use Rattle.paper.specs.Equation.{Side}
-use Rattle.paper.specs.Alphabet.{code-39}
+use Rattle.paper.specs.Alphabet.{Edition, edition-1, alphabet-of, code, codes}
 use Rattle.paper.specs.Question.{Question}
-use Rattle.paper.specs.Sheet.{Fault, cut-short, wrong-mark, wrong-field, wrong-length, not-one-pattern, too-many-leaves, wrong-token}
-use Rattle.paper.specs.Sheet.{Checked, fault, read, FieldPattern, byte-at, bytes-left, body, Mark, PA, LE, RI, RU, marked}
+use Rattle.paper.specs.Sheet.{Fault, cut-short, wrong-mark, wrong-field, wrong-length, not-one-pattern, too-many-leaves, wrong-token, wrong-edition}
+use Rattle.paper.specs.Sheet.{Checked, fault, read, FieldPattern, byte-at, bytes-left, body, body-codes, Mark, PA, LE, RI, RU, ED, marked}
 use Rattle.paper.specs.Sheet.{pattern-judged, pattern-record, is-token, side-record, marked-side, Records, faulty, records, Fields}
-use Rattle.paper.specs.Sheet.{open-fields, next-is, with-pattern, pattern-read, read-patterns, Reading, refused, asked, read-end, right-read, left-read, sides-read, read-sheet}
+use Rattle.paper.specs.Sheet.{open-fields, next-is, with-pattern, pattern-read, read-patterns, Reading, refused, asked, read-end, right-read, left-read, sides-read, edition-front, edition-read, read-sheet}
 use Rattle.paper.specs.Rule.{Rule, with-side, side-read, rule-front, rule-end, read-rule}
 use Rattle.paper.proofs.base.Tests.{by-bool, cond-by, true-false, ltb-true, ltb-false}
 use Rattle.paper.proofs.places.Judged.{within-not-one, too-many-inside}
@@ -37,6 +37,7 @@ Shown s wrong-length at = at < length s
 Shown s not-one-pattern at = at ≤ length s
 Shown s too-many-leaves at = at < length s
 Shown s wrong-token at = at < length s
+Shown s wrong-edition at = at < length s
 
 -- the first that fails the test is one of them
 pub leading-below : (p : ℕ → Bool) (l : List ℕ) → all p l ≡ false → leading p l < length l
@@ -60,8 +61,8 @@ module _ (s : List ℕ) where
   SheetShown (refused x at) = Shown s x at
   SheetShown (asked q) = Unit {0}
 
-  body-length : (at n : ℕ) → length (body s at n) ≤ length s - at
-  body-length at n = rw (length-take n (drop at s), length-drop at s) (omega arith)
+  body-length : (e : Edition) (at n : ℕ) → length (body-codes e s at n) ≤ length s - at
+  body-length e at n = rw (length-map (body s at n) (code e), length-take n (drop at s), length-drop at s) (omega arith)
 
   -- Patterns.
   judged-shown : (start f next : ℕ) (b : List ℕ) → start + length b ≤ length s → (j : Judged) → judge b ≡ j
@@ -70,9 +71,9 @@ module _ (s : List ℕ) where
   judged-shown start f next b h (Written.too-many-leaves i) e = let k = too-many-inside b i e in omega arith
   judged-shown start f next b h (judged p) e = tt
 
-  pattern-shown : (at least : ℕ) → CheckShown (pattern-record s at least)
+  pattern-shown : (e : Edition) (at least : ℕ) → CheckShown (pattern-record e s at least)
   unfolding pattern-record
-  pattern-shown at least =
+  pattern-shown e at least =
       let f = byte-at s (at + 2) in
       let n = byte-at s (at + 3) in
       cond-by CheckShown (ltb (bytes-left s at) 4) (λ _. refl)
@@ -80,7 +81,7 @@ module _ (s : List ℕ) where
       cond-by CheckShown (leb fields f || ltb f least) (λ _. omega arith)
       (λ _. cond-by CheckShown (eqb n 0 || ltb pattern-bytes n) (λ _. omega arith)
       (λ _. cond-by CheckShown (ltb (bytes-left s at) (4 + n)) (λ _. refl)
-      (λ _. judged-shown (at + 4) f (at + (4 + n)) (body s (at + 4) n) (omega (arith, body-length (at + 4) n)) (judge (body s (at + 4) n)) refl))))
+      (λ _. judged-shown (at + 4) f (at + (4 + n)) (body-codes e s (at + 4) n) (omega (arith, body-length e (at + 4) n)) (judge (body-codes e s (at + 4) n)) refl))))
 
   behind-shown : (fs : Fields) (go-on : ℕ → Fields → Records Fields) (x : Checked FieldPattern)
       → ((next : ℕ) (more : Fields) → RecordsShown (go-on next more))
@@ -88,31 +89,31 @@ module _ (s : List ℕ) where
   behind-shown fs go-on (fault x at) i h = h
   behind-shown fs go-on (read fp next) i h = i next (with-pattern fs fp)
 
-  patterns-shown : (n at : ℕ) (fs : Fields) → RecordsShown (read-patterns n s at fs)
-  patterns-shown zero at fs = refl
-  patterns-shown (suc n) at fs =
+  patterns-shown : (e : Edition) (n at : ℕ) (fs : Fields) → RecordsShown (read-patterns e n s at fs)
+  patterns-shown e zero at fs = refl
+  patterns-shown e (suc n) at fs =
       cond-by RecordsShown (next-is PA s at)
-      (λ _. behind-shown fs (read-patterns n s) (pattern-record s at (fs .above)) (patterns-shown n) (pattern-shown at (fs .above)))
+      (λ _. behind-shown fs (read-patterns e n s) (pattern-record e s at (fs .above)) (patterns-shown e n) (pattern-shown e at (fs .above)))
       (λ _. tt)
 
   -- Sides.
-  side-shown : (at : ℕ) → CheckShown (side-record s at)
+  side-shown : (e : Edition) (at : ℕ) → CheckShown (side-record e s at)
   unfolding side-record
-  side-shown at =
+  side-shown e at =
       let n = byte-at s (at + 2) in
-      let b = body s (at + 3) n in
+      let b = body-codes e s (at + 3) n in
       cond-by CheckShown (ltb (bytes-left s at) 3) (λ _. refl)
       (λ h. let left = ltb-false (bytes-left s at) 3 h in
       cond-by CheckShown (ltb sheet-side n) (λ _. omega arith)
       (λ _. cond-by CheckShown (ltb (bytes-left s at) (3 + n)) (λ _. refl)
       (λ _. cond-by CheckShown (all is-token b) (λ _. tt)
-      (λ t. omega (arith, leading-below is-token b t, body-length (at + 3) n)))))
+      (λ t. omega (arith, leading-below is-token b t, body-length e (at + 3) n)))))
 
-  marked-shown : (m : Mark) (at : ℕ) → CheckShown (marked-side m s at)
+  marked-shown : (e : Edition) (m : Mark) (at : ℕ) → CheckShown (marked-side e m s at)
   unfolding marked-side
-  marked-shown m at =
+  marked-shown e m at =
       cond-by CheckShown (ltb (bytes-left s at) 2) (λ _. refl)
-      (λ h. cond-by CheckShown (marked m s at) (λ _. side-shown at)
+      (λ h. cond-by CheckShown (marked m s at) (λ _. side-shown e at)
       (λ _. let left = ltb-false (bytes-left s at) 2 h in omega arith))
 
   -- The sheet.
@@ -120,17 +121,29 @@ module _ (s : List ℕ) where
   unfolding read-end
   end-shown at q = cond-by SheetShown (ltb at (length s)) (λ h. let k = ltb-true at (length s) h in omega arith) (λ _. tt)
 
-  right-shown : (held : List Held) (l : Side) (x : Checked Side) → CheckShown x → SheetShown (right-read s held l x)
-  right-shown held l (fault x at) h = h
-  right-shown held l (read r next) h = end-shown next (record { alphabet = code-39; left = l; right = r; held = held })
+  right-shown : (e : Edition) (held : List Held) (l : Side) (x : Checked Side) → CheckShown x → SheetShown (right-read e s held l x)
+  right-shown e held l (fault x at) h = h
+  right-shown e held l (read r next) h = end-shown next (record { alphabet = alphabet-of e; left = l; right = r; held = held })
 
-  left-shown : (held : List Held) (x : Checked Side) → CheckShown x → SheetShown (left-read s held x)
-  left-shown held (fault x at) h = h
-  left-shown held (read l next) h = right-shown held l (marked-side RI s next) (marked-shown RI next)
+  left-shown : (e : Edition) (held : List Held) (x : Checked Side) → CheckShown x → SheetShown (left-read e s held x)
+  left-shown e held (fault x at) h = h
+  left-shown e held (read l next) h = right-shown e held l (marked-side e RI s next) (marked-shown e RI next)
 
-  sides-shown : (x : Records Fields) → RecordsShown x → SheetShown (sides-read s x)
-  sides-shown (faulty x at) h = h
-  sides-shown (records fs at) h = left-shown (fs .held) (marked-side LE s at) (marked-shown LE at)
+  sides-shown : (e : Edition) (x : Records Fields) → RecordsShown x → SheetShown (sides-read e s x)
+  sides-shown e (faulty x at) h = h
+  sides-shown e (records fs at) h = left-shown e (fs .held) (marked-side e LE s at) (marked-shown e LE at)
+
+  edition-shown : CheckShown (edition-front s)
+  unfolding edition-front next-is
+  edition-shown =
+      cond-by CheckShown (cond (ltb (bytes-left s 0) 2) false (marked ED s 0))
+      (λ _. cond-by CheckShown (ltb (length s) 3) (λ _. refl)
+      (λ h. cond-by CheckShown (eqb (byte-at s 2) 2) (λ _. tt) (λ _. let k = ltb-false (length s) 3 h in omega arith)))
+      (λ _. tt)
+
+  read-shown : (x : Checked Edition) → CheckShown x → SheetShown (edition-read s x)
+  read-shown (fault x at) h = h
+  read-shown (read e at) h = sides-shown e (read-patterns e (suc (length s)) s at open-fields) (patterns-shown e (suc (length s)) at open-fields)
 
   -- The rule.
   with-side-shown : (fs : Fields) (x : Checked Side) → CheckShown x → RecordsShown (with-side fs x)
@@ -139,14 +152,14 @@ module _ (s : List ℕ) where
 
   side-read-shown : (x : Records Fields) → RecordsShown x → RecordsShown (side-read s x)
   side-read-shown (faulty x at) h = h
-  side-read-shown (records fs at) h = with-side-shown fs (marked-side LE s at) (marked-shown LE at)
+  side-read-shown (records fs at) h = with-side-shown fs (marked-side edition-1 LE s at) (marked-shown edition-1 LE at)
 
   front-shown : RecordsShown (rule-front s)
   unfolding rule-front
   front-shown =
       cond-by RecordsShown (ltb (length s) 2) (λ _. refl)
       (λ h. cond-by RecordsShown (marked RU s 0)
-      (λ _. side-read-shown (read-patterns (suc (length s)) s 2 open-fields) (patterns-shown (suc (length s)) 2 open-fields))
+      (λ _. side-read-shown (read-patterns edition-1 (suc (length s)) s 2 open-fields) (patterns-shown edition-1 (suc (length s)) 2 open-fields))
       (λ _. let k = ltb-false (length s) 2 h in omega arith))
 
   end-of-rule-shown : (x : Records Rule) → RecordsShown x → RecordsShown (rule-end s x)
@@ -156,7 +169,7 @@ module _ (s : List ℕ) where
 pub sheet-shown : (s : List ℕ) (x : Fault) (at : ℕ) → read-sheet s ≡ refused x at → Shown s x at
 unfolding read-sheet
 sheet-shown s x at e =
-    subst (SheetShown s) e (sides-shown s (read-patterns (suc (length s)) s 0 open-fields) (patterns-shown s (suc (length s)) 0 open-fields))
+    subst (SheetShown s) e (read-shown s (edition-front s) (edition-shown s))
 
 pub rule-shown : (s : List ℕ) (x : Fault) (at : ℕ) → read-rule s ≡ faulty x at → Shown s x at
 unfolding read-rule

@@ -1,7 +1,7 @@
 -- The hidden fields (request K3): the question with its hidden fields, and the sheet's own.
 --   own-solves        : texts that solve the word equation with the hidden fields solve the sheet's question
 --   hidden-solves     : texts that solve the sheet's question solve the word equation, with some spaces for the hidden fields
---   hidden-searchable : the code can search it: its tokens are Code 39's characters and fields that have place sets, its patterns are good
+--   hidden-searchable : the code can search it: its tokens are characters and fields that have place sets, its patterns are good
 --   hidden-known      : its fields have place sets
 --   hidden-plain      : it is plain where the sheet's question is
 --   hidden-short      : its sides have at most one token more
@@ -17,8 +17,7 @@ use mathlib.Core.List.{List, [], _∷_, _++_, map, append-assoc, List·Memᴰ, L
 use lib.Dec.{eqb}
 use lib.ListN.{length, getD, replicate, length-append, length-map, List·getD-append}
 use Rattle.paper.specs.Lists.{upto, any}
-use Rattle.paper.specs.Numbers.{characters, fields, hidden-left, hidden-right, set-fields, sheet-side}
-use Rattle.paper.specs.Alphabet.{code-39}
+use Rattle.paper.specs.Numbers.{most-characters, fields, hidden-left, hidden-right, set-fields, sheet-side}
 use Rattle.paper.specs.Pattern.{char, leaf, many, Held, some-text, Fits, one, none, more, Holds}
 use Rattle.paper.specs.Equation.{Token, chr, fld, Side, is-field, stands-in, Texts, label, Over}
 use Rattle.paper.specs.Plain.{each-once, plain}
@@ -29,7 +28,7 @@ use Rattle.paper.proofs.base.Lists.{cons-eq, any-append, length-from, m
 use Rattle.paper.proofs.base.Listed.{keep-same, getD-map-upto}
 use Rattle.paper.proofs.equations.Labels.{label-same, label-with}
 use Rattle.paper.proofs.equations.TrailingSpaces.{padded-same, same-padded}
-use Rattle.paper.proofs.sheets.Asked.{InRange, GoodSide, GoodHeld, GoodQuestion, fields-known, good-space, left-39, right-39, held-39}
+use Rattle.paper.proofs.sheets.Asked.{InRange, GoodSide, GoodHeld, GoodQuestion, fields-known, good-space, good-most}
 
 -- The texts that a hidden field may hold: any number of spaces.
 fits-spaces : (x : ℕ) {w : List ℕ} → Fits (many (leaf (char x))) w → (n : ℕ) × (w ≡ replicate n x)
@@ -51,25 +50,25 @@ spaces-over x (suc n) k h c (List·Memᴰ·tail d) = spaces-over x n k h c d
 stands-with : (f g : ℕ) (side : Side) → stands-in f (side ++ (fld g ∷ [])) ≡ stands-in f side || eqb f g
 stands-with f g side = any-append (is-field f) side (fld g ∷ []) ∙ ap (λ (b : Bool). stands-in f side || b) (or-false (eqb f g))
 
--- A question that the code can search, whose tables are for Code 39: its tokens are its characters and fields that have place sets, and its patterns
--- are good.
+-- A question that the code can search, whose tables have room for 128 characters: its tokens are characters and fields that have place sets, and its
+-- patterns are good.
 abbrev pub HasSet : Token → Type 0
-HasSet (chr c) = c < characters
+HasSet (chr c) = c < most-characters
 HasSet (fld f) = f < set-fields
 
 pub record Searchable (q : Question) : Type 0 where
-  pub alphabet : q .alphabet ≡ code-39
+  pub most : q .alphabet .characters ≤ most-characters
   pub left : (t : Token) → List·Memᴰ t (q .left) → HasSet t
   pub right : (t : Token) → List·Memᴰ t (q .right) → HasSet t
-  pub held : (f : ℕ) → GoodHeld characters (held-by q f)
+  pub held : (f : ℕ) → GoodHeld (q .alphabet .characters) (held-by q f)
 
-pub in-range-has-set : (t : Token) → InRange characters t → HasSet t
-in-range-has-set (chr c) h = h
-in-range-has-set (fld f) h = omega arith
+pub in-range-has-set : (n : ℕ) → n ≤ most-characters → (t : Token) → InRange n t → HasSet t
+in-range-has-set n m (chr c) h = omega arith
+in-range-has-set n m (fld f) h = omega arith
 
-pub has-sets-with : (side : Side) (f : ℕ) → GoodSide characters side → f < set-fields → (t : Token) → List·Memᴰ t (side ++ (fld f ∷ [])) → HasSet t
-has-sets-with side f g h t d =
-    ⊎-elim (λ i. in-range-has-set t (g .tokens t i))
+pub has-sets-with : (n : ℕ) → n ≤ most-characters → (side : Side) (f : ℕ) → GoodSide n side → f < set-fields → (t : Token) → List·Memᴰ t (side ++ (fld f ∷ [])) → HasSet t
+has-sets-with n m side f g h t d =
+    ⊎-elim (λ i. in-range-has-set n m t (g .tokens t i))
     (mem-cons-by HasSet h (λ u i. absurd (List·Memᴰ·not-nil i)) t)
     (List·Memᴰ·append-cases side d)
 
@@ -107,6 +106,9 @@ once-between a (fld f ∷ l) r e n =
 module _ (q : Question) where
   abbrev space : ℕ
   space = q .alphabet .space
+
+  abbrev characters : ℕ
+  characters = q .alphabet .characters
 
   length-own : length (map (held-by q) (upto fields)) ≡ fields
   length-own = length-map (upto fields) (held-by q) ∙ length-from 0 fields
@@ -150,12 +152,12 @@ module _ (q : Question) where
   pub hidden-searchable : GoodQuestion q → Searchable (hidden q)
   hidden-searchable g =
       record {
-        alphabet = g .alphabet;
-        left = has-sets-with (q .left) hidden-left (left-39 g) (omega arith);
-        right = has-sets-with (q .right) hidden-right (right-39 g) (omega arith);
+        most = good-most g;
+        left = has-sets-with characters (good-most g) (q .left) hidden-left (g .left) (omega arith);
+        right = has-sets-with characters (good-most g) (q .right) hidden-right (g .right) (omega arith);
         held =
             both-good (map (held-by q) (upto fields)) (any-spaces space ∷ any-spaces space ∷ [])
-            (each-good (held-by q) (held-39 g .good) (upto fields)) last-two;
+            (each-good (held-by q) (g .held .good) (upto fields)) last-two;
       }
     where
       both-good : (k l : List Held) → ((f : ℕ) → GoodHeld characters (getD k f some-text)) → ((f : ℕ) → GoodHeld characters (getD l f some-text))
@@ -169,12 +171,9 @@ module _ (q : Question) where
       each-good held h (x ∷ l) zero = h x
       each-good held h (x ∷ l) (suc f) = each-good held h l f
 
-      space-39 : space < characters
-      space-39 = rw (g .alphabet) (omega arith)
-
       last-two : (f : ℕ) → GoodHeld characters (getD (any-spaces space ∷ any-spaces space ∷ []) f some-text)
-      last-two zero = good-spaces space characters space-39
-      last-two (suc zero) = good-spaces space characters space-39
+      last-two zero = good-spaces space characters (good-space g)
+      last-two (suc zero) = good-spaces space characters (good-space g)
       last-two (suc (suc f)) = tt
 
   module _ (g : GoodQuestion q) where

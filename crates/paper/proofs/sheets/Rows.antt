@@ -13,20 +13,33 @@ use Rattle.paper.specs.Places.{PlaceSet}
 use Rattle.paper.specs.Search.{Entry, End, found, used-up, no-room, too-long}
 use Rattle.paper.specs.Situation.{Situation, Move}
 use Rattle.paper.specs.Question.{Question, hidden}
-use Rattle.paper.specs.Sheet.{Fault, cut-short, wrong-mark, wrong-field, wrong-length, not-one-pattern, too-many-leaves, wrong-token}
+use Rattle.paper.specs.Sheet.{Fault, cut-short, wrong-mark, wrong-field, wrong-length, not-one-pattern, too-many-leaves, wrong-token, wrong-edition}
 use Rattle.paper.specs.Sheet.{fault-number, Reading, refused, asked}
 use Rattle.paper.specs.Outcome.{Outcome, room-of, searched, value-record, records, clash, answered, count-of, outcome-of}
+use Rattle.paper.specs.Buffers.{sheet-numbers}
 use Rattle.paper.specs.Demands.{Good, end-of, texts-spelt, records-of, demanded-number}
 use Rattle.paper.proofs.sheets.Hidden.{standing-hidden}
 
-pub fault-range : (x : Fault) → (11 ≤ fault-number x) × (fault-number x ≤ 17)
-fault-range cut-short = omega arith
-fault-range wrong-mark = omega arith
-fault-range wrong-field = omega arith
-fault-range wrong-length = omega arith
-fault-range not-one-pattern = omega arith
-fault-range too-many-leaves = omega arith
-fault-range wrong-token = omega arith
+pub fault-numbered : (x : Fault) → member (fault-number x) sheet-numbers ≡ true
+fault-numbered cut-short = refl
+fault-numbered wrong-mark = refl
+fault-numbered wrong-field = refl
+fault-numbered wrong-length = refl
+fault-numbered not-one-pattern = refl
+fault-numbered too-many-leaves = refl
+fault-numbered wrong-token = refl
+fault-numbered wrong-edition = refl
+
+-- none is below 11
+pub fault-above : (x : Fault) → 11 ≤ fault-number x
+fault-above cut-short = omega arith
+fault-above wrong-mark = omega arith
+fault-above wrong-field = omega arith
+fault-above wrong-length = omega arith
+fault-above not-one-pattern = omega arith
+fault-above too-many-leaves = omega arith
+fault-above wrong-token = omega arith
+fault-above wrong-edition = omega arith
 
 -- the records of the texts that the way to an entry spells
 abbrev pub found-records : Question → Entry (Situation PlaceSet) Move → List ℕ
@@ -39,7 +52,7 @@ records-hidden q e = ap (each (λ (f : ℕ). value-record f (texts-spelt (hidden
 module _ (r : Reading) (work answer : List ℕ) where
   -- the rows of the table, by their number
   pub data Row (o : Outcome) : ℕ → Type 0 where
-    faulty : {n : ℕ} (x : Fault) (at : ℕ) → r ≡ refused x at → 11 ≤ n → n ≤ 17 → o .count ≡ 0 → Row o n
+    faulty : {n : ℕ} (x : Fault) (at : ℕ) → r ≡ refused x at → member n sheet-numbers ≡ true → o .count ≡ 0 → Row o n
     clashes : (q : Question) (e : Entry (Situation PlaceSet) Move) → Good r q → end-of (hidden q) work ≡ found e
         → length (found-records q e) ≤ length answer
         → o .written ≡ length (found-records q e) → o .answer ≡ found-records q e ++ drop (length (found-records q e)) answer → Row o 0
@@ -70,7 +83,7 @@ module _ (r : Reading) (work answer : List ℕ) where
   end-in-row q n too-long g h = is-too-long q g h
 
 reading-in-row : (r : Reading) (work answer : List ℕ) → InRow r work answer (outcome-of r work answer)
-reading-in-row (refused x at) work answer = let (low, high) = fault-range x in faulty x at refl low high refl
+reading-in-row (refused x at) work answer = faulty x at refl (fault-numbered x) refl
 reading-in-row (asked q) work answer =
     end-in-row (asked q) work answer q (count-of (searched (hidden q) (room-of work))) (end-of (hidden q) work) refl refl
 
@@ -110,8 +123,11 @@ number-of-search q answer too-long = refl
 
 -- A reading that is not good has no search.
 pub refused-outcome : (r : Reading) (work answer : List ℕ) (x : Fault) (at : ℕ) → r ≡ refused x at
-    → (11 ≤ outcome-of r work answer .number) × (outcome-of r work answer .number ≤ 17) × (outcome-of r work answer .count ≡ 0)
-refused-outcome r work answer x at e = let (low, high) = fault-range x in rw e (low, high, refl)
+    → (member (outcome-of r work answer .number) sheet-numbers ≡ true) × (outcome-of r work answer .count ≡ 0)
+refused-outcome r work answer x at e = rw e (fault-numbered x, refl)
+
+pub refused-number : (r : Reading) (work answer : List ℕ) (x : Fault) (at : ℕ) → r ≡ refused x at → outcome-of r work answer .number ≡ fault-number x
+refused-number r work answer x at e = rw e
 
 -- A reading is refused or good.
 pub by-reading : {C : Type 0} (r : Reading) → ((x : Fault) (at : ℕ) → r ≡ refused x at → C) → ((q : Question) → Good r q → C) → C

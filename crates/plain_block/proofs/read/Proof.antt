@@ -13,8 +13,8 @@ Inv-loop rows₀ lefts rights left-taking right-taking lo hi todo end r₀ c₀ 
 abbrev μ-loop : tie.MeasureT-loop
 μ-loop rows₀ lefts rights left-taking right-taking lo hi todo end r₀ c₀ rows r c = end - c
 
-until-requires : tie.Need-until-requires Inv-loop μ-loop
-until-requires c κs = search needs
+within-requires : tie.Need-within-requires Inv-loop μ-loop
+within-requires c κs = search needs
 
 loop-holds : tie.Need-loop-holds Inv-loop μ-loop
 loop-holds c =
@@ -50,7 +50,7 @@ loop-again c =
     let s = c .before .before .before .before .before .before .before in
     let a = s .args in
     reading-more (a .rows .now) (a .lefts) (a .rights) (a .left-taking .now) (a .right-taking .now) (a .lo) (a .hi) (a .todo) (l .rows) (l .r) (l .c)
-    (l .inv) (omega arith) (omega arith) (c .add .last .0) (c .add .result) (c .add .ensures)
+    (l .inv) (omega arith) (c .add .last .0) (c .add .result) (c .add .ensures)
 
 returns : tie.Need-returns Inv-loop μ-loop
 returns c =
@@ -66,7 +66,7 @@ read-spec =
     (tie.spec
     Inv-loop
     μ-loop
-    until-requires
+    within-requires
     loop-holds
     mul-add
     element-copy-out-add

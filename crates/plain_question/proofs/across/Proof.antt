@@ -14,14 +14,14 @@ use Rattle.plain_question.proofs.across.Statement.{statement}
 use Rattle.plain_question.proofs.across.Tie as tie
 
 abbrev Inv-loop : tie.InvT-loop
-Inv-loop left right n follow taking last came₀ right-came₀ met₀ j₀ came right-came met j =
-    let r = fronts follow taking last (take n right) in
+Inv-loop left right n characters follow taking last came₀ right-came₀ met₀ j₀ came right-came met j =
+    let r = fronts characters follow taking last (take n right) in
     (j ≤ suc n)
     × (length came ≡ suc longest-side)
     × ((l : ℕ → Front) (i : ℕ) → l i ≡ front-by follow taking last left → Entered l r n i came₀ → Going l r n i came right-came met j)
 
 abbrev μ-loop : tie.MeasureT-loop
-μ-loop left right n follow taking last came₀ right-came₀ met₀ j₀ came right-came met j = suc n - j
+μ-loop left right n characters follow taking last came₀ right-came₀ met₀ j₀ came right-came met j = suc n - j
 
 loop-holds : tie.Need-loop-holds Inv-loop μ-loop
 loop-holds c = (omega arith, c .pre .3, λ l i e h. going-first l _ _ i _ _ h)
@@ -38,7 +38,7 @@ element-copy-out-crossed c = search needs
 crossed-requires : tie.Need-crossed-requires Inv-loop μ-loop
 crossed-requires c κs =
     let start = c .before .before .before .before in
-    (start .pre .0, rw (c .before .token-at .ensures) (token-row _), start .pre .2)
+    (start .pre .0, rw (c .before .token-at .ensures) (token-row _ _), start .pre .2)
 
 mul-came : tie.Need-mul-came Inv-loop μ-loop
 mul-came c = search needs
@@ -64,7 +64,7 @@ loop-again c =
       omega arith,
       length-set (loop .came) (loop .j) (c .crossed .result .left) ∙ loop .inv .1,
       λ l i e h.
-          going-more l (fronts follow taking last (take (a .n) (a .right))) (a .n) i (loop .came) (loop .right-came) (loop .met) (loop .j) (loop .inv .2 l i e h) (omega arith) (omega arith) (c .crossed .result)
+          going-more l (fronts (a .characters) follow taking last (take (a .n) (a .right))) (a .n) i (loop .came) (loop .right-came) (loop .met) (loop .j) (loop .inv .2 l i e h) (omega arith) (omega arith) (c .crossed .result)
           (crossed-as _ _ _ (sym e) (ap (front-by follow taking last) (token .ensures)) (c .crossed .ensures)),
     )
 

@@ -16,13 +16,13 @@ use Rattle.plain_question.proofs.ends_met.Statement.{statement}
 use Rattle.plain_question.proofs.ends_met.Tie as tie
 
 abbrev Inv-loop : tie.InvT-loop
-Inv-loop left right follow taking last n m came₀ met₀ i₀ came met i =
-    let l = fronts follow taking last (take n left) in
-    let r = fronts follow taking last (take m right) in
+Inv-loop left right characters follow taking last n m came₀ met₀ i₀ came met i =
+    let l = fronts characters follow taking last (take n left) in
+    let r = fronts characters follow taking last (take m right) in
     (i ≤ suc n) × (length came ≡ suc longest-side) × Entered l r m i came × ((k : ℕ) → i ≡ suc k → Says met (Reached l r k 0 m 0))
 
 abbrev μ-loop : tie.MeasureT-loop
-μ-loop left right follow taking last n m came₀ met₀ i₀ came met i = suc n - i
+μ-loop left right characters follow taking last n m came₀ met₀ i₀ came met i = suc n - i
 
 length-of-requires : tie.Need-length-of-requires Inv-loop μ-loop
 length-of-requires c κs = search needs
@@ -43,7 +43,7 @@ across-requires : tie.Need-across-requires Inv-loop μ-loop
 across-requires c κs =
     let at = c .before .before .before in
     let lengths = at .before in
-    (rw (c .before .token-at .ensures) (token-row _), lengths .length-of2 .ensures .0, lengths .before .before .pre, at .loop .inv .1)
+    (rw (c .before .token-at .ensures) (token-row _ _), lengths .length-of2 .ensures .0, lengths .before .before .pre, at .loop .inv .1)
 
 add-i : tie.Need-add-i Inv-loop μ-loop
 add-i c = search needs
@@ -58,7 +58,7 @@ loop-again c =
     let a = at .before .before .before .args in
     let goes = c .across .ensures in
     let n = at .before .before .length-of .result in
-    let l = fronts (a .follow .now) (a .taking .now) (a .last .now) (take n (a .left)) in
+    let l = fronts (a .characters) (a .follow .now) (a .taking .now) (a .last .now) (take n (a .left)) in
     let same = sym (ap (front-by (a .follow .now) (a .taking .now) (a .last .now)) (c .before .before .token-at .ensures)) in (
       omega arith,
       goes .long,

@@ -23,7 +23,7 @@ returns c =
     let a = c .before .before .args in
     let all : length (a .t1) ≡ longest-side = search needs in
     c .token-of .ensures
-    ∙ ap token-of
+    ∙ ap (token-of (a .characters))
     (⊎-elim
     (λ g. g .1 ∙ getD-either (a .t1) (a .i) 0 no-token (omega (arith, c .before .before .pre, g .0 .taken)) ∙ sym (getD-take (a .n) (a .t1) (a .i) no-token (g .0 .taken)))
     (λ g. g .1 ∙ sym (List·getD-eq-default (take (a .n) (a .t1)) no-token {n = a .i} (omega (arith, g .0 .left, length-take (a .n) (a .t1)))))

@@ -4,7 +4,7 @@ use native.Mathlib.Omega.{arith}
 use mathlib.Core.Path.{_≡_, refl}
 use borrow.Author.Needs.{needs}
 use lib.ListN.{length}
-use Rattle.paper.specs.Numbers.{set-fields}
+use Rattle.paper.specs.Numbers.{fields}
 use Rattle.plain_rows.specs.Fronts.{no-tables, one-place}
 use Rattle.search_tables.specs.Tables.{last-of}
 use Rattle.plain_rows.proofs.Rows.{Laid, laid-none, laid-long, laid-more, laid-all}
@@ -12,17 +12,23 @@ use Rattle.plain_rows.proofs.last_rows.Statement.{statement}
 use Rattle.plain_rows.proofs.last_rows.Tie as tie
 
 abbrev Inv-loop : tie.InvT-loop
-Inv-loop fields rows₀ f₀ rows f = Laid last-of fields rows₀ rows f
+Inv-loop own rows₀ spaces f₀ rows f = Laid last-of own rows₀ rows f
 
 abbrev μ-loop : tie.MeasureT-loop
-μ-loop fields rows₀ f₀ rows f = set-fields - f
+μ-loop own rows₀ spaces f₀ rows f = fields - f
 
 array-write-rows : tie.Need-array-write-rows Inv-loop μ-loop
 array-write-rows c = search needs
 
+array-write-rows-2 : tie.Need-array-write-rows-2 Inv-loop μ-loop
+array-write-rows-2 c = search needs
+
+array-write-rows-3 : tie.Need-array-write-rows-3 Inv-loop μ-loop
+array-write-rows-3 c = search needs
+
 loop-holds : tie.Need-loop-holds Inv-loop μ-loop
 loop-holds c =
-    let all : length (c .args .t1) ≡ set-fields = search needs in
+    let all : length (c .args .t1) ≡ fields = search needs in
     laid-none last-of (c .args .t1) _ all refl
 
 mul-tables : tie.Need-mul-tables Inv-loop μ-loop
@@ -34,8 +40,8 @@ array-copy-out-tables c = search needs
 mul-rows : tie.Need-mul-rows Inv-loop μ-loop
 mul-rows c = search needs
 
-array-write-rows-2 : tie.Need-array-write-rows-2 Inv-loop μ-loop
-array-write-rows-2 c =
+array-write-rows-4 : tie.Need-array-write-rows-4 Inv-loop μ-loop
+array-write-rows-4 c =
     let l = c .before .before .loop in
     omega (arith, laid-long last-of (c .before .before .before .args .t1) _ (l .rows) (l .f) (l .inv))
 
@@ -54,7 +60,8 @@ returns : tie.Need-returns Inv-loop μ-loop
 unfolding one-place no-tables
 returns c =
     let l = c .before .loop in
-    laid-all last-of (c .before .before .args .t1) _ (l .rows) (l .f) (l .inv) (omega arith) refl
+    let a = c .before .before .args in
+    laid-all last-of (a .t1) _ (l .rows) (l .f) (l .inv) (a .hidden) (omega arith) refl
 
 pub last-rows-spec : {M : Type 1} → statement M
 last-rows-spec =
@@ -63,11 +70,13 @@ last-rows-spec =
     Inv-loop
     μ-loop
     array-write-rows
+    array-write-rows-2
+    array-write-rows-3
     loop-holds
     mul-tables
     array-copy-out-tables
     mul-rows
-    array-write-rows-2
+    array-write-rows-4
     add-f
     loop-less
     loop-again

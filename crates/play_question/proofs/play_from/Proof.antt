@@ -17,7 +17,7 @@ returns : tie.Need-returns
 returns c =
     let w = c .before .before .before in
     let a = w .before .before .before .args in
-    stopped-from (lent-tables (now (a .follow)) (now (a .taking)) (a .last)) (denoted (a .first)) (now (a .steps)) (now (a .answer)) (w .walk .result)
+    stopped-from (lent-tables (a .characters) (now (a .follow)) (now (a .taking)) (a .last)) (denoted (a .first)) (now (a .steps)) (now (a .answer)) (w .walk .result)
     (w .walk .ensures) (c .before .ending .given .0 .0) (c .before .ending .given .1)
 
 enum-told : tie.Need-enum-told
@@ -38,7 +38,7 @@ returns-2 c =
     let told = given .before .before in
     let w = told .before .before in
     let a = w .before .before .before .args in
-    arrived-from (lent-tables (now (a .follow)) (now (a .taking)) (a .last)) (denoted (a .first)) (now (a .steps)) (now (a .answer)) (w .walk .result)
+    arrived-from (lent-tables (a .characters) (now (a .follow)) (now (a .taking)) (a .last)) (denoted (a .first)) (now (a .steps)) (now (a .answer)) (w .walk .result)
     (w .walk .ensures) (told .enum-told .given .1) (given .answer-way .last .0) (given .answer-way .result) (c .end-of .result) (given .answer-way .ensures) (c .end-of .ensures)
 
 pub play-from-spec : {M : Type 1} → statement M

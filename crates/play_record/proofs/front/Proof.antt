@@ -7,7 +7,6 @@ use mathlib.Core.List.{List}
 use Prim.Native.Nat.{ℕ}
 use borrow.Author.Needs.{needs}
 use borrow.Rule.Slice.PartAt.{part-to-end}
-use Rattle.paper.specs.Numbers.{characters}
 use Rattle.paper_steps.specs.StepRecords.{front-of}
 use Rattle.play_record.specs.InFront.{record-of}
 use Rattle.play_record.proofs.front.Statement.{statement}
@@ -20,7 +19,7 @@ returns : tie.Need-returns
 returns c =
     let test = c .before in
     let a = test .before .before .args in
-    c .read-as .ensures ∙ ap (λ (l : List ℕ). record-of (front-of characters l)) (sym (drop-of-length-le (now (a .s)) {i = a .at} (omega (arith, test .if1 .taken))))
+    c .read-as .ensures ∙ ap (λ (l : List ℕ). record-of (front-of (a .characters) l)) (sym (drop-of-length-le (now (a .s)) {i = a .at} (omega (arith, test .if1 .taken))))
 
 sub-in-front : tie.Need-sub-in-front
 sub-in-front c = search needs
@@ -37,7 +36,7 @@ in-front-requires c κs = search needs
 returns-2 : tie.Need-returns-2
 returns-2 c =
     let a = c .before .before .before .before .args in
-    c .in-front .ensures ∙ ap (λ (l : List ℕ). record-of (front-of characters l)) (part-to-end (now (a .s)) (a .at))
+    c .in-front .ensures ∙ ap (λ (l : List ℕ). record-of (front-of (a .characters) l)) (part-to-end (now (a .s)) (a .at))
 
 pub front-spec : {M : Type 1} → statement M
 front-spec =

@@ -2,7 +2,6 @@
 use denote.Ref.{now}
 use mathlib.Core.Path.{sym, ap, _∙_}
 use borrow.Author.Needs.{needs}
-use Rattle.paper.specs.Numbers.{characters}
 use Rattle.play_record.specs.InFront.{record-of}
 use Rattle.play_record.proofs.FrontRead.{front-short, other-first, other-second, kind-left, kind-right, kind-put, kind-none}
 use Rattle.play_record.proofs.in_front.Statement.{statement}
@@ -14,7 +13,7 @@ read-as-requires c κs = search needs
 returns : tie.Need-returns
 returns c =
     let one = c .before in
-    c .read-as .ensures ∙ ap record-of (sym (front-short characters (now (one .before .before .args .s)) (one .if1 .taken)))
+    c .read-as .ensures ∙ ap record-of (sym (front-short (one .before .before .args .characters) (now (one .before .before .args .s)) (one .if1 .taken)))
 
 shared-slice-read-if2 : tie.Need-shared-slice-read-if2
 shared-slice-read-if2 c = search needs
@@ -26,7 +25,7 @@ returns-2 : tie.Need-returns-2
 returns-2 c =
     let two = c .before in
     let one = two .before .before in
-    c .read-as2 .ensures ∙ ap record-of (sym (other-first characters (now (one .before .before .args .s)) (one .if1 .left) (two .if2 .taken)))
+    c .read-as2 .ensures ∙ ap record-of (sym (other-first (one .before .before .args .characters) (now (one .before .before .args .s)) (one .if1 .left) (two .if2 .taken)))
 
 shared-slice-read-if3 : tie.Need-shared-slice-read-if3
 shared-slice-read-if3 c = search needs
@@ -38,7 +37,7 @@ returns-3 : tie.Need-returns-3
 returns-3 c =
     let three = c .before in
     let one = three .before .before .before .before in
-    c .read-as3 .ensures ∙ ap record-of (sym (other-second characters (now (one .before .before .args .s)) (one .if1 .left) (three .if3 .taken)))
+    c .read-as3 .ensures ∙ ap record-of (sym (other-second (one .before .before .args .characters) (now (one .before .before .args .s)) (one .if1 .left) (three .if3 .taken)))
 
 shared-slice-read-kind : tie.Need-shared-slice-read-kind
 shared-slice-read-kind c = search needs
@@ -53,7 +52,7 @@ returns-4 c =
     let two = three .before .before in
     let one = two .before .before in
     c .read-as4 .ensures
-    ∙ ap record-of (sym (kind-left characters (now (one .before .before .args .s)) (one .if1 .left) (two .if2 .left) (three .if3 .left) (four .if4 .taken)))
+    ∙ ap record-of (sym (kind-left (one .before .before .args .characters) (now (one .before .before .args .s)) (one .if1 .left) (two .if2 .left) (three .if3 .left) (four .if4 .taken)))
 
 read-as-requires-5 : tie.Need-read-as-requires-5
 read-as-requires-5 c κs = search needs
@@ -67,7 +66,7 @@ returns-5 c =
     let one = two .before .before in
     c .read-as5 .ensures
     ∙ ap record-of
-    (sym (kind-right characters (now (one .before .before .args .s)) (one .if1 .left) (two .if2 .left) (three .if3 .left) (four .if4 .left) (five .if5 .taken)))
+    (sym (kind-right (one .before .before .args .characters) (now (one .before .before .args .s)) (one .if1 .left) (two .if2 .left) (three .if3 .left) (four .if4 .left) (five .if5 .taken)))
 
 read-as-requires-6 : tie.Need-read-as-requires-6
 read-as-requires-6 c κs = search needs
@@ -82,7 +81,7 @@ returns-6 c =
     let one = two .before .before in
     c .read-as6 .ensures
     ∙ ap record-of
-    (sym (kind-none characters (now (one .before .before .args .s)) (one .if1 .left) (two .if2 .left) (three .if3 .left) (four .if4 .left) (five .if5 .left) (six .if6 .taken)))
+    (sym (kind-none (one .before .before .args .characters) (now (one .before .before .args .s)) (one .if1 .left) (two .if2 .left) (three .if3 .left) (four .if4 .left) (five .if5 .left) (six .if6 .taken)))
 
 with-value-requires : tie.Need-with-value-requires
 with-value-requires c κs = search needs
@@ -97,7 +96,7 @@ returns-7 c =
     let one = two .before .before in
     c .with-value .ensures
     ∙ ap record-of
-    (sym (kind-put characters (now (one .before .before .args .s)) (one .if1 .left) (two .if2 .left) (three .if3 .left) (four .if4 .left) (five .if5 .left) (six .if6 .left)))
+    (sym (kind-put (one .before .before .args .characters) (now (one .before .before .args .s)) (one .if1 .left) (two .if2 .left) (three .if3 .left) (four .if4 .left) (five .if5 .left) (six .if6 .left)))
 
 pub in-front-spec : {M : Type 1} → statement M
 in-front-spec =

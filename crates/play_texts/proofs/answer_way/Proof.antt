@@ -26,7 +26,7 @@ returns : tie.Need-returns
 returns c =
     let counted = c .before .before .before in
     let a = counted .before .before .before .before .args in
-    too-short (lent-tables (now (a .follow)) (now (a .taking)) (a .last)) (denoted (a .first)) (now (a .steps)) (now (a .answer)) (counted .put-records .ensures)
+    too-short (lent-tables (a .characters) (now (a .follow)) (now (a .taking)) (a .last)) (denoted (a .first)) (now (a .steps)) (now (a .answer)) (counted .put-records .ensures)
     (c .if1 .taken)
 
 put-records-requires-2 : tie.Need-put-records-requires-2
@@ -41,7 +41,7 @@ returns-2 c =
     let test = last .before .before in
     let counted = test .before .before .before in
     let a = counted .before .before .before .before .args in
-    written (lent-tables (now (a .follow)) (now (a .taking)) (a .last)) (denoted (a .first)) (now (a .steps)) (now (a .answer)) (counted .put-records .ensures)
+    written (lent-tables (a .characters) (now (a .follow)) (now (a .taking)) (a .last)) (denoted (a .first)) (now (a .steps)) (now (a .answer)) (counted .put-records .ensures)
     (test .if1 .left) (last .put-records2 .ensures)
 
 pub answer-way-spec : {M : Type 1} → statement M

@@ -12,7 +12,7 @@ use Rattle.play_texts.proofs.put_field.Tie as tie
 returns : tie.Need-returns
 returns c =
     let a = c .before .before .before .args in
-    rw (eq-eqb (a .set) 0 (c .if1 .taken), along-none (lent-tables (now (a .follow)) (now (a .taking)) (a .last)) (denoted (a .first)) (now (a .steps))) counted-none
+    rw (eq-eqb (a .set) 0 (c .if1 .taken), along-none (lent-tables (a .characters) (now (a .follow)) (now (a .taking)) (a .last)) (denoted (a .first)) (now (a .steps))) counted-none
 
 put-record-requires : tie.Need-put-record-requires
 put-record-requires c κs = search needs
@@ -25,7 +25,7 @@ returns-2 c =
     let put = c .before .before in
     let one = put .before .before in
     let a = one .before .before .before .args in
-    rw (neq-eqb (a .set) 0 (one .if1 .left), along-one (lent-tables (now (a .follow)) (now (a .taking)) (a .last)) (denoted (a .first)) (now (a .steps)) (a .f))
+    rw (neq-eqb (a .set) 0 (one .if1 .left), along-one (lent-tables (a .characters) (now (a .follow)) (now (a .taking)) (a .last)) (denoted (a .first)) (now (a .steps)) (a .f))
     (put .put-record .ensures)
 
 pub put-field-spec : {M : Type 1} → statement M

@@ -44,7 +44,7 @@ returns c =
     let counted = head .before .before .before in
     let start = counted .before .before .before .before in
     let a = start .args in
-    let T = lent-tables (now (a .follow)) (now (a .taking)) (a .last) in
+    let T = lent-tables (a .characters) (now (a .follow)) (now (a .taking)) (a .last) in
     record-put (a .f) (text-walked T (a .f) (denoted (a .first)) (now (a .steps))) (text-short T (a .f) (denoted (a .first)) (now (a .steps))) (head .head .result)
     (counted .put-text .ensures) (head .head .ensures) (all .put-all .ensures) (text .put-text2 .ensures)
 

@@ -15,18 +15,18 @@ use Rattle.play_texts.proofs.put_records.Statement.{statement}
 use Rattle.play_texts.proofs.put_records.Tie as tie
 
 abbrev Inv-loop : tie.InvT-loop
-Inv-loop out₀ first steps follow taking last sets end₀ f₀ out end f =
-    (f ≤ fields) × (length out ≡ length out₀) × Counted out₀ out 0 end (below (lent-tables follow taking last) (denoted first) steps f)
+Inv-loop out₀ first steps characters follow taking last sets end₀ f₀ out end f =
+    (f ≤ fields) × (length out ≡ length out₀) × Counted out₀ out 0 end (below (lent-tables characters follow taking last) (denoted first) steps f)
 
 abbrev μ-loop : tie.MeasureT-loop
-μ-loop out₀ first steps follow taking last sets end₀ f₀ out end f = fields - f
+μ-loop out₀ first steps characters follow taking last sets end₀ f₀ out end f = fields - f
 
 loop-holds : tie.Need-loop-holds Inv-loop μ-loop
 loop-holds c =
     let a = c .before .before .before .args in (
       omega arith,
       refl,
-      rw (along-none (lent-tables (now (a .follow)) (now (a .taking)) (a .last)) (denoted (a .first)) (now (a .steps))) counted-none,
+      rw (along-none (lent-tables (a .characters) (now (a .follow)) (now (a .taking)) (a .last)) (denoted (a .first)) (now (a .steps))) counted-none,
     )
 
 cast-put-field : tie.Need-cast-put-field Inv-loop μ-loop
@@ -54,7 +54,7 @@ loop-again c =
     let a = l .before .before .before .before .args in (
       search needs,
       put .put-field .kept .0 ∙ l .loop .inv .1,
-      rw (one-more-field (lent-tables (now (a .follow)) (now (a .taking)) (a .last)) (denoted (a .first)) (now (a .steps)) (l .loop .f))
+      rw (one-more-field (lent-tables (a .characters) (now (a .follow)) (now (a .taking)) (a .last)) (denoted (a .first)) (now (a .steps)) (l .loop .f))
           (counted-then (l .loop .inv .2) (put .put-field .ensures)),
     )
 
@@ -65,7 +65,7 @@ returns : tie.Need-returns Inv-loop μ-loop
 returns c =
     let l = c .before in
     let a = l .before .before .before .before .args in
-    let T = lent-tables (now (a .follow)) (now (a .taking)) (a .last) in
+    let T = lent-tables (a .characters) (now (a .follow)) (now (a .taking)) (a .last) in
     let all : l .loop .f ≡ fields = omega (arith, c) in
     subst (Counted (now (a .out)) (l .loop .out) 0 (l .loop .end)) (all-fields T (denoted (a .first)) (now (a .steps)) (l .loop .f) all) (l .loop .inv .2)
 

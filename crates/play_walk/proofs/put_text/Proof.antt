@@ -18,14 +18,14 @@ use Rattle.play_walk.proofs.put_text.Statement.{statement}
 use Rattle.play_walk.proofs.put_text.Tie as tie
 
 abbrev Inv-loop : tie.InvT-loop
-Inv-loop out₀ at steps f follow taking last end₀ s₀ i₀ left₀ out end s i left =
+Inv-loop out₀ at steps f characters follow taking last end₀ s₀ i₀ left₀ out end s i left =
     (i ≤ length steps)
     × (length out ≡ length out₀)
     × Short (denoted s)
-    × Underway (text-walked (lent-tables follow taking last) f (denoted s₀) steps) (text-from (lent-tables follow taking last) f left (denoted s) (drop i steps)) out₀ out at end
+    × Underway (text-walked (lent-tables characters follow taking last) f (denoted s₀) steps) (text-from (lent-tables characters follow taking last) f left (denoted s) (drop i steps)) out₀ out at end
 
 abbrev μ-loop : tie.MeasureT-loop
-μ-loop out₀ at steps f follow taking last end₀ s₀ i₀ left₀ out end s i left = left
+μ-loop out₀ at steps f characters follow taking last end₀ s₀ i₀ left₀ out end s i left = left
 
 short : (c : tie.Start Inv-loop μ-loop) → Short (denoted (c .args .first))
 short c = short-denoted (c .args .first) (search needs) (search needs) (search needs)
@@ -37,11 +37,11 @@ loop-holds c =
       search needs,
       refl,
       short start,
-      none-yet (text-first (lent-tables (now (a .follow)) (now (a .taking)) (a .last)) (a .f) (denoted (a .first)) (now (a .steps))),
+      none-yet (text-first (lent-tables (a .characters) (now (a .follow)) (now (a .taking)) (a .last)) (a .f) (denoted (a .first)) (now (a .steps))),
     )
 
 abbrev T : tie.At-loop Inv-loop μ-loop → Tables
-T c = let a = c .before .before .before .args in lent-tables (now (a .follow)) (now (a .taking)) (a .last)
+T c = let a = c .before .before .before .args in lent-tables (a .characters) (now (a .follow)) (now (a .taking)) (a .last)
 
 abbrev bytes : tie.At-loop Inv-loop μ-loop → List ℕ
 bytes c = now (c .before .before .before .args .steps)
@@ -105,7 +105,7 @@ returns-2 : tie.Need-returns-2 Inv-loop μ-loop
 returns-2 c =
     let t = c .before .before in
     let l = loop-at t in
-    let e = is-dropped (T l) (denoted (l .loop .s)) (front-at t .front .result .step) (t .step .result) (t .step .ensures) (c .enum-told .given .1) in
+    let e = is-dropped (T l) (denoted (l .loop .s)) (front-at t .front .result .step) (t .step .result) (t .step .ensures (T l .characters)) (c .enum-told .given .1) in
     all-put (left-is l (rw e at (stepped t)))
 
 enum-told-2 : tie.Need-enum-told-2 Inv-loop μ-loop
@@ -118,7 +118,7 @@ returns-3 : tie.Need-returns-3 Inv-loop μ-loop
 returns-3 c =
     let t = c .before .before in
     let l = loop-at t in
-    let e = is-above (T l) (denoted (l .loop .s)) (front-at t .front .result .step) (t .step .result) (t .step .ensures) (c .enum-told2 .given .1) in
+    let e = is-above (T l) (denoted (l .loop .s)) (front-at t .front .result .step) (t .step .result) (t .step .ensures (T l .characters)) (c .enum-told2 .given .1) in
     all-put (left-is l (rw e at (stepped t)))
 
 enum-told-3 : tie.Need-enum-told-3 Inv-loop μ-loop
@@ -154,7 +154,7 @@ loop-again c =
     let t = step-at put in
     let l = loop-at t in
     let r = front-at t .front .result in
-    let m = is-made (T l) (denoted (l .loop .s)) (r .step) (t .step .result) (t .step .ensures) (l .loop .inv .2) (told .enum-told3 .given .1) in
+    let m = is-made (T l) (denoted (l .loop .s)) (r .step) (t .step .result) (t .step .ensures (T l .characters)) (l .loop .inv .2) (told .enum-told3 .given .1) in
     let rest = text-from (T l) (field l) (l .loop .left - 1) (denoted (t .step .result .at)) (drop (l .loop .i + r .bytes) (bytes l)) in (
       within t,
       put .put-given .kept .0 ∙ l .loop .inv .1,

@@ -17,13 +17,13 @@ use Rattle.play_walk.proofs.walk.Statement.{statement}
 use Rattle.play_walk.proofs.walk.Tie as tie
 
 abbrev Inv-loop : tie.InvT-loop
-Inv-loop steps follow taking last s₀ at₀ left₀ s at left =
+Inv-loop steps characters follow taking last s₀ at₀ left₀ s at left =
     (at ≤ length steps)
     × Short (denoted s)
-    × (walked (lent-tables follow taking last) (denoted s₀) steps ≡ walk-from (lent-tables follow taking last) left (denoted s) (drop at steps))
+    × (walked (lent-tables characters follow taking last) (denoted s₀) steps ≡ walk-from (lent-tables characters follow taking last) left (denoted s) (drop at steps))
 
 abbrev μ-loop : tie.MeasureT-loop
-μ-loop steps follow taking last s₀ at₀ left₀ s at left = left
+μ-loop steps characters follow taking last s₀ at₀ left₀ s at left = left
 
 short : (c : tie.Start Inv-loop μ-loop) → Short (denoted (c .args .first))
 short c = short-denoted (c .args .first) (search needs) (search needs) (search needs)
@@ -31,10 +31,10 @@ short c = short-denoted (c .args .first) (search needs) (search needs) (search n
 loop-holds : tie.Need-loop-holds Inv-loop μ-loop
 loop-holds c =
     let a = c .before .args in
-    (search needs, short (c .before), walked-first (lent-tables (now (a .follow)) (now (a .taking)) (a .last)) (denoted (a .first)) (now (a .steps)))
+    (search needs, short (c .before), walked-first (lent-tables (a .characters) (now (a .follow)) (now (a .taking)) (a .last)) (denoted (a .first)) (now (a .steps)))
 
 abbrev T : tie.At-loop Inv-loop μ-loop → Tables
-T c = let a = c .before .before .args in lent-tables (now (a .follow)) (now (a .taking)) (a .last)
+T c = let a = c .before .before .args in lent-tables (a .characters) (now (a .follow)) (now (a .taking)) (a .last)
 
 abbrev bytes : tie.At-loop Inv-loop μ-loop → List ℕ
 bytes c = now (c .before .before .args .steps)
@@ -86,7 +86,7 @@ returns-3 : tie.Need-returns-3 Inv-loop μ-loop
 returns-3 c =
     let t = c .before .before in
     let l = loop-at t in
-    let e = is-dropped (T l) (denoted (l .loop .s)) (front-at t .front .result .step) (t .step .result) (t .step .ensures) (c .enum-told .given .1) in
+    let e = is-dropped (T l) (denoted (l .loop .s)) (front-at t .front .result .step) (t .step .result) (t .step .ensures (T l .characters)) (c .enum-told .given .1) in
     sym (rw e at (stepped t))
 
 enum-told-2 : tie.Need-enum-told-2 Inv-loop μ-loop
@@ -96,7 +96,7 @@ returns-4 : tie.Need-returns-4 Inv-loop μ-loop
 returns-4 c =
     let t = c .before .before in
     let l = loop-at t in
-    let e = is-above (T l) (denoted (l .loop .s)) (front-at t .front .result .step) (t .step .result) (t .step .ensures) (c .enum-told2 .given .1) in
+    let e = is-above (T l) (denoted (l .loop .s)) (front-at t .front .result .step) (t .step .result) (t .step .ensures (T l .characters)) (c .enum-told2 .given .1) in
     sym (rw e at (stepped t))
 
 enum-told-3 : tie.Need-enum-told-3 Inv-loop μ-loop
@@ -122,7 +122,7 @@ loop-again c =
     let told = c .before .before in
     let t = told .before .before in
     let l = loop-at t in
-    let m = is-made (T l) (denoted (l .loop .s)) (front-at t .front .result .step) (t .step .result) (t .step .ensures) (l .loop .inv .1) (told .enum-told3 .given .1) in
+    let m = is-made (T l) (denoted (l .loop .s)) (front-at t .front .result .step) (t .step .result) (t .step .ensures (T l .characters)) (l .loop .inv .1) (told .enum-told3 .given .1) in
     (within t, m .short, rw (m .made-here) at (stepped t))
 
 ended-requires : tie.Need-ended-requires Inv-loop μ-loop

@@ -10,7 +10,8 @@ use lib.Seq.{take-all}
 use borrow.Author.Needs.{needs}
 use Rattle.paper.specs.Numbers.{program-input}
 use Rattle.paper.specs.Outcome.{outcome}
-use Rattle.paper.specs.Printed.{printed-of, printed}
+use Rattle.paper_print.specs.TextLines.{sheet-edition}
+use Rattle.paper_print.specs.ClashProgram.{printed-of, printed}
 use Rattle.print_lines.specs.Lines.{longest-first-line, Prints}
 use Rattle.print_clash.specs.ClashPrinted.{lined, no-work, no-answer}
 use Rattle.print_clash.proofs.Making.{filled-bytes, program-prints}
@@ -38,9 +39,10 @@ printed-by c =
     let at-answer = c .before .before .before .before .before .before in
     let j = at-answer .before .before in
     let a = j .before .before .args in
-    let o = outcome (take program-input (a .input .now)) no-work no-answer in
+    let sheet = take program-input (a .input .now) in
+    let o = outcome sheet no-work no-answer in
     rw (printed-program (a .input .now))
-    (program-prints longest-first-line (printed-of o) o no-work no-answer (a .out .now) refl
+    (program-prints longest-first-line (printed-of (sheet-edition sheet) o) o no-work no-answer (a .out .now) refl
     (search needs)
     (rw (sub-zero, read j .1, at-answer .before .zeroed-work .ensures, at-answer .zeroed-answer .ensures) at (c .lines .ensures)))
 

@@ -10,7 +10,8 @@ use lib.Seq.{take-all}
 use borrow.Author.Needs.{needs}
 use Rattle.paper.specs.Numbers.{program-input}
 use Rattle.paper_decide.specs.Deciding.{decision}
-use Rattle.paper_decide.specs.DecisionLine.{printed-decision, printed-decided}
+use Rattle.paper_print.specs.TextLines.{sheet-edition}
+use Rattle.paper_print.specs.DecideProgram.{printed-decision, printed-decided}
 use Rattle.print_lines.specs.Lines.{longest-decided-line, Prints}
 use Rattle.print_clash.specs.ClashPrinted.{no-work, no-answer}
 use Rattle.print_decide.specs.DecisionPrinted.{lined-decided}
@@ -39,9 +40,10 @@ printed-by c =
     let at-answer = c .before .before .before .before .before .before in
     let j = at-answer .before .before in
     let a = j .before .before .args in
-    let d = decision (take program-input (a .input .now)) no-work no-answer in
+    let sheet = take program-input (a .input .now) in
+    let d = decision sheet no-work no-answer in
     rw (printed-program (a .input .now))
-    (program-prints longest-decided-line (printed-decision d) (d .outcome) no-work no-answer (a .out .now) refl
+    (program-prints longest-decided-line (printed-decision (sheet-edition sheet) d) (d .outcome) no-work no-answer (a .out .now) refl
     (search needs)
     (rw (sub-zero, read j .1, at-answer .before .zeroed-work .ensures, at-answer .zeroed-answer .ensures) at (c .lines .ensures)))
 

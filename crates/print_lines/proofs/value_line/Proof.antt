@@ -5,6 +5,9 @@ use native.Mathlib.Omega.{arith}
 use lib.ListN.{length-append, length-map}
 use borrow.Author.Needs.{needs}
 use Rattle.paper.specs.Printed.{sign}
+use Rattle.base_editions.specs.Editions.{paper-edition}
+use Rattle.paper_print.specs.TextLines.{printed-values}
+use Rattle.print_signs.proofs.CharacterByCharacter.{values-length}
 use Rattle.print_lines.proofs.Decimal.{byte-at-most}
 use Rattle.print_lines.proofs.Putting.{puts-then}
 use Rattle.print_lines.proofs.Walked.{value-line-parts}
@@ -32,12 +35,14 @@ put-requires c κs =
     let second = c .before .before .before in
     let first = second .before .before .before .before in
     let start = first .before .before .before .before in
+    let e = paper-edition (start .args .edition) in
     omega (
       arith,
       behind-field first,
       start .pre,
       first .number-and .kept .0,
-      rw (length-map (start .args .text .now) sign) at (second .spell .ensures .behind),
+      rw (length-map (printed-values e (start .args .text .now)) sign) at (second .spell .ensures .behind),
+      values-length e (start .args .text .now),
       second .spell .kept .0,
     )
 
@@ -49,7 +54,7 @@ returns c =
     let second = c .before .before .before .before .before .before in
     let first = second .before .before .before .before in
     let args = first .before .before .before .before .args in
-    rw (value-line-parts (args .field) (args .text .now))
+    rw (value-line-parts (paper-edition (args .edition)) (args .field) (args .text .now))
     (puts-then (puts-then (first .number-and .ensures) (second .spell .ensures)) (c .before .before .put .ensures))
 
 pub value-line-spec : {M : Type 1} → statement M

@@ -1,25 +1,26 @@
--- `value_lines` meets its contract. The loop's invariant: the lines of the records passed were put, and they have at most as many bytes as
--- those records. Follows from `Walked`.
-use Prim.Native.Nat.{ℕ, _+_, _-_, _≤_}
+-- `value_lines` meets its contract. The loop's invariant: the lines of the records passed were put, and they have at most twice as many
+-- bytes as those records. Follows from `Walked`.
+use Prim.Native.Nat.{ℕ, _+_, _*_, _-_, _≤_}
 use native.Mathlib.Omega.{arith}
 use mathlib.Core.Path.{_≡_, refl, _∙_}
 use lib.ListN.{length, getD}
 use borrow.Author.Needs.{needs}
-use Rattle.paper.specs.Printed.{value-lines}
+use Rattle.base_editions.specs.Editions.{paper-edition}
+use Rattle.paper_print.specs.TextLines.{value-lines}
 use Rattle.print_lines.specs.Writing.{head-size}
 use Rattle.print_lines.proofs.Walked.{Underway, none-put, one-put, all-put, text, text-part, text-within, text-long, value-line-length}
 use Rattle.print_lines.proofs.value_lines.Statement.{statement}
 use Rattle.print_lines.proofs.value_lines.Tie as tie
 
 abbrev Inv-loop : tie.InvT-loop
-Inv-loop out₀ at records end₀ from₀ out end from =
+Inv-loop out₀ at edition records end₀ from₀ out end from =
     (from ≤ length records)
     × (length out ≡ length out₀)
-    × (end ≤ at + from)
-    × ((n : ℕ) → length records ≤ n → Underway (value-lines n records) records out₀ out at from end)
+    × (end ≤ at + 2 * from)
+    × ((n : ℕ) → length records ≤ n → Underway (paper-edition edition) (value-lines (paper-edition edition) n records) records out₀ out at from end)
 
 abbrev μ-loop : tie.MeasureT-loop
-μ-loop out₀ at records end₀ from₀ out end from = length records - from
+μ-loop out₀ at edition records end₀ from₀ out end from = length records - from
 
 loop-holds : tie.Need-loop-holds Inv-loop μ-loop
 loop-holds c = (omega arith, refl, omega arith, none-put)
@@ -82,7 +83,7 @@ loop-again c =
       omega (
         arith,
         puts .behind,
-        value-line-length (getD (args .records .now) (at-loop .loop .from + 2) 0) (text (args .records .now) (at-loop .loop .from)) (omega (arith, at-line .before .before .shared-slice-known2 .given (at-loop .loop .from + 2))),
+        value-line-length (paper-edition (args .edition)) (getD (args .records .now) (at-loop .loop .from + 2) 0) (text (args .records .now) (at-loop .loop .from)) (omega (arith, at-line .before .before .shared-slice-known2 .given (at-loop .loop .from + 2))),
         text-long (args .records .now) (at-loop .loop .from) (at-text .text-length .result) (at-text .text-length .ensures),
       ),
       λ n h. rw (at-text .text-length .ensures) (one-put (at-loop .loop .inv .3 n h) (omega arith) puts),

@@ -10,16 +10,17 @@ use lib.ListN.{length}
 use Rattle.paper.specs.Sheet.{PA, next-is}
 use Rattle.base_answers.specs.Faults.{fault-of}
 use Rattle.base_answers.specs.declared.Found.{Found}
+use Rattle.base_editions.specs.Editions.{paper-edition}
 use Rattle.read_fields.specs.Walk.{fields-of, Pattern-stands, Pattern-read}
 use Rattle.read_fields.proofs.Reached.{Reached, reached-start, reached-fault, reached-next, reached-end, fault-told, mark-left}
 use Rattle.read_fields.proofs.read.Statement.{statement}
 use Rattle.read_fields.proofs.read.Tie as tie
 
 abbrev Inv-loop : tie.InvT-loop
-Inv-loop s open₀ tables₀ bodies₀ c₀ tables bodies c = Reached s (c₀ .at) (c .at) (c .above) tables bodies
+Inv-loop s edition open₀ tables₀ bodies₀ c₀ tables bodies c = Reached (paper-edition edition) s (c₀ .at) (c .at) (c .above) tables bodies
 
 abbrev μ-loop : tie.MeasureT-loop
-μ-loop s open₀ tables₀ bodies₀ c₀ tables bodies c = length s - c .at
+μ-loop s edition open₀ tables₀ bodies₀ c₀ tables bodies c = length s - c .at
 
 open-tables-requires : tie.Need-open-tables-requires Inv-loop μ-loop
 open-tables-requires c κs = search needs
@@ -28,7 +29,7 @@ no-bodies-requires : tie.Need-no-bodies-requires Inv-loop μ-loop
 no-bodies-requires c κs = search needs
 
 loop-holds : tie.Need-loop-holds Inv-loop μ-loop
-loop-holds c = reached-start _ _ _ (c .before .open-tables .ensures) _ (c .no-bodies .ensures)
+loop-holds c = reached-start _ _ _ _ (c .before .open-tables .ensures) _ (c .no-bodies .ensures)
 
 next-is-pattern-requires : tie.Need-next-is-pattern-requires Inv-loop μ-loop
 next-is-pattern-requires c κs = search needs
@@ -42,17 +43,17 @@ marked-here c = sym (c .before .next-is-pattern .ensures) ∙ c .if1 .taken
 -- what the checks on the record found, at what it is known to be
 found-so : (c : tie.After-pattern Inv-loop μ-loop) (f : Found) → c .pattern .result .found ≡ f →
     let l = c .before .before .before in
-    Pattern-read (now (l .before .before .before .before .args .s)) (l .loop .c .at) (l .loop .c .above) f (c .pattern .result)
+    Pattern-read (paper-edition (l .before .before .before .before .args .edition)) (now (l .before .before .before .before .args .s)) (l .loop .c .at) (l .loop .c .above) f (c .pattern .result)
 found-so c f e =
     let l = c .before .before .before in
-    subst (λ (g : Found). Pattern-read (now (l .before .before .before .before .args .s)) (l .loop .c .at) (l .loop .c .above) g (c .pattern .result)) e
+    subst (λ (g : Found). Pattern-read (paper-edition (l .before .before .before .before .args .edition)) (now (l .before .before .before .before .args .s)) (l .loop .c .at) (l .loop .c .above) g (c .pattern .result)) e
     (c .pattern .ensures)
 
 -- the record that is kept
 kept : (c : tie.After-enum-told Inv-loop μ-loop) →
     let p = c .before .before .before in
     let l = p .before .before .before in
-    Pattern-stands (now (l .before .before .before .before .args .s)) (l .loop .c .at) (l .loop .c .above) (p .pattern .result)
+    Pattern-stands (paper-edition (l .before .before .before .before .args .edition)) (now (l .before .before .before .before .args .s)) (l .loop .c .at) (l .loop .c .above) (p .pattern .result)
 kept c = found-so (c .before .before .before) _ (c .enum-told .given .1)
 
 pattern-requires : tie.Need-pattern-requires Inv-loop μ-loop

@@ -4,6 +4,7 @@ use mathlib.Core.Bool.{true}
 use denote.Ref.{now}
 use borrow.Author.Needs.{needs}
 use borrow.Author.Tests.{not-true, not-false}
+use Rattle.paper.specs.Alphabet.{edition-1}
 use Rattle.paper.specs.Sheet.{LE, RU, next-is, marked-side}
 use Rattle.read_side.proofs.SideStruct.{SideTold, side-stands}
 use Rattle.read_side.proofs.SideStruct as Told
@@ -30,7 +31,7 @@ patterns c = let a = c .before .before .before in fields-stand (a .read .result)
 its-side : (c : tie.After-enum-told2) →
     let a = c .before .before .before in
     let p = a .before .before .before .before in
-    SideTold (marked-side LE (now (p .before .before .before .before .before .args .s)) (p .read .result .next .at)) (a .side .result)
+    SideTold (marked-side edition-1 LE (now (p .before .before .before .before .before .args .s)) (p .read .result .next .at)) (a .side .result)
 its-side c = let a = c .before .before .before in side-stands (a .side .result) _ (a .side .ensures) (c .enum-told2 .given .1)
 
 returns : tie.Need-returns

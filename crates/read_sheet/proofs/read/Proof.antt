@@ -10,6 +10,9 @@ use Rattle.read_sheet.proofs.SidesTold.{told-fault, told-good}
 use Rattle.read_sheet.proofs.read.Statement.{statement}
 use Rattle.read_sheet.proofs.read.Tie as tie
 
+edition-front-requires : tie.Need-edition-front-requires
+edition-front-requires c κs = search needs
+
 read-requires : tie.Need-read-requires
 read-requires c κs = search needs
 
@@ -28,19 +31,35 @@ no-bodies-requires c κs = search needs
 enum-told-2 : tie.Need-enum-told-2
 enum-told-2 c = search needs
 
+alphabet-of-requires : tie.Need-alphabet-of-requires
+alphabet-of-requires c κs = search needs
+
 returns : tie.Need-returns
 returns c =
-    let m = c .before .before .before .before in
+    let k = c .before .before .before .before in
+    let m = k .before in
     let b = m .before in
     let p = b .before .before in
-    let d = b .both-sides .ensures (p .read .result) refl refl (p .read .ensures) in
-    ⊎-elim
+    let d = b .both-sides .ensures (p .read .result) refl refl (p .before .edition-front .ensures) (p .read .ensures) in
+    rw (k .alphabet-of .ensures)
+    (⊎-elim
     (λ w.
     told-fault _ (p .read .result) (b .both-sides .result) (w .1 .given .0 .0) (w .1 .given .1) (m .match .p)
     (ap (λ (q : Fields). q .tables) (w .5) ∙ ap (λ (t : PlaceTables). replicate fields t) (w .2 .ensures))
     (ap (λ (q : Fields). q .bodies) (w .5) ∙ w .4 .ensures) d)
     (λ w. told-good _ (p .read .result) (b .both-sides .result) (w .1 .given .1) (m .match .p) (w .2) d)
-    (m .match .came)
+    (m .match .came))
 
 pub read-spec : {M : Type 1} → statement M
-read-spec = tie.close (tie.spec read-requires both-sides-requires enum-told open-tables-requires no-bodies-requires enum-told-2 returns)
+read-spec =
+    tie.close
+    (tie.spec
+    edition-front-requires
+    read-requires
+    both-sides-requires
+    enum-told
+    open-tables-requires
+    no-bodies-requires
+    enum-told-2
+    alphabet-of-requires
+    returns)

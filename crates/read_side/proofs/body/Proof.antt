@@ -8,10 +8,13 @@ use mathlib.Core.List.{List, map}
 use denote.Ref.{now}
 use borrow.Author.Needs.{needs}
 use borrow.Author.Tests.{lt-ltb, le-ltb}
-use lib.ListN.{length, take, drop, length-drop}
+use lib.ListN.{length, take, drop, length-drop, length-map}
 use lib.Seq.{length-take-le}
 use Rattle.paper.specs.Lists.{all, leading}
+use Rattle.paper.specs.Alphabet.{Edition, code, codes}
 use Rattle.paper.specs.Sheet.{read, fault, wrong-token, is-token, token, body, byte-at, side-record}
+use Rattle.base_codes.specs.Inner.{padded}
+use Rattle.base_editions.specs.Editions.{paper-edition}
 use Rattle.read_side.proofs.SideBytes.{codes-of-tokens, fewer-lead, all-lead}
 use Rattle.read_side.proofs.body.Statement.{statement}
 use Rattle.read_side.proofs.body.Tie as tie
@@ -84,9 +87,15 @@ add-refuse-2 c = search needs
 refuse-requires-4 : tie.Need-refuse-requires-4
 refuse-requires-4 c κs = search needs
 
--- the body
+-- the body, and its codes
 abbrev its-body : tie.Else3 → List ℕ
 its-body c = let a = c .before .before .before .before .before .args in body (now (a .s)) (a .at + 3) (byte-at (now (a .s)) (a .at + 2))
+
+abbrev its-edition : tie.Else3 → Edition
+its-edition c = paper-edition (c .before .before .before .before .before .args .edition)
+
+abbrev its-codes : tie.Else3 → List ℕ
+its-codes c = codes (its-edition c) (its-body c)
 
 -- it is what is lent
 lent : (c : tie.Else3) →
@@ -100,33 +109,34 @@ lent c =
     rw e
 
 -- all its bytes are there
-there : (c : tie.Else3) → let a = c .before .before .before .before .before .args in length (its-body c) ≡ byte-at (now (a .s)) (a .at + 2)
+there : (c : tie.Else3) → let a = c .before .before .before .before .before .args in length (its-codes c) ≡ byte-at (now (a .s)) (a .at + 2)
 there c =
     let a = c .before .before .before .before .before .args in
     let n = byte-at (now (a .s)) (a .at + 2) in
-    length-take-le n (drop (a .at + 3) (now (a .s))) (omega (arith, length-drop (a .at + 3) (now (a .s)), c .if3 .left))
+    length-map (its-body c) (code (its-edition c))
+    ∙ length-take-le n (drop (a .at + 3) (now (a .s))) (omega (arith, length-drop (a .at + 3) (now (a .s)), c .if3 .left))
 
 -- how many tokens lead it
-led : (c : tie.After-leading-tokens) → leading is-token (its-body (c .before .before)) ≡ c .leading-tokens .result
-led c = ap (leading is-token) (sym (lent (c .before .before))) ∙ sym (c .leading-tokens .ensures)
+led : (c : tie.After-leading-tokens) → leading is-token (its-codes (c .before .before)) ≡ c .leading-tokens .result
+led c = ap (λ (b : List ℕ). leading is-token (codes (its-edition (c .before .before)) b)) (sym (lent (c .before .before))) ∙ sym (c .leading-tokens .ensures)
 
 -- the tokens are judged
-not-all : (c : tie.Then4) → all is-token (its-body (c .before .before .before)) ≡ false
+not-all : (c : tie.Then4) → all is-token (its-codes (c .before .before .before)) ≡ false
 not-all c =
     let e = c .before .before .before in
-    fewer-lead is-token (its-body e) (omega (arith, there e, led (c .before), c .if4 .taken))
+    fewer-lead is-token (its-codes e) (omega (arith, there e, led (c .before), c .if4 .taken))
 
-all-tokens : (c : tie.Else4) → all is-token (its-body (c .before .before .before)) ≡ true
+all-tokens : (c : tie.Else4) → all is-token (its-codes (c .before .before .before)) ≡ true
 all-tokens c =
     let e = c .before .before .before in
-    all-lead is-token (its-body e) (omega (arith, there e, led (c .before), c .if4 .left))
+    all-lead is-token (its-codes e) (omega (arith, there e, led (c .before), c .if4 .left))
 
 -- the checks before the tokens are passed
 past-length : (c : tie.Else3) →
     let a = c .before .before .before .before .before .args in
-    side-record (now (a .s)) (a .at)
-    ≡ cond (all is-token (its-body c)) (read (map token (its-body c)) (a .at + (3 + byte-at (now (a .s)) (a .at + 2))))
-    (fault wrong-token (a .at + 3 + leading is-token (its-body c)))
+    side-record (paper-edition (a .edition)) (now (a .s)) (a .at)
+    ≡ cond (all is-token (its-codes c)) (read (map token (its-codes c)) (a .at + (3 + byte-at (now (a .s)) (a .at + 2))))
+    (fault wrong-token (a .at + 3 + leading is-token (its-codes c)))
 unfolding side-record
 past-length c = simp (le-ltb _ _ (c .before .before .before .if1 .left), le-ltb _ _ (c .before .if2 .left), le-ltb _ _ (c .if3 .left))
 
@@ -145,14 +155,21 @@ part-inner-side-end : tie.Need-part-inner-side-end
 part-inner-side-end c = search needs
 
 inner-side-requires : tie.Need-inner-side-requires
-inner-side-requires c κs =
-    let e = c .before .before .before .before in
-    (search needs, ap (all is-token) (lent e) ∙ all-tokens (c .before))
+inner-side-requires c κs = search needs
+
+-- the inner codes of the side are the codes of its bytes
+coded : (c : tie.After-inner-side) →
+    let e = c .before .before .before .before .before in
+    c .inner-side .result ≡ padded (its-codes e)
+coded c =
+    let e = c .before .before .before .before .before in
+    c .inner-side .ensures ∙ ap (λ (b : List ℕ). padded (codes (its-edition e) b)) (lent e)
 
 returns-5 : tie.Need-returns-5
 returns-5 c =
     let e = c .before .before .before .before .before in
-    rw (past-length e, all-tokens (c .before .before), ← lent e, codes-of-tokens, ← c .inner-side .ensures) (simp (← add-assoc))
+    let h = all-tokens (c .before .before) in
+    rw (past-length e, h, codes-of-tokens (its-codes e) h, coded c) (simp (← add-assoc))
 
 pub body-spec : {M : Type 1} → statement M
 body-spec =

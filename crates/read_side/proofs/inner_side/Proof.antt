@@ -3,33 +3,32 @@
 use Prim.Native.Nat.{_-_, _≤_}
 use native.Mathlib.Numerals.{add-one}
 use native.Mathlib.Omega.{arith}
-use mathlib.Core.Path.{_≡_}
-use mathlib.Core.List.{_++_, map}
+use mathlib.Core.Path.{_≡_, sym, _∙_}
 use borrow.Author.Needs.{needs}
-use lib.ListN.{length, take, replicate}
+use lib.ListN.{length, length-map}
 use Rattle.paper.specs.Numbers.{longest-side}
+use Rattle.paper.specs.Alphabet.{code, codes}
 use Rattle.base_codes.specs.Inner.{no-token}
-use Rattle.read_side.specs.SideRead.{code-of}
-use Rattle.read_side.proofs.SideBytes.{coded-more, coded-all, token-at}
+use Rattle.base_editions.specs.Editions.{paper-edition}
+use Rattle.read_codes.proofs.Laying.{laid, more-codes}
+use Rattle.read_side.proofs.SideBytes.{coded-all}
 use Rattle.read_side.proofs.inner_side.Statement.{statement}
 use Rattle.read_side.proofs.inner_side.Tie as tie
 
 abbrev Inv-loop : tie.InvT-loop
-Inv-loop side codes₀ i₀ codes i = (i ≤ length side) × (codes ≡ take i (map code-of side) ++ replicate (longest-side - i) no-token)
+Inv-loop side edition codes₀ i₀ room i = (i ≤ length side) × (room ≡ laid (codes (paper-edition edition) side) no-token longest-side i)
 
 abbrev μ-loop : tie.MeasureT-loop
-μ-loop side codes₀ i₀ codes i = length side - i
+μ-loop side edition codes₀ i₀ room i = length side - i
 
 loop-holds : tie.Need-loop-holds Inv-loop μ-loop
 loop-holds c = search needs
 
-shared-slice-read-inner-code : tie.Need-shared-slice-read-inner-code Inv-loop μ-loop
-shared-slice-read-inner-code c = search needs
+shared-slice-read-code : tie.Need-shared-slice-read-code Inv-loop μ-loop
+shared-slice-read-code c = search needs
 
-inner-code-requires : tie.Need-inner-code-requires Inv-loop μ-loop
-inner-code-requires c κs =
-    let start = c .before .before .before .before in
-    token-at (start .args .side .now) (c .before .before .loop .i) (start .pre .1) (omega arith)
+code-requires : tie.Need-code-requires Inv-loop μ-loop
+code-requires c κs = search needs
 
 array-write-codes : tie.Need-array-write-codes Inv-loop μ-loop
 array-write-codes c = search needs
@@ -43,12 +42,20 @@ loop-less c = search needs
 loop-again : tie.Need-loop-again Inv-loop μ-loop
 loop-again c =
     let loop = c .before .before .before in
-    let side = loop .before .before .args .side .now in
-    let i = loop .loop .i in
-    (omega arith, rw (loop .loop .inv .1, c .inner-code .ensures, add-one i) (coded-more side i (omega arith) (omega (arith, loop .before .before .pre .0))))
+    let a = loop .before .before .args in
+    let i = loop .loop .i in (
+      omega arith,
+      rw (loop .loop .inv .1, add-one i)
+          (more-codes (paper-edition (a .edition)) (a .side .now) no-token longest-side i (omega arith) (omega (arith, loop .before .before .pre)) (c .code .result)
+          (c .code .ensures)),
+    )
 
 returns : tie.Need-returns Inv-loop μ-loop
-returns c = rw (c .before .loop .inv .1) (coded-all (c .before .before .before .args .side .now) (c .before .loop .i) (omega arith))
+returns c =
+    let a = c .before .before .before .args in
+    let e = paper-edition (a .edition) in
+    let whole : c .before .loop .i ≡ length (a .side .now) = omega arith in
+    c .before .loop .inv .1 ∙ coded-all (codes e (a .side .now)) (c .before .loop .i) (whole ∙ sym (length-map (a .side .now) (code e)))
 
 pub inner-side-spec : {M : Type 1} → statement M
 inner-side-spec =
@@ -57,8 +64,8 @@ inner-side-spec =
     Inv-loop
     μ-loop
     loop-holds
-    shared-slice-read-inner-code
-    inner-code-requires
+    shared-slice-read-code
+    code-requires
     array-write-codes
     add-i
     loop-less

@@ -10,11 +10,8 @@ use Rattle.script_equation.proofs.argument.Tie as tie
 before-character-requires : tie.Need-before-character-requires
 before-character-requires c κs = search needs
 
-sign-requires : tie.Need-sign-requires
-sign-requires c κs = search needs
-
-put-requires : tie.Need-put-requires
-put-requires c κs = search needs
+character-requires : tie.Need-character-requires
+character-requires c κs = search needs
 
 same-length : tie.Need-same-length
 same-length c = search needs
@@ -23,10 +20,9 @@ returns : tie.Need-returns
 unfolding argument
 returns c =
     let last = c .before .before in
-    let first = last .before .before .before .before .before in
+    let first = last .before .before .before .before in
     let test = first .before .before in
-    rw (lt-ltb (test .before .before .args .token) field-code (test .if1 .taken))
-    (counted-then (first .before-character .ensures) (rw (last .before .sign .ensures) at (last .put .ensures)))
+    rw (lt-ltb (test .before .before .args .token) field-code (test .if1 .taken)) (counted-then (first .before-character .ensures) (last .character .ensures))
 
 before-field-requires : tie.Need-before-field-requires
 before-field-requires c κs = search needs
@@ -34,8 +30,8 @@ before-field-requires c κs = search needs
 digit-requires : tie.Need-digit-requires
 digit-requires c κs = search needs
 
-put-requires-2 : tie.Need-put-requires-2
-put-requires-2 c κs = search needs
+put-requires : tie.Need-put-requires
+put-requires c κs = search needs
 
 same-length-2 : tie.Need-same-length-2
 same-length-2 c = search needs
@@ -47,19 +43,18 @@ returns-2 c =
     let first = last .before .before .before .before .before in
     let test = first .before .before in
     rw (le-ltb (test .before .before .args .token) field-code (test .if1 .left))
-    (counted-then (first .before-field .ensures) (rw (last .before .digit .ensures) at (last .put2 .ensures)))
+    (counted-then (first .before-field .ensures) (rw (last .before .digit .ensures) at (last .put .ensures)))
 
 pub argument-spec : {M : Type 1} → statement M
 argument-spec =
     tie.close
     (tie.spec
     before-character-requires
-    sign-requires
-    put-requires
+    character-requires
     same-length
     returns
     before-field-requires
     digit-requires
-    put-requires-2
+    put-requires
     same-length-2
     returns-2)

@@ -7,6 +7,7 @@ use mathlib.Core.List.{List, [], _++_, append-nil}
 use lib.ListN.{length, getD, take}
 use lib.Seq.{length-take-le, getD-take}
 use borrow.Author.Needs.{needs}
+use Rattle.base_editions.specs.Editions.{paper-edition}
 use Rattle.base_put.specs.Counted.{Counted}
 use Rattle.base_put.proofs.Counting.{counted-none, counted-then}
 use Rattle.script_equation.specs.Arguments.{argument}
@@ -15,17 +16,17 @@ use Rattle.script_equation.proofs.arguments.Statement.{statement}
 use Rattle.script_equation.proofs.arguments.Tie as tie
 
 abbrev Inv-loop : tie.InvT-loop
-Inv-loop out₀ at n side end₀ literal₀ i₀ out end literal i =
+Inv-loop out₀ at edition n side end₀ literal₀ i₀ out end literal i =
     (i ≤ n) × (length (take n side) ≡ n) × (length out ≡ length out₀)
-    × ((done : List ℕ) × Counted out₀ out at end done × Put-so-far (take n side) i literal done)
+    × ((done : List ℕ) × Counted out₀ out at end done × Put-so-far (paper-edition edition) (take n side) i literal done)
 
 abbrev μ-loop : tie.MeasureT-loop
-μ-loop out₀ at n side end₀ literal₀ i₀ out end literal i = n - i
+μ-loop out₀ at edition n side end₀ literal₀ i₀ out end literal i = n - i
 
 loop-holds : tie.Need-loop-holds Inv-loop μ-loop
 loop-holds c =
     let n = c .before .args .n in
-    let side = c .before .args .t3 in
+    let side = c .before .args .t4 in
     let whole : length side ≡ longest-side = search needs in
     (omega arith, length-take-le n side (omega (arith, c .before .pre)), refl, ([], counted-none, record { makes = refl }))
 
@@ -46,16 +47,17 @@ loop-again c =
     let told = c .before .before in
     let loop = told .before .before .before in
     let n = loop .before .before .args .n in
-    let side = loop .before .before .args .t3 in
+    let side = loop .before .before .args .t4 in
     let i = loop .loop .i in
+    let e = paper-edition (loop .before .before .args .edition) in
     let (done, put, left) = loop .loop .inv .3 in (
       omega arith,
       loop .loop .inv .1,
       told .argument .kept .0 ∙ loop .loop .inv .2,
       (
-        done ++ argument (loop .loop .literal) (getD side i 0),
+        done ++ argument e (loop .loop .literal) (getD side i 0),
         counted-then put (told .argument .ensures),
-        rw (getD-take n side i 0 (omega arith)) at (one-more-argument (take n side) i (loop .loop .literal) done (omega (arith, loop .loop .inv .1)) left),
+        rw (getD-take n side i 0 (omega arith)) at (one-more-argument e (take n side) i (loop .loop .literal) done (omega (arith, loop .loop .inv .1)) left),
       ),
     )
 
@@ -70,9 +72,9 @@ returns c =
     let told = c .before .before in
     let test = told .before .before in
     let loop = test .before .before in
-    let l = take (loop .before .before .args .n) (loop .before .before .args .t3) in
+    let l = take (loop .before .before .args .n) (loop .before .before .args .t4) in
     let (done, put, left) = loop .loop .inv .3 in
-    rw (all-put l (loop .loop .i) (loop .loop .literal) done (omega (arith, loop .loop .inv .1, loop .loop .inv .0, test .before)) left, test .if1 .taken)
+    rw (all-put (paper-edition (loop .before .before .args .edition)) l (loop .loop .i) (loop .loop .literal) done (omega (arith, loop .loop .inv .1, loop .loop .inv .0, test .before)) left, test .if1 .taken)
     (counted-then put (told .put .ensures))
 
 same-length-2 : tie.Need-same-length-2 Inv-loop μ-loop
@@ -81,9 +83,9 @@ same-length-2 c = search needs
 returns-2 : tie.Need-returns-2 Inv-loop μ-loop
 returns-2 c =
     let loop = c .before .before in
-    let l = take (loop .before .before .args .n) (loop .before .before .args .t3) in
+    let l = take (loop .before .before .args .n) (loop .before .before .args .t4) in
     let (done, put, left) = loop .loop .inv .3 in
-    rw (all-put l (loop .loop .i) (loop .loop .literal) done (omega (arith, loop .loop .inv .1, loop .loop .inv .0, c .before)) left, c .if1 .left, append-nil done) put
+    rw (all-put (paper-edition (loop .before .before .args .edition)) l (loop .loop .i) (loop .loop .literal) done (omega (arith, loop .loop .inv .1, loop .loop .inv .0, c .before)) left, c .if1 .left, append-nil done) put
 
 pub arguments-spec : {M : Type 1} → statement M
 arguments-spec =

@@ -2,6 +2,7 @@
 use mathlib.Core.Path.{_≡_, sym, _∙_}
 use lib.ListN.{length}
 use Rattle.base_put.proofs.Counting.{counted-then}
+use Rattle.base_editions.specs.Editions.{paper-edition}
 use Rattle.base_codes.specs.Inner.{tokens}
 use Rattle.script_equation.proofs.Sides.{no-tokens, some-tokens}
 use borrow.Author.Needs.{needs}
@@ -23,7 +24,7 @@ returns c =
     let test = told .before .before in
     let long = test .before in
     let a = long .before .before .args in
-    rw (no-tokens (tokens (a .side)) (a .hidden) (sym (long .length-of .ensures .1) ∙ test .if1 .taken)) (told .constant .ensures)
+    rw (no-tokens (paper-edition (a .edition)) (tokens (a .side)) (a .hidden) (sym (long .length-of .ensures .1) ∙ test .if1 .taken)) (told .constant .ensures)
 
 slice-aggregate-put-all : tie.Need-slice-aggregate-put-all
 slice-aggregate-put-all c = search needs
@@ -56,7 +57,7 @@ returns-2 c =
     let test = first .before .before .before in
     let long = test .before in
     let a = long .before .before .args in
-    rw (some-tokens (tokens (a .side)) (a .hidden) (λ (e : length (tokens (a .side)) ≡ 0). test .if1 .left (long .length-of .ensures .1 ∙ e)))
+    rw (some-tokens (paper-edition (a .edition)) (tokens (a .side)) (a .hidden) (λ (e : length (tokens (a .side)) ≡ 0). test .if1 .left (long .length-of .ensures .1 ∙ e)))
     (counted-then
     (counted-then (counted-then (first .put-all .ensures) (rw (long .length-of .ensures .2) at (all .arguments .ensures))) (counted-then (gap .put .ensures) (hidden .constant2 .ensures)))
     (last .put2 .ensures))

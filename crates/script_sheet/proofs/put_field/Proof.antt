@@ -3,6 +3,7 @@ use mathlib.Core.List.{append-nil}
 use Rattle.paper.specs.Question.{held-by, hidden}
 use Rattle.paper.proofs.base.Tests.{eq-eqb, neq-eqb}
 use Rattle.paper_script.specs.Script.{field-lines}
+use Rattle.base_editions.specs.Editions.{paper-edition}
 use Rattle.base_put.proofs.Counting.{counted-none}
 use borrow.Author.Needs.{needs}
 use Rattle.script_sheet.proofs.put_field.Statement.{statement}
@@ -22,7 +23,7 @@ returns-2 c = λ q e b.
     let told = c .before .before in
     let test = told .before .before in
     let start = test .before .before .before in
-    let lines = field-lines (start .args .f) (held-by (hidden q) (start .args .f)) in
+    let lines = field-lines (paper-edition (start .args .edition)) (start .args .f) (held-by (hidden q) (start .args .f)) in
     rw (neq-eqb (start .args .count) 0 (test .if1 .left), append-nil lines) (told .field-lines .ensures q e b)
 
 pub put-field-spec : {M : Type 1} → statement M

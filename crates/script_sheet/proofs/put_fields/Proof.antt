@@ -8,25 +8,26 @@ use borrow.Author.Needs.{needs}
 use Rattle.paper.specs.Lists.{upto, keep}
 use Rattle.paper.specs.Numbers.{set-fields}
 use Rattle.paper.specs.Question.{Question}
-use Rattle.paper.specs.Sheet.{asked, read-sheet}
 use Rattle.read_sheet.specs.SheetRead.{bodies-of}
 use Rattle.base_question.specs.declared.Body.{Body}
+use Rattle.base_editions.specs.Editions.{paper-edition}
 use Rattle.base_put.specs.Counted.{Counted}
 use Rattle.base_put.proofs.Counting.{counted-none, counted-then}
 use Rattle.base_question.specs.Standings.{is-counted}
-use Rattle.script_sheet.specs.WrittenOut.{fields-lines, body-of}
+use Rattle.script_sheet.specs.WrittenOut.{Asks-in, fields-lines, body-of}
 use Rattle.script_sheet.proofs.Holding.{body-within}
 use Rattle.script_sheet.proofs.FieldListing.{one-more-field}
 use Rattle.script_sheet.proofs.put_fields.Statement.{statement}
 use Rattle.script_sheet.proofs.put_fields.Tie as tie
 
 abbrev Inv-loop : tie.InvT-loop
-Inv-loop out₀ at sheet bodies counts end₀ f₀ out end f =
+Inv-loop out₀ at edition sheet bodies counts end₀ f₀ out end f =
     (f ≤ set-fields) × (length out ≡ length out₀)
-    × ((q : Question) → read-sheet sheet ≡ asked q → bodies ≡ bodies-of sheet → Counted out₀ out at end (fields-lines q (keep (is-counted counts) (upto f))))
+    × ((q : Question) → Asks-in (paper-edition edition) sheet q → bodies ≡ bodies-of sheet
+    → Counted out₀ out at end (fields-lines (paper-edition edition) q (keep (is-counted counts) (upto f))))
 
 abbrev μ-loop : tie.MeasureT-loop
-μ-loop out₀ at sheet bodies counts end₀ f₀ out end f = set-fields - f
+μ-loop out₀ at edition sheet bodies counts end₀ f₀ out end f = set-fields - f
 
 loop-holds : tie.Need-loop-holds Inv-loop μ-loop
 loop-holds c = (omega arith, refl, λ q e b. counted-none)
@@ -59,11 +60,11 @@ loop-again c =
     let body = told .before .before in
     let loop = body .before .before in
     let f = loop .loop .f in
-    let counts = loop .before .before .before .args .t5 in (
+    let counts = loop .before .before .before .args .t6 in (
       omega arith,
       told .put-field .kept .0 ∙ loop .loop .inv .1,
       λ q e b.
-          rw (one-more-field q (is-counted counts) f)
+          rw (one-more-field (paper-edition (loop .before .before .before .args .edition)) q (is-counted counts) f)
           (counted-then (loop .loop .inv .2 q e b) (told .put-field .ensures q e (body .body-of .ensures ∙ ap (λ (x : List Body). body-of x f) b))),
     )
 

@@ -1,6 +1,7 @@
 -- `put_script` meets its contract: its parts are those of the script of the question (`Whole`).
-use mathlib.Core.Path.{ap}
+use mathlib.Core.Path.{sym, ap}
 use Rattle.paper_script.specs.Script.{script}
+use Rattle.base_editions.specs.Editions.{paper-edition}
 use Rattle.base_put.proofs.Counting.{counted-then}
 use Rattle.base_question.specs.declared.Question.{Question}
 use Rattle.script_sheet.proofs.ScriptWhole.{all-counted, equation-put}
@@ -41,11 +42,13 @@ returns c = λ q e i.
     let a = left .before .before .before .before .before .before .args in
     let l = ap (λ (x : Question). x .left) i in
     let r = ap (λ (x : Question). x .right) i in
-    let stand = all-counted (a .sheet .now) q e (a .question .left) (a .question .right) l r (left .side .result) (right .side2 .result) (counts .standings .result)
+    let x = paper-edition (a .edition) in
+    let stand = all-counted x (a .sheet .now) q e (a .question .left) (a .question .right) l r (left .side .result) (right .side2 .result) (counts .standings .result)
     (left .side .ensures) (right .side2 .ensures) (counts .standings .ensures) in
-    counted-then
+    rw (sym (e .its-edition))
+    (counted-then
     (counted-then (first .put-heading .ensures) (rw stand at (fields .put-fields .ensures q e (ap (λ (x : Question). x .bodies) i))))
-    (rw (equation-put (a .sheet .now) q e (a .question .left) (a .question .right) l r) at (last .equation .ensures))
+    (rw (equation-put x (a .sheet .now) q e (a .question .left) (a .question .right) l r) at (last .equation .ensures)))
 
 pub put-script-spec : {M : Type 1} → statement M
 put-script-spec =

@@ -1,10 +1,13 @@
 -- `script` meets its contract, by what reading the sheet tells and by how long its script is (`Answered`).
-use mathlib.Core.Path.{sym, ap, subst}
+use mathlib.Core.Path.{sym, ap, _∙_, subst}
 use denote.Ref.{now}
+use Rattle.paper.specs.Alphabet.{edition-of}
+use Rattle.base_editions.specs.Editions.{paper-edition}
+use Rattle.base_editions.proofs.Same.{same-edition}
 use Rattle.base_question.specs.declared.Question.{Question}
 use Rattle.read_sheet.proofs.SheetStruct.{Asking, sheet-asks}
 use Rattle.read_sheet.proofs.SheetPatterns.{sheet-within}
-use Rattle.script_sheet.specs.WrittenOut.{Bodies-within}
+use Rattle.script_sheet.specs.WrittenOut.{Asks-in, Bodies-within}
 use Rattle.script_sheet.proofs.ScriptAnswered.{and-promised, sheet-at-fault, no-room, with-room}
 use borrow.Author.Needs.{needs}
 use Rattle.script_sheet.proofs.script.Statement.{statement}
@@ -46,6 +49,12 @@ within c =
     let sheet = now (read-at c .before .before .before .args .sheet) in
     subst (Bodies-within sheet) (sym (ap (λ (x : Question). x .bodies) (a .is))) (sheet-within sheet (a .question) (a .good))
 
+asks-in : (c : tie.After-question) → let r = read-at c in
+    Asks-in (paper-edition (r .read .result .edition)) (now (r .before .before .before .args .sheet)) (asking c .question)
+asks-in c =
+    let a = asking c in
+    record { asks = a .good; its-edition = ap paper-edition (a .edition) ∙ same-edition (edition-of (a .question .alphabet)) }
+
 put-script-requires : tie.Need-put-script-requires
 put-script-requires c κs = within (c .before)
 
@@ -56,7 +65,7 @@ returns-2 : tie.Need-returns-2
 returns-2 c =
     let counted = c .before .before .before in
     let a = asking (counted .before .before) in
-    and-promised _ _ _ (no-room _ _ (a .question) (a .good) (counted .put-script .ensures (a .question) (a .good) (a .is)) (c .if1 .taken))
+    and-promised _ _ _ (no-room _ _ (a .question) (a .good) (counted .put-script .ensures (a .question) (asks-in (counted .before .before)) (a .is)) (c .if1 .taken))
 
 put-script-requires-2 : tie.Need-put-script-requires-2
 put-script-requires-2 c κs = within (c .before .before .before .before .before .before)
@@ -71,8 +80,8 @@ returns-3 c =
     let counted = test .before .before .before in
     let a = asking (counted .before .before) in
     and-promised _ _ _
-    (with-room _ _ (a .question) (a .good) (counted .put-script .ensures (a .question) (a .good) (a .is)) (test .if1 .left)
-    (last .put-script2 .ensures (a .question) (a .good) (a .is)))
+    (with-room _ _ (a .question) (a .good) (counted .put-script .ensures (a .question) (asks-in (counted .before .before)) (a .is)) (test .if1 .left)
+    (last .put-script2 .ensures (a .question) (asks-in (counted .before .before)) (a .is)))
 
 pub script-spec : {M : Type 1} → statement M
 script-spec =

@@ -2,9 +2,12 @@
 -- Each way out is a law of `Spelling`.
 use Prim.Native.Nat.{ℕ, _-_, _<_}
 use native.Mathlib.Omega.{arith}
-use mathlib.Core.Path.{_≡_}
+use mathlib.Core.Path.{_≡_, sym, _∙_}
 use lib.ListN.{length, getD}
-use Rattle.paper.specs.Numbers.{then-code, or-code}
+use Rattle.paper.specs.Numbers.{many-code, then-code, or-code}
+use Rattle.paper.specs.Alphabet.{codes}
+use Rattle.base_editions.specs.Editions.{paper-edition}
+use Rattle.script_terms.proofs.CodesAt.{as-many-codes}
 use Rattle.script_terms.proofs.Spelling.{behind-first, at-end, as-single, as-many, as-two}
 use borrow.Author.Needs.{needs}
 use borrow.Fn.Kinds.{In}
@@ -14,13 +17,14 @@ use Rattle.script_terms.proofs.spell.Kinds as spell-kinds
 use Rattle.script_terms.proofs.+spell.Lts-spell as spell-lts
 use Rattle.base_put.proofs.put.Reads as put-reads
 use Rattle.base_put.proofs.put_all.Reads as put-all-reads
+use Rattle.script_terms.proofs.code_at.Reads as code-at-reads
 use Rattle.script_terms.proofs.operator.Reads as operator-reads
 use Rattle.script_terms.proofs.spell_single.Reads as spell-single-reads
 use Rattle.script_terms.proofs.+spell.{statement}
 use Rattle.script_terms.proofs.+spell.Tie.{close}
 
 abbrev μ-spell : Measures 2 spell-kinds.ps ℕ
-μ-spell κs a = length (a .1 .1 .0 .now) - a .1 .1 .1 .0
+μ-spell κs a = length (a .1 .1 .1 .0 .now) - a .1 .1 .1 .1 .0
 
 -- what `spell` is given at the measure t, and what a call of it asks below t
 abbrev spell-at : ℕ → In 2 spell-kinds.ps
@@ -32,6 +36,8 @@ spell-below t = and 2 spell-kinds.ps (falls 2 spell-kinds.ps _<_ μ-spell t) spe
 -- what its calls ask and tell
 abbrev calls : ℕ → spell-lts.Claims
 calls t = (
+  code-at-reads.Asked,
+  code-at-reads.Learnt,
   put-all-reads.Asked,
   put-all-reads.Learnt,
   spell-below t,
@@ -46,11 +52,12 @@ calls t = (
 
 spell-returns : (t : ℕ) → spell-lts.Need-returns (calls t) (spell-at t) spell.Post
 spell-returns t c = λ n h.
-    let start = c .before .before .before in
-    at-end n (start .args .s .now) (start .args .i) (c .if1 .taken)
+    let a = c .before .before .before .args in
+    let e = paper-edition (a .edition) in
+    at-end e n (codes e (a .s .now)) (a .i) (omega (arith, as-many-codes e (a .s .now), c .if1 .taken))
 
-spell-shared-slice-read-b : (t : ℕ) → spell-lts.Need-shared-slice-read-b (calls t) (spell-at t) spell.Post
-spell-shared-slice-read-b t c = search needs
+spell-code-at-requires : (t : ℕ) → spell-lts.Need-code-at-requires (calls t) (spell-at t) spell.Post
+spell-code-at-requires t c κs = search needs
 
 spell-slice-aggregate-put-all : (t : ℕ) → spell-lts.Need-slice-aggregate-put-all (calls t) (spell-at t) spell.Post
 spell-slice-aggregate-put-all t c = search needs
@@ -76,9 +83,12 @@ spell-returns-2 t c = λ n h.
     let inside = close .before .before .before .before in
     let first = inside .before .before .before .before in
     let test = first .before .before .before in
-    let more = test .before .before in
-    let start = more .before .before .before in
-    as-many (start .args .s .now) (start .args .i) (more .if1 .left) n h (test .if2 .taken) (first .put-all .ensures) (inside .spell .ensures) (close .put .ensures)
+    let its = test .before in
+    let more = its .before in
+    let a = more .before .before .before .args in
+    let e = paper-edition (a .edition) in
+    as-many e (codes e (a .s .now)) (a .i) (omega (arith, as-many-codes e (a .s .now), more .if1 .left)) n h (sym (its .code-at .ensures) ∙ test .if2 .taken)
+    (first .put-all .ensures) (inside .spell .ensures) (close .put .ensures)
 
 spell-spell-single-requires : (t : ℕ) → spell-lts.Need-spell-single-requires (calls t) (spell-at t) spell.Post
 spell-spell-single-requires t c κs = search needs
@@ -91,11 +101,17 @@ spell-returns-3 t c = λ n h.
     let single = c .before .before in
     let low = single .before .before in
     let test = low .before in
-    let more = test .before .before in
-    let start = more .before .before .before in
-    let b = getD (start .args .s .now) (start .args .i) 0 in
-    as-single (start .args .s .now) (start .args .i) (more .if1 .left) n h (test .if2 .left)
-    (λ (e : b ≡ then-code). omega (arith, low .if3 .taken, e)) (λ (e : b ≡ or-code). omega (arith, low .if3 .taken, e)) (single .spell-single .ensures)
+    let its = test .before in
+    let more = its .before in
+    let a = more .before .before .before .args in
+    let e = paper-edition (a .edition) in
+    let s = codes e (a .s .now) in
+    let b = getD s (a .i) 0 in
+    as-single e s (a .i) (omega (arith, as-many-codes e (a .s .now), more .if1 .left)) n h
+    (λ (x : b ≡ many-code). test .if2 .left (its .code-at .ensures ∙ x))
+    (λ (x : b ≡ then-code). omega (arith, low .if3 .taken, its .code-at .ensures, x))
+    (λ (x : b ≡ or-code). omega (arith, low .if3 .taken, its .code-at .ensures, x))
+    (single .spell-single .ensures)
 
 spell-spell-single-requires-2 : (t : ℕ) → spell-lts.Need-spell-single-requires-2 (calls t) (spell-at t) spell.Post
 spell-spell-single-requires-2 t c κs = search needs
@@ -108,11 +124,17 @@ spell-returns-4 t c = λ n h.
     let single = c .before .before in
     let high = single .before .before in
     let test = high .before .before in
-    let more = test .before .before in
-    let start = more .before .before .before in
-    let b = getD (start .args .s .now) (start .args .i) 0 in
-    as-single (start .args .s .now) (start .args .i) (more .if1 .left) n h (test .if2 .left)
-    (λ (e : b ≡ then-code). omega (arith, high .if4 .taken, e)) (λ (e : b ≡ or-code). omega (arith, high .if4 .taken, e)) (single .spell-single2 .ensures)
+    let its = test .before in
+    let more = its .before in
+    let a = more .before .before .before .args in
+    let e = paper-edition (a .edition) in
+    let s = codes e (a .s .now) in
+    let b = getD s (a .i) 0 in
+    as-single e s (a .i) (omega (arith, as-many-codes e (a .s .now), more .if1 .left)) n h
+    (λ (x : b ≡ many-code). test .if2 .left (its .code-at .ensures ∙ x))
+    (λ (x : b ≡ then-code). omega (arith, high .if4 .taken, its .code-at .ensures, x))
+    (λ (x : b ≡ or-code). omega (arith, high .if4 .taken, its .code-at .ensures, x))
+    (single .spell-single2 .ensures)
 
 spell-operator-requires : (t : ℕ) → spell-lts.Need-operator-requires (calls t) (spell-at t) spell.Post
 spell-operator-requires t c κs = search needs
@@ -131,8 +153,11 @@ spell-spell-requires-3 t c κs =
     let first = c .before .before .before .before .before .before .before in
     let more = first .before .before .before .before .before .before .before .before .before .before in
     let start = more .before .before .before in
-    let s = start .args .s .now in
-    (omega (arith, behind-first s (start .args .i) (more .if1 .left) (length s) (first .spell2 .ensures) (omega arith), start .pre .0), tt)
+    let a = start .args in
+    let e = paper-edition (a .edition) in
+    let s = codes e (a .s .now) in
+    let there : a .i < length s = omega (arith, as-many-codes e (a .s .now), more .if1 .left) in
+    (omega (arith, behind-first e s (a .i) there (length s) (first .spell2 .ensures) (omega arith), more .if1 .left, start .pre .0), tt)
 
 spell-put-requires-3 : (t : ℕ) → spell-lts.Need-put-requires-3 (calls t) (spell-at t) spell.Post
 spell-put-requires-3 t c κs = search needs
@@ -149,9 +174,13 @@ spell-returns-5 t c = λ n h.
     let op = first .before .before .before .before in
     let high = op .before .before in
     let low = high .before in
-    let more = low .before .before .before in
-    let start = more .before .before .before in
-    as-two (start .args .s .now) (start .args .i) (more .if1 .left) n h (low .if3 .left) (high .if4 .left) (op .operator .ensures) (first .spell2 .ensures)
+    let its = low .before .before in
+    let more = its .before in
+    let a = more .before .before .before .args in
+    let e = paper-edition (a .edition) in
+    as-two e (codes e (a .s .now)) (a .i) (omega (arith, as-many-codes e (a .s .now), more .if1 .left)) n h
+    (omega (arith, its .code-at .ensures, low .if3 .left)) (omega (arith, its .code-at .ensures, high .if4 .left))
+    (rw (its .code-at .ensures) at (op .operator .ensures)) (first .spell2 .ensures)
     (gap .put2 .ensures) (second .spell3 .ensures) (close .put3 .ensures)
 
 pub +spell-spec : {M : Type 1} → statement M
@@ -159,7 +188,7 @@ pub +spell-spec : {M : Type 1} → statement M
     (spell-at t)
     spell.Post
     (spell-returns t)
-    (spell-shared-slice-read-b t)
+    (spell-code-at-requires t)
     (spell-slice-aggregate-put-all t)
     (spell-put-all-requires t)
     (spell-add-spell t)

@@ -5,6 +5,7 @@ use mathlib.Core.Path.{_≡_, refl, _∙_}
 use lib.ListN.{length}
 use borrow.Author.Needs.{needs}
 use Rattle.paper.specs.Lists.{from, each}
+use Rattle.paper.specs.Alphabet.{edition-1}
 use Rattle.paper_script.specs.Script.{next-character}
 use Rattle.base_put.specs.Counted.{Counted}
 use Rattle.base_put.proofs.Counting.{counted-none, counted-then}
@@ -14,7 +15,7 @@ use Rattle.script_terms.proofs.characters.Tie as tie
 
 abbrev Inv-loop : tie.InvT-loop
 Inv-loop out₀ at lo hi end₀ c₀ out end c =
-    (lo ≤ c) × (c ≤ hi) × (length out ≡ length out₀) × Counted out₀ out at end (each next-character (from lo (c - lo)))
+    (lo ≤ c) × (c ≤ hi) × (length out ≡ length out₀) × Counted out₀ out at end (each (next-character edition-1) (from lo (c - lo)))
 
 abbrev μ-loop : tie.MeasureT-loop
 μ-loop out₀ at lo hi end₀ c₀ out end c = hi - c

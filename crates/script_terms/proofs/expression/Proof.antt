@@ -1,6 +1,8 @@
 -- `expression` meets its contract: the spelling from the first byte on, with as many turns as there are bytes.
 use native.Mathlib.Omega.{arith}
 use lib.ListN.{length}
+use Rattle.base_editions.specs.Editions.{paper-edition}
+use Rattle.script_terms.proofs.CodesAt.{as-many-codes}
 use borrow.Author.Needs.{needs}
 use Rattle.script_terms.specs.Spelt.{term-spelt}
 use Rattle.script_terms.proofs.expression.Statement.{statement}
@@ -17,7 +19,7 @@ unfolding term-spelt
 returns c =
     let told = c .before .before in
     let a = told .before .before .before .before .args in
-    told .spell .ensures (length (a .pattern .now)) (omega arith) .puts
+    told .spell .ensures (length (a .pattern .now)) (omega (arith, as-many-codes (paper-edition (a .edition)) (a .pattern .now))) .puts
 
 pub expression-spec : {M : Type 1} → statement M
 expression-spec = tie.close (tie.spec spell-requires same-length returns)

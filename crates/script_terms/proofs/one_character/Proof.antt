@@ -11,11 +11,8 @@ slice-aggregate-put-all c = search needs
 put-all-requires : tie.Need-put-all-requires
 put-all-requires c κs = search needs
 
-sign-requires : tie.Need-sign-requires
-sign-requires c κs = search needs
-
-put-requires : tie.Need-put-requires
-put-requires c κs = search needs
+character-requires : tie.Need-character-requires
+character-requires c κs = search needs
 
 slice-aggregate-put-all-2 : tie.Need-slice-aggregate-put-all-2
 slice-aggregate-put-all-2 c = search needs
@@ -30,9 +27,9 @@ returns : tie.Need-returns
 unfolding one-character
 returns c =
     let last = c .before .before in
-    let put = last .before .before .before .before .before in
-    let first = put .before .before .before .before .before in
-    counted-then (counted-then (first .put-all .ensures) (rw (put .before .sign .ensures) at (put .put .ensures))) (last .put-all2 .ensures)
+    let its = last .before .before .before .before .before in
+    let first = its .before .before .before .before in
+    counted-then (counted-then (first .put-all .ensures) (its .character .ensures)) (last .put-all2 .ensures)
 
 pub one-character-spec : {M : Type 1} → statement M
 one-character-spec =
@@ -40,8 +37,7 @@ one-character-spec =
     (tie.spec
     slice-aggregate-put-all
     put-all-requires
-    sign-requires
-    put-requires
+    character-requires
     slice-aggregate-put-all-2
     put-all-requires-2
     same-length

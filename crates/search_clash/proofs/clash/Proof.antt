@@ -14,11 +14,8 @@ enum-known-found c = search needs
 enum-told : tie.Need-enum-told
 enum-told c = search needs
 
-every-requires : tie.Need-every-requires
-every-requires c κs = search needs
-
-search-requires : tie.Need-search-requires
-search-requires c κs = search needs
+search-all-requires : tie.Need-search-all-requires
+search-all-requires c κs = search needs
 
 returns : tie.Need-returns
 returns c =
@@ -34,11 +31,10 @@ same-length-2 c = search needs
 returns-2 : tie.Need-returns-2
 returns-2 c =
     let s = c .before .before .before .before in
-    let every = s .before .before .before in
-    let told = every .before .before in
+    let told = s .before .before .before .before in
     let r = told .before .before in
     let a = r .before .before .before .before .args in
-    promised _ _ _ _ (searched-told _ _ (r .read .ensures) (told .enum-told .given .1) _ (every .every .ensures) (now (a .work)) (now (a .answer)) _ _ _ (s .search .ensures))
+    promised _ _ _ _ (searched-told _ _ (r .read .ensures) (told .enum-told .given .1) (now (a .work)) (now (a .answer)) _ _ _ (s .search-all .ensures))
 
 pub clash-spec : {M : Type 1} → statement M
 clash-spec =
@@ -47,8 +43,7 @@ clash-spec =
     read-requires
     enum-known-found
     enum-told
-    every-requires
-    search-requires
+    search-all-requires
     returns
     same-length
     same-length-2

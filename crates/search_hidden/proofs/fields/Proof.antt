@@ -14,10 +14,10 @@ use Rattle.search_hidden.proofs.fields.Statement.{statement}
 use Rattle.search_hidden.proofs.fields.Tie as tie
 
 abbrev Inv-loop : tie.InvT-loop
-Inv-loop own all₀ f₀ all f = (f ≤ fields) × (all ≡ take f own ++ drop f all₀)
+Inv-loop space own all₀ f₀ all f = (f ≤ fields) × (all ≡ take f own ++ drop f all₀)
 
 abbrev μ-loop : tie.MeasureT-loop
-μ-loop own all₀ f₀ all f = fields - f
+μ-loop space own all₀ f₀ all f = fields - f
 
 spaces-requires : tie.Need-spaces-requires Inv-loop μ-loop
 spaces-requires c κs = search needs

@@ -1,5 +1,7 @@
 -- `search` meets its contract: the question with its hidden fields and its tables is made, and searched. Follows from `searched-by`.
 use denote.Ref.{now}
+use mathlib.Core.Path.{refl}
+use mathlib.Core.List.{[], _∷_, _++_}
 use borrow.Author.Needs.{needs}
 use Rattle.search_question.proofs.Searched.{searched-by}
 use Rattle.search_question.proofs.search.Statement.{statement}
@@ -11,20 +13,17 @@ side-requires c κs = search needs
 side-requires-2 : tie.Need-side-requires-2
 side-requires-2 c κs = search needs
 
-fields-requires : tie.Need-fields-requires
-fields-requires c κs = search needs
+spaces-requires : tie.Need-spaces-requires
+spaces-requires c κs = search needs
 
-follow-sets-requires : tie.Need-follow-sets-requires
-follow-sets-requires c κs = search needs
+follow-behind-requires : tie.Need-follow-behind-requires
+follow-behind-requires c κs = search needs
 
-taking-sets-requires : tie.Need-taking-sets-requires
-taking-sets-requires c κs = search needs
+last-behind-requires : tie.Need-last-behind-requires
+last-behind-requires c κs = search needs
 
-last-sets-requires : tie.Need-last-sets-requires
-last-sets-requires c κs = search needs
-
-only-taking-requires : tie.Need-only-taking-requires
-only-taking-requires c κs = search needs
+taking-among-requires : tie.Need-taking-among-requires
+taking-among-requires c κs = search needs
 
 run-requires : tie.Need-run-requires
 run-requires c κs = search needs
@@ -38,16 +37,25 @@ same-length-2 c = search needs
 returns : tie.Need-returns
 returns c =
     let run = c .before .before .before .before in
-    let some = run .before .before .before in
-    let last = some .before .before in
-    let taking = last .before in
-    let follow = taking .before in
-    let fields = follow .before in
-    let right = fields .before in
+    let taking = run .before .before .before .before .before in
+    let last = taking .before in
+    let follow = last .before in
+    let hidden = follow .before in
+    let right = hidden .before in
     let left = right .before in
-    let a = left .before .before .before .before .before .before .args in
-    searched-by _ _ (record { left = left .side .result; right = right .side2 .result; fields = fields .fields .result }) _ _ _ _
-    (λ i. record { left = left .side .ensures i; right = right .side2 .ensures i; fields = fields .fields .ensures i }) (follow .follow-sets .ensures) (taking .taking-sets .ensures) (last .last-sets .ensures) (some .only-taking .ensures)
+    let a = left .before .before .before .before .before .before .before .args in
+    let own = a .question .fields in
+    let many = a .question .alphabet .characters in
+    searched-by _ (a .question)
+    (record { characters = many; left = left .side .result; right = right .side2 .result; fields = own ++ (hidden .spaces .result ∷ hidden .spaces .result ∷ []) })
+    many _ _ _
+    (λ i. record {
+      characters = many;
+      left = left .side .ensures i;
+      right = right .side2 .ensures i;
+      fields = own ++ (hidden .spaces .ensures i ∷ hidden .spaces .ensures i ∷ []);
+    })
+    refl (follow .follow-behind .ensures) (last .last-behind .ensures) (taking .taking-among .ensures)
     (now (a .work)) (now (a .answer)) _ _ _ (run .run .ensures)
 
 pub search-spec : {M : Type 1} → statement M
@@ -56,11 +64,10 @@ search-spec =
     (tie.spec
     side-requires
     side-requires-2
-    fields-requires
-    follow-sets-requires
-    taking-sets-requires
-    last-sets-requires
-    only-taking-requires
+    spaces-requires
+    follow-behind-requires
+    last-behind-requires
+    taking-among-requires
     run-requires
     same-length
     same-length-2

@@ -1,7 +1,7 @@
 -- `puts_before` tests the step, then the two fronts. Follows from the tests.
 use Prim.Native.Nat.{_+_}
 use borrow.Author.Tests.{lt-ltb, le-ltb, eq-eqb, ne-eqb}
-use Rattle.paper.specs.Numbers.{characters}
+use Rattle.paper.specs.Numbers.{most-characters}
 use Rattle.base_codes.specs.Inner.{field-code}
 use Rattle.search_records.specs.Records.{puts-in}
 use borrow.Author.Needs.{needs}
@@ -10,7 +10,7 @@ use Rattle.search_records.proofs.puts_before.Tie as tie
 
 returns : tie.Need-returns
 unfolding puts-in
-returns c = rw (le-ltb (c .before .args .step) characters (c .if1 .taken))
+returns c = rw (le-ltb (c .before .args .step) most-characters (c .if1 .taken))
 
 mul-at : tie.Need-mul-at
 mul-at c = search needs
@@ -26,7 +26,7 @@ unfolding puts-in
 returns-2 c =
     let at = c .before .before in
     let args = at .before .args in
-    rw (lt-ltb (args .step) characters (at .if1 .left), eq-eqb _ (field-code + args .f) (c .if2 .taken))
+    rw (lt-ltb (args .step) most-characters (at .if1 .left), eq-eqb _ (field-code + args .f) (c .if2 .taken))
 
 add-result : tie.Need-add-result
 add-result c = search needs
@@ -42,7 +42,7 @@ unfolding puts-in
 returns-3 c =
     let at = c .before .before .before in
     let args = at .before .args in
-    rw (lt-ltb (args .step) characters (at .if1 .left), ne-eqb _ (field-code + args .f) (c .before .if2 .left))
+    rw (lt-ltb (args .step) most-characters (at .if1 .left), ne-eqb _ (field-code + args .f) (c .before .if2 .left))
 
 pub puts-before-spec : {M : Type 1} → statement M
 puts-before-spec =

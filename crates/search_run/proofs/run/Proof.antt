@@ -19,6 +19,9 @@ question-requires c κs = search needs
 room-for-requires : tie.Need-room-for-requires
 room-for-requires c κs = search needs
 
+within-requires : tie.Need-within-requires
+within-requires c κs = search needs
+
 search-requires : tie.Need-search-requires
 search-requires c κs = search needs
 
@@ -35,9 +38,11 @@ short c =
 -- the search in the lent buffer is over
 abbrev is-over : (c : tie.After-search) → Search-over (c .search .last .0) (c .search .result)
 is-over c =
-    let p = c .before .before .before .before .before .before .before .before in
-    over (tables (p .args .t3) (p .args .t4) (p .args .last)) (c .before .before .before .before .room-for .result) (first p)
-    (c .search .ensures .lent (first p) (c .before .before .before .before .before .question .ensures) (short p))
+    let many = c .before .before in
+    let room = many .before in
+    let p = room .before .before .before .before in
+    over (tables (many .within .result) (p .args .follow .now) (p .args .taking .now) (p .args .last)) (room .room-for .result) (first p)
+    (c .search .ensures .lent (first p) (room .before .question .ensures) (short p))
 
 conclude-requires : tie.Need-conclude-requires
 conclude-requires c κs = is-over (c .before .before .before .before .before)
@@ -55,12 +60,15 @@ returns : tie.Need-returns
 returns c =
     let f = c .before .before .before .before .before .before in
     let s = f .before .before .before .before .before .before in
-    let p = s .before .before .before .before .before .before .before .before in
-    let q = s .before .before .before .before .before .question in
-    let e = ended (tables (p .args .t3) (p .args .t4) (p .args .last)) (s .before .before .before .before .room-for .result) (first p) (q .result) _ (q .ensures) (f .conclude .ensures (is-over s)) (is-over s .lent .entered) in
-    let n = s .before .before .before .before .room-for .ensures in (
-      rw n at (e .0),
-      (rw n at (e .1), c .before .before .clear .ensures ∙ ap (λ n. replicate n 0) (s .search .kept .0)),
+    let many = s .before .before in
+    let room = many .before in
+    let p = room .before .before .before .before in
+    let q = room .before .question in
+    let e = ended (tables (many .within .result) (p .args .follow .now) (p .args .taking .now) (p .args .last)) (room .room-for .result) (first p) (q .result) _ (q .ensures) (f .conclude .ensures (is-over s)) (is-over s .lent .entered) in
+    let n = room .room-for .ensures in
+    let m = many .within .ensures .0 in (
+      rw (n, m) at (e .0),
+      (rw (n, m) at (e .1), c .before .before .clear .ensures ∙ ap (λ n. replicate n 0) (s .search .kept .0)),
     )
 
 pub run-spec : {M : Type 1} → statement M
@@ -69,6 +77,7 @@ run-spec =
     (tie.spec
     question-requires
     room-for-requires
+    within-requires
     search-requires
     conclude-requires
     clear-requires

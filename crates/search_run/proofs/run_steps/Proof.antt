@@ -20,6 +20,9 @@ question-requires c κs = search needs
 room-for-requires : tie.Need-room-for-requires
 room-for-requires c κs = search needs
 
+within-requires : tie.Need-within-requires
+within-requires c κs = search needs
+
 search-requires : tie.Need-search-requires
 search-requires c κs = search needs
 
@@ -36,9 +39,10 @@ short c =
 -- the search in the lent buffer is over
 abbrev is-over : (c : tie.After-search) → Search-over (c .search .last .0) (c .search .result)
 is-over c =
-    let room = c .before .before .before .before in
+    let many = c .before .before in
+    let room = many .before in
     let p = room .before .before .before .before .before in
-    over (tables (p .args .t3) (p .args .t4) (p .args .last)) (room .room-for .result) (first p)
+    over (tables (many .within .result) (p .args .follow .now) (p .args .taking .now) (p .args .last)) (room .room-for .result) (first p)
     (c .search .ensures .lent (first p) (room .before .question .ensures) (short p))
 
 conclude-steps-requires : tie.Need-conclude-steps-requires
@@ -61,12 +65,13 @@ returns c =
     let cleared = c .before .before in
     let end = cleared .before .before .before .before .before .before in
     let s = end .before .before .before .before .before .before .before in
-    let room = s .before .before .before .before in
+    let many = s .before .before in
+    let room = many .before in
     let q = room .before .question in
     let p = room .before .before .before .before .before in
-    let e = ended-with-steps (tables (p .args .t3) (p .args .t4) (p .args .last)) (room .room-for .result) (first p) (q .result) (p .args .answer .now) (p .args .steps .now) _ (q .ensures) (end .conclude-steps .ensures (is-over s)) (is-over s .lent .entered) in
+    let e = ended-with-steps (tables (many .within .result) (p .args .follow .now) (p .args .taking .now) (p .args .last)) (room .room-for .result) (first p) (q .result) (p .args .answer .now) (p .args .steps .now) _ (q .ensures) (end .conclude-steps .ensures (is-over s)) (is-over s .lent .entered) in
     let n = room .room-for .ensures in
-    (rw n at e, cleared .clear .ensures ∙ ap (λ n. replicate n 0) (s .search .kept .0))
+    (rw (n, many .within .ensures .0) at e, cleared .clear .ensures ∙ ap (λ n. replicate n 0) (s .search .kept .0))
 
 pub run-steps-spec : {M : Type 1} → statement M
 run-steps-spec =
@@ -74,6 +79,7 @@ run-steps-spec =
     (tie.spec
     question-requires
     room-for-requires
+    within-requires
     search-requires
     conclude-steps-requires
     clear-requires

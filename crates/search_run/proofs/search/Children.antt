@@ -27,15 +27,15 @@ module _ {k : Coded} (h : Short k) {s : Situation} (e : s ≡ as-struct k) where
       → l ≡ front-from (T .follow) (T .taking) (s .sets) (getD (s .left) 0 0)
       → r ≡ front-from (T .follow) (T .taking) (s .sets) (getD (s .right) 0 0)
       → offer-slots room p (offer-slots room p (offer-slots room p R (as-child left-struck (left-strike (T .last) k)))
-      (as-child right-struck (right-strike (T .last) k))) (puts-of k l r)
+      (as-child right-struck (right-strike (T .last) k))) (puts-of (T .characters) k l r)
       ≡ offer-slots room p R (children-coded T k)
   unfolding children-coded
   children-offered T room p R l r el er =
       let worked : ℕ → Front = λ t. front-from (T .follow) (T .taking) (k .sets) t in
       let one = as-child left-struck (left-strike (T .last) k) in
       let two = as-child right-struck (right-strike (T .last) k) in
-      let three = puts-of k (worked (front (k .left))) (worked (front (k .right))) in
+      let three = puts-of (T .characters) k (worked (front (k .left))) (worked (front (k .right))) in
       let el′ : l ≡ worked (front (k .left)) = el ∙ (λ i. front-from (T .follow) (T .taking) (e i .sets) (getD (e i .left) 0 0)) ∙ ap worked (front-padded (k .left)) in
       let er′ : r ≡ worked (front (k .right)) = er ∙ (λ i. front-from (T .follow) (T .taking) (e i .sets) (getD (e i .right) 0 0)) ∙ ap worked (front-padded (k .right)) in
-      (λ i. offer-slots room p (offer-slots room p (offer-slots room p R one) two) (puts-of k (el′ i) (er′ i)))
+      (λ i. offer-slots room p (offer-slots room p (offer-slots room p R one) two) (puts-of (T .characters) k (el′ i) (er′ i)))
       ∙ sym (offers-append room p R one (two ++ three) ∙ offers-append room p (offer-slots room p R one) two three)

@@ -1,24 +1,21 @@
--- `cut` meets its contract. The loop's invariant: the masks of the characters below `c` are written (`Filled`).
-use Prim.Native.Nat.{ℕ, _-_}
+-- `cut` meets its contract. The loop's invariant: the row is cut to the characters below `c` (`CutSteps`).
+use Prim.Native.Nat.{_-_, _≤_}
 use native.Mathlib.Omega.{arith}
-use mathlib.Core.Path.{refl}
-use mathlib.Core.Bool.{false, cond}
-use lib.ListN.{getD}
+use mathlib.Core.Path.{_≡_}
 use borrow.Author.Needs.{needs}
-use Rattle.paper.specs.Numbers.{characters}
 use Rattle.search_tables.specs.Cut.{cut-row}
-use Rattle.search_tables.proofs.Filled.{Filled, filled-none, filled-more, filled-all}
+use Rattle.search_tables.proofs.CutSteps.{cut-none, cut-more}
 use Rattle.search_tables.proofs.cut.Statement.{statement}
 use Rattle.search_tables.proofs.cut.Tie as tie
 
 abbrev Inv-loop : tie.InvT-loop
-Inv-loop among row masks₀ c₀ masks c = Filled (λ (x : ℕ). cond (getD among x false) (getD row x 0) 0) characters masks c
+Inv-loop n among row masks₀ c₀ masks c = (c ≤ n) × (masks ≡ cut-row c among row)
 
 abbrev μ-loop : tie.MeasureT-loop
-μ-loop among row masks₀ c₀ masks c = characters - c
+μ-loop n among row masks₀ c₀ masks c = n - c
 
 loop-holds : tie.Need-loop-holds Inv-loop μ-loop
-loop-holds c = let a = c .args in filled-none (λ (x : ℕ). cond (getD (a .t1) x false) (getD (a .t2) x 0) 0) characters _ refl
+loop-holds c = (omega arith, cut-none (c .args .t1) (c .args .t2))
 
 array-read-mask-if : tie.Need-array-read-mask-if Inv-loop μ-loop
 array-read-mask-if c = search needs
@@ -47,15 +44,16 @@ loop-less c = search needs
 loop-again : tie.Need-loop-again Inv-loop μ-loop
 loop-again c =
     let l = c .before .before .loop in
-    let a = c .before .before .before .args in
-    filled-more (λ (x : ℕ). cond (getD (a .t1) x false) (getD (a .t2) x 0) 0) characters _ (l .c) (l .inv) (omega arith) _ (c .mask-if .ensures)
+    let start = c .before .before .before in
+    let a = start .args in
+    (omega arith, rw (l .inv .1) (cut-more (a .t1) (a .t2) (l .c) _ (omega (arith, start .pre)) (c .mask-if .ensures)))
 
 returns : tie.Need-returns Inv-loop μ-loop
-unfolding cut-row
 returns c =
     let l = c .before .loop in
-    let a = c .before .before .args in
-    filled-all (λ (x : ℕ). cond (getD (a .t1) x false) (getD (a .t2) x 0) 0) characters _ (l .c) (l .inv) (omega arith)
+    let n = c .before .before .args .n in
+    let same : l .c ≡ n = omega arith in
+    rw (l .inv .1, same)
 
 pub cut-spec : {M : Type 1} → statement M
 cut-spec =

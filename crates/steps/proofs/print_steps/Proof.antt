@@ -7,10 +7,10 @@ use Rattle.steps.proofs.print_steps.Statement.{statement}
 use Rattle.steps.proofs.print_steps.Tie as tie
 
 abbrev Inv-loop : tie.InvT-loop
-Inv-loop steps now₀ at₀ now at = Unit {0}
+Inv-loop edition steps now₀ at₀ now at = Unit {0}
 
 abbrev μ-loop : tie.MeasureT-loop
-μ-loop steps now₀ at₀ now at = length steps - at
+μ-loop edition steps now₀ at₀ now at = length steps - at
 
 loop-holds : tie.Need-loop-holds Inv-loop μ-loop
 loop-holds c = tt

@@ -14,9 +14,6 @@ enum-known-found c = search needs
 enum-told : tie.Need-enum-told
 enum-told c = search needs
 
-every-requires : tie.Need-every-requires
-every-requires c κs = search needs
-
 search-steps-requires : tie.Need-search-steps-requires
 search-steps-requires c κs = search needs
 
@@ -37,12 +34,11 @@ same-length-3 c = search needs
 returns-2 : tie.Need-returns-2
 returns-2 c =
     let s = c .before .before .before .before .before .before in
-    let every = s .before .before .before .before in
-    let told = every .before .before in
+    let told = s .before .before .before .before .before in
     let r = told .before .before in
     let a = r .before .before .before .before .before .args in
     steps-kept _ _ _ _ _
-    (searched-steps _ _ (r .read .ensures) (told .enum-told .given .1) _ (every .every .ensures) (now (a .work)) (now (a .answer)) (now (a .steps)) _ _ _ _ (s .search-steps .ensures))
+    (searched-steps _ _ (r .read .ensures) (told .enum-told .given .1) (now (a .work)) (now (a .answer)) (now (a .steps)) _ _ _ _ (s .search-steps .ensures))
 
 pub steps-spec : {M : Type 1} → statement M
 steps-spec =
@@ -51,7 +47,6 @@ steps-spec =
     read-requires
     enum-known-found
     enum-told
-    every-requires
     search-steps-requires
     returns
     same-length

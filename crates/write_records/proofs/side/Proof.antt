@@ -13,7 +13,7 @@ refuse-requires : tie.Need-refuse-requires
 refuse-requires c κs = search needs
 
 returns : tie.Need-returns
-returns c m e = side-refused m _ _ (c .before .if1 .taken) (c .refuse .ensures)
+returns c m e = side-refused _ m _ _ (c .before .if1 .taken) (c .refuse .ensures)
 
 leading-tokens-requires : tie.Need-leading-tokens-requires
 leading-tokens-requires c κs = search needs
@@ -29,7 +29,7 @@ returns-2 c m e =
     let led = c .before .before in
     let same = led .leading-tokens .ensures in
     let tokens = led .before .before .before .before .before .args .tokens in
-    token-refused m (now tokens) _ (led .before .if1 .left) (subst (λ (n : ℕ). n < length (now tokens)) same (c .before .if2 .taken))
+    token-refused _ m (now tokens) _ (led .before .if1 .left) (subst (λ (n : ℕ). n < length (now tokens)) same (c .before .if2 .taken))
     (c .refuse2 .ensures ∙ rw same)
 
 put-all-requires : tie.Need-put-all-requires
@@ -44,8 +44,8 @@ put-requires c κs = search needs
 put-all-requires-2 : tie.Need-put-all-requires-2
 put-all-requires-2 c κs = search needs
 
-add-t18 : tie.Need-add-t18
-add-t18 c = search needs
+add-t19 : tie.Need-add-t19
+add-t19 c = search needs
 
 same-length : tie.Need-same-length
 same-length c = search needs
@@ -59,7 +59,7 @@ returns-3 c m e =
     let led = all .before in
     let tokens = led .before .before .before .before .before .args .tokens in
     let put = counted-then (counted-then (marked .put-all .ensures) (measured .put .ensures)) (code .put-all2 .ensures) in
-    side-put m (now tokens) _ (led .before .if1 .left) (subst (λ (n : ℕ). length (now tokens) ≤ n) (led .leading-tokens .ensures) (all .if2 .left))
+    side-put _ m (now tokens) _ (led .before .if1 .left) (subst (λ (n : ℕ). length (now tokens) ≤ n) (led .leading-tokens .ensures) (all .if2 .left))
     _ e put refl
 
 pub side-spec : {M : Type 1} → statement M
@@ -76,6 +76,6 @@ side-spec =
     cast-put
     put-requires
     put-all-requires-2
-    add-t18
+    add-t19
     same-length
     returns-3)

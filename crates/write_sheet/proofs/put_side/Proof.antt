@@ -13,7 +13,7 @@ enum-known-found : tie.Need-enum-known-found
 enum-known-found c = search needs
 
 returns : tie.Need-returns
-returns c = (λ d w m e l. side-stopped m _ _ _ (c .before .found .given .1) l, omega arith)
+returns c = (λ d w m e l. side-stopped _ m _ _ _ (c .before .found .given .1) l, omega arith)
 
 enum-told : tie.Need-enum-told
 enum-told c = search needs
@@ -26,10 +26,10 @@ its-short : (a : tie.After-side) → a .side .result .bytes ≤ 3 + sheet-side
 its-short a =
     let start = a .before .before .before .before .before .before .before in
     let (m, e) = start .pre .1 in
-    its-low (a .side .result) (a .side .ensures m e) (side-short m (now (start .args .tokens)))
+    its-low (a .side .result) (a .side .ensures m e) (side-short _ m (now (start .args .tokens)))
 
-add-t13 : tie.Need-add-t13
-add-t13 c =
+add-t14 : tie.Need-add-t14
+add-t14 c =
     let a = c .before .before .before in
     record { fits = omega (arith, its-short a, a .before .before .before .before .before .before .before .pre .0) }
 
@@ -41,11 +41,11 @@ returns-2 c =
     let a = c .before .before .before in
     let told = a .before .before in
     let start = told .before .before .before .before .before in (
-      λ d w m e l. side-behind m (now (start .args .tokens)) (start .args .before) (a .side .result) (omega (arith, start .pre .0)) (told .enum-told .given .1) l (a .side .ensures m e),
+      λ d w m e l. side-behind _ m (now (start .args .tokens)) (start .args .before) (a .side .result) (omega (arith, start .pre .0)) (told .enum-told .given .1) l (a .side .ensures m e),
       omega (arith, its-short a),
     )
 
 pub put-side-spec : {M : Type 1} → statement M
 put-side-spec =
     tie.close
-    (tie.spec enum-known-found returns enum-told side-requires add-t13 same-length returns-2)
+    (tie.spec enum-known-found returns enum-told side-requires add-t14 same-length returns-2)

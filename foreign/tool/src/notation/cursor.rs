@@ -1,12 +1,15 @@
-//! One line as it is read: names, blanks, and the characters of Code 39.
+//! One line as it is read: names, blanks, and the characters of its edition.
 
-use crate::characters::{value, SPACE};
+use bradovusc::Edition;
+
+use crate::characters::{control_name, named};
 use crate::source::{Mistake, Span};
 
 pub type Result<T, E = Mistake> = std::result::Result<T, E>;
 
 /// A line without its comment, and how far it is read.
 pub struct Cursor<'a> {
+    pub edition: Edition,
     pub signs: &'a [char],
     pub at: usize,
     line: usize,
@@ -31,8 +34,8 @@ pub fn quoted(sign: char) -> String {
 }
 
 impl<'a> Cursor<'a> {
-    pub fn new(signs: &'a [char], line: usize) -> Cursor<'a> {
-        Cursor { signs, at: 0, line }
+    pub fn new(edition: Edition, signs: &'a [char], line: usize) -> Cursor<'a> {
+        Cursor { edition, signs, at: 0, line }
     }
 
     pub fn next(&self) -> Option<char> {
@@ -100,19 +103,29 @@ impl<'a> Cursor<'a> {
         (self.at > start).then(|| self.signs[start..self.at].iter().collect())
     }
 
-    /// What stands behind a \, which begins at `start`: one of the signs, or s for the space.
+    /// What stands behind a \, which begins at `start`: one of the signs, s for the space, or, in
+    /// Full ASCII, a name.
     pub fn escaped(&mut self, start: usize) -> Result<u8> {
-        let hint = "a \\ stands before one of - . $ / + % or a space, and \\s is the space too";
+        let hint = match self.edition {
+            Edition::Code39 => {
+                "a \\ stands before one of - . $ / + % or a space, and \\s is the space too"
+            }
+            Edition::FullAscii => {
+                "a \\ stands before a sign or a space, \\s is the space too, and a control \
+                 character is written by its name, \\<LF>, or its code, \\<0A>"
+            }
+        };
         let wrong = |span, words: String| Err(Mistake::new(span, words).hint(hint));
         match self.take() {
             None => wrong(self.from(start), "nothing stands behind this \\".to_string()),
-            Some('s') => Ok(SPACE),
+            Some('s') => Ok(self.edition.space()),
             Some('d') => {
                 let mistake = Mistake::new(self.from(start), "\\d is not known here");
                 Err(mistake.hint("a digit is written [0-9]"))
             }
-            Some(sign) => match value(sign) {
-                Some(value) if !sign.is_ascii_alphanumeric() => Ok(value),
+            Some('<') if self.edition == Edition::FullAscii => self.named(start),
+            Some(sign) => match self.edition.value(sign) {
+                Some(value) if sign == ' ' || sign.is_ascii_punctuation() => Ok(value),
                 _ => {
                     let words = format!("a \\ before {} means nothing", quoted(sign));
                     wrong(self.from(start), words)
@@ -121,20 +134,65 @@ impl<'a> Cursor<'a> {
         }
     }
 
+    /// A character by its name or its code, of which \< is taken.
+    fn named(&mut self, start: usize) -> Result<u8> {
+        let name = self.name().unwrap_or_default();
+        let hint = "a control character is written by its name, as \\<NUL>, \\<LF> and \\<GS>, or by \
+                    its code of two hexadecimal digits, \\<00> to \\<7F>; the sign < stands for itself";
+        if !self.take_if('>') {
+            return Err(Mistake::new(self.from(start), "a \\< without a > behind it").hint(hint));
+        }
+        let value = named(&name).and_then(|sign| self.edition.value(sign));
+        value.ok_or_else(|| {
+            let words = format!("no character has the name or the code '{name}'");
+            Mistake::new(self.from(start), words).hint(hint)
+        })
+    }
+
     /// A sign that stands for itself, at `start`.
     pub fn plain(&self, sign: char, start: usize) -> Result<u8> {
-        let known = if sign == ' ' { None } else { value(sign) };
+        let itself = !matches!(sign, ' ' | '\0'..='\x1F' | '\x7F');
+        let known = self.edition.value(sign).filter(|_| itself);
         known.ok_or_else(|| {
-            let mistake = Mistake::new(
-                self.from(start),
-                format!("{} is no character of Code 39", quoted(sign)),
-            );
-            if sign.is_ascii_lowercase() {
-                let capital = sign.to_ascii_uppercase();
-                mistake.hint(format!("Code 39 has capital letters alone: {capital}"))
-            } else {
-                mistake.hint("the characters are 0 to 9, A to Z, - . $ / + % and the space")
-            }
+            let code = match self.edition {
+                Edition::Code39 => "Code 39",
+                Edition::FullAscii => "Full ASCII",
+            };
+            let words = match control_name(sign).filter(|_| self.edition == Edition::FullAscii) {
+                Some(_) => format!("{} as it is", quoted(sign)),
+                None => format!("{} is no character of {code}", quoted(sign)),
+            };
+            Mistake::new(self.from(start), words).hint(self.instead(sign))
         })
+    }
+
+    /// What to write in place of a sign that stands for nothing.
+    fn instead(&self, sign: char) -> String {
+        match (self.edition, control_name(sign)) {
+            (Edition::Code39, _) if sign.is_ascii_lowercase() => {
+                format!("Code 39 has capital letters alone: {}", sign.to_ascii_uppercase())
+            }
+            (Edition::Code39, _) => {
+                "the characters are 0 to 9, A to Z, - . $ / + % and the space".to_string()
+            }
+            (Edition::FullAscii, Some(name)) => format!("it is written \\<{name}>"),
+            (Edition::FullAscii, None) => "the characters are those of ASCII, 0 to 127".to_string(),
+        }
+    }
+
+    /// A hint on a sign of the notation: how the character itself is written, if it is one.
+    pub fn itself(&self, sign: char, otherwise: &str) -> String {
+        match self.edition {
+            Edition::Code39 => otherwise.to_string(),
+            Edition::FullAscii => format!("the character is written \\{sign}"),
+        }
+    }
+
+    /// The same behind another hint.
+    pub fn and_itself(&self, hint: &str, sign: char) -> String {
+        match self.edition {
+            Edition::Code39 => hint.to_string(),
+            Edition::FullAscii => format!("{hint}; {}", self.itself(sign, "")),
+        }
     }
 }

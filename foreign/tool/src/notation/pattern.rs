@@ -1,6 +1,9 @@
 //! Reads a pattern.
 
+use bradovusc::Edition;
+
 use super::cursor::{is_blank, quoted, Cursor, Result};
+use super::print::{character_text, Place};
 use super::{Kind, Pattern};
 use crate::characters::{sign, Set};
 use crate::source::{Mistake, Span};
@@ -11,6 +14,7 @@ const MOST_NESTED: usize = 100;
 /// The greatest number that a count may have.
 const MOST_TIMES: u32 = 9_999;
 
+const NO_BRACKETS: &str = "Code 39 has no brackets";
 const A_COUNT: &str = "a count is {3}, {2,4} or {2,}";
 const A_SPACE: &str = "a space of the label is written \\s; for mere layout spaces may stand at \
                        both ends, beside | and inside of ( and )";
@@ -31,7 +35,7 @@ impl Cursor<'_> {
             None => Ok(pattern),
             Some(_) => {
                 let mistake = Mistake::new(self.here(), "a ) without a ( before it");
-                Err(mistake.hint("Code 39 has no brackets"))
+                Err(mistake.hint(self.itself(')', NO_BRACKETS)))
             }
         }
     }
@@ -106,32 +110,34 @@ impl Cursor<'_> {
         let wrong =
             |words: String, hint: &str| Err(Mistake::new(self.from(start), words).hint(hint));
         let set = match sign {
-            '.' => Set::ALL,
-            '\\' => Set::one(self.escaped(start)?),
+            '.' => Set::all(self.edition),
+            '\\' => Set::one(self.edition, self.escaped(start)?),
             '[' => self.class(start)?,
             '(' => return self.group(start, nested + 1),
             '*' | '+' | '?' => {
                 let hint = match sign {
-                    '+' => "the character is written \\+",
-                    _ => "* + and ? stand behind what they repeat",
+                    '+' => "the character is written \\+".to_string(),
+                    _ => self.and_itself("* + and ? stand behind what they repeat", sign),
                 };
-                return wrong(format!("nothing to repeat before {}", quoted(sign)), hint);
+                return wrong(format!("nothing to repeat before {}", quoted(sign)), &hint);
             }
             '{' => {
                 let words = "nothing to repeat before '{'".to_string();
-                return wrong(words, &format!("{A_COUNT}; fields stand in a template alone"));
+                let hint = format!("{A_COUNT}; fields stand in a template alone");
+                return wrong(words, &self.and_itself(&hint, sign));
             }
             ']' | '}' => {
                 let opening = if sign == ']' { '[' } else { '{' };
                 let words = format!("a {sign} without a {opening} before it");
-                return wrong(words, "Code 39 has no brackets");
+                return wrong(words, &self.itself(sign, NO_BRACKETS));
             }
-            '^' => return wrong(
-                "'^' outside of a class".to_string(),
-                "a pattern is always of the whole text, so no sign says where it begins; [^AB] is \
-                     any character but A and B",
-            ),
-            sign => Set::one(self.plain(sign, start)?),
+            '^' => {
+                let hint =
+                    "a pattern is always of the whole text, so no sign says where it begins; \
+                            [^AB] is any character but A and B";
+                return wrong("'^' outside of a class".to_string(), &self.and_itself(hint, sign));
+            }
+            sign => Set::one(self.edition, self.plain(sign, start)?),
         };
         Ok(Pattern { kind: Kind::One(set), span: self.from(start) })
     }
@@ -229,7 +235,7 @@ impl Cursor<'_> {
     fn class(&mut self, start: usize) -> Result<Set> {
         let opening = self.from(start);
         let others = self.take_if('^');
-        let (mut set, first) = (Set::NONE, self.at);
+        let (mut set, first) = (Set::none(self.edition), self.at);
         loop {
             let at = self.at;
             match self.next() {
@@ -258,18 +264,25 @@ impl Cursor<'_> {
         let low = self.character_of_class(first)?;
         let behind = self.signs.get(self.at + 1).copied();
         if self.next() != Some('-') || matches!(behind, None | Some(']')) {
-            return Ok(Set::one(low));
+            return Ok(Set::one(self.edition, low));
         }
         self.at += 1;
         let high = self.character_of_class(true)?;
-        let (low, high) = (sign(low), sign(high));
-        if low > high {
-            let words = format!("a range from '{low}' back to '{high}'");
-            let hint = "a range goes by ASCII: space $ % + - . / then 0 to 9, then A to Z; the \
-                        character - is written \\-, or first or last in a class";
+        let edition = self.edition;
+        if sign(edition, low) > sign(edition, high) {
+            let told = |value| character_text(edition, value, Place::Told);
+            let words = format!("a range from '{}' back to '{}'", told(low), told(high));
+            let order = match edition {
+                Edition::Code39 => ": space $ % + - . / then 0 to 9, then A to Z",
+                Edition::FullAscii => "",
+            };
+            let hint = format!(
+                "a range goes by ASCII{order}; the character - is written \\-, or first or last in a \
+                 class"
+            );
             return Err(Mistake::new(self.from(start), words).hint(hint));
         }
-        Ok(Set::signs(low, high))
+        Ok(Set::signs(edition, sign(edition, low), sign(edition, high)))
     }
 
     /// A character of a class. A - stands for itself where `dash` says so, and last.
@@ -283,14 +296,18 @@ impl Cursor<'_> {
             }
             Some('^') => {
                 let mistake = Mistake::new(self.from(start), "'^' in the midst of a class");
-                Err(mistake.hint("it stands first: [^AB] is any character but A and B"))
+                let hint = "it stands first: [^AB] is any character but A and B";
+                Err(mistake.hint(self.and_itself(hint, '^')))
             }
             Some(sign) if is_blank(sign) => {
                 let words = format!("{} in a class", quoted(sign));
                 Err(Mistake::new(self.from(start), words).hint("the space is written \\s"))
             }
-            Some('[') => Err(Mistake::new(self.from(start), "a [ within a class")
-                .hint("Code 39 has no brackets; a class has characters and ranges alone")),
+            Some('[') => {
+                let hint = self.itself('[', NO_BRACKETS);
+                let hint = format!("{hint}; a class has characters and ranges alone");
+                Err(Mistake::new(self.from(start), "a [ within a class").hint(hint))
+            }
             Some(sign) => self.plain(sign, start),
             None => Err(Mistake::new(self.here(), "a character is missing here")),
         }

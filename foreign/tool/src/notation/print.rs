@@ -2,8 +2,10 @@
 
 use std::fmt::Write;
 
+use bradovusc::Edition;
+
 use super::{Kind, Pattern, Rule, Stands};
-use crate::characters::{sign, Set, SPACE};
+use crate::characters::{control_name, sign, Set};
 
 /// A rule's lines, each ended.
 pub fn rule_text(rule: &Rule) -> String {
@@ -24,8 +26,9 @@ pub fn template_text(rule: &Rule) -> String {
     let mut text = String::new();
     for token in &rule.template {
         match token.stands {
-            Stands::Character(SPACE) => text += "\\s",
-            Stands::Character(value) => text.push(sign(value)),
+            Stands::Character(value) => {
+                text += &character_text(rule.edition, value, Place::Template);
+            }
             Stands::Field(index) => {
                 let name = rule.fields.get(index).map_or("", |field| &field.name);
                 text += &format!("{{{name}}}");
@@ -89,10 +92,8 @@ fn put(pattern: &Pattern, around: Around, text: &mut String) {
 /// A set as one character, as `.` or as the shorter of the two classes.
 fn set_text(set: Set) -> String {
     match set.only() {
-        Some(SPACE) => "\\s".to_string(),
-        Some(value) if matches!(sign(value), '.' | '+') => format!("\\{}", sign(value)),
-        Some(value) => sign(value).to_string(),
-        None if set == Set::ALL => ".".to_string(),
+        Some(value) => character_text(set.edition(), value, Place::Pattern),
+        None if set.rest().is_empty() => ".".to_string(),
         None => {
             let (those, others) = (members(set), members(set.rest()));
             if others.len() + 1 < those.len() {
@@ -106,24 +107,61 @@ fn set_text(set: Set) -> String {
 
 /// The inside of a class: digits, letters, then signs.
 fn members(set: Set) -> String {
-    let mut text = String::new();
-    for (low, high) in [(0, 9), (10, 35)] {
-        let inside = Set::range(low, high).rest().or(set.rest()).rest();
-        for (low, high) in inside.ranges() {
+    let (mut text, mut signs) = (String::new(), set);
+    let mut put = |set: Set| {
+        for (low, high) in set.ranges_of_signs() {
+            let sign = |value| character_text(set.edition(), value, Place::Class);
             let _ = match high - low {
                 0 => write!(text, "{}", sign(low)),
                 1 => write!(text, "{}{}", sign(low), sign(high)),
                 _ => write!(text, "{}-{}", sign(low), sign(high)),
             };
         }
+    };
+    for (low, high) in [('0', '9'), ('A', 'Z'), ('a', 'z')] {
+        let group = Set::signs(set.edition(), low, high);
+        put(set.and(group));
+        signs = signs.and(group.rest());
     }
-    for value in 36..43 {
-        match sign(value) {
-            _ if !set.has(value) => (),
-            '-' => text += "\\-",
-            ' ' => text += "\\s",
-            sign => text.push(sign),
+    put(signs);
+    text
+}
+
+/// Where a character is written.
+#[derive(Clone, Copy, Debug, PartialEq, Eq)]
+pub enum Place {
+    Template,
+    Pattern,
+    Class,
+    /// In quotation marks, in what is told.
+    Told,
+}
+
+impl Place {
+    /// The signs that mean something there.
+    fn signs(self) -> &'static str {
+        match self {
+            Place::Template => "#\\{}[]()|*?^",
+            Place::Pattern => "#\\{}[]()|*?^.+",
+            Place::Class => "#\\[]^-",
+            Place::Told => "\\\"",
         }
     }
-    text
+}
+
+/// A character as it is written somewhere.
+pub fn character_text(edition: Edition, value: u8, place: Place) -> String {
+    let sign = sign(edition, value);
+    match control_name(sign) {
+        Some(name) => format!("\\<{name}>"),
+        None if sign == ' ' && place != Place::Told => "\\s".to_string(),
+        None if place.signs().contains(sign) => format!("\\{sign}"),
+        None => sign.to_string(),
+    }
+}
+
+/// A text as it is told, in quotation marks.
+pub fn told_text(edition: Edition, values: &[u8]) -> String {
+    let sign = |&value: &u8| character_text(edition, value, Place::Told);
+    format!("\"{}\"", values.iter().map(sign).collect::<String>())
 }

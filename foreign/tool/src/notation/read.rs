@@ -2,7 +2,9 @@
 
 use std::collections::HashMap;
 
-use super::cursor::{Cursor, Result};
+use bradovusc::Edition;
+
+use super::cursor::{is_blank, Cursor, Result};
 use super::Rule;
 use crate::source::{Mistake, Source, Span};
 
@@ -10,9 +12,8 @@ use crate::source::{Mistake, Source, Span};
 pub fn read(source: &Source) -> Result<Vec<Rule>, Vec<Mistake>> {
     let mut file = File::default();
     for (number, line) in source.lines() {
-        let comment = line.signs.iter().position(|&sign| sign == '#');
-        let signs = &line.signs[..comment.unwrap_or(line.signs.len())];
-        let mut cursor = Cursor::new(signs, number);
+        let mut cursor =
+            Cursor::new(file.edition, without_comment(file.edition, &line.signs), number);
         let result = match line.broken {
             Some(column) => {
                 let span = Span { line: number, column, width: 1 };
@@ -29,9 +30,29 @@ pub fn read(source: &Source) -> Result<Vec<Rule>, Vec<Mistake>> {
     }
 }
 
+/// The line that says that a file is Full ASCII.
+const FULL_ASCII: [&str; 2] = ["full", "ascii"];
+
+/// A line up to its comment. In Full ASCII a # behind a \ is a character.
+fn without_comment(edition: Edition, signs: &[char]) -> &[char] {
+    let mut escaped = false;
+    let begins = |&sign: &char| {
+        let comment = sign == '#' && !escaped;
+        escaped = edition == Edition::FullAscii && sign == '\\' && !escaped;
+        comment
+    };
+    &signs[..signs.iter().position(begins).unwrap_or(signs.len())]
+}
+
+fn is_full_ascii(signs: &[char]) -> bool {
+    let words = signs.split(|&sign| is_blank(sign)).filter(|word| !word.is_empty());
+    words.map(String::from_iter).eq(FULL_ASCII)
+}
+
 /// What is read so far.
 #[derive(Default)]
 struct File {
+    edition: Edition,
     rules: Vec<Rule>,
     /// The lines of the rules, by name.
     named: HashMap<String, usize>,
@@ -49,6 +70,7 @@ impl File {
         let indented = cursor.skip_blanks();
         match cursor.next() {
             None => Ok(()),
+            Some(_) if is_full_ascii(cursor.signs) => self.full_ascii(cursor, indented),
             Some(_) if indented => self.field(cursor),
             Some(_) => {
                 (self.begun, self.template) = (true, false);
@@ -56,6 +78,24 @@ impl File {
                 self.rule(cursor)
             }
         }
+    }
+
+    /// full ascii
+    fn full_ascii(&mut self, cursor: &mut Cursor, indented: bool) -> Result<()> {
+        let start = cursor.at;
+        cursor.at = cursor.signs.len();
+        let before = self.edition;
+        if !self.begun {
+            self.edition = Edition::FullAscii;
+        }
+        let words = match before {
+            _ if self.begun => "this line stands behind a rule",
+            _ if indented => "this line is indented",
+            Edition::FullAscii => "this line stands twice",
+            Edition::Code39 => return Ok(()),
+        };
+        let hint = "a file of Full ASCII says so once, before all rules, in a line of its own";
+        Err(Mistake::new(cursor.from(start), words).hint(hint))
     }
 
     /// NAME = TEMPLATE
@@ -68,7 +108,7 @@ impl File {
         let (template, fields) = cursor.template()?;
         self.template = true;
         self.named.insert(name.clone(), span.line);
-        self.rules.push(Rule { name, span, template, fields });
+        self.rules.push(Rule { edition: self.edition, name, span, template, fields });
         Ok(())
     }
 

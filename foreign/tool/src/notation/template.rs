@@ -71,9 +71,10 @@ impl Cursor<'_> {
             '\\' => Ok(Stands::Character(self.escaped(start)?)),
             '[' | ']' | '(' | ')' | '|' | '*' | '?' | '^' => {
                 let words = format!("{} in a template", quoted(sign));
-                Err(Mistake::new(self.from(start), words).hint(NO_PATTERN))
+                Err(Mistake::new(self.from(start), words).hint(self.and_itself(NO_PATTERN, sign)))
             }
-            '}' => Err(Mistake::new(self.from(start), "a } without a { before it").hint(A_FIELD)),
+            '}' => Err(Mistake::new(self.from(start), "a } without a { before it")
+                .hint(self.and_itself(A_FIELD, sign))),
             sign => match self.plain(sign, start) {
                 // it may be the name of a field, for which the brackets are missing
                 Err(Mistake { span, words, hint: Some(hint) }) if sign.is_ascii_lowercase() => {
@@ -87,17 +88,20 @@ impl Cursor<'_> {
     /// A field of a template, whose { is taken: its place among the fields.
     fn standing(&mut self, start: usize, fields: &mut Vec<Field>) -> Result<usize> {
         let Some(name) = self.name() else {
-            return Err(Mistake::new(self.from(start), "a field without a name").hint(A_FIELD));
+            return Err(Mistake::new(self.from(start), "a field without a name")
+                .hint(self.and_itself(A_FIELD, '{')));
         };
         match self.next() {
             Some('}') => self.at += 1,
             Some(sign) => {
                 let words = format!("{} in the name of a field", quoted(sign));
-                return Err(Mistake::new(self.here(), words).hint(A_FIELD));
+                return Err(Mistake::new(self.here(), words).hint(self.and_itself(A_FIELD, '{')));
             }
             None => {
                 let words = "a { without a } behind it";
-                return Err(Mistake::new(self.from(start), words).hint(A_FIELD));
+                return Err(
+                    Mistake::new(self.from(start), words).hint(self.and_itself(A_FIELD, '{'))
+                );
             }
         }
         let known = fields.iter().position(|field| field.name == name);

@@ -1,23 +1,26 @@
 -- `PatternCursor::pattern` meets its contract: each way out is the case of the definition that the checks on the way leave.
 -- Assumes nothing.
-use Prim.Native.Nat.{ℕ, _+_, _-_, _<_}
-use native.Mathlib.Nat.{add-assoc}
+use Prim.Native.Nat.{ℕ, _+_, _-_, _≤_, _<_}
+use native.Mathlib.Nat.{add-assoc, sub-zero}
 use native.Mathlib.Numerals.{add-one}
 use native.Mathlib.Omega.{arith}
-use mathlib.Core.Path.{_≡_, refl, sym, _∙_}
+use mathlib.Core.Path.{_≡_, refl, sym, ap, _∙_}
 use mathlib.Core.List.{List}
 use denote.Ref.{now}
 use borrow.Author.Needs.{needs}
 use borrow.Author.Tests.{lt-ltb, le-ltb}
-use lib.Dec.{leb, ltb}
-use lib.ListN.{length, drop, length-drop}
+use lib.Dec.{leb, ltb, eqb}
+use lib.ListN.{length, take, drop, length-drop, length-map}
 use lib.Seq.{length-take-le}
-use Rattle.paper.specs.Numbers.{fields}
+use Rattle.paper.specs.Numbers.{fields, pattern-bytes}
+use Rattle.paper.specs.Alphabet.{Edition, code, codes}
 use Rattle.paper.specs.Pattern.{Pattern}
 use Rattle.paper.specs.Written.{Judged, not-one-pattern, too-many-leaves, judge, judged}
 use Rattle.paper.specs.Sheet.{read, body, byte-at, pattern-judged, pattern-record}
-use Rattle.paper.proofs.base.Tests.{or-left-false, leb-false}
+use Rattle.paper.proofs.base.Tests.{or-left-false, or-right-false, leb-false, ltb-false}
 use Rattle.paper.proofs.places.Judged.{within-not-one, within-too-many}
+use Rattle.base_editions.specs.Editions.{paper-edition}
+use Rattle.read_codes.proofs.Laying.{codes-front}
 use Rattle.read_pattern.specs.Worked.{worked-of}
 use Rattle.read_fields.proofs.Verdicts.{told-not-one, told-too-many, told-good}
 use Rattle.read_fields.proofs.PatternCursor.pattern.Statement.{statement}
@@ -125,14 +128,34 @@ add-start c = search needs
 add-end : tie.Need-add-end
 add-end c = search needs
 
+sub-codes-of : tie.Need-sub-codes-of
+sub-codes-of c = search needs
+
+part-codes-of-start : tie.Need-part-codes-of-start
+part-codes-of-start c = search needs
+
+part-codes-of-end : tie.Need-part-codes-of-end
+part-codes-of-end c = search needs
+
+codes-of-requires : tie.Need-codes-of-requires
+codes-of-requires c κs = search needs
+
 sub-tables : tie.Need-sub-tables
 sub-tables c = search needs
 
 part-tables-start : tie.Need-part-tables-start
 part-tables-start c = search needs
 
+-- the bound that the test on the length gives
+length-known : (c : tie.Else3) →
+    let a = c .before .before .before .before .before .before .before .before .args in byte-at (now (a .s)) (a .self .at + 3) ≤ pattern-bytes
+length-known c =
+    let a = c .before .before .before .before .before .before .before .before .args in
+    let n = byte-at (now (a .s)) (a .self .at + 3) in
+    ltb-false pattern-bytes n (or-right-false (eqb n 0) (ltb pattern-bytes n) (sym (c .before .wrong-length .ensures) ∙ c .if3 .left))
+
 part-tables-end : tie.Need-part-tables-end
-part-tables-end c = search needs
+part-tables-end c = omega (arith, length-known (c .before .before .before .before), c)
 
 tables-requires : tie.Need-tables-requires
 tables-requires c κs = search needs
@@ -155,8 +178,8 @@ field-known c =
     leb-false fields f
     (or-left-false (leb fields f) (ltb f (a .self .above)) (sym (c .before .wrong-field .ensures) ∙ c .if2 .left))
 
-add-t37 : tie.Need-add-t37
-add-t37 c = omega (arith, field-known (c .before .before .before .before .before .before .before .before .before))
+add-above : tie.Need-add-above
+add-above c = omega (arith, field-known (c .before .before .before .before .before .before .before .before .before .before .before .before))
 
 -- the body, whose bytes are all there, and what it is judged
 abbrev its-body : tie.Else4 → List ℕ
@@ -172,13 +195,26 @@ there c =
     let n = byte-at (now (a .s)) (a .self .at + 3) in
     length-take-le n (drop (a .self .at + 4) (now (a .s))) (omega (arith, length-drop (a .self .at + 4) (now (a .s)), c .if4 .left))
 
+-- its codes
+abbrev its-edition : tie.Else4 → Edition
+its-edition c = paper-edition (c .before .before .before .before .before .before .before .before .before .args .edition)
+
+abbrev its-codes : tie.Else4 → List ℕ
+its-codes c = codes (its-edition c) (its-body c)
+
 abbrev judgement : tie.Else4 → Judged
-judgement c = judge (its-body c)
+judgement c = judge (its-codes c)
+
+-- how many there are
+coded : (c : tie.Else4) →
+    let a = c .before .before .before .before .before .before .before .before .before .args in
+    length (its-codes c) ≡ byte-at (now (a .s)) (a .self .at + 3)
+coded c = length-map (its-body c) (code (its-edition c)) ∙ there c
 
 -- the checks before the pattern are passed
 past-length : (c : tie.Else4) →
     let a = c .before .before .before .before .before .before .before .before .before .args in
-    pattern-record (now (a .s)) (a .self .at) (a .self .above)
+    pattern-record (paper-edition (a .edition)) (now (a .s)) (a .self .at) (a .self .above)
     ≡ pattern-judged (judgement c) (a .self .at + 4) (byte-at (now (a .s)) (a .self .at + 2)) (a .self .at + (4 + byte-at (now (a .s)) (a .self .at + 3)))
 unfolding pattern-record
 past-length c =
@@ -193,47 +229,58 @@ past-length c =
       le-ltb _ _ (c .if4 .left),
     )
 
--- the body is what was lent to the pattern reader
-worked : (c : tie.After-tables) → c .tables .result ≡ worked-of (judgement (c .before .before))
-worked c =
-    let a = c .before .before .before .before .before .before .before .before .before .before .before .args in
+-- where the checks before the pattern are passed
+abbrev passed : tie.After-tables → tie.Else4
+passed w = w .before .before .before .before .before
+
+-- its codes are what was lent to the pattern reader
+laid : (c : tie.After-codes-of) →
+    let e = c .before .before in
+    let a = e .before .before .before .before .before .before .before .before .before .args in
+    take (byte-at (now (a .s)) (a .self .at + 3)) (c .codes-of .result) ≡ its-codes e
+laid c =
+    let e = c .before .before in
+    let a = e .before .before .before .before .before .before .before .before .before .args in
     let n = byte-at (now (a .s)) (a .self .at + 3) in
-    let e : (a .self .at + 4 + n) - (a .self .at + 4) ≡ n = omega arith in
-    rw e at (c .tables .ensures)
+    let part : (a .self .at + 4 + n) - (a .self .at + 4) ≡ n = omega arith in
+    ap (take n) (rw part at (c .codes-of .ensures)) ∙ codes-front (its-edition e) (its-body e) n (there e) (length-known (e .before))
+
+worked : (c : tie.After-tables) → c .tables .result ≡ worked-of (judgement (passed c))
+worked c = rw sub-zero at (c .tables .ensures) ∙ ap (λ (l : List ℕ). worked-of (judge l)) (laid (c .before .before .before))
 
 -- the bytes at fault
-not-one : (c : tie.After-enum-told) → let w = c .before .before in judgement (w .before .before) ≡ not-one-pattern (w .tables .result .at)
-not-one c = let w = c .before .before in told-not-one (w .tables .result) (judgement (w .before .before)) (worked w) (c .enum-told .given .1)
+not-one : (c : tie.After-enum-told) → let w = c .before .before in judgement (passed w) ≡ not-one-pattern (w .tables .result .at)
+not-one c = let w = c .before .before in told-not-one (w .tables .result) (judgement (passed w)) (worked w) (c .enum-told .given .1)
 
-too-many : (c : tie.After-enum-told2) → let w = c .before .before in judgement (w .before .before) ≡ too-many-leaves (w .tables .result .at)
-too-many c = let w = c .before .before in told-too-many (w .tables .result) (judgement (w .before .before)) (worked w) (c .enum-told2 .given .1)
+too-many : (c : tie.After-enum-told2) → let w = c .before .before in judgement (passed w) ≡ too-many-leaves (w .tables .result .at)
+too-many c = let w = c .before .before in told-too-many (w .tables .result) (judgement (passed w)) (worked w) (c .enum-told2 .given .1)
 
 add-refuse-at-3 : tie.Need-add-refuse-at-3
 add-refuse-at-3 c =
     let told = c .before in
-    let e = told .before .before .before .before in
-    omega (arith, within-not-one (its-body e) _ (not-one told), there e, e)
+    let e = passed (told .before .before) in
+    omega (arith, within-not-one (its-codes e) _ (not-one told), coded e, e)
 
 add-refuse-at-4 : tie.Need-add-refuse-at-4
 add-refuse-at-4 c =
     let told = c .before in
-    let e = told .before .before .before .before in
-    omega (arith, within-too-many (its-body e) _ (too-many told), there e, e)
+    let e = passed (told .before .before) in
+    omega (arith, within-too-many (its-codes e) _ (too-many told), coded e, e)
 
 returns-5 : tie.Need-returns-5
 returns-5 c =
     let told = c .before .before in
-    rw (c .refuse-at5 .ensures .0, c .refuse-at5 .ensures .1, past-length (told .before .before .before .before), not-one told)
+    rw (c .refuse-at5 .ensures .0, c .refuse-at5 .ensures .1, past-length (passed (told .before .before)), not-one told)
 
 returns-6 : tie.Need-returns-6
 returns-6 c =
     let told = c .before .before in
-    rw (c .refuse-at6 .ensures .0, c .refuse-at6 .ensures .1, past-length (told .before .before .before .before), too-many told)
+    rw (c .refuse-at6 .ensures .0, c .refuse-at6 .ensures .1, past-length (passed (told .before .before)), too-many told)
 
 -- a good pattern is read, and reading goes on behind it
 reads-good : (c : tie.Else4) (p : Pattern) → judgement c ≡ judged p →
     let a = c .before .before .before .before .before .before .before .before .before .args in
-    pattern-record (now (a .s)) (a .self .at) (a .self .above)
+    pattern-record (paper-edition (a .edition)) (now (a .s)) (a .self .at) (a .self .above)
     ≡ read (record { field = byte-at (now (a .s)) (a .self .at + 2); its = p }) (a .self .at + 4 + byte-at (now (a .s)) (a .self .at + 3))
 reads-good c p e = rw (past-length c, e) (simp (← add-assoc))
 
@@ -241,7 +288,7 @@ returns-7 : tie.Need-returns-7
 returns-7 c =
     let told = c .before in
     let w = told .before .before in
-    let at-body = w .before .before in
+    let at-body = passed w in
     let good = told-good (w .tables .result) (judgement at-body) (worked w) (told .enum-told3 .given .1) in
     record {
       its = good .0;
@@ -282,6 +329,10 @@ pattern-spec =
     returns-4
     add-start
     add-end
+    sub-codes-of
+    part-codes-of-start
+    part-codes-of-end
+    codes-of-requires
     sub-tables
     part-tables-start
     part-tables-end
@@ -293,7 +344,7 @@ pattern-spec =
     add-refuse-at-4
     refuse-at-requires-6
     enum-told-3
-    add-t37
+    add-above
     returns-5
     returns-6
     returns-7)

@@ -9,12 +9,12 @@ use Rattle.search_run.proofs.search.first_put.Tie as tie
 returns : tie.Need-returns
 returns c =
     let a = c .before .args .a in
-    (omega arith, λ (x : ℕ) (h : x < a). left-not a (c .before .args .b) x (c .if1 .taken) (λ (e : a ≡ x). omega arith))
+    (omega arith, λ (x : ℕ) (h : x < a). left-not a (c .before .args .b) x (omega (arith, c .if1 .taken, c .before .pre)) (λ (e : a ≡ x). omega arith))
 
 returns-2 : tie.Need-returns-2
 returns-2 c =
     let b = c .before .before .args .b in
-    (omega arith, λ (x : ℕ) (h : x < b). right-not (c .before .before .args .a) b x (c .if2 .taken) (λ (e : b ≡ x). omega arith))
+    (omega arith, λ (x : ℕ) (h : x < b). right-not (c .before .before .args .a) b x (omega (arith, c .if2 .taken, c .before .before .pre)) (λ (e : b ≡ x). omega arith))
 
 returns-3 : tie.Need-returns-3
 returns-3 c = (omega arith, λ (x : ℕ) (h : x < 0). absurd (omega arith))

@@ -46,8 +46,11 @@ offer-puts-requires c κs =
     let r = p .pre .0 in (
       record { fits = omega (arith, o .offer2 .kept .0, n .offer .kept .0); most = r .most; within = o .offer2 .ensures .within; numbered = r .numbered },
       (
-        omega (arith, p .pre .1, n .offer .ensures .more, o .offer2 .ensures .more),
-        (c .before .before .before .front-with .ensures .0, c .before .front-with2 .ensures .0),
+        omega (arith, p .pre .1 .0, n .offer .ensures .more, o .offer2 .ensures .more),
+        (
+          (c .before .before .before .front-with .ensures .0, c .before .front-with2 .ensures .0),
+          p .pre .1 .1,
+        ),
       ),
     )
 
@@ -74,7 +77,7 @@ returns c =
           let lent-one = n .offer .ensures .lent R x t left-child (λ u f. left-strike-short (a .last) h f) in
           let lent-two = o .offer2 .ensures .lent one y lent-one right-child (λ u f. right-strike-short (a .last) h f) in
           subst (Lent (q .offer-puts .last .0) (q .offer-puts .result))
-          (children-offered h e (tables (a .follow .now) (a .taking .now) (a .last)) (a .room) (a .parent) R _ _
+          (children-offered h e (tables (a .characters) (a .follow .now) (a .taking .now) (a .last)) (a .room) (a .parent) R _ _
           (g .before .before .front-with .ensures .1 (a .taking .now)) (g .front-with2 .ensures .1 (a .taking .now)))
           (q .offer-puts .ensures .lent two k lent-two e h);
     }

@@ -9,7 +9,7 @@ use mathlib.Core.Logic.{⊎-elim}
 use lib.ListN.{length}
 use borrow.Author.Needs.{needs}
 use Rattle.paper.specs.Lists.{each, upto}
-use Rattle.paper.specs.Numbers.{characters, set-fields}
+use Rattle.paper.specs.Numbers.{most-characters, set-fields}
 use Rattle.paper.specs.Search.{Child}
 use Rattle.search_fronts.specs.Fronts.{Front, with-row, set-by}
 use Rattle.base_codes.specs.Coded.{Coded}
@@ -25,14 +25,14 @@ use Rattle.search_run.proofs.search.offer_puts.Statement.{statement}
 use Rattle.search_run.proofs.search.offer_puts.Tie as tie
 
 abbrev Inv-loop : tie.InvT-loop
-Inv-loop work₀ room parent s left right taking run₀ first end l r c₀ work run c =
+Inv-loop work₀ room parent s left right characters taking run₀ first end l r c₀ work run c =
     (c ≤ characters)
     × (length work ≡ length work₀)
     × Offers room parent s work₀ run₀ work run (λ (k : Coded). each (by-character k (with-row taking left) (with-row taking right)) (upto c))
     × (end ≤ characters)
 
 abbrev μ-loop : tie.MeasureT-loop
-μ-loop work₀ room parent s left right taking run₀ first end l r c₀ work run c = characters - c
+μ-loop work₀ room parent s left right characters taking run₀ first end l r c₀ work run c = characters - c
 
 -- the fronts, with their rows
 abbrev left-front : tie.Start Inv-loop μ-loop → Front
@@ -57,7 +57,7 @@ loop-holds c =
       record {
         within = p .pre .0 .within;
         more = le-refl _;
-        lent = λ R k l e h. rw (none-first k (left-front p) (right-front p) (starts .result) (starts .ensures)) l;
+        lent = λ R k l e h. rw (none-first (a .characters) k (left-front p) (right-front p) (starts .result) (starts .ensures)) l;
       },
       c .first-not-put .ensures .0,
     )
@@ -65,10 +65,11 @@ loop-holds c =
 -- the number of a row and that of a character lie in the table
 rows-below : (c : tie.At-loop Inv-loop μ-loop)
     → (c .before .before .before .before .args .left .row < set-fields) × (c .before .before .before .before .args .right .row < set-fields)
-rows-below c = c .before .before .before .before .pre .1 .1
+rows-below c = c .before .before .before .before .pre .1 .1 .0
 
-character-below : (c : tie.In-loop Inv-loop μ-loop) → c .before .loop .c < characters
-character-below c = omega (arith, c .before .loop .inv .3, c .loop-test .taken)
+character-below : (c : tie.In-loop Inv-loop μ-loop) → c .before .loop .c < most-characters
+character-below c =
+    omega (arith, c .before .before .before .before .before .pre .1 .1 .1, c .before .loop .inv .3, c .loop-test .taken)
 
 mul-m : tie.Need-mul-m Inv-loop μ-loop
 mul-m c = omega (arith, rows-below (c .before))
@@ -131,7 +132,9 @@ loop-again c =
     let v = j .loop .inv .2 in
     let p = j .before .before .before .before in
     let a = p .args in
-    let below : i < characters = character-below (c .before .before .before .before .before .before) in
+    let in-loop = c .before .before .before .before .before .before in
+    let below : i < most-characters = character-below in-loop in
+    let next : i < a .characters = omega (arith, j .loop .inv .3, in-loop .loop-test .taken) in
     let b = c .before .both-take in
     let more = lent-more (a .room) (a .parent) in
     let done : Running → Coded → Running =
@@ -183,7 +186,7 @@ returns c =
       more = v .more;
       lent = λ R k t e h.
           subst (λ (x : List (Child Coded ℕ)). Lent (l .work) (l .now) (offer-slots (a .room) (a .parent) R x))
-          (none-left k (left-front p) (right-front p) (ends .result) (l .c) (ends .ensures) (omega arith) (l .inv .0)) (v .lent R k t e h);
+          (none-left (a .characters) k (left-front p) (right-front p) (ends .result) (l .c) (ends .ensures) (omega arith) (l .inv .0)) (v .lent R k t e h);
     }
 
 pub offer-puts-spec : {M : Type 1} → statement M

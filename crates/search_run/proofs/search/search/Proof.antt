@@ -18,19 +18,19 @@ use Rattle.search_run.proofs.search.search.Statement.{statement}
 use Rattle.search_run.proofs.search.search.Tie as tie
 
 abbrev Inv-loop : tie.InvT-loop
-Inv-loop work₀ room follow taking last run₀ k₀ work run k =
+Inv-loop work₀ room characters follow taking last run₀ k₀ work run k =
     (k ≤ room)
     × (run .entered ≤ room)
     × (length work ≡ length work₀)
-    × ((R : Running) → Lent work₀ run₀ R → Standing (tables follow taking last) room R work run k)
+    × ((R : Running) → Lent work₀ run₀ R → Standing (tables characters follow taking last) room R work run k)
 
 abbrev μ-loop : tie.MeasureT-loop
-μ-loop work₀ room follow taking last run₀ k₀ work run k = room - k
+μ-loop work₀ room characters follow taking last run₀ k₀ work run k = room - k
 
 abbrev tables-at : tie.At-loop Inv-loop μ-loop → Tables
 tables-at c =
     let a = c .before .before .before .before .before .before .args in
-    tables (a .follow .now) (a .taking .now) (a .last)
+    tables (a .characters) (a .follow .now) (a .taking .now) (a .last)
 
 -- at the loop's head: the search that began with k
 standing : (c : tie.At-loop Inv-loop μ-loop) →
@@ -53,7 +53,7 @@ enter-first-requires c κs = search needs
 loop-holds : tie.Need-loop-holds Inv-loop μ-loop
 loop-holds c =
     let a = c .before .before .before .before .before .args in
-    (zero-le, c .before .before .enter-first .ensures .within, refl, λ R l. begun (tables (a .follow .now) (a .taking .now) (a .last)) (a .room) l)
+    (zero-le, c .before .before .enter-first .ensures .within, refl, λ R l. begun (tables (a .characters) (a .follow .now) (a .taking .now) (a .last)) (a .room) l)
 
 is-going-requires : tie.Need-is-going-requires Inv-loop μ-loop
 is-going-requires c κs = search needs
@@ -94,12 +94,12 @@ take-requires c κs =
     let e = j .before .before .before in
     let n = e .enter-first .kept .0 in (
       record {
-        fits = omega (arith, p .pre .0, j .loop .inv .2, n);
-        most = p .pre .1;
+        fits = omega (arith, p .pre .0 .0, j .loop .inv .2, n);
+        most = p .pre .0 .1;
         within = j .loop .inv .1;
-        numbered = omega (arith, p .pre .1, j .loop .inv .0);
+        numbered = omega (arith, p .pre .0 .1, j .loop .inv .0);
       },
-      c .before .if2 .left,
+      (c .before .if2 .left, p .pre .1),
     )
 
 add-k : tie.Need-add-k Inv-loop μ-loop

@@ -29,7 +29,7 @@ returns c =
       within = o .offer-children .ensures .within;
       more = o .offer-children .ensures .more;
       lent = λ R l.
-          let b : k < length (R .slots) = omega (arith, p .pre .1, l .entered) in
+          let b : k < length (R .slots) = omega (arith, p .pre .1 .0, l .entered) in
           let h = l .kept .holds in
           rw (lt-ltb k (length (R .slots)) b)
           (o .offer-children .ensures .lent R (slot-at (R .slots) k .at) l (r .ensures (R .slots) h b) (h .short k b));

@@ -16,8 +16,8 @@ abbrev μ-loop : tie.MeasureT-loop
 loop-holds : tie.Need-loop-holds Inv-loop μ-loop
 loop-holds c = search needs
 
-read-length-requires : tie.Need-read-length-requires Inv-loop μ-loop
-read-length-requires c κs = search needs
+read-eight-requires : tie.Need-read-eight-requires Inv-loop μ-loop
+read-eight-requires c κs = search needs
 
 mul-lengths : tie.Need-mul-lengths Inv-loop μ-loop
 mul-lengths c = search needs
@@ -47,7 +47,7 @@ read-each-spec =
     Inv-loop
     μ-loop
     loop-holds
-    read-length-requires
+    read-eight-requires
     mul-lengths
     slice-write-lengths
     add-i

@@ -1,7 +1,7 @@
 -- `ReadPart::leaf` meets its contract: the one leaf is first and last, and it takes the characters from lo to hi.
 use borrow.Author.Needs.{needs}
 use mathlib.Core.Path.{refl, sym, _∙_}
-use Rattle.paper.specs.Numbers.{characters}
+use Rattle.paper.specs.Numbers.{most-characters}
 use Rattle.read_pattern.proofs.Joining.{joins-marked}
 use Rattle.read_pattern.proofs.Surplus.{surplus-one}
 use Rattle.read_pattern.proofs.reader.ReadPart.leaf.Statement.{statement}
@@ -35,7 +35,7 @@ returns c =
             first = set .ensures;
             last = set .ensures;
           };
-      takes = joins-marked (a .o) (a .lo) (a .hi) (set .result) characters (a .taking .now) _ (set .ensures) (c .before .mark .ensures);
+      takes = joins-marked (a .o) (a .lo) (a .hi) (set .result) most-characters (a .taking .now) _ (set .ensures) (c .before .mark .ensures);
     }
 
 pub leaf-spec : {M : Type 1} → statement M

@@ -1,0 +1,4 @@
+pub mod TextLines
+pub mod ClashProgram
+pub mod DecideProgram
+pub mod ToldBack

@@ -1,0 +1,2 @@
+pub mod CharacterByCharacter
+pub mod EditionByBytes

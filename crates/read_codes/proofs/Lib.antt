@@ -1,0 +1,2 @@
+-- codes laid one after the other
+pub mod Laying
