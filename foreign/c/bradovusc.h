@@ -22,9 +22,10 @@
  * bradovusc_spell, bradovusc_read_spelt, bradovusc_script, bradovusc_add, bradovusc_add_decided, bradovusc_withdraw,
  * bradovusc_recheck, bradovusc_recheck_decided, bradovusc_spell_open, bradovusc_spell_open_rule and bradovusc_spell_open_catalogue.
  * They keep nothing from one call to the next, ask for no memory, and touch nothing but what they are lent, so calls in several
- * threads don't meet. bradovusc_add_decided takes at most about 125 KiB of stack, bradovusc_recheck_decided about 120,
- * bradovusc_decide about 105, bradovusc_spell_open_catalogue about 90, the others about 80; 120, 113, 100, 85 and 74 were measured.
- * So a thread with 96 KiB is enough for all but the first three, and one with 160 KiB for these. All else is in this header:
+ * threads don't meet. bradovusc_add_decided takes at most about 225 KiB of stack, bradovusc_recheck_decided about 210,
+ * bradovusc_decide about 175, bradovusc_spell_open_catalogue and bradovusc_recheck about 120, the others about 105; 216, 201, 166,
+ * 112, 108 and 99 were measured. So a thread with 128 KiB is enough for all but the first three, and one with 256 KiB for these.
+ * All else is in this header:
  * bradovusc_ask, bradovusc_settle, bradovusc_find_steps, bradovusc_play_steps, bradovusc_ask_plain, bradovusc_measure_plain,
  * bradovusc_write_sheet, bradovusc_write_sheet_edition, bradovusc_spell_text, bradovusc_read_back, bradovusc_write_script,
  * bradovusc_enter, bradovusc_enter_decided, bradovusc_remove, bradovusc_check_again, bradovusc_check_again_decided,
