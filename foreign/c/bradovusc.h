@@ -16,22 +16,27 @@
  * from before can be carried over: they then mean what they meant.
  * Up to version 0.6 a pattern had at most 96 bytes and 31 leaves. Since 0.7 it may have 192 bytes and 63 leaves, and a situation
  * takes 184 bytes where it took 144. What was good before is good and means the same.
+ * Up to version 0.8 a sheet or a rule could have a stray pattern, one for a field that does not stand. Now it is refused. Strays can
+ * be dropped from sheets, rules and catalogues from before: every answer about them stays as it was.
  *
- * The static library libexported.a, for x86-64 Linux, defines nineteen functions: bradovusc_clash, bradovusc_decide,
+ * The static library libexported.a, for x86-64 Linux, defines twenty-two functions: bradovusc_clash, bradovusc_decide,
  * bradovusc_steps, bradovusc_play, bradovusc_plain, bradovusc_plain_bytes, bradovusc_write, bradovusc_write_edition,
  * bradovusc_spell, bradovusc_read_spelt, bradovusc_script, bradovusc_add, bradovusc_add_decided, bradovusc_withdraw,
- * bradovusc_recheck, bradovusc_recheck_decided, bradovusc_spell_open, bradovusc_spell_open_rule and bradovusc_spell_open_catalogue.
+ * bradovusc_recheck, bradovusc_recheck_decided, bradovusc_spell_open, bradovusc_spell_open_rule, bradovusc_spell_open_catalogue,
+ * bradovusc_drop_strays, bradovusc_drop_strays_rule and bradovusc_drop_strays_catalogue.
  * They keep nothing from one call to the next, ask for no memory, and touch nothing but what they are lent, so calls in several
- * threads don't meet. bradovusc_add_decided takes at most about 225 KiB of stack, bradovusc_recheck_decided about 210,
- * bradovusc_decide about 175, bradovusc_spell_open_catalogue and bradovusc_recheck about 120, the others about 105; 216, 201, 166,
- * 112, 108 and 99 were measured. So a thread with 128 KiB is enough for all but the first three, and one with 256 KiB for these.
+ * threads don't meet. bradovusc_add_decided takes at most about 240 KiB of stack, bradovusc_recheck_decided about 225,
+ * bradovusc_decide about 190, bradovusc_spell_open_catalogue, bradovusc_drop_strays_catalogue and bradovusc_recheck about 120, the
+ * others about 105; 233, 218, 184, 111, 111, 108 and 98 were measured. So a thread with 128 KiB is enough for all but the first three,
+ * and one with 256 KiB for these.
  * All else is in this header:
  * bradovusc_ask, bradovusc_settle, bradovusc_find_steps, bradovusc_play_steps, bradovusc_ask_plain, bradovusc_measure_plain,
  * bradovusc_write_sheet, bradovusc_write_sheet_edition, bradovusc_spell_text, bradovusc_read_back, bradovusc_write_script,
  * bradovusc_enter, bradovusc_enter_decided, bradovusc_remove, bradovusc_check_again, bradovusc_check_again_decided,
- * bradovusc_carry_sheet, bradovusc_carry_rule and bradovusc_carry_catalogue call them with any buffers, bradovusc_text and
- * bradovusc_catalogue_text say a number in words, bradovusc_next walks the texts of a clash, bradovusc_next_step the steps of its
- * way, bradovusc_next_pair the pairs that were listed, bradovusc_sign and bradovusc_value go between values and signs.
+ * bradovusc_carry_sheet, bradovusc_carry_rule, bradovusc_carry_catalogue, bradovusc_mend_sheet, bradovusc_mend_rule and
+ * bradovusc_mend_catalogue call them with any buffers, bradovusc_text and bradovusc_catalogue_text say a number in words,
+ * bradovusc_next walks the texts of a clash, bradovusc_next_step the steps of its way, bradovusc_next_pair the pairs that were
+ * listed, bradovusc_sign and bradovusc_value go between values and signs.
  *
  * The header is C99 and C++11. The rules in full: docs/RULES.md.
  */
@@ -52,7 +57,8 @@ extern "C" {
 #endif
 
 /*
- * The number of an answer. What is said of 11 to 17 for a sheet holds for 44 too, which says that its edition is none.
+ * The number of an answer. What is said of 11 to 17 holds for 22 too, which says that a pattern is stray, and comes behind them. Of a
+ * sheet it holds for 44 too, which says that its edition is none. Where strays are dropped, 22 never comes.
  *
  * Of a sheet, 0 and 1 settle the question. So does 20: the rules clash, but the texts couldn't be written. 18 and 19 are
  * neither yes nor no. 11 to 17 say what is wrong with the sheet: the first fault met, whose byte is told as its place.
@@ -66,11 +72,12 @@ extern "C" {
  * Of a catalogue's call, 0 is success. 11 to 17 say what is wrong with the rule that was to be added, 30 to 35 why it can't be done.
  *
  * Of a sheet that is to be written, 0 is success, 44 says that its edition is none, 11 and 13 to 17 what is wrong with a pattern or a
- * side, and 41 that the sheet doesn't fit.
+ * side, 22 that a pattern is stray, and 41 that the sheet doesn't fit.
  *
  * Of a script, 0 is success, 11 to 17 say what is wrong with the sheet, and 40 that the script doesn't fit.
  *
- * Of carrying over, 0 is success, 11 to 17 say what is wrong with the sheet or the rule, 31, 32, 34 and 41 why it can't be done.
+ * Of carrying over, 0 is success, 11 to 17 say what is wrong with the sheet or the rule, 31, 32, 34 and 41 why it can't be done. Of
+ * dropping strays the same, without 22 and 32.
  *
  * Of spelling and of reading back, 0 is success, 45 says that the table doesn't give it, and 46 that it doesn't fit.
  */
@@ -104,9 +111,12 @@ enum bradovusc_number {
     /* The rules clash, but the answer buffer is too short for the texts. Lend a longer one. */
     BRADOVUSC_ANSWER_TOO_SHORT = 20,
 
+    /* A pattern's field stands in neither side, or not in the rule. Drop the strays of what is from before, as below. */
+    BRADOVUSC_STRAY_PATTERN = 22,
+
     /* Of a catalogue's call: the rule was added, or withdrawn, or the pairs are listed. Of a sheet or a script: it is written. Of
-     * carrying over: the sheet, the rule or the catalogue is carried over. Of the bytes that a sheet needs: they are told. Of a text:
-     * it is spelt, or read back. */
+     * carrying over: the sheet, the rule or the catalogue is carried over. Of dropping strays: they are dropped. Of the bytes that a
+     * sheet needs: they are told. Of a text: it is spelt, or read back. */
     BRADOVUSC_DONE = 0,
     /* The new rule clashes with one that is there, or that is not decided. That rule and the answer of the pair are told. */
     BRADOVUSC_NOT_APART = 30,
@@ -116,15 +126,15 @@ enum bradovusc_number {
     BRADOVUSC_FULL = 32,
     /* No rule has the number that was to be withdrawn. */
     BRADOVUSC_NO_RULE = 33,
-    /* The buffer is no catalogue. */
+    /* The buffer is no catalogue. Nor is one from before in which a rule has a stray pattern: drop the strays first. */
     BRADOVUSC_NO_CATALOGUE = 34,
     /* The list buffer is too short for all the pairs that are to be listed. None is. */
     BRADOVUSC_LIST_TOO_SHORT = 35,
 
     /* The output buffer is too short for the script. Not a byte of it is written. */
     BRADOVUSC_SCRIPT_TOO_SHORT = 40,
-    /* The output buffer is too short for the sheet that is to be written, or for the sheet or the rule that is carried over. Not a
-     * byte of it is written. */
+    /* The output buffer is too short for the sheet that is to be written, or for the sheet or the rule that is carried over or loses
+     * its strays. Not a byte of it is written. */
     BRADOVUSC_OUTPUT_TOO_SHORT = 41,
 
     /* A field stands more than once in the two sides together: the rules are not plain. Ask by bradovusc_clash or bradovusc_decide. */
@@ -179,6 +189,8 @@ static inline const char *bradovusc_text(uint32_t number) {
         return "not decided: a side grew too long";
     case BRADOVUSC_ANSWER_TOO_SHORT:
         return "clash, but the answer buffer is too short for the texts";
+    case BRADOVUSC_STRAY_PATTERN:
+        return "a stray pattern";
     case BRADOVUSC_NOT_APART:
         return "not apart from a rule of the catalogue";
     case BRADOVUSC_FOREIGN_FIELD:
@@ -220,8 +232,8 @@ static inline const char *bradovusc_text(uint32_t number) {
     }
 }
 
-/* The same for what a catalogue's call returned, or that of a sheet or a script that is written, of carrying over, of the bytes that a
- * sheet needs, or of a text that is spelt or read back: 0 is "done". */
+/* The same for what a catalogue's call returned, or that of a sheet or a script that is written, of carrying over, of dropping strays,
+ * of the bytes that a sheet needs, or of a text that is spelt or read back: 0 is "done". */
 static inline const char *bradovusc_catalogue_text(uint32_t number) {
     return number == BRADOVUSC_DONE ? "done" : bradovusc_text(number);
 }
@@ -257,7 +269,7 @@ static inline int bradovusc_value(int sign) {
  * A token is a character, 0 to 42 (the digits, A to Z, then - . space $ / + %), or 64 to 71, field 0 to 7.
  * A pattern is written operator first: 0 to 42 that character; 64 the empty text; 65 lo hi one character from lo to hi;
  * 66 A B first A then B; 67 A B one of the two; 68 A any number of A, none included. A field without a pattern holds any text of one
- * character or more; one that may be empty too has the pattern 68 65 0 42.
+ * character or more; one that may be empty too has the pattern 68 65 0 42. A field that has a pattern stands in a side.
  *
  * Behind ED 2 the characters are those of Full ASCII, 0 to 127, in patterns too. A token is a character or 192 to 199, field 0 to
  * 7. In a pattern 192 to 196 stand for 64 to 68, and lo and hi go to 127; a field that may be empty too has the pattern 196 193 0
@@ -348,8 +360,8 @@ static inline int bradovusc_next(struct bradovusc_records *records) {
 }
 
 /*
- * The place of a fault, 11 to 17 or 44: an offset in the sheet, or in the rule from its RU, or in the sheet that would be written. It shows
- * the byte itself.
+ * The place of a fault, 11 to 17, 22 or 44: an offset in the sheet, or in the rule from its RU, or in the sheet that would be written. It
+ * shows the byte itself.
  *
  *   11   the length of the sheet, or of the rule's bytes
  *   12   the first byte of the mark, or the first byte behind the last side
@@ -359,7 +371,10 @@ static inline int bradovusc_next(struct bradovusc_records *records) {
  *        character or below lo; the first byte left over; where the code runs out, the offset behind the pattern's last byte
  *   16   the first byte of the 64th leaf
  *   17   the first byte that is no token
+ *   22   the first byte of the mark of the first stray pattern
  *   44   the edition byte, 2
+ *
+ * 22 comes behind all the others: nothing else is wrong with the sheet or the rule.
  *
  * It is never above the length. With 11 it is the length, and with 15 it can be, if the code runs out where the bytes end: no byte
  * stands there then, so look at the length before taking the byte.
@@ -371,11 +386,12 @@ static inline int bradovusc_next(struct bradovusc_records *records) {
  */
 enum bradovusc_told {
     /* situations entered; 0 after 11 to 17, of a way that is played, of the engine for plain rules, of a sheet or a script that is
-     * written, and of what is carried over */
+     * written, and of what is carried over or loses its strays */
     BRADOVUSC_COUNT = 0,
     /* after 11 to 17 the offset of the byte at fault, as above; otherwise 0 */
     BRADOVUSC_PLACE = 1,
-    /* bytes written to the answer buffer, of the sheet, of the script, or of what is carried over; 0 where the number is not */
+    /* bytes written to the answer buffer, of the sheet, of the script, or of what is carried over or loses its strays; 0 where the
+     * number is not */
     BRADOVUSC_WRITTEN = 2,
     BRADOVUSC_TOLD = 3
 };
@@ -734,12 +750,13 @@ static inline struct bradovusc_plain_needs bradovusc_measure_plain(const uint8_t
  *
  *   number            output buffer
  *   0                 the sheet, the rest unchanged
- *   11, 13 to 17, 44  unchanged
+ *   11, 13 to 17      unchanged
+ *   22, 44            unchanged
  *   41                unchanged: the sheet is longer
  *
  * The faults are those of the sheet that would be written, by what is wrong, the first one that reading it would meet. So the
- * edition comes first, then the patterns, by rising field, then the left side, then the right one; 41 comes last. The place is an
- * offset in that sheet:
+ * edition comes first, then the patterns, by rising field, then the left side, then the right one, then 22; 41 comes last. The place
+ * is an offset in that sheet:
  *
  *   44   an edition that is neither 0 nor 2: the edition byte, 2
  *   11   a pattern has fewer bytes than its length says: the offset behind those that it has
@@ -748,6 +765,7 @@ static inline struct bradovusc_plain_needs bradovusc_measure_plain(const uint8_t
  *   15   a pattern's bytes are not exactly one pattern: as above
  *   16   a pattern has more than 63 leaves: the first byte of the 64th
  *   17   a side's byte is no token: that byte
+ *   22   a pattern, of one byte or more, is for a field that stands in neither side: the first byte of the first such mark
  *
  * Any bytes, any lengths of patterns and any lengths of buffers are taken, 0 included. Each pointer must be that of so many elements,
  * and not null, also where the length is 0; the output buffer and `told` must overlap neither each other nor one of the rest.
@@ -843,17 +861,18 @@ static inline struct bradovusc_scripted bradovusc_write_script(const uint8_t *sh
 /*
  * The catalogue. A rule's record begins with a mark, as those of a sheet do:
  *
- *   RU  then PA records as in a sheet without ED, of fields 0 to 3, and one LE; the record ends behind it
+ *   RU  then PA records as in a sheet without ED, of fields 0 to 3 that stand in it, and one LE; the record ends behind it
  *
  * A rule's fields are its own: field 0 of another rule is another field. In the buffer the records stand one behind the other from
  * the first byte on, at most 32 of them, and all bytes behind the last one are zero. A rule's number is its place in that order,
  * from 0. All bytes zero, or no byte at all, is the empty catalogue. Between calls the buffer may be stored and moved.
  *
- * A catalogue that began empty and was changed by bradovusc_add, bradovusc_add_decided and bradovusc_withdraw alone has no two rules
- * that make the same label. Of a buffer filled otherwise these look only at the form, and not whether its rules clash. Nor do they in
- * one that was kept since an older version: up to 0.3 a space at the end made another label. bradovusc_recheck and
- * bradovusc_recheck_decided look at all of its pairs. Up to 0.5 a field without a pattern could be empty: carry such a catalogue over
- * first, as below.
+ * A catalogue that began empty and was changed by bradovusc_add, bradovusc_add_decided, bradovusc_withdraw and
+ * bradovusc_drop_strays_catalogue alone has no two rules that make the same label. Of a buffer filled otherwise these look only at the
+ * form, and not whether its rules clash. Nor do they in one that was kept since an older version: up to 0.3 a space at the end made
+ * another label. bradovusc_recheck and bradovusc_recheck_decided look at all of its pairs. Up to 0.5 a field without a pattern could be
+ * empty: carry such a catalogue over first, as below. Up to 0.8 a rule could have a stray pattern: a buffer with one is no catalogue
+ * now, so drop its strays before all else, as below.
  *
  * A record has at most 813 bytes, so a buffer of that many for each rule is always long enough.
  */
@@ -869,7 +888,7 @@ static inline struct bradovusc_scripted bradovusc_write_script(const uint8_t *sh
 enum bradovusc_told_added {
     /* after 30 the situations entered for the pair that was not apart, by all the searches made for it */
     BRADOVUSC_ADDED_COUNT = 0,
-    /* after 11 to 17 the offset of the byte at fault, from RU, as above; 31 has none */
+    /* after 11 to 17 and 22 the offset of the byte at fault, from RU, as above; 31 has none */
     BRADOVUSC_ADDED_PLACE = 1,
     /* after 30 the number of the first rule that the new one is not apart from .. */
     BRADOVUSC_ADDED_RULE = 2,
@@ -893,8 +912,8 @@ enum bradovusc_told_added {
  *   30                      unchanged                               all zero
  *   11 to 17, 31, 32, 34    unchanged                               unchanged
  *
- * 34 comes before 11 to 17, then 31, then 32, then 30. Any bytes and any lengths are taken, 0 included. Each pointer must be that of
- * so many elements, and not null, also where the length is 0; the four must not overlap.
+ * 34 comes before 11 to 17, then 22, 31, 32 and 30, in this order. Any bytes and any lengths are taken, 0 included. Each pointer must
+ * be that of so many elements, and not null, also where the length is 0; the four must not overlap.
  */
 uint32_t bradovusc_add(uint8_t *catalogue, size_t catalogue_length, const uint8_t *rule, size_t rule_length, uint8_t *work,
                        size_t work_length, uint64_t *told, size_t told_length);
@@ -1129,7 +1148,7 @@ static inline int bradovusc_next_pair(struct bradovusc_pairs *pairs) {
  * version they were written: what was written for 0.6 would get another meaning. A catalogue from before 0.6 that is not carried over
  * has rules that make fewer labels than before, and a new rule could then make one that is in use. No pair has to be checked again
  * after it, with two exceptions: a catalogue from before 0.4, and one to which a rule was added by 0.6 first, should be carried over,
- * then checked again.
+ * then checked again. What has stray patterns is refused, so drop them first, as below.
  *
  * So many bytes are always enough, which is proved: BRADOVUSC_SHEET_BYTES for a sheet, BRADOVUSC_RULE_BYTES for a rule, and
  * BRADOVUSC_CATALOGUE_BYTES(BRADOVUSC_RULES), 26,016, for a catalogue.
@@ -1151,8 +1170,8 @@ uint32_t bradovusc_spell_open(const uint8_t *sheet, size_t sheet_length, uint8_t
                               size_t told_length);
 
 /*
- * The same for a rule of a catalogue. After 11 to 17 comes 31, for a field above 3, which has no place; then 41. After each of them
- * the output buffer is unchanged.
+ * The same for a rule of a catalogue. After 11 to 17 and 22 comes 31, for a field above 3, which has no place; then 41. After each of
+ * them the output buffer is unchanged.
  */
 uint32_t bradovusc_spell_open_rule(const uint8_t *rule, size_t rule_length, uint8_t *out, size_t out_length, uint64_t *told,
                                    size_t told_length);
@@ -1205,6 +1224,91 @@ static inline struct bradovusc_carried bradovusc_carry_rule(const uint8_t *rule,
 static inline uint32_t bradovusc_carry_catalogue(uint8_t *catalogue, size_t catalogue_length) {
     uint8_t no_catalogue = 0;
     return bradovusc_spell_open_catalogue(catalogue == NULL && catalogue_length == 0 ? &no_catalogue : catalogue, catalogue_length);
+}
+
+/*
+ * Dropping strays. Up to version 0.8 a sheet could have a pattern for a field that stands in neither side, and a rule one for a
+ * field that does not stand in it. Such a stray pattern was checked and then ignored, and it misled whoever read the sheet. Now a
+ * sheet or a rule with one is refused, with 22, and a buffer in which a rule has one is no catalogue, with 34.
+ *
+ * The three functions below read by the rule of before and leave the strays out. All else, ED included, stays byte for byte as it
+ * was. It is proved that every answer about the new sheet is the one that was given about the old sheet, in every number and byte, by
+ * bradovusc_clash, bradovusc_decide and bradovusc_plain; that each rule makes the labels that it made, and that the pairs of a
+ * catalogue keep their answers and counts; that nothing that comes out has a stray pattern, and that what has none comes out
+ * unchanged. So it may be done at any time, and again.
+ *
+ * What is from before 0.6 loses its strays first, and is then carried over. BRADOVUSC_SHEET_BYTES are always enough for a sheet, and
+ * BRADOVUSC_RULE_BYTES for a rule; so are as many bytes as it has. A catalogue always fits into its own buffer.
+ */
+
+/*
+ * Writes the sheet without its strays. What is told has the indices of bradovusc_told: the count is 0, the place is that of a fault,
+ * and written are the bytes of the new sheet. Afterwards
+ *
+ *   number            output buffer
+ *   0                 the new sheet, the rest unchanged
+ *   11 to 17, 44      unchanged
+ *   41                unchanged: the new sheet is longer
+ *
+ * Any bytes and any lengths are taken, 0 included. Each pointer must be that of so many elements, and not null, also where the
+ * length is 0; the three must not overlap.
+ */
+uint32_t bradovusc_drop_strays(const uint8_t *sheet, size_t sheet_length, uint8_t *out, size_t out_length, uint64_t *told,
+                               size_t told_length);
+
+/*
+ * The same for a rule of a catalogue. After 11 to 17 comes 31, for a field above 3, that of a stray pattern too, which has no place;
+ * then 41. After each of them the output buffer is unchanged.
+ */
+uint32_t bradovusc_drop_strays_rule(const uint8_t *rule, size_t rule_length, uint8_t *out, size_t out_length, uint64_t *told,
+                                    size_t told_length);
+
+/*
+ * Drops the strays of every rule of the catalogue, in its own buffer. Afterwards
+ *
+ *   number            catalogue
+ *   0                 the new rules, one behind the other, each with its number of before; then zero bytes
+ *   34                unchanged: it is no catalogue, by the old rule either
+ *
+ * The pointer must not be null, also where the length is 0.
+ */
+uint32_t bradovusc_drop_strays_catalogue(uint8_t *catalogue, size_t catalogue_length);
+
+/* What dropping the strays of a sheet or a rule answers: the number, and what is told beside it. */
+struct bradovusc_mended {
+    uint32_t number;
+    uint64_t place, written;
+};
+
+/* bradovusc_drop_strays with all three numbers at once; each pointer may be null where its length is 0. This is the one to call. */
+static inline struct bradovusc_mended bradovusc_mend_sheet(const uint8_t *sheet, size_t sheet_length, uint8_t *out,
+                                                           size_t out_length) {
+    uint8_t no_sheet = 0, no_out = 0;
+    uint64_t told[BRADOVUSC_TOLD] = {0, 0, 0};
+    struct bradovusc_mended mended;
+    mended.number = bradovusc_drop_strays(sheet == NULL && sheet_length == 0 ? &no_sheet : sheet, sheet_length,
+                                          out == NULL && out_length == 0 ? &no_out : out, out_length, told, BRADOVUSC_TOLD);
+    mended.place = told[BRADOVUSC_PLACE];
+    mended.written = told[BRADOVUSC_WRITTEN];
+    return mended;
+}
+
+/* bradovusc_drop_strays_rule likewise. This is the one to call. */
+static inline struct bradovusc_mended bradovusc_mend_rule(const uint8_t *rule, size_t rule_length, uint8_t *out, size_t out_length) {
+    uint8_t no_rule = 0, no_out = 0;
+    uint64_t told[BRADOVUSC_TOLD] = {0, 0, 0};
+    struct bradovusc_mended mended;
+    mended.number = bradovusc_drop_strays_rule(rule == NULL && rule_length == 0 ? &no_rule : rule, rule_length,
+                                               out == NULL && out_length == 0 ? &no_out : out, out_length, told, BRADOVUSC_TOLD);
+    mended.place = told[BRADOVUSC_PLACE];
+    mended.written = told[BRADOVUSC_WRITTEN];
+    return mended;
+}
+
+/* bradovusc_drop_strays_catalogue, and the pointer may be null where the length is 0. This is the one to call. */
+static inline uint32_t bradovusc_mend_catalogue(uint8_t *catalogue, size_t catalogue_length) {
+    uint8_t no_catalogue = 0;
+    return bradovusc_drop_strays_catalogue(catalogue == NULL && catalogue_length == 0 ? &no_catalogue : catalogue, catalogue_length);
 }
 
 /*

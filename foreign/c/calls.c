@@ -11,11 +11,12 @@
  *   AE  length in two bytes, that many bytes               add this rule, each pair decided
  *   RD  length in two bytes                                check all pairs again, each decided, with a list buffer of so many bytes
  *   SO                                                     carry all rules over
+ *   DS                                                     drop the strays of all rules
  *
  * The stream ends where it ends, where an operation is cut short, has another mark or asks for more than is allowed. The line of AD,
- * AE, WI, RE, RD or SO is what is told, and every byte of the catalogue: those up to the last that is not zero one by one, the zeros
- * by their number; for RE and RD before it the list buffer likewise; for AD, AE, RE and RD the working buffer too, in a word where it
- * is as it was lent, or all zero, and one by one where it is neither.
+ * AE, WI, RE, RD, SO or DS is what is told, and every byte of the catalogue: those up to the last that is not zero one by one, the
+ * zeros by their number; for RE and RD before it the list buffer likewise; for AD, AE, RE and RD the working buffer too, in a word
+ * where it is as it was lent, or all zero, and one by one where it is neither.
  */
 #include <inttypes.h>
 #include <stdio.h>
@@ -146,6 +147,13 @@ static bool carry(void) {
     return true;
 }
 
+static bool drop(void) {
+    printf("drop %" PRIu32, bradovusc_drop_strays_catalogue(catalogue, catalogue_length));
+    print_catalogue();
+    putchar('\n');
+    return true;
+}
+
 static bool next_operation(void) {
     uint8_t mark[2];
     if (!next(mark, 2)) {
@@ -168,6 +176,8 @@ static bool next_operation(void) {
         return next_recheck(true);
     case 256 * 'S' + 'O':
         return carry();
+    case 256 * 'D' + 'S':
+        return drop();
     default:
         return false;
     }

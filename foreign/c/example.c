@@ -2,20 +2,20 @@
  * Two rules: one makes labels of any digits, the other the label 4. Do they clash? Then the way to the clash, step by step, which is
  * played again, and played with a wrong step. Then the same as a script, for a string solver.
  * Then the sheet with a wrong byte. Then a catalogue of rules is kept. Then one that was kept since a space at the end made another
- * label is checked again. Then a sheet and a catalogue are carried over, from the time when a field without a pattern could be empty.
- * Then a keypad maker's 40 finish codes stand in one pattern, of a sheet that the library writes; since no field stands twice in it, the
- * small engine for plain rules answers it too. Then two rules in which fields stand twice: one search gives up, the small engine refuses
- * them, deciding does not. Last a catalogue of such rules: one search can't enter the second, deciding can, and finds the clash of the
- * third.
+ * label is checked again. Then a sheet and a catalogue lose their stray patterns and are carried over, from the time when a field
+ * without a pattern could be empty. Then a keypad maker's 40 finish codes stand in one pattern, of a sheet that the library writes;
+ * since no field stands twice in it, the small engine for plain rules answers it too. Then two rules in which fields stand twice:
+ * one search gives up, the small engine refuses them, deciding does not. Last a catalogue of such rules: one search can't enter the
+ * second, deciding can, and finds the clash of the third.
  *
  * The first line of a sheet is number, count and place, and the number in words. After a clash follows a line for each field, its
  * number and its text, and after a fault a line with the byte at its place. Of the way there is a line with its number and its bytes,
  * and one for each step; then a line for each time that it is played. The script has a line with its number before it. Then
- * comes a line for each call of a catalogue, and one for each pair that is listed, then the lines of what is carried over. Of the
- * finish codes there is a line for each pattern, with its bytes, what writing its sheet answered, and the place of a fault; of a sheet
- * that was written a line with its length and its answer, the texts, and a line of the small engine: the bytes that it needs, its
- * number, and the number in words. Of the last sheet there is a line for each function, number,
- * count and the number in words, and of deciding the search. The lines of the last catalogue say the search too.
+ * comes a line for each call of a catalogue, and one for each pair that is listed, then the lines of what loses its strays and is
+ * carried over. Of the finish codes there is a line for each pattern, with its bytes, what writing its sheet answered, and the place
+ * of a fault; of a sheet that was written a line with its length and its answer, the texts, and a line of the small engine: the
+ * bytes that it needs, its number, and the number in words. Of the last sheet there is a line for each function, number, count and
+ * the number in words, and of deciding the search. The lines of the last catalogue say the search too.
  */
 #include <inttypes.h>
 #include <stdio.h>
@@ -55,13 +55,15 @@ static const uint8_t kept[] = {
     'R', 'U', 'L', 'E', 3, 21, 29, 5      /* L, T, 5 */
 };
 
-/* From before 0.6: is a label of LT, a finish and S also LTS? The finish, field 0, has no pattern. */
+/* From before 0.6: is a label of LT, a finish and S also LTS? The finish, field 0, has no pattern. The size, field 1, stands no more. */
 static const uint8_t old_sheet[] = {
+    'P', 'A', 1, 3, 65, 0, 9,    /* field 1: one character from 0 to 9 */
     'L', 'E', 4, 21, 29, 64, 28, /* left side: L, T, field 0, S */
     'R', 'I', 3, 21, 29, 28      /* right side: L, T, S */
 };
 /* The same two as rules of a catalogue. */
-static const uint8_t finished[] = {'R', 'U', 'L', 'E', 4, 21, 29, 64, 28}, plain[] = {'R', 'U', 'L', 'E', 3, 21, 29, 28};
+static const uint8_t finished[] = {'R', 'U', 'P', 'A', 1, 3, 65, 0, 9, 'L', 'E', 4, 21, 29, 64, 28};
+static const uint8_t plain[] = {'R', 'U', 'L', 'E', 3, 21, 29, 28};
 
 /* A keypad maker's 40 finish codes, of two letters each. Here those with one first letter stand together: it, then the second ones. */
 static const char *const finishes[] = {"ABCN", "BBCKNRZ", "CBHP", "DBN",    "GBDN", "MBCN", "NBK",
@@ -91,7 +93,7 @@ static uint8_t bits[BRADOVUSC_PLAIN_BYTES];
 static uint8_t script[BRADOVUSC_SCRIPT_BYTES];
 static uint8_t catalogue[BRADOVUSC_CATALOGUE_BYTES(BRADOVUSC_RULES)]; /* all zero: no rule is there */
 static uint8_t list[BRADOVUSC_LIST_BYTES(BRADOVUSC_RULES)];
-static uint8_t new_sheet[BRADOVUSC_SHEET_BYTES];
+static uint8_t mended_sheet[BRADOVUSC_SHEET_BYTES], new_sheet[BRADOVUSC_SHEET_BYTES];
 static uint8_t old_catalogue[BRADOVUSC_CATALOGUE_BYTES(BRADOVUSC_RULES)];
 static uint8_t serial_catalogue[BRADOVUSC_CATALOGUE_BYTES(BRADOVUSC_RULES)];
 static uint8_t decided_list[BRADOVUSC_DECIDED_LIST_BYTES(BRADOVUSC_RULES)];
@@ -187,17 +189,25 @@ static void print_meaning(const char *when, const uint8_t *bytes, size_t length)
     printf("%s: %s\n", when, bradovusc_text(given.number));
 }
 
+/* The strays go first: nothing else takes a sheet that has one. */
 static void carry_sheet(void) {
-    struct bradovusc_carried carried = bradovusc_carry_sheet(old_sheet, sizeof old_sheet, new_sheet, sizeof new_sheet);
-    printf("carry the sheet over: %" PRIu32 ", %s: %zu bytes, then %" PRIu64 "\n", carried.number,
-           bradovusc_catalogue_text(carried.number), sizeof old_sheet, carried.written);
+    struct bradovusc_mended mended = bradovusc_mend_sheet(old_sheet, sizeof old_sheet, mended_sheet, sizeof mended_sheet);
+    struct bradovusc_carried carried =
+        bradovusc_carry_sheet(mended_sheet, (size_t)mended.written, new_sheet, sizeof new_sheet);
     print_meaning("as it was", old_sheet, sizeof old_sheet);
+    printf("drop its strays: %" PRIu32 ", %s: %zu bytes, then %" PRIu64 "\n", mended.number,
+           bradovusc_catalogue_text(mended.number), sizeof old_sheet, mended.written);
+    printf("carry the sheet over: %" PRIu32 ", %s: %" PRIu64 " bytes, then %" PRIu64 "\n", carried.number,
+           bradovusc_catalogue_text(carried.number), mended.written, carried.written);
+    print_meaning("without strays", mended_sheet, (size_t)mended.written);
     print_meaning("carried over", new_sheet, (size_t)carried.written);
 }
 
 static void carry_catalogue(void) {
-    uint32_t carried;
+    uint32_t mended, carried;
     memcpy(old_catalogue, finished, sizeof finished);
+    mended = bradovusc_mend_catalogue(old_catalogue, sizeof old_catalogue);
+    printf("drop the catalogue's strays: %" PRIu32 ", %s\n", mended, bradovusc_catalogue_text(mended));
     carried = bradovusc_carry_catalogue(old_catalogue, sizeof old_catalogue);
     printf("carry the catalogue over: %" PRIu32 ", %s\n", carried, bradovusc_catalogue_text(carried));
     add_to(old_catalogue, "plain one", plain, sizeof plain); /* refused, as before 0.6 */

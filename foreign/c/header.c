@@ -1,8 +1,8 @@
 /*
  * Tries what bradovusc.h itself defines: the texts of the numbers, the signs, the walks over records, steps and listed pairs, null
  * pointers of length 0, deciding, the steps of a clash and the player, plain rules, a sheet that is written, the script of one, the
- * calls of a catalogue, with one search and decided, what is carried over, the version, the lengths of buffers; and the places of
- * faults, as it lists them.
+ * calls of a catalogue, with one search and decided, what is carried over, what loses its strays, the version, the lengths of buffers;
+ * and the places of faults, as it lists them.
  * C99, and C++11 too. Prints what does not hold, and how many checks there were; the exit status is 0 if all hold.
  */
 #include <stdio.h>
@@ -26,6 +26,9 @@
 #define bradovusc_spell_open watched_spell_open
 #define bradovusc_spell_open_rule watched_spell_open_rule
 #define bradovusc_spell_open_catalogue watched_spell_open_catalogue
+#define bradovusc_drop_strays watched_drop_strays
+#define bradovusc_drop_strays_rule watched_drop_strays_rule
+#define bradovusc_drop_strays_catalogue watched_drop_strays_catalogue
 #define bradovusc_spell watched_spell
 #define bradovusc_read_spelt watched_read_spelt
 #include "bradovusc.h"
@@ -45,6 +48,9 @@
 #undef bradovusc_spell_open
 #undef bradovusc_spell_open_rule
 #undef bradovusc_spell_open_catalogue
+#undef bradovusc_drop_strays
+#undef bradovusc_drop_strays_rule
+#undef bradovusc_drop_strays_catalogue
 #undef bradovusc_spell
 #undef bradovusc_read_spelt
 
@@ -81,6 +87,11 @@ uint32_t bradovusc_spell_open(const uint8_t *sheet, size_t sheet_length, uint8_t
 uint32_t bradovusc_spell_open_rule(const uint8_t *rule, size_t rule_length, uint8_t *out, size_t out_length, uint64_t *told,
                                    size_t told_length);
 uint32_t bradovusc_spell_open_catalogue(uint8_t *catalogue, size_t catalogue_length);
+uint32_t bradovusc_drop_strays(const uint8_t *sheet, size_t sheet_length, uint8_t *out, size_t out_length, uint64_t *told,
+                               size_t told_length);
+uint32_t bradovusc_drop_strays_rule(const uint8_t *rule, size_t rule_length, uint8_t *out, size_t out_length, uint64_t *told,
+                                    size_t told_length);
+uint32_t bradovusc_drop_strays_catalogue(uint8_t *catalogue, size_t catalogue_length);
 uint32_t bradovusc_spell(const uint8_t *text, size_t text_length, uint8_t *out, size_t out_length, uint64_t *told,
                          size_t told_length);
 uint32_t bradovusc_read_spelt(const uint8_t *spelt, size_t spelt_length, uint8_t *out, size_t out_length, uint64_t *told,
@@ -233,6 +244,27 @@ uint32_t watched_spell_open_catalogue(uint8_t *catalogue, size_t catalogue_lengt
     return bradovusc_spell_open_catalogue(catalogue, catalogue_length);
 }
 
+uint32_t watched_drop_strays(const uint8_t *sheet, size_t sheet_length, uint8_t *out, size_t out_length, uint64_t *told,
+                             size_t told_length) {
+    check(sheet != NULL, "the sheet's pointer is not null", (long)sheet_length);
+    check(out != NULL, "the output buffer's pointer is not null", (long)out_length);
+    check(told != NULL, "the pointer of what is told is not null", (long)told_length);
+    return bradovusc_drop_strays(sheet, sheet_length, out, out_length, told, told_length);
+}
+
+uint32_t watched_drop_strays_rule(const uint8_t *rule, size_t rule_length, uint8_t *out, size_t out_length, uint64_t *told,
+                                  size_t told_length) {
+    check(rule != NULL, "the rule's pointer is not null", (long)rule_length);
+    check(out != NULL, "the output buffer's pointer is not null", (long)out_length);
+    check(told != NULL, "the pointer of what is told is not null", (long)told_length);
+    return bradovusc_drop_strays_rule(rule, rule_length, out, out_length, told, told_length);
+}
+
+uint32_t watched_drop_strays_catalogue(uint8_t *catalogue, size_t catalogue_length) {
+    check(catalogue != NULL, "the catalogue's pointer is not null", (long)catalogue_length);
+    return bradovusc_drop_strays_catalogue(catalogue, catalogue_length);
+}
+
 uint32_t watched_spell(const uint8_t *text, size_t text_length, uint8_t *out, size_t out_length, uint64_t *told,
                        size_t told_length) {
     check(text != NULL, "the text's pointer is not null", (long)text_length);
@@ -267,6 +299,7 @@ static const struct {
     {18, "not decided: no room for a situation"},
     {19, "not decided: a side grew too long"},
     {20, "clash, but the answer buffer is too short for the texts"},
+    {22, "a stray pattern"},
     {30, "not apart from a rule of the catalogue"},
     {31, "a field above 3"},
     {32, "no room in the catalogue"},
@@ -300,7 +333,7 @@ static void try_texts(void) {
         expected = number == 0 ? "done" : expected;
         check(strcmp(bradovusc_catalogue_text(number), expected) == 0, "the text of a catalogue's number", (long)number);
     }
-    check(next == 30, "30 numbers have a text", (long)next);
+    check(next == 31, "31 numbers have a text", (long)next);
     check(strcmp(bradovusc_text(UINT32_MAX), none) == 0, "the greatest number has no text", -1);
 }
 
@@ -522,7 +555,7 @@ static void try_decide(void) {
 /* ---- the places of faults */
 
 static const struct {
-    uint8_t bytes[8];
+    uint8_t bytes[17];
     size_t length;
     uint32_t number;
     uint64_t place;
@@ -553,6 +586,16 @@ static const struct {
     {{'E', 'D', 2, 'L', 'E', 1, 128}, 7, 17, 6}, /* neither a character nor a field */
     {{'E', 'D', 2, 'L', 'E', 1, 200}, 7, 17, 6}, /* the token of a hidden field */
     {{'E', 'D', 2, 'P', 'A', 0, 1, 197}, 8, 15, 7},
+    {{'P', 'A', 0, 1, 4, 'L', 'E', 0, 'R', 'I', 0}, 11, 22, 0},
+    {{'P', 'A', 0, 1, 4, 'L', 'E', 1, 65, 'R', 'I', 0}, 12, 22, 0},                    /* another field stands */
+    {{'P', 'A', 0, 1, 4, 'P', 'A', 7, 1, 4, 'L', 'E', 0, 'R', 'I', 1, 64}, 17, 22, 5}, /* field 0 stands, on the right only */
+    {{'P', 'A', 6, 1, 4, 'P', 'A', 7, 1, 4, 'L', 'E', 0, 'R', 'I', 1, 64}, 17, 22, 0}, /* the first of two */
+    {{'E', 'D', 2, 'P', 'A', 0, 1, 4, 'L', 'E', 0, 'R', 'I', 1, 193}, 15, 22, 3},
+    {{'P', 'A', 0, 1, 4, 'L', 'E', 0, 'R', 'I', 0, 0}, 12, 12, 11}, /* all others come before it */
+    {{'P', 'A', 0, 1, 4, 'L', 'E', 0, 'R', 'I', 1, 72}, 12, 17, 11},
+    {{'P', 'A', 0, 1, 4, 'L', 'E', 0, 'R', 'I', 25}, 11, 14, 10},
+    {{'P', 'A', 0, 1, 4, 'L', 'E', 0, 'R', 'I'}, 10, 11, 10},
+    {{'E', 'D', 3, 'P', 'A', 0, 1, 4, 'L', 'E', 0, 'R', 'I', 0}, 14, 44, 2},
 };
 
 static void try_places(void) {
@@ -877,6 +920,9 @@ static void try_longest_rules(void) {
     *at++ = 'E';
     *at++ = 24;
     memset(at, 64, 24);
+    for (field = 1; field < BRADOVUSC_RULE_FIELDS; field++) {
+        at[field] = (uint8_t)(64 + field); /* no pattern is stray */
+    }
     check(at + 24 == rule + sizeof rule, "the longest rule", (long)(at - rule));
     check(bradovusc_enter(catalogue, sizeof rule - 1, rule, sizeof rule, work, sizeof work).number == 32, "a byte too few", 812);
     check(bradovusc_enter(catalogue, sizeof rule, rule, sizeof rule, work, sizeof work).number == 0, "just enough", 813);
@@ -1130,6 +1176,9 @@ static void try_write_places(void) {
     check(is_written(bradovusc_write_sheet(NULL, 0, NULL, 0, left, 3, many_tokens, 25, NULL, 0), 14, 8, 0), "on the right", 14);
     check(is_written(bradovusc_write_sheet(patterns, 1, one, 1, no_token, 2, many_tokens, 25, NULL, 0), 17, 9, 0), "no token", 17);
     check(is_written(bradovusc_write_sheet(NULL, 0, NULL, 0, left, 3, no_token, 2, NULL, 0), 17, 10, 0), "on the right", 17);
+    check(is_written(bradovusc_write_sheet(patterns, 1, one, 1, right, 1, right, 1, NULL, 0), 22, 0, 0), "22 is before 41", 22);
+    check(is_written(bradovusc_write_sheet(patterns, 5, lengths, 8, left, 3, left, 3, out, sizeof out), 22, 5, 0), "field 7", 22);
+    check(is_written(bradovusc_write_sheet(patterns, 1, one, 1, right, 1, no_token, 2, NULL, 0), 17, 13, 0), "17 is before 22", 17);
     check(out[0] == 7 && out[22] == 7 && out[sizeof out - 1] == 7, "no byte changed", 11);
 }
 
@@ -1145,7 +1194,9 @@ static void try_longest_sheet(void) {
         all_patterns[192 * i + 191] = 10;
         each[i] = 192;
     }
-    memset(tokens, 64, sizeof tokens);
+    for (i = 0; i < sizeof tokens; i++) {
+        tokens[i] = (uint8_t)(64 + i % 8); /* no pattern is stray */
+    }
     memset(out, 7, sizeof out);
     check(is_written(bradovusc_write_sheet(all_patterns, sizeof all_patterns, each, 8, tokens, 24, tokens, 24, out, 1621), 41, 0, 0),
           "a byte too few", 41);
@@ -1157,7 +1208,9 @@ static void try_longest_sheet(void) {
     for (i = 0; i < sizeof all_patterns; i++) {
         all_patterns[i] = all_patterns[i] == 68 ? 196 : 10;
     }
-    memset(tokens, 192, sizeof tokens);
+    for (i = 0; i < sizeof tokens; i++) {
+        tokens[i] = (uint8_t)(192 + i % 8);
+    }
     check(is_written(bradovusc_write_sheet_edition(2, all_patterns, sizeof all_patterns, each, 8, tokens, 24, tokens, 24, out, 1624), 41, 0,
                      0),
           "a byte too few", 41);
@@ -1351,7 +1404,7 @@ static uint8_t bits[BRADOVUSC_PLAIN_BYTES + 1];
 static int is_plain(const uint8_t *sheet, size_t sheet_length, size_t length, uint32_t number, uint64_t place) {
     struct bradovusc_plain_answer given;
     size_t i;
-    int left = number >= 11 && number <= 17 ? 7 : 0;
+    int left = (number >= 11 && number <= 17) || number == 22 ? 7 : 0;
     memset(bits, 7, sizeof bits);
     given = bradovusc_ask_plain(sheet, sheet_length, length > 0 ? bits : NULL, length);
     for (i = 0; i < sizeof bits; i++) {
@@ -1447,14 +1500,16 @@ static int is_carried(struct bradovusc_carried carried, uint32_t number, uint64_
     return carried.number == number && carried.place == place && carried.written == written;
 }
 
-/* x B y, and z; x and z have no pattern, y is A, and so is field 2, which doesn't stand; z is field 7 */
-static const uint8_t old_sheet[] = {'P', 'A', 1, 1, 10, 'P', 'A', 2, 1, 10, 'L', 'E', 3, 64, 11, 65, 'R', 'I', 1, 71};
-static const uint8_t new_sheet[] = {'P', 'A', 0, 4, 68, 65, 0, 42, 'P', 'A', 1, 1, 10, 'P', 'A', 2, 1, 10,
-                                    'P', 'A', 7, 4, 68, 65, 0, 42, 'L', 'E', 3, 64, 11, 65, 'R', 'I', 1, 71};
-/* the rules x B y and A, likewise; y is field 3 */
-static const uint8_t old_rule[] = {'R', 'U', 'P', 'A', 2, 1, 10, 'L', 'E', 3, 64, 11, 67};
-static const uint8_t new_rule[] = {'R', 'U', 'P', 'A', 0, 4, 68, 65, 0, 42, 'P', 'A', 2, 1,  10, 'P',
-                                   'A', 3, 4, 68, 65, 0, 42, 'L', 'E', 3, 64, 11, 67};
+/* x B y, and z; x and z have no pattern, y is A; z is field 7. The same with patterns of the fields 2 and 6, which don't stand */
+static const uint8_t old_sheet[] = {'P', 'A', 1, 1, 10, 'L', 'E', 3, 64, 11, 65, 'R', 'I', 1, 71};
+static const uint8_t new_sheet[] = {'P', 'A', 0, 4, 68, 65, 0, 42, 'P', 'A', 1, 1, 10, 'P', 'A', 7,
+                                    4, 68, 65, 0, 42, 'L', 'E', 3, 64, 11, 65, 'R', 'I', 1, 71};
+static const uint8_t stray_sheet[] = {'P', 'A', 1, 1, 10, 'P', 'A', 2, 1, 10, 'P', 'A', 6, 2, 68,
+                                      10, 'L', 'E', 3, 64, 11, 65, 'R', 'I', 1, 71};
+/* the rule x B y, likewise; y is field 3, and field 2 doesn't stand */
+static const uint8_t old_rule[] = {'R', 'U', 'L', 'E', 3, 64, 11, 67};
+static const uint8_t new_rule[] = {'R', 'U', 'P', 'A', 0, 4, 68, 65, 0, 42, 'P', 'A', 3, 4, 68, 65, 0, 42, 'L', 'E', 3, 64, 11, 67};
+static const uint8_t stray_rule[] = {'R', 'U', 'P', 'A', 2, 1, 10, 'L', 'E', 3, 64, 11, 67};
 static void try_carry_sheet(void) {
     static const uint8_t one_more[] = {'L', 'E', 0, 'R', 'I', 0, 0}, wrong[] = {'L', 'E', 2, 10, 72};
     size_t length = sizeof new_sheet;
@@ -1467,6 +1522,7 @@ static void try_carry_sheet(void) {
     check(is_carried(bradovusc_carry_sheet(one_more, 7, out, sizeof out), 12, 6, 0), "a byte too many", 12);
     check(is_carried(bradovusc_carry_sheet(wrong, 5, NULL, 0), 17, 4, 0), "a fault is before 41", 17);
     check(is_carried(bradovusc_carry_sheet(old_rule, sizeof old_rule, out, sizeof out), 12, 0, 0), "a rule is no sheet", 12);
+    check(is_carried(bradovusc_carry_sheet(stray_sheet, sizeof stray_sheet, NULL, 0), 22, 5, 0), "22 is before 41", 22);
     check(out[0] == 7 && out[length - 2] == 7 && out[sizeof out - 1] == 7, "no byte changed", 41);
     check(is_carried(bradovusc_carry_sheet(old_sheet, sizeof old_sheet, out, length), 0, 0, length), "just enough", (long)length);
     check(memcmp(out, new_sheet, length) == 0 && out[length] == 7, "the new sheet's bytes, and no more", (long)length);
@@ -1477,6 +1533,7 @@ static void try_carry_sheet(void) {
 
 static void try_carry_rule(void) {
     static const uint8_t foreign_field[] = {'R', 'U', 'L', 'E', 1, 68}, no_token[] = {'R', 'U', 'L', 'E', 2, 68, 72};
+    static const uint8_t stray_4[] = {'R', 'U', 'P', 'A', 4, 1, 10, 'L', 'E', 1, 69};
     size_t length = sizeof new_rule;
     memset(out, 7, sizeof out);
 
@@ -1487,6 +1544,8 @@ static void try_carry_rule(void) {
     check(is_carried(bradovusc_carry_rule(no_token, 7, out, sizeof out), 17, 6, 0), "a fault is before 31", 17);
     check(is_carried(bradovusc_carry_rule(foreign_field, 6, NULL, 0), 31, 0, 0), "31 is before 41", 31);
     check(is_carried(bradovusc_carry_rule(old_sheet, sizeof old_sheet, out, sizeof out), 12, 0, 0), "a sheet is no rule", 12);
+    check(is_carried(bradovusc_carry_rule(stray_rule, sizeof stray_rule, NULL, 0), 22, 2, 0), "22 is before 41", 22);
+    check(is_carried(bradovusc_carry_rule(stray_4, sizeof stray_4, out, sizeof out), 22, 2, 0), "22 is before 31", 22);
     check(out[0] == 7 && out[length - 2] == 7 && out[sizeof out - 1] == 7, "no byte changed", 41);
     check(is_carried(bradovusc_carry_rule(old_rule, sizeof old_rule, out, length), 0, 0, length), "just enough", (long)length);
     check(memcmp(out, new_rule, length) == 0 && out[length] == 7, "the new rule's bytes, and no more", (long)length);
@@ -1549,6 +1608,160 @@ static void try_carry_many(void) {
             check(memcmp(at + 2 + 8 * field, record, 8) == 0, "a pattern", (long)field);
         }
     }
+}
+
+/* ---- stray patterns */
+
+/* Every function that reads a sheet or a rule refuses it, and changes nothing. */
+static void try_strays(void) {
+    static const uint8_t stray_4[] = {'R', 'U', 'P', 'A', 4, 1, 10, 'L', 'E', 1, 69};
+    static const uint8_t behind[] = {'R', 'U', 'P', 'A', 4, 1, 10, 'L', 'E', 0, 0};
+    static uint8_t catalogue[20], buffer[32], before[32];
+    const uint8_t *sheet = stray_sheet;
+    size_t length = sizeof stray_sheet, i;
+    struct bradovusc_stepped stepped;
+    struct bradovusc_played played;
+    struct bradovusc_added added;
+    memset(buffer, 7, sizeof buffer);
+    memset(before, 7, sizeof before);
+
+    check(is(bradovusc_ask(sheet, length, buffer, 32, buffer, 0), 22, 0, 5, 0), "a search", 22);
+    check(is_decided(bradovusc_settle(sheet, length, buffer, 32, buffer, 0), 22, 0, 5, 0, 0), "deciding", 22);
+    stepped = bradovusc_find_steps(sheet, length, buffer, 32, NULL, 0, NULL, 0);
+    check(stepped.number == 22 && stepped.count == 0 && stepped.place == 5 && stepped.written == 0 && stepped.steps == 0, "its steps", 22);
+    played = bradovusc_play_steps(sheet, length, before, 1, buffer, 32);
+    check(played.number == 22 && played.place == 5 && played.written == 0, "22 is before 47", 22);
+    check(is_plain(sheet, length, 1, 22, 5) && needs(sheet, length, 22, 5, 0), "plain rules", 22);
+    check(is_scripted(bradovusc_write_script(sheet, length, buffer, 32), 22, 5, 0), "a script", 22);
+    check(memcmp(buffer, before, sizeof buffer) == 0, "no byte changed", 22);
+
+    added = bradovusc_enter(catalogue, sizeof catalogue, stray_rule, sizeof stray_rule, buffer, 32);
+    check(is_added(added, 22, 0, 2, 0, 0), "a rule", 22);
+    added = bradovusc_enter(catalogue, 1, stray_rule, sizeof stray_rule, buffer, 32);
+    check(is_added(added, 22, 0, 2, 0, 0), "22 is before 32", 22);
+    added = bradovusc_enter_decided(catalogue, sizeof catalogue, stray_4, sizeof stray_4, buffer, 32);
+    check(is_added(added, 22, 0, 2, 0, 0), "22 is before 31", 22);
+    added = bradovusc_enter(catalogue, sizeof catalogue, behind, sizeof behind, buffer, 32);
+    check(is_added(added, 12, 0, 10, 0, 0), "12 is before 22", 12);
+    check(all_zero(catalogue, sizeof catalogue), "nothing is added", 22);
+
+    /* a catalogue with one is none */
+    memcpy(catalogue, rule_a, 6);
+    memcpy(catalogue + 6, stray_rule, sizeof stray_rule);
+    memcpy(before, catalogue, sizeof catalogue);
+    check(bradovusc_enter(catalogue, sizeof catalogue, rule_b, 6, buffer, 32).number == 34, "adding", 34);
+    check(bradovusc_enter_decided(catalogue, sizeof catalogue, rule_b, 6, buffer, 32).number == 34, "adding, decided", 34);
+    for (i = 0; i < 3; i++) {
+        check(bradovusc_remove(catalogue, sizeof catalogue, i) == 34, "withdrawing", (long)i);
+    }
+    check(is_rechecked(bradovusc_check_again(catalogue, sizeof catalogue, buffer, 32, NULL, 0), 34, 0, 0), "checking again", 34);
+    check(is_rechecked(bradovusc_check_again_decided(catalogue, sizeof catalogue, buffer, 32, NULL, 0), 34, 0, 0), "decided", 34);
+    check(bradovusc_carry_catalogue(catalogue, sizeof catalogue) == 34, "carrying over", 34);
+    check(memcmp(catalogue, before, sizeof catalogue) == 0, "no byte changed", 34);
+    check(all_are(buffer, sizeof buffer, 7), "nothing was searched", 34);
+}
+
+static int is_mended(struct bradovusc_mended mended, uint32_t number, uint64_t place, uint64_t written) {
+    return mended.number == number && mended.place == place && mended.written == written;
+}
+
+static void try_mend_sheet(void) {
+    static const uint8_t one_more[] = {'P', 'A', 0, 1, 4, 'L', 'E', 0, 'R', 'I', 0, 0}, wrong[] = {'L', 'E', 2, 10, 72};
+    /* fields 0 and 7 don't stand, field 1 stands in the right side only */
+    static const uint8_t ends[] = {'E', 'D', 2, 'P', 'A', 0, 1, 'a', 'P', 'A', 1, 1, 'b',
+                                   'P', 'A', 7, 1, 'c', 'L', 'E', 0, 'R', 'I', 1, 193};
+    static const uint8_t mended_ends[] = {'E', 'D', 2, 'P', 'A', 1, 1, 'b', 'L', 'E', 0, 'R', 'I', 1, 193};
+    size_t length = sizeof old_sheet, given = sizeof stray_sheet;
+    memset(out, 7, sizeof out);
+
+    check(is_mended(bradovusc_mend_sheet(stray_sheet, given, out, length - 1), 41, 0, 0), "a byte too few", 41);
+    check(is_mended(bradovusc_mend_sheet(stray_sheet, given, NULL, 0), 41, 0, 0), "no output buffer", 41);
+    check(is_mended(bradovusc_mend_sheet(NULL, 0, out, sizeof out), 11, 0, 0), "no sheet", 11);
+    check(is_mended(bradovusc_mend_sheet(NULL, 0, NULL, 0), 11, 0, 0), "nothing at all", 11);
+    check(is_mended(bradovusc_mend_sheet(one_more, sizeof one_more, out, sizeof out), 12, 11, 0), "a byte too many", 12);
+    check(is_mended(bradovusc_mend_sheet(wrong, 5, NULL, 0), 17, 4, 0), "a fault is before 41", 17);
+    check(is_mended(bradovusc_mend_sheet(stray_rule, sizeof stray_rule, out, sizeof out), 12, 0, 0), "a rule is no sheet", 12);
+    check(out[0] == 7 && out[length - 2] == 7 && out[sizeof out - 1] == 7, "no byte changed", 41);
+    check(is_mended(bradovusc_mend_sheet(stray_sheet, given, out, length), 0, 0, length), "just enough", (long)length);
+    check(memcmp(out, old_sheet, length) == 0 && out[length] == 7, "the new sheet's bytes, and no more", (long)length);
+    memset(out, 7, sizeof out);
+    check(is_mended(bradovusc_mend_sheet(old_sheet, length, out, sizeof out), 0, 0, length), "nothing to drop", (long)length);
+    check(memcmp(out, old_sheet, length) == 0 && out[length] == 7, "the same bytes, and no more", (long)length);
+    length = sizeof mended_ends;
+    memset(out, 7, sizeof out);
+    check(is_mended(bradovusc_mend_sheet(ends, sizeof ends, out, sizeof out), 0, 0, length), "behind ED", (long)length);
+    check(memcmp(out, mended_ends, length) == 0 && out[length] == 7, "its bytes, and no more", (long)length);
+}
+
+static void try_mend_rule(void) {
+    static const uint8_t foreign_field[] = {'R', 'U', 'L', 'E', 1, 68}, no_token[] = {'R', 'U', 'L', 'E', 2, 68, 72};
+    static const uint8_t stray_4[] = {'R', 'U', 'P', 'A', 4, 1, 10, 'L', 'E', 0};
+    static const uint8_t behind[] = {'R', 'U', 'P', 'A', 4, 1, 10, 'L', 'E', 0, 0};
+    size_t length = sizeof old_rule, given = sizeof stray_rule;
+    memset(out, 7, sizeof out);
+
+    check(is_mended(bradovusc_mend_rule(stray_rule, given, out, length - 1), 41, 0, 0), "a byte too few", 41);
+    check(is_mended(bradovusc_mend_rule(stray_rule, given, NULL, 0), 41, 0, 0), "no output buffer", 41);
+    check(is_mended(bradovusc_mend_rule(NULL, 0, out, sizeof out), 11, 0, 0), "no rule", 11);
+    check(is_mended(bradovusc_mend_rule(NULL, 0, NULL, 0), 11, 0, 0), "nothing at all", 11);
+    check(is_mended(bradovusc_mend_rule(no_token, 7, out, sizeof out), 17, 6, 0), "a fault is before 31", 17);
+    check(is_mended(bradovusc_mend_rule(behind, sizeof behind, out, sizeof out), 12, 10, 0), "a byte too many", 12);
+    check(is_mended(bradovusc_mend_rule(foreign_field, 6, NULL, 0), 31, 0, 0), "31 is before 41", 31);
+    check(is_mended(bradovusc_mend_rule(stray_4, sizeof stray_4, out, sizeof out), 31, 0, 0), "a stray pattern's field too", 31);
+    check(is_mended(bradovusc_mend_rule(stray_sheet, sizeof stray_sheet, out, sizeof out), 12, 0, 0), "a sheet is no rule", 12);
+    check(out[0] == 7 && out[length - 2] == 7 && out[sizeof out - 1] == 7, "no byte changed", 41);
+    check(is_mended(bradovusc_mend_rule(stray_rule, given, out, length), 0, 0, length), "just enough", (long)length);
+    check(memcmp(out, old_rule, length) == 0 && out[length] == 7, "the new rule's bytes, and no more", (long)length);
+    memset(out, 7, sizeof out);
+    check(is_mended(bradovusc_mend_rule(new_rule, sizeof new_rule, out, sizeof out), 0, 0, sizeof new_rule), "nothing to drop", 0);
+    check(memcmp(out, new_rule, sizeof new_rule) == 0 && out[sizeof new_rule] == 7, "the same bytes, and no more", 0);
+}
+
+/* sheet and rule told in so many elements */
+static void try_mended_told(void) {
+    size_t told_length, i;
+    for (told_length = 0; told_length <= 4; told_length++) {
+        uint64_t told[] = {7, 7, 7, 7}, told_of_rule[] = {7, 7, 7, 7};
+        const uint64_t expected[] = {0, 0, sizeof old_sheet, 7}, expected_of_rule[] = {0, 0, sizeof old_rule, 7};
+        check(bradovusc_drop_strays(stray_sheet, sizeof stray_sheet, out, sizeof out, told, told_length) == 0, "written", 0);
+        check(bradovusc_drop_strays_rule(stray_rule, sizeof stray_rule, out, sizeof out, told_of_rule, told_length) == 0, "written", 1);
+        for (i = 0; i < 4; i++) {
+            check(told[i] == (i < told_length ? expected[i] : 7), "an element of what is told", (long)i);
+            check(told_of_rule[i] == (i < told_length ? expected_of_rule[i] : 7), "an element told of a rule", (long)i);
+        }
+    }
+}
+
+/* The first and the last rule have a stray pattern, the one between has none. */
+static void try_mend_catalogue(void) {
+    static const uint8_t last[] = {'R', 'U', 'P', 'A', 0, 1, 10, 'P', 'A', 3, 1, 10, 'L', 'E', 1, 64};
+    static const uint8_t mended_last[] = {'R', 'U', 'P', 'A', 0, 1, 10, 'L', 'E', 1, 64};
+    static uint8_t catalogue[sizeof stray_rule + 6 + sizeof last + 3], before[sizeof catalogue];
+    size_t rules = sizeof catalogue - 3, second = sizeof old_rule, third = second + 6, length = third + sizeof mended_last;
+    memcpy(catalogue, stray_rule, sizeof stray_rule);
+    memcpy(catalogue + sizeof stray_rule, rule_a, 6);
+    memcpy(catalogue + sizeof stray_rule + 6, last, sizeof last);
+    memcpy(before, catalogue, sizeof catalogue);
+
+    check(bradovusc_mend_catalogue(catalogue, rules - 1) == 34, "no catalogue", 34);
+    catalogue[rules + 1] = 1;
+    check(bradovusc_mend_catalogue(catalogue, sizeof catalogue) == 34, "a byte behind it that is not zero", 34);
+    catalogue[rules + 1] = 0;
+    check(memcmp(catalogue, before, sizeof catalogue) == 0, "no byte changed", 34);
+    check(bradovusc_mend_catalogue(catalogue, rules) == 0, "no byte behind the rules", 0);
+    check(memcmp(catalogue, old_rule, second) == 0 && memcmp(catalogue + second, rule_a, 6) == 0, "the first two rules", 1);
+    check(memcmp(catalogue + third, mended_last, sizeof mended_last) == 0, "the third", 2);
+    check(all_zero(catalogue + length, sizeof catalogue - length), "zeros behind them", (long)length);
+    memcpy(before, catalogue, sizeof catalogue);
+    check(bradovusc_mend_catalogue(catalogue, sizeof catalogue) == 0, "nothing to drop", 0);
+    check(memcmp(catalogue, before, sizeof catalogue) == 0, "the same bytes", 0);
+    check(bradovusc_remove(catalogue, sizeof catalogue, 3) == 33, "it is a catalogue of three rules", 33);
+    check(bradovusc_mend_catalogue(NULL, 0) == 0, "no byte, no rule", 0);
+    /* a pattern of field 4 is stray, and the field foreign */
+    memset(catalogue, 0, sizeof catalogue);
+    memcpy(catalogue, stray_rule, sizeof stray_rule);
+    catalogue[4] = 4;
+    check(bradovusc_mend_catalogue(catalogue, sizeof catalogue) == 34, "a stray pattern of field 4", 34);
 }
 
 /* ---- texts that are spelt and read back */
@@ -1665,6 +1878,11 @@ int main(void) {
     try_spelt_told();
     try_carry_catalogue();
     try_carry_many();
+    try_strays();
+    try_mend_sheet();
+    try_mend_rule();
+    try_mended_told();
+    try_mend_catalogue();
     printf("%u checks, %u failed\n", checks, failed);
     return failed == 0 ? EXIT_SUCCESS : EXIT_FAILURE;
 }

@@ -1,5 +1,6 @@
 /*
- * Carries the sheet of each case of a stream on standard input over, as the program `second --spelt` does. What begins with RU is a rule.
+ * Carries the sheet of each case of a stream on standard input over, as the program `second --spelt` does; with the word --drop it drops
+ * its strays, as `second --drop` does. What begins with RU is a rule.
  *
  * A case is as for many.c; the output buffer has the length of the answer buffer, the working buffer does not count. The line of a case
  * is number, place and written length, and every byte of the output buffer: those written one by one, the others in a word where they are
@@ -11,6 +12,16 @@
 enum { OUT_FILL = 165 };
 
 typedef uint32_t (*speller)(const uint8_t *, size_t, uint8_t *, size_t, uint64_t *, size_t);
+
+/* Whether strays are dropped. */
+static bool drops;
+
+static speller speller_of(bool rule) {
+    if (drops) {
+        return rule ? bradovusc_drop_strays_rule : bradovusc_drop_strays;
+    }
+    return rule ? bradovusc_spell_open_rule : bradovusc_spell_open;
+}
 
 static bool is_rule(const uint8_t *sheet, size_t length) { return length >= 2 && sheet[0] == 'R' && sheet[1] == 'U'; }
 
@@ -47,7 +58,7 @@ static void carry_case(const struct stream_case *given) {
     const uint8_t *sheet = given->sheet;
     size_t sheet_length = given->sheet_length, out_length = given->answer_length;
     bool rule = is_rule(sheet, sheet_length);
-    speller spell = rule ? bradovusc_spell_open_rule : bradovusc_spell_open;
+    speller spell = speller_of(rule);
     uint8_t *out = lend(out_length, OUT_FILL);
     uint64_t told[BRADOVUSC_TOLD];
     uint32_t number = spell(sheet, sheet_length, out, out_length, told, BRADOVUSC_TOLD);
@@ -72,4 +83,11 @@ static void carry_case(const struct stream_case *given) {
     free(out);
 }
 
-int main(void) { return each_case("spelt", carry_case); }
+int main(int count, char **words) {
+    drops = count == 2 && strcmp(words[1], "--drop") == 0;
+    if (count != 1 && !drops) {
+        fputs("usage: spelt [--drop]\n", stderr);
+        return 2;
+    }
+    return each_case("spelt", carry_case);
+}

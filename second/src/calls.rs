@@ -12,12 +12,14 @@
 //! | `AE` | length n in two bytes, n bytes | add this rule, each pair decided |
 //! | `RD` | length in two bytes | check the pairs again, each decided, with a list buffer of so many bytes |
 //! | `SO` | | carry the catalogue over: the old meaning of fields without a pattern is written out |
+//! | `DS` | | drop the stray patterns of the catalogue's rules |
 
 use crate::cases::{push_each, push_work, WORK_FILL};
-use crate::catalogue::{add, add_decided, recheck, recheck_decided, withdraw};
-use crate::catalogue::{Added, AddedDecided, DecidedPair, Pair, Rechecked, Searcher};
+use crate::catalogue::{add_by, once, recheck_by, recheck_decided_by, withdraw_by};
+use crate::catalogue::{Added, AddedDecided, Ask, DecidedPair, Pair, Rechecked, Searcher};
 use crate::catalogue::{DECIDED_PAIR_BYTES, DONE, PAIR_BYTES};
-use crate::spell_open;
+use crate::sheet::Reading;
+use crate::{decide, drop_strays, spell_open};
 
 /// The catalogue's length at the start, and the greatest.
 pub const MOST_CATALOGUE: usize = 8_192;
@@ -43,6 +45,7 @@ pub enum Operation {
     Carry,
     AddDecided(Vec<u8>),
     RecheckDecided(usize),
+    Drop,
 }
 
 impl Operation {
@@ -87,6 +90,7 @@ impl Operation {
                 allowed.then_some((Operation::RecheckDecided(length), rest))
             }
             b"SO" => Some((Operation::Carry, rest)),
+            b"DS" => Some((Operation::Drop, rest)),
             _ => None,
         }
     }
@@ -120,6 +124,7 @@ impl Operation {
                 stream.extend_from_slice(&(*length as u16).to_le_bytes());
             }
             Operation::Carry => stream.extend_from_slice(b"SO"),
+            Operation::Drop => stream.extend_from_slice(b"DS"),
         }
     }
 }
@@ -142,6 +147,7 @@ pub struct Calls {
     pub catalogue: Vec<u8>,
     work: usize,
     search: Searcher,
+    reading: Reading,
 }
 
 /// What a call told, and what the lent buffers hold afterwards.
@@ -159,26 +165,31 @@ pub enum Call {
     Carry { number: u8 },
     AddDecided { told: AddedDecided, work: Vec<u8> },
     RecheckDecided { told: Rechecked, list: Vec<u8>, work: Vec<u8> },
+    Drop { number: u8 },
 }
 
 impl Calls {
     /// "At the start the catalogue is 8192 zero bytes and 65520 bytes of work
     /// are lent."
     pub fn new(search: Searcher) -> Calls {
-        Calls { catalogue: vec![0; MOST_CATALOGUE], work: WORK, search }
+        Calls::by(Reading::New, search)
+    }
+
+    /// The same with stray patterns by this rule.
+    pub fn by(reading: Reading, search: Searcher) -> Calls {
+        Calls { catalogue: vec![0; MOST_CATALOGUE], work: WORK, search, reading }
     }
 
     /// Does one operation; `CA` and `WO` tell nothing.
     pub fn run(&mut self, operation: &Operation) -> Option<After> {
         let call = match operation {
             Operation::Add(rule) => {
-                let mut work = vec![WORK_FILL; self.work];
-                let told = add(&mut self.catalogue, rule, &mut work, self.search);
-                Call::Add { told, work }
+                let (told, work) = self.add(rule, once);
+                Call::Add { told: told.added, work }
             }
             Operation::Withdraw(number) => {
-                let number = withdraw(&mut self.catalogue, usize::from(*number));
-                Call::Withdraw { number }
+                let number = usize::from(*number);
+                Call::Withdraw { number: withdraw_by(self.reading, &mut self.catalogue, number) }
             }
             Operation::Catalogue { length, front } => {
                 self.catalogue = front.clone();
@@ -192,23 +203,37 @@ impl Calls {
             Operation::Recheck(length) => {
                 let mut list = vec![LIST_FILL; *length];
                 let mut work = vec![WORK_FILL; self.work];
-                let told = recheck(&self.catalogue, &mut work, &mut list, self.search);
+                let (reading, search) = (self.reading, self.search);
+                let told = recheck_by(reading, &self.catalogue, &mut work, &mut list, search);
                 Call::Recheck { told, list, work }
             }
-            Operation::Carry => Call::Carry { number: spell_open::catalogue(&mut self.catalogue) },
+            Operation::Carry => {
+                let number = spell_open::catalogue_by(self.reading, &mut self.catalogue);
+                Call::Carry { number }
+            }
             Operation::AddDecided(rule) => {
-                let mut work = vec![WORK_FILL; self.work];
-                let told = add_decided(&mut self.catalogue, rule, &mut work, self.search);
+                let (told, work) = self.add(rule, decide::pair);
                 Call::AddDecided { told, work }
             }
             Operation::RecheckDecided(length) => {
                 let mut list = vec![LIST_FILL; *length];
                 let mut work = vec![WORK_FILL; self.work];
-                let told = recheck_decided(&self.catalogue, &mut work, &mut list, self.search);
+                let (reading, search) = (self.reading, self.search);
+                let told =
+                    recheck_decided_by(reading, &self.catalogue, &mut work, &mut list, search);
                 Call::RecheckDecided { told, list, work }
             }
+            Operation::Drop => Call::Drop { number: drop_strays::catalogue(&mut self.catalogue) },
         };
         Some(After { call, catalogue: self.catalogue.clone() })
+    }
+
+    /// Adds a rule, each pair asked so: what is told, and the working buffer.
+    fn add(&mut self, rule: &[u8], ask: Ask) -> (AddedDecided, Vec<u8>) {
+        let mut work = vec![WORK_FILL; self.work];
+        let (reading, search) = (self.reading, self.search);
+        let told = add_by(reading, &mut self.catalogue, rule, &mut work, search, ask);
+        (told, work)
     }
 }
 
@@ -251,6 +276,7 @@ impl After {
                 format!("recheck {number} {pairs} {written}")
             }
             Call::Carry { number } => format!("carry {number}"),
+            Call::Drop { number } => format!("drop {number}"),
             Call::AddDecided { told: AddedDecided { added, search }, .. } => {
                 let Added { number, count, place, rule, pair } = added;
                 format!("add_decided {number} {count} {place} {rule} {pair} {search}")
@@ -274,7 +300,7 @@ impl After {
             | Call::Recheck { work, .. }
             | Call::AddDecided { work, .. }
             | Call::RecheckDecided { work, .. } => push_work(&mut line, work),
-            Call::Withdraw { .. } | Call::Carry { .. } => {}
+            Call::Withdraw { .. } | Call::Carry { .. } | Call::Drop { .. } => {}
         }
         line
     }

@@ -8,8 +8,9 @@ use crate::catalogue::RULE;
 use crate::decide::{self, By, Decided};
 use crate::edition::{Edition, FIRST};
 use crate::plain::{plain, plain_bytes, Needs, Told};
-use crate::spell_open::{rule_into, sheet_into, Spelt};
-use crate::{sheet, Outcome};
+use crate::sheet::Reading;
+use crate::spell_open::{self, Spelt};
+use crate::{drop_strays, Outcome};
 
 /// The bytes with which the buffers are filled before each case.
 pub const WORK_FILL: u8 = 90;
@@ -28,9 +29,13 @@ pub struct Case {
 /// A function like `crate::answer`.
 pub type Answerer = fn(&[u8], &mut [u8], &mut [u8]) -> Outcome;
 
-/// The edition of a good sheet. What is printed of another has no text.
+/// A function that writes a sheet or a rule anew.
+type Putter = fn(&[u8], &mut [u8]) -> Spelt;
+
+/// The edition of a good sheet, stray patterns or not. What is printed of another
+/// has no text.
 pub fn edition_of(sheet: &[u8]) -> Edition {
-    sheet::read(sheet).map_or(FIRST, |question| question.edition)
+    Reading::Old.sheet(sheet).map_or(FIRST, |question| question.edition)
 }
 
 /// An outcome and what the two buffers hold afterwards.
@@ -65,9 +70,18 @@ impl Case {
     /// the rule where the bytes begin with its mark: number, place and written
     /// length, then every byte of the buffer.
     pub fn spelt(&self) -> String {
+        self.put_into(spell_open::sheet_into, spell_open::rule_into)
+    }
+
+    /// The same, but the stray patterns are dropped.
+    pub fn dropped(&self) -> String {
+        self.put_into(drop_strays::sheet_into, drop_strays::rule_into)
+    }
+
+    fn put_into(&self, sheet: Putter, rule: Putter) -> String {
         let mut output = vec![ANSWER_FILL; self.answer as usize];
-        let spell = if self.sheet.starts_with(RULE) { rule_into } else { sheet_into };
-        let Spelt { number, place, written } = spell(&self.sheet, &mut output);
+        let put = if self.sheet.starts_with(RULE) { rule } else { sheet };
+        let Spelt { number, place, written } = put(&self.sheet, &mut output);
         let mut line = format!("{number} {place} {written}");
         push_answer(&mut line, &output, written);
         line

@@ -6,7 +6,7 @@ use std::ops::Range;
 use crate::edition::FIRST;
 use crate::fault::Fault;
 use crate::pattern::Allowed;
-use crate::sheet::{Cursor, Question, Token, FIELDS, LEFT};
+use crate::sheet::{Cursor, Patterns, Question, Reading, Token, FIELDS, LEFT};
 use crate::{decide, scan, NO_CLASH};
 
 /// A rule is entered or withdrawn, or the pairs are listed.
@@ -32,23 +32,35 @@ pub const RULE_FIELDS: usize = FIELDS / 2;
 #[derive(Clone, Debug)]
 pub struct Rule {
     side: Vec<Token>,
-    allowed: [Allowed; FIELDS],
+    patterns: Patterns,
 }
 
 impl Rule {
     /// Reads and judges a whole rule, "offsets from `RU`".
     pub fn read(bytes: &[u8]) -> Result<Rule, Fault> {
+        Rule::read_by(Reading::New, bytes)
+    }
+
+    /// The same with stray patterns by this rule: 22 comes behind all else.
+    pub fn read_by(reading: Reading, bytes: &[u8]) -> Result<Rule, Fault> {
         let mut cursor = Cursor::new(bytes);
         let rule = Rule::record(&mut cursor)?;
         // "one `LE`, its end as `RI` is a sheet's"
         cursor.end()?;
+        rule.check(reading)?;
         Ok(rule)
     }
 
-    /// A whole rule and no field above 3: "the rule's own 11 to 17, then 31 for
-    /// a field above 3", which has no place.
+    /// A whole rule and no field above 3: "the rule's own 11 to 17", 22 "between 17
+    /// and 31", "then 31 for a field above 3", which has no place.
     pub fn read_own(bytes: &[u8]) -> Result<Rule, Fault> {
-        let rule = Rule::read(bytes)?;
+        Rule::read_own_by(Reading::New, bytes)
+    }
+
+    /// The same with stray patterns by this rule. By the old one a stray pattern's
+    /// field above 3 is 31 as any other.
+    pub fn read_own_by(reading: Reading, bytes: &[u8]) -> Result<Rule, Fault> {
+        let rule = Rule::read_by(reading, bytes)?;
         if rule.names_a_field_above_3() {
             return Err(Fault { number: FIELD_ABOVE_3, place: 0 });
         }
@@ -59,12 +71,20 @@ impl Rule {
         &self.side
     }
 
+    pub fn patterns(&self) -> &Patterns {
+        &self.patterns
+    }
+
     /// "the mark `RU`, the `PA` records of its own fields, ..., and one `LE`"
     fn record(cursor: &mut Cursor) -> Result<Rule, Fault> {
         cursor.mark(RULE)?;
-        let allowed = cursor.patterns()?;
+        let patterns = cursor.patterns()?;
         let side = cursor.side(LEFT)?;
-        Ok(Rule { side, allowed })
+        Ok(Rule { side, patterns })
+    }
+
+    fn check(&self, reading: Reading) -> Result<(), Fault> {
+        reading.check(&self.patterns, &[&self.side])
     }
 
     /// "31 for a field above 3", be it a pattern's or a token's.
@@ -74,7 +94,7 @@ impl Rule {
             Token::Field(field) => usize::from(field) >= RULE_FIELDS,
             Token::Character(_) => false,
         };
-        self.allowed[RULE_FIELDS..].iter().any(pattern) || self.side.iter().any(token)
+        self.patterns.allowed[RULE_FIELDS..].iter().any(pattern) || self.side.iter().any(token)
     }
 }
 
@@ -87,8 +107,8 @@ pub fn question(present: &Rule, new: &Rule) -> Question {
         character => character,
     };
     let allowed = std::array::from_fn(|field| match field.checked_sub(RULE_FIELDS) {
-        None => present.allowed[field].clone(),
-        Some(own) => new.allowed[own].clone(),
+        None => present.patterns.allowed[field].clone(),
+        Some(own) => new.patterns.allowed[own].clone(),
     });
     let (left, right) = (present.side.clone(), new.side.iter().map(renumbered).collect());
     Question::of(FIRST, left, right, allowed)
@@ -102,13 +122,20 @@ pub struct Present {
 
 /// "Records stand one behind the other from the buffer's start, then zero
 /// bytes; a rule's number is its place in that order, from 0". None where the
-/// buffer is not of this form.
+/// buffer is not of this form; "a catalogue holding one", a rule with a stray
+/// pattern, is not.
 pub fn read(catalogue: &[u8]) -> Option<Vec<Present>> {
+    read_by(Reading::New, catalogue)
+}
+
+/// The same with stray patterns by this rule.
+pub fn read_by(reading: Reading, catalogue: &[u8]) -> Option<Vec<Present>> {
     let mut rules = Vec::new();
     let mut place = 0;
     while catalogue[place..].iter().any(|&byte| byte != 0) {
         let mut cursor = Cursor::new(&catalogue[place..]);
         let rule = Rule::record(&mut cursor).ok()?;
+        rule.check(reading).ok()?;
         if rules.len() == MOST_RULES || rule.names_a_field_above_3() {
             return None;
         }
@@ -126,7 +153,7 @@ pub struct Added {
     pub number: u8,
     /// With 30, the situations entered for the pair.
     pub count: usize,
-    /// With 11 to 17, the fault's place, counted from `RU`.
+    /// With 11 to 17 and 22, the fault's place, counted from `RU`.
     pub place: usize,
     /// With 30, "the number of the first rule that gave something else ..."
     pub rule: usize,
@@ -161,16 +188,17 @@ pub struct Asked {
 }
 
 /// A pair is searched once, or decided.
-type Ask = fn(&Question, &mut [u8], Searcher) -> Asked;
+pub type Ask = fn(&Question, &mut [u8], Searcher) -> Asked;
 
-fn once(question: &Question, work: &mut [u8], search: Searcher) -> Asked {
+/// A pair searched once.
+pub fn once(question: &Question, work: &mut [u8], search: Searcher) -> Asked {
     let (answer, count) = search(question, work);
     Asked { answer, count, search: 0 }
 }
 
 /// Enters a rule behind the last one.
 pub fn add(catalogue: &mut [u8], rule: &[u8], work: &mut [u8], search: Searcher) -> Added {
-    add_by(catalogue, rule, work, search, once).added
+    add_by(Reading::New, catalogue, rule, work, search, once).added
 }
 
 /// What `add_decided` tells: as `add`, and with 30 the search that gave the
@@ -188,10 +216,12 @@ pub fn add_decided(
     work: &mut [u8],
     search: Searcher,
 ) -> AddedDecided {
-    add_by(catalogue, rule, work, search, decide::pair)
+    add_by(Reading::New, catalogue, rule, work, search, decide::pair)
 }
 
-fn add_by(
+/// Enters a rule where stray patterns are read by this rule and pairs are asked so.
+pub fn add_by(
+    reading: Reading,
     catalogue: &mut [u8],
     rule: &[u8],
     work: &mut [u8],
@@ -200,11 +230,11 @@ fn add_by(
 ) -> AddedDecided {
     let told = |added| AddedDecided { added, search: 0 };
     // "34 for a buffer not of this form, ..."
-    let Some(present) = read(catalogue) else {
+    let Some(present) = read_by(reading, catalogue) else {
         return told(Added::of(NOT_OF_THIS_FORM));
     };
     // "... then the rule's own 11 to 17, then 31 for a field above 3, ..."
-    let new = match Rule::read_own(rule) {
+    let new = match Rule::read_own_by(reading, rule) {
         Ok(new) => new,
         Err(Fault { number, place }) => return told(Added { place, ..Added::of(number) }),
     };
@@ -228,8 +258,13 @@ fn add_by(
 
 /// Takes the rule with this number out; "withdrawing closes the gap".
 pub fn withdraw(catalogue: &mut [u8], number: usize) -> u8 {
+    withdraw_by(Reading::New, catalogue, number)
+}
+
+/// The same with stray patterns by this rule.
+pub fn withdraw_by(reading: Reading, catalogue: &mut [u8], number: usize) -> u8 {
     // "for a withdrawal 34, then 33 if no rule has that number"
-    let Some(present) = read(catalogue) else {
+    let Some(present) = read_by(reading, catalogue) else {
         return NOT_OF_THIS_FORM;
     };
     let Some(Present { bytes: Range { start, end }, .. }) = present.into_iter().nth(number) else {
@@ -310,10 +345,22 @@ impl DecidedPair {
 /// listed, by lower, then higher number." The rule with the lower number is the
 /// left side.
 pub fn recheck(catalogue: &[u8], work: &mut [u8], list: &mut [u8], search: Searcher) -> Rechecked {
+    recheck_by(Reading::New, catalogue, work, list, search)
+}
+
+/// The same with stray patterns by this rule.
+pub fn recheck_by(
+    reading: Reading,
+    catalogue: &[u8],
+    work: &mut [u8],
+    list: &mut [u8],
+    search: Searcher,
+) -> Rechecked {
     // At most 65,535 situations.
-    recheck_by(catalogue, work, list, search, once, |lower, higher, Asked { answer, count, .. }| {
+    let listed = |lower, higher, Asked { answer, count, .. }| {
         Pair { lower, higher, answer, count: count as u16 }.bytes()
-    })
+    };
+    rechecked(read_by(reading, catalogue), work, list, search, once, listed)
 }
 
 /// As `recheck`, but each pair is decided.
@@ -323,22 +370,33 @@ pub fn recheck_decided(
     list: &mut [u8],
     search: Searcher,
 ) -> Rechecked {
+    recheck_decided_by(Reading::New, catalogue, work, list, search)
+}
+
+/// The same with stray patterns by this rule.
+pub fn recheck_decided_by(
+    reading: Reading,
+    catalogue: &[u8],
+    work: &mut [u8],
+    list: &mut [u8],
+    search: Searcher,
+) -> Rechecked {
     // At most four times 65,535.
     let listed = |lower, higher, Asked { answer, count, search }| {
         DecidedPair { lower, higher, answer, count: count as u32, search }.bytes()
     };
-    recheck_by(catalogue, work, list, search, decide::pair, listed)
+    rechecked(read_by(reading, catalogue), work, list, search, decide::pair, listed)
 }
 
-fn recheck_by<const BYTES: usize>(
-    catalogue: &[u8],
+fn rechecked<const BYTES: usize>(
+    present: Option<Vec<Present>>,
     work: &mut [u8],
     list: &mut [u8],
     search: Searcher,
     ask: Ask,
     listed: impl Fn(u8, u8, Asked) -> [u8; BYTES],
 ) -> Rechecked {
-    let Some(present) = read(catalogue) else {
+    let Some(present) = present else {
         return Rechecked { number: NOT_OF_THIS_FORM, ..Rechecked::default() };
     };
     let mut pairs = Vec::new();

@@ -18,7 +18,7 @@
 use crate::catalogue::{Asked, Searcher};
 use crate::edition::Edition;
 use crate::pattern::{characters, Allowed, CharacterSet};
-use crate::sheet::{self, Question, Token, ALL_FIELDS, FIELDS};
+use crate::sheet::{Question, Reading, Token, ALL_FIELDS, FIELDS};
 use crate::{scan, Outcome, NO_CLASH, NO_ROOM, SIDE_TOO_LONG};
 
 /// The character 0 alone.
@@ -78,8 +78,19 @@ pub fn decides(search: usize, number: u8) -> bool {
 
 /// Judges the sheet, searches, and writes the answer.
 pub fn decide(sheet: &[u8], work: &mut [u8], answer: &mut [u8], by: By) -> Decided {
+    decide_by(Reading::New, sheet, work, answer, by)
+}
+
+/// The same for a sheet that is read by this rule.
+pub fn decide_by(
+    reading: Reading,
+    sheet: &[u8],
+    work: &mut [u8],
+    answer: &mut [u8],
+    by: By,
+) -> Decided {
     let mut spent = [0; SEARCHES];
-    let question = match sheet::read(sheet) {
+    let question = match reading.sheet(sheet) {
         Ok(question) => question,
         Err(fault) => return Decided { outcome: Outcome::of_fault(fault), search: 0, spent },
     };

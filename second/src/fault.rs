@@ -18,6 +18,9 @@ pub const NOT_ONE_PATTERN: u8 = 15;
 pub const TOO_MANY_LEAVES: u8 = 16;
 /// "for 17 the token"
 pub const WRONG_TOKEN: u8 = 17;
+/// "22, with the place of the first stray record's mark, after all other checks on
+/// the sheet"
+pub const STRAY_PATTERN: u8 = 22;
 /// "44 for an edition byte other than 2, its place that byte"
 pub const WRONG_EDITION: u8 = 44;
 

@@ -30,6 +30,10 @@
 //!
 //! `writer::write` writes the sheet of two sides and patterns by field.
 //!
+//! "Patterns for fields that stand in neither side mislead clerks. Refuse such a
+//! sheet.": `sheet::Reading` has the old rule and the new one, all that reads goes
+//! by the new one, and `drop_strays` takes such patterns out.
+//!
 //! `full_ascii::into` spells a text of Full ASCII in Code 39 values, and reads it
 //! back.
 //!
@@ -47,6 +51,7 @@ pub mod calls;
 pub mod cases;
 pub mod catalogue;
 pub mod decide;
+pub mod drop_strays;
 pub mod edition;
 pub mod fault;
 pub mod full_ascii;
@@ -70,7 +75,7 @@ pub mod writer;
 use edition::Edition;
 use fault::Fault;
 use search::{Ending, Texts};
-use sheet::Question;
+use sheet::{Question, Reading};
 
 /// The answers of the search, by the table's "No.".
 pub const CLASH: u8 = 0;
@@ -127,8 +132,13 @@ pub fn room(work_length: usize) -> usize {
 
 /// Judges the sheet, searches, and writes the answer.
 pub fn answer(sheet: &[u8], work: &mut [u8], answer: &mut [u8]) -> Outcome {
+    answer_by(Reading::New, sheet, work, answer)
+}
+
+/// The same for a sheet that is read by this rule.
+pub fn answer_by(reading: Reading, sheet: &[u8], work: &mut [u8], answer: &mut [u8]) -> Outcome {
     // A faulty sheet leaves both buffers unchanged.
-    let question = match sheet::read(sheet) {
+    let question = match reading.sheet(sheet) {
         Ok(question) => question,
         Err(fault) => return Outcome::of_fault(fault),
     };

@@ -5,18 +5,25 @@
 //! rules as storerooms write them, `decided` cases to decide, `written` what is
 //! handed to the writer of sheets, `plainly` sheets for the engine for plain
 //! rules, `ascii` texts to be spelt and read back, `ways` cases of the steps and
-//! of the player. `said` says what is made in the second edition.
+//! of the player. `said` says what is made in the second edition. `strays` makes
+//! sheets and rules with stray patterns.
+//!
+//! Others have some too, as they had before those were refused. What is looked up
+//! while such a case is made goes by the old rule, so that its stream stays as it
+//! was; `kept` takes the strays out.
 
 pub mod ascii;
 pub mod calls;
 mod damages;
 pub mod decided;
 pub mod editions;
+pub mod kept;
 pub mod pairs;
 pub mod plainly;
 mod said;
 mod spaces;
 pub mod spelt;
+pub mod strays;
 pub mod ways;
 pub mod written;
 
@@ -27,7 +34,7 @@ use self::said::said;
 use crate::cases::Case;
 use crate::edition::{Edition, FIRST};
 use crate::pattern::MOST_LEAVES;
-use crate::sheet::{FIELDS, LEFT, MOST_PATTERN, MOST_SIDE, PATTERN, RIGHT};
+use crate::sheet::{Reading, FIELDS, LEFT, MOST_PATTERN, MOST_SIDE, PATTERN, RIGHT};
 use crate::storeroom::{by_first_letter, FINISHES};
 use crate::write::{self, choice, field, row, tokens};
 use crate::{spell_open, ANSWER_BUFFER_TOO_SHORT, CLASH, SITUATION_BYTES};
@@ -186,17 +193,14 @@ fn with_any_buffers(dice: &mut Dice, sheet: Vec<u8>) -> Case {
 /// The length of the sheet with the old meaning of its fields without a pattern
 /// written out; 0 for a sheet with a fault.
 fn spelt_length(sheet: &[u8]) -> usize {
-    spell_open::sheet(sheet).map_or(0, |spelt| spelt.len())
+    spell_open::sheet_by(Reading::Old, sheet).map_or(0, |spelt| spelt.len())
 }
 
 /// Buffers for a good sheet: often exactly what is needed, or one less.
 fn with_chosen_buffers(dice: &mut Dice, sheet: Vec<u8>) -> Case {
     let mut room = any_room(dice);
-    let run = |room: usize, answer: u32| {
-        let case = Case { work: (room * SITUATION_BYTES) as u32, answer, sheet: sheet.clone() };
-        case.run(crate::answer).outcome
-    };
-    let found = run(room, 4096);
+    let (mut work, mut answer) = (vec![0; room * SITUATION_BYTES], [0; 4096]);
+    let found = crate::answer_by(Reading::Old, &sheet, &mut work, &mut answer);
     if dice.one_in(3) {
         room = found.count.saturating_sub(dice.below(2));
     }

@@ -11,7 +11,7 @@ use std::collections::HashSet;
 use crate::catalogue::DONE;
 use crate::fault::Fault;
 use crate::pattern::Allowed;
-use crate::sheet::{self, Question, Token, FIELDS};
+use crate::sheet::{Question, Reading, Token, FIELDS};
 use crate::{CLASH, NO_CLASH};
 
 /// "42 if a field stands more than once in the two sides together"
@@ -43,7 +43,12 @@ pub struct Needs {
 /// don't fit; the bit buffer ends all zero after every answer but the sheet's
 /// own refusals", after which it is unchanged.
 pub fn plain(sheet: &[u8], bits: &mut [u8]) -> Told {
-    let question = match sheet::read(sheet) {
+    plain_by(Reading::New, sheet, bits)
+}
+
+/// The same for a sheet that is read by this rule.
+pub fn plain_by(reading: Reading, sheet: &[u8], bits: &mut [u8]) -> Told {
+    let question = match reading.sheet(sheet) {
         Ok(question) => question,
         Err(Fault { number, place }) => return Told { number, count: 0, place },
     };
@@ -62,7 +67,12 @@ pub fn plain(sheet: &[u8], bits: &mut [u8]) -> Told {
 
 /// How many bytes the sheet needs: the refusals are the sheet's own and 42.
 pub fn plain_bytes(sheet: &[u8]) -> Needs {
-    match sheet::read(sheet) {
+    plain_bytes_by(Reading::New, sheet)
+}
+
+/// The same for a sheet that is read by this rule.
+pub fn plain_bytes_by(reading: Reading, sheet: &[u8]) -> Needs {
+    match reading.sheet(sheet) {
         Err(Fault { number, place }) => Needs { number, place, bytes: 0 },
         Ok(question) if stands_twice(&question) => Needs { number: NOT_PLAIN, place: 0, bytes: 0 },
         Ok(question) => Needs { number: DONE, place: 0, bytes: pairs(&question).div_ceil(8) },

@@ -5,6 +5,7 @@
 use crate::cases::Case;
 use crate::edition::SECOND;
 use crate::pattern::{MOST_LEAVES, THEN};
+use crate::sheet::MOST_PATTERN;
 use crate::write::{field, many, patterns, row, sheet, text, values};
 use crate::SITUATION_BYTES;
 
@@ -60,6 +61,13 @@ pub fn cases() -> Vec<Case> {
         plain(sheet(&[(0, full(0, 9)), (7, row(vec![vec![A]; 64]))], &[], &[])),
         plain(sheet(&seven[..1], &[], &[43])),
     ]
+}
+
+/// The same without a stray pattern: another sheet is the first one.
+pub fn kept_cases() -> Vec<Case> {
+    let mut cases = cases();
+    cases[0] = plain(long_texts_kept());
+    cases
 }
 
 /// The cases of the second edition.
@@ -127,19 +135,51 @@ fn every_character() -> Vec<u8> {
 /// stand nowhere make the sheet longer than 1,024 bytes.
 fn long_texts() -> Vec<u8> {
     let (x, w, y, z) = (0, 1, 3, 7);
-    let mut round = vec![values("+"); 39];
-    round.push(values("%"));
+    let [long, also_long] = two_long();
     let patterns = [
-        (x, many_then(round, vec![values("+"); 14])),
+        (x, long),
         (w, text("-. $/")),
         (2, full(0, 9)),
-        (y, many_then(vec![vec![65, 41, 42]; 31], vec![vec![65, 41, 42]; 15])),
+        (y, also_long),
         (4, full(10, 35)),
         (5, full(36, 42)),
         (6, full(0, 42)),
         (z, vec![64]),
     ];
     sheet(&patterns, &[field(w), field(x), field(z)], &[values("-. $/"), vec![field(y)]].concat())
+}
+
+/// The same x, y and z; w, v and u are `-`, a space and `/`. w v u x z and `- /`y:
+/// the texts and the count are the same, every field with a pattern stands, and
+/// patterns filled up with empty texts make the sheet longer than 1,024 bytes.
+fn long_texts_kept() -> Vec<u8> {
+    let (x, w, v, y, u, z) = (0, 1, 2, 3, 4, 7);
+    let [long, also_long] = two_long();
+    let patterns = [
+        (x, long),
+        (w, filled_up(text("-"))),
+        (v, filled_up(text(" "))),
+        (y, also_long),
+        (u, filled_up(text("/"))),
+        (z, filled_up(vec![64])),
+    ];
+    let left = [w, v, u, x, z].map(field);
+    sheet(&patterns, &left, &[values("- /"), vec![field(y)]].concat())
+}
+
+/// `+` 39 times and `%`, any number of times, then 14 times `+`; and `+` or `%` 31
+/// times, any number of times, then 15 times more.
+fn two_long() -> [Vec<u8>; 2] {
+    let mut round = vec![values("+"); 39];
+    round.push(values("%"));
+    let either = || vec![65, 41, 42];
+    [many_then(round, vec![values("+"); 14]), many_then(vec![either(); 31], vec![either(); 15])]
+}
+
+/// The pattern behind as many empty texts as a pattern has room for.
+fn filled_up(pattern: Vec<u8>) -> Vec<u8> {
+    let more = (MOST_PATTERN - pattern.len()) / 2;
+    row([vec![vec![64]; more], vec![pattern]].concat())
 }
 
 /// x is `A` and two spaces, y is three spaces; x and `A`y.

@@ -1,9 +1,9 @@
 //! Records and the checks on them, and the question sheet.
 
-use std::ops::RangeInclusive;
+use std::ops::{Range, RangeInclusive};
 
 use crate::edition::{self, Edition, EDITION_BYTE, FIRST, SECOND, SECOND_BYTE};
-use crate::fault::{Fault, CUT_SHORT, WRONG_EDITION, WRONG_FIELD};
+use crate::fault::{Fault, CUT_SHORT, STRAY_PATTERN, WRONG_EDITION, WRONG_FIELD};
 use crate::fault::{WRONG_LENGTH, WRONG_MARK, WRONG_TOKEN};
 use crate::pattern::{Allowed, CharacterSet, Pattern, Places};
 
@@ -93,16 +93,84 @@ impl Question {
     }
 }
 
-/// Reads and judges a whole sheet: no or one `ED`, then "no, one or several `PA`,
-/// field numbers rising; one `LE`; one `RI`; the end".
+/// What becomes of a stray pattern, one "for a field that stands in neither side".
+#[derive(Clone, Copy, Debug, PartialEq, Eq)]
+pub enum Reading {
+    /// "reads by the old rule": it "is read, judged and then ignored".
+    Old,
+    /// "Refuse such a sheet."
+    New,
+}
+
+impl Reading {
+    /// Reads and judges a whole sheet.
+    pub fn sheet(self, bytes: &[u8]) -> Result<Question, Fault> {
+        let sheet = Sheet::read(bytes)?;
+        self.check(&sheet.patterns, &sheet.sides())?;
+        Ok(sheet.question())
+    }
+
+    /// "22, with the place of the first stray record's mark": the last check.
+    pub fn check(self, patterns: &Patterns, sides: &[&[Token]]) -> Result<(), Fault> {
+        match (self, patterns.strays(sides).first()) {
+            (Reading::New, Some(first)) => Err(Fault { number: STRAY_PATTERN, place: first.start }),
+            _ => Ok(()),
+        }
+    }
+}
+
+/// Reads and judges a whole sheet.
 pub fn read(sheet: &[u8]) -> Result<Question, Fault> {
-    let mut cursor = Cursor::new(sheet);
-    cursor.edition()?;
-    let allowed = cursor.patterns()?;
-    let left = cursor.side(LEFT)?;
-    let right = cursor.side(RIGHT)?;
-    cursor.end()?;
-    Ok(Question::of(cursor.edition, left, right, allowed))
+    Reading::New.sheet(sheet)
+}
+
+/// The records of a sheet that passed all checks but the last one.
+#[derive(Clone, Debug)]
+pub struct Sheet {
+    pub edition: Edition,
+    pub patterns: Patterns,
+    pub left: Vec<Token>,
+    pub right: Vec<Token>,
+}
+
+impl Sheet {
+    /// No or one `ED`, then "no, one or several `PA`, field numbers rising; one
+    /// `LE`; one `RI`; the end".
+    pub fn read(bytes: &[u8]) -> Result<Sheet, Fault> {
+        let mut cursor = Cursor::new(bytes);
+        cursor.edition()?;
+        let patterns = cursor.patterns()?;
+        let left = cursor.side(LEFT)?;
+        let right = cursor.side(RIGHT)?;
+        cursor.end()?;
+        Ok(Sheet { edition: cursor.edition, patterns, left, right })
+    }
+
+    pub fn sides(&self) -> [&[Token]; 2] {
+        [&self.left, &self.right]
+    }
+
+    fn question(self) -> Question {
+        Question::of(self.edition, self.left, self.right, self.patterns.allowed)
+    }
+}
+
+/// The patterns of a sheet or a rule, by field.
+#[derive(Clone, Debug)]
+pub struct Patterns {
+    /// What each field may stand for.
+    pub allowed: [Allowed; FIELDS],
+    /// Where the record of each field stands, from its mark on.
+    pub records: [Option<Range<usize>>; FIELDS],
+}
+
+impl Patterns {
+    /// The records of the fields that stand in none of these sides, rising.
+    pub fn strays(&self, sides: &[&[Token]]) -> Vec<Range<usize>> {
+        let stands = |field: u8| sides.iter().any(|side| side.contains(&Token::Field(field)));
+        let of_field = (0..).zip(&self.records);
+        of_field.filter(|(field, _)| !stands(*field)).filter_map(|(_, of)| of.clone()).collect()
+    }
 }
 
 /// Bytes and how far they are read: "Reading goes on from where the last
@@ -179,18 +247,21 @@ impl<'a> Cursor<'a> {
         Ok(())
     }
 
-    /// "no, one or several `PA`, field numbers rising": what each field may
-    /// stand for. A pattern of a field that stands nowhere stays there unused:
-    /// it "is read, judged and then ignored".
-    pub fn patterns(&mut self) -> Result<[Allowed; FIELDS], Fault> {
-        let mut allowed = std::array::from_fn(|_| Allowed::Open(self.edition.all()));
+    /// "no, one or several `PA`, field numbers rising". Which of them are strays is
+    /// known behind the sides.
+    pub fn patterns(&mut self) -> Result<Patterns, Fault> {
+        let allowed = std::array::from_fn(|_| Allowed::Open(self.edition.all()));
+        let mut patterns = Patterns { allowed, records: Default::default() };
         let mut before = None;
         while self.head(2)? == PATTERN {
+            let mark = self.place;
             let (field, pattern) = self.pattern(before)?;
-            allowed[usize::from(field)] = Allowed::Pattern(Box::new(Places::of(&pattern)));
+            let at = usize::from(field);
+            patterns.allowed[at] = Allowed::Pattern(Box::new(Places::of(&pattern)));
+            patterns.records[at] = Some(mark..self.place);
             before = Some(field);
         }
-        Ok(allowed)
+        Ok(patterns)
     }
 
     /// A `PA` record behind that of the field before it.

@@ -9,7 +9,7 @@ use crate::catalogue::{self, Rule, DOES_NOT_FIT, DONE, NOT_OF_THIS_FORM};
 use crate::edition::{Edition, FIRST};
 use crate::fault::Fault;
 use crate::pattern::{MANY, RANGE};
-use crate::sheet::{self, Token, FIELDS, PATTERN, PATTERN_HEAD};
+use crate::sheet::{Reading, Token, FIELDS, PATTERN, PATTERN_HEAD};
 
 /// "68 65 0 42": any characters, any number of them, none included. Behind `ED` it
 /// is 196 193 0 127.
@@ -22,7 +22,13 @@ pub const TOO_SHORT: u8 = 41;
 
 /// The sheet with the old meaning written out.
 pub fn sheet(sheet: &[u8]) -> Result<Vec<u8>, Fault> {
-    let question = sheet::read(sheet)?;
+    sheet_by(Reading::New, sheet)
+}
+
+/// The same for a sheet that is read by this rule; by the old one its stray
+/// patterns stay.
+pub fn sheet_by(reading: Reading, sheet: &[u8]) -> Result<Vec<u8>, Fault> {
+    let question = reading.sheet(sheet)?;
     let (front, records) = sheet.split_at(question.edition.record.len());
     let spelt = spelt(question.edition, records, &[&question.left, &question.right]);
     Ok([front, &spelt].concat())
@@ -30,13 +36,23 @@ pub fn sheet(sheet: &[u8]) -> Result<Vec<u8>, Fault> {
 
 /// The rule with the old meaning written out: the rule's own refusals, then 31.
 pub fn rule(rule: &[u8]) -> Result<Vec<u8>, Fault> {
-    Ok(spelt_rule(rule, &Rule::read_own(rule)?))
+    rule_by(Reading::New, rule)
+}
+
+/// The same for a rule that is read by this one.
+pub fn rule_by(reading: Reading, rule: &[u8]) -> Result<Vec<u8>, Fault> {
+    Ok(spelt_rule(rule, &Rule::read_own_by(reading, rule)?))
 }
 
 /// Each rule of a catalogue in turn: 34, then 32 if the records no longer fit
 /// the buffer. A refusal leaves it unchanged.
 pub fn catalogue(catalogue: &mut [u8]) -> u8 {
-    let Some(present) = catalogue::read(catalogue) else {
+    catalogue_by(Reading::New, catalogue)
+}
+
+/// The same for a catalogue whose rules are read by this one.
+pub fn catalogue_by(reading: Reading, catalogue: &mut [u8]) -> u8 {
+    let Some(present) = catalogue::read_by(reading, catalogue) else {
         return NOT_OF_THIS_FORM;
     };
     let records = present.iter().map(|rule| spelt_rule(&catalogue[rule.bytes.clone()], &rule.rule));
@@ -93,7 +109,7 @@ fn pattern_of(field: u8, records: &[u8]) -> Option<usize> {
 #[derive(Clone, Copy, Debug, PartialEq, Eq)]
 pub struct Spelt {
     pub number: u8,
-    /// With 11 to 17 and 44, the fault's place.
+    /// With 11 to 17, 22 and 44, the fault's place.
     pub place: usize,
     /// The bytes written; 0 for a refusal.
     pub written: usize,
@@ -110,7 +126,8 @@ pub fn rule_into(rule: &[u8], output: &mut [u8]) -> Spelt {
     into(self::rule(rule), output)
 }
 
-fn into(spelt: Result<Vec<u8>, Fault>, output: &mut [u8]) -> Spelt {
+/// What is written, or refused, in a lent buffer.
+pub fn into(spelt: Result<Vec<u8>, Fault>, output: &mut [u8]) -> Spelt {
     let spelt = match spelt {
         Ok(spelt) => spelt,
         Err(Fault { number, place }) => return Spelt { number, place, written: 0 },

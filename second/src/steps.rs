@@ -8,7 +8,7 @@ use crate::cases::{self, edition_of, push_answer_lent, ANSWER_FILL, WORK_FILL};
 use crate::edition::Edition;
 use crate::fault::Fault;
 use crate::search::{self, Ending, Texts};
-use crate::sheet::{self, Question};
+use crate::sheet::{Question, Reading};
 use crate::situation::{Situation, State, Step};
 use crate::{records, room, Outcome};
 use crate::{ANSWER_BUFFER_TOO_SHORT, CLASH, MOST_TOKENS, SIDE_TOO_LONG};
@@ -117,7 +117,18 @@ impl Told {
 /// 20 if the steps don't fit"; "a refusal changes no lent buffer", but for the
 /// working buffer that a search has used.
 pub fn steps(sheet: &[u8], work: &mut [u8], answer: &mut [u8], steps: &mut [u8]) -> Told {
-    let question = match sheet::read(sheet) {
+    steps_by(Reading::New, sheet, work, answer, steps)
+}
+
+/// The same for a sheet that is read by this rule.
+pub fn steps_by(
+    reading: Reading,
+    sheet: &[u8],
+    work: &mut [u8],
+    answer: &mut [u8],
+    steps: &mut [u8],
+) -> Told {
+    let question = match reading.sheet(sheet) {
         Ok(question) => question,
         Err(fault) => return Told::of_fault(fault),
     };
@@ -143,7 +154,12 @@ pub fn steps(sheet: &[u8], work: &mut [u8], answer: &mut [u8], steps: &mut [u8])
 /// by 01's rules and gives the texts at the end". Count and place are 0, but for
 /// the sheet's own place.
 pub fn play(sheet: &[u8], steps: &[u8], answer: &mut [u8]) -> Outcome {
-    let question = match sheet::read(sheet) {
+    play_by(Reading::New, sheet, steps, answer)
+}
+
+/// The same for a sheet that is read by this rule.
+pub fn play_by(reading: Reading, sheet: &[u8], steps: &[u8], answer: &mut [u8]) -> Outcome {
+    let question = match reading.sheet(sheet) {
         Ok(question) => question,
         Err(fault) => return Outcome::of_fault(fault),
     };

@@ -207,7 +207,7 @@ fn refused() -> Vec<Row> {
         add("17: the stop sign is no character", rule(&[], &[43]), "add 17 0 5 0 0"),
         add("17: field 8, behind `LT`", rule(&[], &[21, 29, 72]), "add 17 0 7 0 0"),
         add("31: a side with field 4", rule(&[], &tokens("LTe")), "add 31 0 0 0 0"),
-        add("31: a pattern of field 4", rule(&[(4, digit())], &tokens("LT")), "add 31 0 0 0 0"),
+        add("22: a stray of field 4", rule(&[(4, digit())], &tokens("LT")), "add 22 0 2 0 0"),
     ]
 }
 

@@ -10,10 +10,11 @@
 use crate::cases::{push_answer, ANSWER_FILL};
 use crate::catalogue::DONE;
 use crate::edition::{Edition, NONE, SECOND};
-use crate::fault::{Fault, CUT_SHORT, WRONG_FIELD, WRONG_LENGTH, WRONG_TOKEN};
+use crate::fault::{Fault, CUT_SHORT, STRAY_PATTERN};
+use crate::fault::{WRONG_FIELD, WRONG_LENGTH, WRONG_TOKEN};
 use crate::pattern::Pattern;
-use crate::sheet::{Token, FIELDS, FIELD_BYTE, LEFT, MOST_PATTERN, MOST_SIDE, PATTERN, RIGHT};
-use crate::sheet::{PATTERN_HEAD, SIDE_HEAD};
+use crate::sheet::{Reading, Token, FIELDS, FIELD_BYTE, LEFT, MOST_PATTERN, MOST_SIDE, PATTERN};
+use crate::sheet::{PATTERN_HEAD, RIGHT, SIDE_HEAD};
 use crate::spell_open::TOO_SHORT;
 use crate::Outcome;
 
@@ -52,8 +53,21 @@ pub fn write(
 }
 
 /// The sheet: the edition's record, then "a `PA` record for each field that has a
-/// pattern, fields rising, then `LE`, then `RI`".
+/// pattern, fields rising, then `LE`, then `RI`". A pattern of a field that stands
+/// in neither side is the last fault, "22 where reading would say it, before 41".
 pub fn sheet(
+    edition: u64,
+    patterns: &[u8],
+    lengths: &[u64],
+    left: &[u8],
+    right: &[u8],
+) -> Result<Vec<u8>, Fault> {
+    sheet_by(Reading::New, edition, patterns, lengths, left, right)
+}
+
+/// The same for a sheet that would be read by this rule.
+pub fn sheet_by(
+    reading: Reading,
     edition: u64,
     patterns: &[u8],
     lengths: &[u64],
@@ -63,18 +77,27 @@ pub fn sheet(
     let edition = Edition::asked_for(edition)?;
     let mut sheet = edition.record.to_vec();
     let mut rest = patterns;
+    let mut first_stray = None;
     for (field, &length) in lengths.iter().enumerate() {
         if length > 0 {
+            let mark = sheet.len();
             rest = put_pattern(edition, &mut sheet, field, length, rest)?;
+            let token = edition.field(field as u8);
+            if first_stray.is_none() && !left.contains(&token) && !right.contains(&token) {
+                first_stray = Some(mark);
+            }
         }
     }
     put_side(edition, &mut sheet, LEFT, left)?;
     put_side(edition, &mut sheet, RIGHT, right)?;
-    Ok(sheet)
+    match first_stray {
+        Some(place) if reading == Reading::New => Err(Fault { number: STRAY_PATTERN, place }),
+        _ => Ok(sheet),
+    }
 }
 
 /// A record with the first so many of these bytes; what is left of them.
-fn put_pattern<'a>(
+pub fn put_pattern<'a>(
     edition: Edition,
     sheet: &mut Vec<u8>,
     field: usize,
@@ -104,7 +127,7 @@ fn put_pattern<'a>(
 }
 
 /// A side's record: "length out of its range 14", "for a side 17".
-fn put_side(
+pub fn put_side(
     edition: Edition,
     sheet: &mut Vec<u8>,
     mark: &[u8; 2],

@@ -39,10 +39,12 @@ fn all_answers_come_up() {
                 see(("recheck", told.number, u8::from(told.pairs > 0)));
                 list[..told.written].chunks_exact(5).for_each(|pair| see(("pair", pair[2], 0)));
             }
-            Call::AddDecided { .. } | Call::RecheckDecided { .. } => panic!("not asked for"),
+            Call::AddDecided { .. } | Call::RecheckDecided { .. } | Call::Drop { .. } => {
+                panic!("not asked for")
+            }
         }
     }
-    let adds = [0, 11, 12, 13, 14, 15, 16, 17, 31, 32, 34].map(|number| ("add", number, 0));
+    let adds = [0, 11, 12, 13, 14, 15, 16, 17, 22, 31, 32, 34].map(|number| ("add", number, 0));
     let pairs = [0, 18, 19].map(|answer| ("add", 30, answer));
     let withdrawals = [0, 33, 34].map(|number| ("withdraw", number, 0));
     let rechecks = [("recheck", 0, 0), ("recheck", 0, 1), ("recheck", 35, 0)];

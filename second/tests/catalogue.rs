@@ -93,9 +93,9 @@ fn the_first_rule_is_entered_without_a_search() {
     enters(&[], &rule(&[A]), 0);
     enters(&[], &rule(&[]), 0);
     enters(&[], &rule(&[X; 24]), 0);
-    // With a pattern for each own field, one of which stands nowhere.
+    // With a pattern for each own field.
     let patterns = b"PA\x00\x01\x04PA\x01\x01\x04PA\x02\x01\x04PA\x03\x01\x04";
-    enters(&[], &with(patterns, &[X, X + 1, X + 3]), 0);
+    enters(&[], &with(patterns, &[X, X + 1, X + 2, X + 3]), 0);
 }
 
 #[test]
@@ -170,9 +170,9 @@ fn each_rule_keeps_its_own_patterns() {
     // A field without a pattern is not held to the other's: xh|yk, x'h|y'k,
     // h|y'k, x'h|k, |y'k, h|k, h'|y'k, x'h|, |k, h|, h'|k', h'|k, |.
     refused_by_pair(&[digit], &rule(&[X]), 13, pair(0, 0, 13));
-    // A pattern of a field that stands nowhere is ignored.
-    let ignored = with(b"PA\x01\x01\x04", &[X]);
-    refused_by_pair(&[letter], &ignored, 13, pair(0, 0, 13));
+    // A pattern of a field that stands nowhere is refused before any pair.
+    let stray = with(b"PA\x01\x01\x04", &[X]);
+    refused_at_once(&catalogue(&[letter], 500), &stray, Added { place: 2, ..refused(22) });
 }
 
 /// "A field without a pattern shall now hold one character or more."
@@ -375,15 +375,17 @@ fn wrong_token() {
 fn a_field_above_3() {
     for field in 4..8 {
         fault(&rule(&[A, X + field]), 31, 0);
-        fault(&with(&[b'P', b'A', field, 1, 4], &[A]), 31, 0);
         fault(&with(&[b'P', b'A', field, 1, 4], &[X + field]), 31, 0);
+        // Where it stands nowhere, that comes first.
+        fault(&with(&[b'P', b'A', field, 1, 4], &[A]), 22, 2);
     }
     for field in 0..4 {
         enters(&[], &rule(&[A, X + field]), 0);
-        enters(&[], &with(&[b'P', b'A', field, 1, 4], &[A]), 0);
+        enters(&[], &with(&[b'P', b'A', field, 1, 4], &[A, X + field]), 0);
     }
     // Behind a good one.
-    fault(&with(b"PA\x00\x01\x04PA\x04\x01\x04", &[X]), 31, 0);
+    fault(&with(b"PA\x00\x01\x04PA\x04\x01\x04", &[X, X + 4]), 31, 0);
+    fault(&with(b"PA\x00\x01\x04PA\x04\x01\x04", &[X]), 22, 7);
 }
 
 // ------------------------------------------------------------------- 32

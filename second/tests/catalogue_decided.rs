@@ -221,7 +221,7 @@ fn all_answers_come_up() {
             _ => {}
         }
     }
-    let adds = [0, 11, 12, 13, 14, 15, 16, 17, 31, 32, 34].map(|number| ("add", number, 0, 0));
+    let adds = [0, 11, 12, 13, 14, 15, 16, 17, 22, 31, 32, 34].map(|number| ("add", number, 0, 0));
     let answers = [(0, 1), (0, 2), (0, 3), (18, 0), (19, 0)];
     let pairs = answers.map(|(answer, search)| ("add", 30, answer, search));
     let listed = answers.map(|(answer, search)| ("pair", 0, answer, search));

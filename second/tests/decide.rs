@@ -8,7 +8,7 @@ use second::decide::{each_apart, few, least_alike, HASHING, SCANNING};
 use second::edition::{Edition, FIRST, SECOND};
 use second::make::{case, decided, pairs, Dice};
 use second::pattern::{characters, CharacterSet, Pattern};
-use second::sheet::{read, Question, Token};
+use second::sheet::{read, Question, Reading, Token};
 use second::write::{choice, many, row, sheet, text, tokens};
 use second::{CODE_39, SITUATION_BYTES};
 
@@ -64,9 +64,9 @@ fn the_least_ones_alike() {
     // Digits, of which 4 is fixed, and others.
     let digits = sheet(&[(X, many(digit()))], &tokens("a"), &tokens("4"));
     assert_eq!(signs(least_alike(&question(&digits))), "04A ");
-    // A pattern of a field that doesn't stand makes none either.
+    // A pattern of a field that doesn't stand made none either, by the old rule.
     let stray = sheet(&[(X, many(digit())), (Y, letter())], &tokens("a"), &tokens("4"));
-    assert_eq!(signs(least_alike(&question(&stray))), "04A ");
+    assert_eq!(signs(least_alike(&Reading::Old.sheet(&stray).unwrap())), "04A ");
     // Two ranges that overlap: 0 to 4, 5 to 9, A to F, and the others.
     let ranges = sheet(&[(X, vec![65, 0, 9]), (Y, vec![65, 5, 15])], &tokens("a"), &tokens("b"));
     assert_eq!(signs(least_alike(&question(&ranges))), "05AG ");
@@ -463,8 +463,10 @@ fn small_questions_are_decided_as_all_their_texts_say() {
                 .collect()
         };
         let (left, right) = (side(), side());
+        let stands = |field: u8| left.iter().chain(&right).any(|&token| token == 64 + field);
+        let patterns = (0..).zip(&of).filter(|(field, _)| stands(*field));
         let patterns: Vec<(u8, Vec<u8>)> =
-            (0..).zip(&of).map(|(field, &of)| (field, holds[of].0.clone())).collect();
+            patterns.map(|(field, &of)| (field, holds[of].0.clone())).collect();
         let sheet = sheet(&patterns, &left, &right);
         let mut ways = vec![Texts::new()];
         for (field, &of) in (0..).zip(&of) {

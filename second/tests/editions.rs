@@ -14,7 +14,7 @@ use second::decide::{few, least_alike};
 use second::edition::{Edition, FIRST, SECOND};
 use second::fault::Fault;
 use second::make::editions::{self, Tried};
-use second::make::{spelt, Dice};
+use second::make::{spelt, strays, Dice};
 use second::pattern::characters;
 use second::plain::plain_bytes;
 use second::sheet::read;
@@ -296,7 +296,7 @@ fn each_byte_in_each_edition() {
             let is_token = byte <= last || (codes..codes + 8).contains(&byte);
             let fault = Fault { number: 17, place: at + 3 };
             assert_eq!(read(&side).err(), (!is_token).then_some(fault), "{byte}");
-            let leaf = [front, b"PA\x00\x01", &[byte], b"LE\x00RI\x00"].concat();
+            let leaf = [front, b"PA\x00\x01", &[byte], b"LE\x01", &[codes], b"RI\x00"].concat();
             let place = match byte {
                 _ if byte <= last || byte == codes => None,
                 _ if (codes + 1..=codes + 4).contains(&byte) => Some(at + 5),
@@ -305,7 +305,8 @@ fn each_byte_in_each_edition() {
             let fault = place.map(|place| Fault { number: 15, place });
             assert_eq!(read(&leaf).err(), fault, "{byte}");
             let range = |lo: u8, hi: u8| {
-                [front, b"PA\x00\x03", &[codes + 1, lo, hi], b"LE\x00RI\x00"].concat()
+                let body = [codes + 1, lo, hi];
+                [front, b"PA\x00\x03", &body, b"LE\x01", &[codes], b"RI\x00"].concat()
             };
             let fault = |place: usize| Fault { number: 15, place };
             let over = byte > last;
@@ -479,9 +480,12 @@ fn written() {
         assert_eq!(write(edition, &[193; 12], &[], &[255; 99], &mut []), (44, 0, 2, 0));
     }
     assert_eq!(writer::ALWAYS_ENOUGH, 1_625);
-    let cases = editions::written();
-    assert!(cases.iter().any(|case| case.run().0.written == 1_625));
-    assert!(cases.iter().any(|case| case.edition == 2 && case.output == 1_624));
+    // The longest ones have strays; those of `strays::written` have none.
+    for cases in [editions::written(), strays::written(SECOND)] {
+        assert!(cases.iter().any(|case| case.run().0.number == 22 && case.output == 1_625));
+        assert!(cases.iter().any(|case| case.edition == 2 && case.output == 1_624));
+    }
+    assert!(strays::written(SECOND).iter().any(|case| case.run().0.written == 1_625));
 }
 
 /// "47 for .. a value that is no character"

@@ -488,7 +488,7 @@ fn the_last_of_63_leaves() {
 
 #[test]
 fn the_limits_of_a_pattern() {
-    let of = |body: &[u8]| [&pattern(0, body)[..], &sheet(&[A], &[B])].concat();
+    let of = |body: &[u8]| [&pattern(0, body)[..], &sheet(&[A, X], &[B])].concat();
     let leaves = |number: usize| [vec![66; number - 1], vec![7; number]].concat();
     check(&of(&leaves(63)), 356, 0, (1, 1, 0), &[]);
     // The 64th leaf is the last byte.
@@ -502,9 +502,11 @@ fn the_limits_of_a_pattern() {
 fn the_longest_sheet() {
     let full = [vec![66; 62], vec![68; 67], vec![7; 63]].concat();
     let mut longest: Vec<u8> = (0..8).flat_map(|field| pattern(field, &full)).collect();
-    longest.extend(sheet(&[A; 24], &[A; 24]));
+    let fields: Vec<u8> = (0..8).map(|field| X + field).collect();
+    longest.extend(sheet(&[&[A; 16], &fields[..]].concat(), &[A; 24]));
     assert_eq!(longest.len(), 1_622);
-    check(&longest, 356, 0, (0, 5, 0), &[]);
+    // No field begins with `A`.
+    check(&longest, 356, 0, (1, 1, 0), &[]);
     let printed = |input: &[u8]| {
         let mut program = Command::new(env!("CARGO_BIN_EXE_second"))
             .stdin(Stdio::piped())
@@ -514,7 +516,7 @@ fn the_longest_sheet() {
         program.stdin.take().unwrap().write_all(input).unwrap();
         String::from_utf8(program.wait_with_output().unwrap().stdout).unwrap()
     };
-    assert_eq!(printed(&longest), "0 5 0\n");
+    assert_eq!(printed(&longest), "1 1 0\n");
     assert_eq!(printed(&longest[..1_621]), "11 0 1621\n");
     assert_eq!(printed(&[&longest[..], &[0; 600]].concat()), "12 0 1622\n");
 }

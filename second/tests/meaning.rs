@@ -351,9 +351,10 @@ fn finite_questions_of(edition: Edition) {
             .collect();
         let left = small_side(edition, &mut chance, fields);
         let right = small_side(edition, &mut chance, fields);
-        let bodies = (0..).zip(&finite).map(|(field, (body, _))| (field, body.clone()));
-        let sheet = sheet(edition, &bodies.collect::<Vec<_>>(), &left, &right);
         let standing = standing(edition, &left, &right);
+        let bodies = (0..).zip(&finite).filter(|(field, _)| standing.contains(field));
+        let bodies = bodies.map(|(field, (body, _))| (field, body.clone()));
+        let sheet = sheet(edition, &bodies.collect::<Vec<_>>(), &left, &right);
         let sets = standing.iter().map(|&field| {
             let (_, texts) = &finite[usize::from(field)];
             (field, texts.iter().cloned().collect())
@@ -425,6 +426,7 @@ fn other_questions_of(edition: Edition) {
         }
         let left = small_side(edition, &mut chance, fields);
         let right = small_side(edition, &mut chance, fields);
+        patterns.retain(|(field, _)| standing(edition, &left, &right).contains(field));
         let sheet = sheet(edition, &patterns, &left, &right);
         let rules = rules(&sheet);
         let (number, records) = answer(&sheet);

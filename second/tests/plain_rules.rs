@@ -4,8 +4,9 @@
 use second::cases::Case;
 use second::edition::{Edition, FIRST, SECOND};
 use second::make::{pairs, plainly, Dice};
-use second::plain::{plain, plain_bytes, standings, stands_twice, Needs, Told};
-use second::sheet::read;
+use second::plain::{plain, plain_by, plain_bytes, plain_bytes_by, standings, stands_twice};
+use second::plain::{Needs, Told};
+use second::sheet::{read, Reading};
 use second::write::{many, row, sheet, tokens};
 use second::{answer, MOST_ROOM, NO_ROOM, SITUATION_BYTES};
 
@@ -98,8 +99,10 @@ fn patterns_without_a_leaf() {
     answers(&of(&[(0, &[64])], "a", ""), 4, 3, 0);
     answers(&of(&[(0, &[64])], "a", "A"), 4, 4, 1);
     answers(&of(&[(0, &[66, 64, 64]), (1, &[68, 64])], "aA", "Ab"), 5, 5, 0);
-    // and the pattern of a field that stands nowhere adds none
-    answers(&of(&[(5, DIGITS)], "A", "A"), 4, 4, 0);
+    // and the pattern of a field that stands nowhere added none, by the old rule
+    let stray = of(&[(5, DIGITS)], "A", "A");
+    assert_eq!(plain_by(Reading::Old, &stray, &mut [1; 2]).number, 0);
+    assert_eq!(plain_bytes_by(Reading::Old, &stray).bytes, 2);
 }
 
 #[test]

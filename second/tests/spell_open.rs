@@ -11,9 +11,10 @@ use second::catalogue::{recheck, HASHING};
 use second::edition::FIRST;
 use second::fault::Fault;
 use second::make::calls::operations;
-use second::make::{case, spelt, Dice};
+use second::make::{case, kept, spelt, Dice};
 use second::pattern::{Allowed, Pattern, Places};
 use second::search::{search, Ending};
+use second::sheet::Reading;
 use second::spell_open::{self, rule_into, sheet_into, Spelt};
 use second::{sheet, storeroom, SITUATION_BYTES};
 
@@ -104,16 +105,24 @@ fn nothing_to_add() {
         spells(&[pattern(0, body)], &[X, X], &[A], &[pattern(0, body)]);
     }
     let every: Vec<Vec<u8>> = (0..8).map(|field| pattern(field, &[field])).collect();
-    spells(&every, &[X, Y, 70], &[71, 66], &every);
+    spells(&every, &[X, Y, 70, 67], &[71, 66, 68, 69], &every);
 }
 
 #[test]
 fn a_field_that_does_not_stand_gets_nothing() {
     spells(&[], &[66], &[A], &[added(2)]);
-    // Patterns of fields that stand nowhere stay.
+    // Patterns of fields that stand nowhere are refused; by the old rule they stay.
     let stray = [pattern(1, &[4]), pattern(5, &[65, 0, 9])];
-    spells(&stray, &[A], &[B], &stray);
-    spells(&stray, &[66, 67], &[A], &[stray[0].clone(), added(2), added(3), stray[1].clone()]);
+    let refused = |old: &[u8], place| {
+        assert_eq!(spell_open::sheet(old), Err(Fault { number: 22, place }));
+    };
+    let old = with(&stray, &[A], &[B]);
+    refused(&old, 0);
+    assert_eq!(spell_open::sheet_by(Reading::Old, &old), Ok(old));
+    let old = with(&stray, &[66, 67, Y], &[A]);
+    refused(&old, 5);
+    let all = [stray[0].clone(), added(2), added(3), stray[1].clone()];
+    assert_eq!(spell_open::sheet_by(Reading::Old, &old), Ok(with(&all, &[66, 67, Y], &[A])));
 }
 
 #[test]
@@ -159,9 +168,10 @@ fn the_longest_sheet() {
     let full = [vec![66; 62], vec![68; 67], vec![7; 63]].concat();
     let seven: Vec<Vec<u8>> = (0..7).map(|field| pattern(field, &full)).collect();
     let left = [&[71][..], &[A; 23]].concat();
+    let right: Vec<u8> = (64..71).cycle().take(24).collect();
     let new = [&seven[..], &[added(7)]].concat();
-    spells(&seven, &left, &[64; 24], &new);
-    assert!(with(&new, &left, &[64; 24]).len() <= 2_048);
+    spells(&seven, &left, &right, &new);
+    assert!(with(&new, &left, &right).len() <= 2_048);
 }
 
 // ----------------------------------------------------- known sheets carried over
@@ -247,15 +257,14 @@ fn many_sheets_by_their_bytes() {
         assert_eq!(new.len(), old.len() + 8 * added);
         assert_eq!(spell_open::sheet(&new).unwrap(), new);
         let (patterns, sides) = records(&old);
-        let stray = patterns.iter().any(|(field, _)| !standing(sides).contains(field));
-        *seen.entry((added.min(3), !patterns.is_empty(), stray)).or_insert(0) += 1;
+        assert!(patterns.iter().all(|(field, _)| standing(sides).contains(field)));
+        *seen.entry((added.min(3), !patterns.is_empty())).or_insert(0) += 1;
     }
-    // None to three and more added, without patterns, with them, and with those
-    // of fields that stand nowhere.
+    // None to three and more added, without patterns and with them.
     for added in 0..4 {
-        for (patterns, stray, times) in [(false, false, 20), (true, false, 20), (true, true, 5)] {
-            let seen_times = seen.get(&(added, patterns, stray)).copied().unwrap_or(0);
-            assert!(seen_times >= times, "{added} {patterns} {stray}: {seen:?}");
+        for patterns in [false, true] {
+            let times = seen.get(&(added, patterns)).copied().unwrap_or(0);
+            assert!(times >= 20, "{added} {patterns}: {seen:?}");
         }
     }
 }
@@ -511,14 +520,17 @@ fn line_of(case: &Case) -> (u8, Option<i64>) {
     (number, by)
 }
 
-/// What the maker makes.
+/// What the maker makes: a third of it has strays, and all kinds are there once they
+/// are taken out.
 #[test]
 fn all_kinds_are_made() {
     let (mut seen, mut added_to, mut patterned) =
         (BTreeMap::new(), BTreeMap::new(), BTreeMap::new());
-    let (mut none, mut both_sides) = (0, 0);
+    let (mut none, mut both_sides, mut strays) = (0, 0, [0; 2]);
     for case in spelt_cases(30, 8_000) {
         let is_rule = case.sheet.starts_with(b"RU");
+        strays[usize::from(is_rule)] += usize::from(line_of(&case).0 == 22);
+        let case = kept::spelt(case);
         let (number, by) = line_of(&case);
         *seen.entry((is_rule, number, by)).or_insert(0) += 1;
         none += usize::from(case.answer == 0 && number == 41);
@@ -529,10 +541,10 @@ fn all_kinds_are_made() {
         let (patterns, sides) = records(bytes);
         let fields = standing(sides);
         let has: BTreeSet<u8> = patterns.iter().map(|(field, _)| *field).collect();
-        let (open, stray) = (fields.difference(&has).count(), has.difference(&fields).count());
+        let open = fields.difference(&has).count();
+        assert!(has.is_subset(&fields));
         *added_to.entry((is_rule, open)).or_insert(0) += 1;
-        let kind = (is_rule, fields.len() > open, open > 0, stray > 0);
-        *patterned.entry(kind).or_insert(0) += 1;
+        *patterned.entry((is_rule, fields.len() > open, open > 0)).or_insert(0) += 1;
         // One without a pattern on the right alone.
         let left = standing(&sides[..3 + usize::from(sides[2])]);
         both_sides += usize::from(!is_rule && fields.difference(&left).any(|of| !has.contains(of)));
@@ -551,12 +563,13 @@ fn all_kinds_are_made() {
             let kind = (is_rule, open);
             assert!(added_to.get(&kind).is_some_and(|&times| times >= 5), "{added_to:?}");
         }
-        // Patterns of fields that stand, fields without one, and patterns of
-        // fields that do not stand, in each way together.
-        for of in 0..8 {
-            let kind = (is_rule, of & 1 > 0, of & 2 > 0, of & 4 > 0);
+        // Patterns of fields that stand, and fields without one, in each way
+        // together.
+        for of in 0..4 {
+            let kind = (is_rule, of & 1 > 0, of & 2 > 0);
             assert!(patterned.get(&kind).is_some_and(|&times| times >= 20), "{patterned:?}");
         }
+        assert!(strays[usize::from(is_rule)] >= 1_000, "{strays:?}");
     }
     let above_3 = seen.get(&(true, 31, None)).copied().unwrap_or(0);
     assert!(above_3 >= 100 && !seen.contains_key(&(false, 31, None)), "{seen:?}");
@@ -585,9 +598,8 @@ fn rules() {
     spells(&[], &[], &[]);
     spells(&[], &[A, B], &[]);
     spells(&[], &[67, 64, 66, 65], &[added(0), added(1), added(2), added(3)]);
-    spells(&one, &[67, 64], &[added(0), one[0].clone(), added(3)]);
+    spells(&one, &[67, 64, 65], &[added(0), one[0].clone(), added(3)]);
     spells(&one, &[65, 65], &one);
-    spells(&one, &[A], &one);
 }
 
 #[test]
@@ -606,7 +618,9 @@ fn a_refused_rule() {
     // A field above 3, behind 11 to 17.
     for field in 4..8 {
         assert_eq!(spell_open::rule(&rule(&[], &[A, 64 + field])), told(31, 0));
-        assert_eq!(spell_open::rule(&rule(&[pattern(field, &[4])], &[A])), told(31, 0));
+        let of_field = |side: &[u8]| rule(&[pattern(field, &[4])], side);
+        assert_eq!(spell_open::rule(&of_field(&[64 + field])), told(31, 0));
+        assert_eq!(spell_open::rule(&of_field(&[A])), told(22, 2));
         assert_eq!(spell_open::rule(&rule(&[], &[64 + field, 72])), told(17, 6));
     }
 }

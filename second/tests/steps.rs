@@ -228,7 +228,7 @@ fn both(case: &Case) -> Told {
     let unchanged = |bytes: &[u8], fill: u8| bytes.iter().all(|&byte| byte == fill);
     assert!(unchanged(&after.answer[told.outcome.written..], FILL));
     assert!(unchanged(&after.steps[told.bytes..], second::steps::STEPS_FILL));
-    let fault = matches!(told.outcome.number, 11..=17 | 44);
+    let fault = matches!(told.outcome.number, 11..=17 | 22 | 44);
     assert!(unchanged(&after.work, if fault { 90 } else { 0 }));
     told
 }

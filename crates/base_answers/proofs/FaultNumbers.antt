@@ -10,7 +10,7 @@ use Rattle.paper.specs.Outcome.{Outcome}
 use Rattle.paper.specs.Sheet as Paper
 use Rattle.base_answers.specs.Faults.{fault-of}
 use Rattle.base_answers.specs.AnswerNumbers.{how-number, number-in-pair, as-numbers, told}
-use Rattle.base_answers.specs.declared.Fault.the-variants.{CutShort, WrongMark, WrongField, WrongLength, NotOnePattern, TooManyLeaves, WrongToken, WrongEdition}
+use Rattle.base_answers.specs.declared.Fault.the-variants.{CutShort, WrongMark, WrongField, WrongLength, NotOnePattern, TooManyLeaves, WrongToken, WrongEdition, StrayPattern}
 use Rattle.base_answers.specs.declared.How.{How}
 use Rattle.base_answers.specs.declared.How.the-variants.{Clash, NoClash, NoRoom, SideTooLong, AnswerTooShort}
 use Rattle.base_answers.specs.declared.Answer.{Answer}
@@ -52,6 +52,7 @@ module _ (answer work : List ℕ) where
   answer-told (Refused TooManyLeaves at) = refl
   answer-told (Refused WrongToken at) = refl
   answer-told (Refused WrongEdition at) = refl
+  answer-told (Refused StrayPattern at) = refl
 
 -- two answers that tell the same are the same
 pub one-answer : (r r′ : Answer) (a a′ w w′ : List ℕ) → told r a w ≡ told r′ a′ w′ → r ≡ r′
@@ -66,6 +67,7 @@ fault-below Paper.not-one-pattern = lit< tt
 fault-below Paper.too-many-leaves = lit< tt
 fault-below Paper.wrong-token = lit< tt
 fault-below Paper.wrong-edition = lit< tt
+fault-below Paper.stray-pattern = lit< tt
 
 how-below : (how : How) → how-number how < 45
 how-below (Clash written) = lit< tt

@@ -6,7 +6,7 @@ use lib.Dec.{eqb}
 use Rattle.paper.specs.Sheet as Paper
 use Rattle.base_answers.specs.Faults.{fault-of, as-fault}
 use Rattle.base_answers.specs.declared.Fault.{Fault}
-use Rattle.base_answers.specs.declared.Fault.the-variants.{CutShort, WrongMark, WrongField, WrongLength, NotOnePattern, TooManyLeaves, WrongToken, WrongEdition}
+use Rattle.base_answers.specs.declared.Fault.the-variants.{CutShort, WrongMark, WrongField, WrongLength, NotOnePattern, TooManyLeaves, WrongToken, WrongEdition, StrayPattern}
 
 pub same-fault : (x : Fault) → as-fault (fault-of x) ≡ x
 same-fault CutShort = refl
@@ -17,6 +17,7 @@ same-fault NotOnePattern = refl
 same-fault TooManyLeaves = refl
 same-fault WrongToken = refl
 same-fault WrongEdition = refl
+same-fault StrayPattern = refl
 
 pub same-paper : (x : Paper.Fault) → fault-of (as-fault x) ≡ x
 same-paper Paper.cut-short = refl
@@ -27,6 +28,7 @@ same-paper Paper.not-one-pattern = refl
 same-paper Paper.too-many-leaves = refl
 same-paper Paper.wrong-token = refl
 same-paper Paper.wrong-edition = refl
+same-paper Paper.stray-pattern = refl
 
 unfoldable pub fault-from : ℕ → Fault
 fault-from n =
@@ -36,4 +38,5 @@ fault-from n =
     (cond (eqb n 14) WrongLength
     (cond (eqb n 15) NotOnePattern
     (cond (eqb n 16) TooManyLeaves
-    (cond (eqb n 17) WrongToken WrongEdition))))))
+    (cond (eqb n 17) WrongToken
+    (cond (eqb n 22) StrayPattern WrongEdition)))))))

@@ -14,6 +14,7 @@ pub enum Fault {
     TooManyLeaves,
     WrongToken,
     WrongEdition,
+    StrayPattern,
 }
 
 // The fault's number.
@@ -29,6 +30,7 @@ pub fn number(x: Fault) -> u8
         Fault::TooManyLeaves => 16,
         Fault::WrongToken => 17,
         Fault::WrongEdition => 44,
+        Fault::StrayPattern => 22,
     }
 }
 
@@ -61,7 +63,7 @@ pub struct Ended {
 // The answer to a sheet. specs/Told.antt gives each its number, count, place and written length.
 pub enum Answer {
     Searched { ended: Ended },
-    // 11 to 17, and 44: the sheet is at fault
+    // 11 to 17, 22 and 44: the sheet is at fault
     Refused { fault: Fault, place: usize },
 }
 

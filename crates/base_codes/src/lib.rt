@@ -4,6 +4,7 @@ use base_places::PlaceSet;
 ghost use mathlib.Core.Path.{_≡_};
 ghost use Prim.Native.Nat.{_≤_};
 ghost use lib.ListN.{length, take};
+ghost use Rattle.paper.specs.Lists.{member};
 ghost use Rattle.paper.specs.Numbers.{longest-side};
 ghost use Rattle.base_codes.specs.Inner.{field-of, tokens};
 
@@ -57,6 +58,21 @@ pub fn length_of(side: CodedSide) -> usize
         n += 1;
     }
     n
+}
+
+// Does the token stand among these?
+pub fn stands(side: &[u8], token: u8) -> bool
+    ensures { λ r. ⌜ r ≡ member token (now (side .entry)) ⌝ }
+{
+    let mut i: usize = 0;
+    while i < side.len() {
+        let x = side[i];
+        if token == x {
+            return true;
+        }
+        i += 1;
+    }
+    false
 }
 
 // "A situation is the two token lists and the place set of each field still standing in them." A side ends at its first 255; the set of a

@@ -40,7 +40,7 @@ pub fn alphabet_of(edition: Edition) -> Alphabet
 }
 
 // The byte that stands for the first code: 64, behind `ED` 192.
-fn codes_from(edition: Edition) -> u8
+pub fn codes_from(edition: Edition) -> u8
     ensures { λ r. ⌜ r ≡ codes-from (paper-edition edition) ⌝ }
 {
     match edition {

@@ -1,5 +1,6 @@
 -- How often the fields of the paper's sides stand, by the codes of their tokens.
 --   standings-are : getD (standings left right) f 0 ≡ times f side, where the tokens of left and right are the codes of the side
+--   codes-times   : the tokens of its codes that are the field's code are as many as those that are the field
 --   stands-times  : not (eqb (times f side) 0) ≡ stands-in f side
 -- The tokens are characters and fields that have place sets. Follows by induction on the side: tokens have different codes.
 use Prim.Native.Nat.{ℕ, suc, _+_, _<_}
@@ -33,7 +34,7 @@ one-more true false x y l m e k = absurd (true-false refl e)
 one-more false true x y l m e k = absurd (true-false refl (sym e))
 one-more false false x y l m e k = k
 
-codes-times : (f : ℕ) (side : Side) → ((t : Token) → List·Memᴰ t side → HasSet t) → count (field-code + f) (side-code side) ≡ times f side
+pub codes-times : (f : ℕ) (side : Side) → ((t : Token) → List·Memᴰ t side → HasSet t) → count (field-code + f) (side-code side) ≡ times f side
 codes-times f [] h = refl
 codes-times f (t ∷ side) h =
     one-more (eqb (field-code + f) (token-code t)) (is-field f t) (token-code t) t (keep (eqb (field-code + f)) (side-code side)) (keep (is-field f) side)

@@ -1,2 +1,4 @@
 pub mod Counts
 pub mod HowOften
+pub mod SidesBack
+pub mod Strays

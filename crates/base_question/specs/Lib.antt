@@ -1,3 +1,4 @@
 pub mod Bodies
 pub mod Asked
 pub mod Standings
+pub mod StraysCoded

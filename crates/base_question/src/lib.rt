@@ -9,15 +9,21 @@ use base_editions::Alphabet;
 use base_editions::Edition;
 use base_places::PlaceTables;
 ghost use mathlib.Core.Path.{_≡_};
+ghost use mathlib.Core.Bool.{_&&_};
+ghost use mathlib.Core.List.{_++_};
 ghost use Prim.Native.Nat.{_≤_};
-ghost use lib.Dec.{eqb};
+ghost use lib.Dec.{ltb, eqb};
 ghost use lib.ListN.{length};
 ghost use Rattle.paper.specs.Lists.{only};
 ghost use Rattle.paper.specs.Numbers.{longest-side};
 ghost use Rattle.base_codes.specs.Inner.{tokens};
-ghost use Rattle.base_question.specs.Bodies.{no-bodies};
+ghost use Rattle.base_question.specs.Bodies.{no-bodies, mark-of};
 ghost use Rattle.base_question.specs.Asked.{no-question};
 ghost use Rattle.base_question.specs.Standings.{count, standing-times};
+ghost use Rattle.base_question.specs.StraysCoded.{first-of, strays-coded};
+
+// A pattern's record has so many bytes before the pattern: its mark, the field byte and the length byte.
+const HEAD: usize = 4;
 
 // Where a field's pattern stands in the bytes that were read: the offset of its first byte, and how many it has. Both are 0 where there is none.
 pub struct Body {
@@ -44,6 +50,17 @@ pub fn no_bodies() -> [Body; SHEET_FIELDS]
         length: 0,
     };
     [none; SHEET_FIELDS]
+}
+
+// Where the mark of the pattern's record stands: behind it come the field byte, the length byte and the pattern. 0 where there is none.
+pub fn mark_of(body: Body) -> usize
+    ensures { λ r. ⌜ r ≡ mark-of body ⌝ }
+{
+    let start = body.start;
+    if start < HEAD {
+        return 0;
+    }
+    start - HEAD
 }
 
 // Nothing is asked: no tokens, and every field is open. The alphabet is Code 39.
@@ -75,6 +92,32 @@ pub fn standings(left: CodedSide, right: CodedSide) -> [usize; FIELDS]
         f += 1;
     }
     counts
+}
+
+// The first field with a pattern that stands in neither side; SHEET_FIELDS where there is none. Only fields with a pattern are looked up.
+pub fn first_stray(bodies: [Body; SHEET_FIELDS], left: CodedSide, right: CodedSide) -> usize
+    ensures { λ r. ⌜ r ≡ first-of (strays-coded bodies left right) ⌝ }
+{
+    let mut f: usize = 0;
+    while f < SHEET_FIELDS {
+        let body = bodies[f];
+        let token = FIELD_CODE + f as u8;
+        if is_stray(body.length, left, right, token) {
+            return f;
+        }
+        f += 1;
+    }
+    f
+}
+
+// Does a pattern of this length stand for a token that stands in neither side?
+fn is_stray(length: usize, left: CodedSide, right: CodedSide, token: u8) -> bool
+    ensures { λ r. ⌜ r ≡ (ltb 0 length && eqb (count token (tokens left ++ tokens right)) 0) ⌝ }
+{
+    if length == 0 {
+        return false;
+    }
+    times(left, token) + times(right, token) == 0
 }
 
 // How many tokens of a side are this one.

@@ -9,7 +9,7 @@ use Rattle.paper.specs.Lists.{member}
 use Rattle.paper.specs.Buffers.{sheet-numbers}
 use Rattle.paper_steps.specs.StepsOutcome.{StepsOutcome}
 use Rattle.base_answers.specs.Faults.{fault-of}
-use Rattle.base_answers.specs.declared.Fault.the-variants.{CutShort, WrongMark, WrongField, WrongLength, NotOnePattern, TooManyLeaves, WrongToken, WrongEdition}
+use Rattle.base_answers.specs.declared.Fault.the-variants.{CutShort, WrongMark, WrongField, WrongLength, NotOnePattern, TooManyLeaves, WrongToken, WrongEdition, StrayPattern}
 use Rattle.base_answers.proofs.Same.{fault-from}
 use Rattle.base_answers.proofs.FaultNumbers.{fault-below}
 use Rattle.base_steps.specs.StepsNumbered.{end-numbers, steps-numbers, told-steps}
@@ -55,6 +55,7 @@ module _ (answer work steps : List ℕ) where
   answer-told (Refused TooManyLeaves at) = refl
   answer-told (Refused WrongToken at) = refl
   answer-told (Refused WrongEdition at) = refl
+  answer-told (Refused StrayPattern at) = refl
 
 -- Two answers that tell the same are the same.
 pub one-steps-answer : (r r′ : StepsAnswer) (a a′ w w′ s s′ : List ℕ) → told-steps r a w s ≡ told-steps r′ a′ w′ s′ → r ≡ r′

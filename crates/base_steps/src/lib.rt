@@ -26,7 +26,7 @@ pub struct StepsEnded {
 // The answer to a sheet.
 pub enum StepsAnswer {
     Searched { ended: StepsEnded },
-    // 11 to 17: the sheet is at fault
+    // 11 to 17, 22 and 44: the sheet is at fault
     Refused { fault: Fault, place: usize },
 }
 

@@ -1,132 +1,131 @@
--- From what reading promises and what was put to the answer.
---   no-room, with-room         : bytes put into a buffer, if they fit
---   sheet-at-fault, sheet-put  : what is told of a sheet is what carrying it over is by the rules; and-promised: all that is promised of it
---   rule-at-fault, rule-foreign, rule-put : of a rule; and-rule-promised
---   none-kept, too-full, all-put          : of a catalogue; and-kept-promised
--- Follows from the definitions by the tests that they make.
+-- From what was read and what was written anew to the answer.
+--   sheet-carried, rule-carried : what is told of a sheet and of a rule is what carrying them over is by the rules, and all that is promised of it
+--   none-kept, too-full, all-put : of a catalogue; and-promised
+-- Follows from the definitions by the tests that they make: the pattern is written out of all characters of the edition that was read.
 use Prim.Native.Nat.{ℕ, _+_, _≤_, _<_}
 use native.Mathlib.Nat.{zero-add, mul-le-mul-right}
 use native.Mathlib.Omega.{arith}
-use mathlib.Core.Path.{_≡_, sym, ap, _∙_, subst}
-use mathlib.Core.Bool.{true, false}
-use mathlib.Core.List.{List, [], _++_}
+use mathlib.Core.Path.{_≡_, refl, sym, ap, _∙_, subst}
+use mathlib.Core.List.{List, _++_}
 use lib.ListN.{length, take, drop}
 use lib.Seq.{take-at}
+use Rattle.paper.specs.Alphabet.{Alphabet, Edition, alphabet-of, edition-of}
 use Rattle.paper.specs.Question.{Question}
-use Rattle.paper.specs.Sheet.{records, asked, read-sheet}
-use Rattle.paper.specs.Rule.{Rule, foreign-field, read-rule}
+use Rattle.paper.specs.Sheet.{Records, faulty, records, Reading, refused, asked, read-sheet}
+use Rattle.paper.specs.Rule.{Rule, read-rule, foreign-field}
 use Rattle.paper.specs.Saying.{sheet-saying}
-use Rattle.paper_catalogue.specs.Catalogue.{no-catalogue, form, with-record}
+use Rattle.paper_catalogue.specs.Catalogue.{Present, no-catalogue, rules, unfit, form, with-record}
 use Rattle.paper.proofs.base.Tests.{lt-ltb, le-ltb}
-use Rattle.paper_catalogue.proofs.Form.{rules-at-most}
-use Rattle.paper_carry.specs.Opened.{spelt-open, rule-open}
-use Rattle.paper_carry.specs.Spelling.{Spelling, put-into, spelling, rule-spelling, rules-open, carrying-over, longest-rule, longest-rules}
+use Rattle.paper.proofs.sheets.Asked.{sheet-good}
+use Rattle.paper.proofs.sheets.LastChecked.{asked-before}
+use Rattle.paper_catalogue.proofs.Local.{rule-before}
+use Rattle.paper_catalogue.proofs.Form.{LaidOut, stands-by}
+use Rattle.paper_carry.specs.Opened.{with-open, question-changed, rule-open}
+use Rattle.paper_carry.specs.Spelling.{Spelling, put-into, spelling-of, spelling, rule-spelling-of, rule-spelling, rules-open, carrying-over, longest-rule, longest-rules}
 use Rattle.paper_carry.specs.Spelling.{CarryPromised, RulePromised, CataloguePromised}
 use Rattle.paper_carry.specs.Spelling as Spelling
-use Rattle.paper_carry.proofs.Carried.{rules-fit}
 use Rattle.paper_carry.proofs.CarryPromised.{promised, rule-promised, catalogue-promised}
-use Rattle.base_put.specs.Counted.{last-place, Counted}
-use Rattle.base_put.proofs.Counting.{counted-length, counted-in-front, counted-outside}
-use Rattle.base_answers.specs.declared.Fault as Code
-use Rattle.base_answers.specs.declared.Found.the-variants as Found
+use Rattle.paper_strays.proofs.Dropped.{before-laid}
+use Rattle.base_put.specs.Counted.{Counted}
+use Rattle.base_put.proofs.Counting.{counted-length, counted-in-front}
+use Rattle.base_editions.specs.Editions.{paper-edition}
+use Rattle.base_editions.specs.declared.Edition.the-variants.{First}
+use Rattle.base_editions.proofs.Same.{same-edition}
 use Rattle.read_sheet.specs.SheetRead.{bodies-of, sheet-of}
 use Rattle.read_sheet.specs.declared.Sheet.{Sheet}
-use Rattle.read_sheet.proofs.SheetStruct.{sheet-refused}
 use Rattle.read_rule.specs.RuleRead.{rule-bodies, rule-of}
 use Rattle.read_rule.specs.declared.Rule as Read
-use Rattle.read_rule.proofs.RuleStruct.{rule-fault}
-use Rattle.catalogue_form.specs.Kept.{Of-form}
-use Rattle.catalogue_form.specs.declared.Kept.{Kept}
 use Rattle.catalogue_bytes.specs.Moving.{put-at}
 use Rattle.catalogue_bytes.proofs.Within.{is-put}
-use Rattle.carry_open.specs.CarriedOver.{told-spelt, told-carried}
-use Rattle.carry_open.specs.declared.SpeltOpen.the-variants.{Written, Refused, ForeignField, TooShort}
+use Rattle.carry_records.specs.declared.Change.{Change}
+use Rattle.carry_records.specs.declared.Change.the-variants.{Open}
+use Rattle.carry_put.specs.Putting.{rules-put}
+use Rattle.carry_put.proofs.RulesPut.{rules-whole, new-short}
+use Rattle.carry_anew.specs.Anew.{told-spelt, sheet-rewritten, SheetRead, rule-rewritten, RuleRead}
+use Rattle.carry_open.specs.CarriedOver.{told-carried}
 use Rattle.carry_open.specs.declared.CarriedOver.the-variants.{Done, Full, NoCatalogue}
 
--- Bytes counted into no part of the buffer, and then put.
-module _ (l out : List ℕ) (short : length l ≤ last-place) where
-  pub no-room : {e : List ℕ} {n : ℕ} → Counted [] e 0 n l → length (e ++ out) < n → told-spelt TooShort (e ++ out) ≡ put-into l out
-  no-room {e = e} p h =
-      let same : e ++ out ≡ out = ap (λ (d : List ℕ). d ++ out) (counted-outside p) in
-      rw (same, lt-ltb (length out) (length l) (omega (arith, ap length same, counted-length p short)))
-
-  pub with-room : {e after : List ℕ} {n m : ℕ} → Counted [] e 0 n l → n ≤ length (e ++ out) → Counted (e ++ out) after 0 m l
-      → told-spelt (Written m) after ≡ put-into l out
-  with-room {e = e} {after = after} {m = m} p h w =
-      let same : e ++ out ≡ out = ap (λ (d : List ℕ). d ++ out) (counted-outside p) in
-      let room : length l ≤ length out = omega (arith, ap length same, counted-length p short) in
-      let put : Counted out after 0 m l = subst (λ (d : List ℕ). Counted d after 0 m l) same w in
-      rw (le-ltb (length out) (length l) room, counted-length put short, counted-in-front put short room)
-
 -- Sheets.
-module _ (sheet out : List ℕ) where
-  pub and-promised : (s : Spelling) → s ≡ spelling sheet out → (s ≡ spelling sheet out) × CarryPromised sheet out s
-  and-promised s e = (e, subst (CarryPromised sheet out) (sym e) (promised sheet out))
+module _ (s out : List ℕ) (read : Sheet) (e : read ≡ sheet-of (bodies-of s) (read-sheet s)) where
+  abbrev its-change : Change
+  its-change = Open (read .edition)
 
-  pub sheet-at-fault : (s : Sheet) → s ≡ sheet-of (bodies-of sheet) (read-sheet sheet) → (x : Code.Fault) → s .found ≡ Found.Refused x
-      → told-spelt (Refused x (s .place)) out ≡ spelling sheet out
-  unfolding spelling
-  sheet-at-fault s e x h = rw (sheet-refused sheet s e x h)
+  -- the edition that was read is the question's
+  its-edition : (q : Question) → read-sheet s ≡ asked q → paper-edition (read .edition) ≡ edition-of (q .alphabet)
+  its-edition q k = ap (λ (z : Sheet). paper-edition (z .edition)) (e ∙ ap (sheet-of (bodies-of s)) k) ∙ same-edition (edition-of (q .alphabet))
 
-  pub sheet-put : (q : Question) → read-sheet sheet ≡ asked q → (l : List ℕ) → l ≡ sheet-saying (spelt-open q) → (s : Spelling) → s ≡ put-into l out
-      → s ≡ spelling sheet out
+  sheet-read : SheetRead its-change s (read-sheet s) read
+  sheet-read = record { is = e; before = λ q k. asked-before s q k; in-edition = its-edition }
+
+  opened-by : (x : Reading) → read-sheet s ≡ x → sheet-rewritten its-change x out ≡ spelling-of x out
+  opened-by (refused f at) k = refl
+  opened-by (asked q) k =
+      ap (λ (n : ℕ). put-into (sheet-saying (question-changed (with-open n) q)) out)
+      (ap (λ (d : Edition). alphabet-of d .characters) (its-edition q k) ∙ sym (ap (λ (a : Alphabet). a .characters) (sheet-good s q k .alphabet)))
+
+  pub sheet-carried : (t : Spelling) → ((x : Reading) → SheetRead its-change s x read → t ≡ sheet-rewritten its-change x out)
+      → (t ≡ spelling s out) × CarryPromised s out t
   unfolding spelling
-  sheet-put q asks l e s p = rw asks (p ∙ ap (λ (b : List ℕ). put-into b out) e)
+  sheet-carried t h =
+      let whole = h (read-sheet s) sheet-read ∙ opened-by (read-sheet s) refl in
+      (whole, subst (CarryPromised s out) (sym whole) (promised s out))
 
 -- Rules.
-module _ (bytes out : List ℕ) where
-  pub and-rule-promised : (s : Spelling) → s ≡ rule-spelling bytes out → (s ≡ rule-spelling bytes out) × RulePromised bytes out s
-  and-rule-promised s e = (e, subst (RulePromised bytes out) (sym e) (rule-promised bytes out))
+module _ (s out : List ℕ) (read : Read.Rule) (e : read ≡ rule-of (rule-bodies s) (read-rule s)) where
+  rule-opened-by : (x : Records Rule) → rule-rewritten (Open First) x out ≡ rule-spelling-of x out
+  unfolding rule-open
+  rule-opened-by (faulty f at) = refl
+  rule-opened-by (records r n) = refl
 
-  pub rule-at-fault : (r : Read.Rule) → r ≡ rule-of (rule-bodies bytes) (read-rule bytes) → (x : Code.Fault) → r .found ≡ Found.Refused x
-      → told-spelt (Refused x (r .place)) out ≡ rule-spelling bytes out
+  pub rule-carried : (t : Spelling) → ((x : Records Rule) → RuleRead (Open First) s x read → t ≡ rule-rewritten (Open First) x out)
+      → (t ≡ rule-spelling s out) × RulePromised s out t
   unfolding rule-spelling
-  rule-at-fault r e x h = rw (rule-fault r _ (read-rule bytes) x e h)
-
-  module _ (r : Rule) (n : ℕ) (reads : read-rule bytes ≡ records r n) where
-    pub rule-foreign : foreign-field r ≡ true → told-spelt ForeignField out ≡ rule-spelling bytes out
-    unfolding rule-spelling
-    rule-foreign f = rw (reads, f)
-
-    pub rule-put : foreign-field r ≡ false → (l : List ℕ) → l ≡ rule-open r → (s : Spelling) → s ≡ put-into l out → s ≡ rule-spelling bytes out
-    unfolding rule-spelling
-    rule-put own l e s p = rw (reads, own) (p ∙ ap (λ (b : List ℕ). put-into b out) e)
+  rule-carried t h =
+      let whole = h (read-rule s) (record { is = e; before = λ r n k. rule-before s k; in-edition = refl }) ∙ rule-opened-by (read-rule s) in
+      (whole, subst (RulePromised s out) (sym whole) (rule-promised s out))
 
 -- A catalogue.
-pub and-kept-promised : (c : List ℕ) (s : Spelling.CarriedOver) → s ≡ carrying-over c → (s ≡ carrying-over c) × CataloguePromised c s
-and-kept-promised c s e = (e, subst (CataloguePromised c) (sym e) (catalogue-promised c))
+pub and-promised : (c : List ℕ) (s : Spelling.CarriedOver) → s ≡ carrying-over c → (s ≡ carrying-over c) × CataloguePromised c s
+and-promised c s e = (e, subst (CataloguePromised c) (sym e) (catalogue-promised c))
 
 pub none-kept : (c : List ℕ) → form c ≡ no-catalogue → told-carried NoCatalogue c ≡ carrying-over c
 unfolding carrying-over
 none-kept c e = rw e
 
-module _ {c : List ℕ} {kept : Kept} (x : Of-form c kept) {before bytes : List ℕ} {n : ℕ} (p : Counted before bytes 0 n (rules-open (x .rules-present))) where
-  abbrev all : List ℕ
-  all = rules-open (x .rules-present)
+module _ (c : List ℕ) (l : List Present) (e : form c ≡ rules l) {before bytes : List ℕ} {n : ℕ} (k : ℕ) (many : k ≡ length l)
+    (p : Counted before bytes 0 n (rules-put (Open First) k c)) where
+  laid : LaidOut foreign-field c l
+  laid = before-laid (stands-by unfit c e .0)
 
-  pub all-fit : length all ≤ longest-rules
-  all-fit = omega (arith, rules-fit c (x .of-form), mul-le-mul-right longest-rule (rules-at-most c (x .of-form)))
+  its-rules : Counted before bytes 0 n (rules-open l)
+  unfolding rules-open rule-open
+  its-rules = subst (Counted before bytes 0 n) (ap (λ (m : ℕ). rules-put (Open First) m c) many ∙ rules-whole (Open First) refl laid) p
 
-  its-length : n ≡ length all
-  its-length = counted-length p (omega (arith, all-fit))
+  all-fit : length (rules-open l) ≤ longest-rules
+  unfolding rules-open rule-open
+  all-fit = omega (arith, new-short (Open First) refl laid, mul-le-mul-right longest-rule (stands-by unfit c e .1))
+
+  its-length : n ≡ length (rules-open l)
+  its-length = counted-length its-rules (omega (arith, all-fit))
 
   pub within : n ≤ longest-rules
   within = omega (arith, its-length, all-fit)
 
   pub too-full : length c < n → told-carried Full c ≡ carrying-over c
   unfolding carrying-over
-  too-full h = rw (x .of-form, lt-ltb (length c) (length all) (omega (arith, its-length)))
+  too-full h = rw (e, lt-ltb (length c) (length (rules-open l)) (omega (arith, its-length)))
 
   -- from bytes that have room for all of them
   module _ (room : length before ≡ longest-rules) where
-    front-is : take n bytes ≡ all
+    front-is : take n bytes ≡ rules-open l
     front-is =
-        ap (take n) (counted-in-front p (omega (arith, all-fit)) (omega (arith, room, all-fit)))
-        ∙ take-at all (drop (length all) before) n (omega (arith, its-length))
+        ap (take n) (counted-in-front its-rules (omega (arith, all-fit)) (omega (arith, room, all-fit)))
+        ∙ take-at (rules-open l) (drop (length (rules-open l)) before) n (omega (arith, its-length))
 
     pub all-put : n ≤ length c → (part filled : List ℕ) → part ≡ take n bytes → filled ≡ put-at 0 part c → told-carried Done filled ≡ carrying-over c
     unfolding carrying-over
-    all-put h part filled e f =
+    all-put h part filled i f =
+        let all = rules-open l in
         let fits : 0 + length all ≤ length c = omega (arith, its-length) in
-        let filled-is : filled ≡ with-record 0 all c = f ∙ ap (λ (s : List ℕ). put-at 0 s c) (e ∙ front-is) ∙ is-put 0 all c fits in
-        rw (x .of-form, le-ltb (length c) (length all) (omega (arith, its-length)), filled-is, zero-add (length all))
+        let filled-is : filled ≡ with-record 0 all c = f ∙ ap (λ (s : List ℕ). put-at 0 s c) (i ∙ front-is) ∙ is-put 0 all c fits in
+        rw (e, le-ltb (length c) (length all) (omega (arith, its-length)), filled-is, zero-add (length all))

@@ -1,4 +1,2 @@
-pub mod CarriedWhole
 pub mod CarryAnswered
-pub mod RulesPut
 pub mod OneCarrying

@@ -2,10 +2,11 @@
 // field without a pattern. A sheet begins with `PA` or `LE`, the others with `RU`, and a catalogue of no rules is zeros; a catalogue keeps its length.
 // There is no exit status: a refusal or a failure is told on standard error, and of what is refused nothing is written.
 //
-// The stored sheet: field 0 is a digit and stands on both sides; fields 1 and 3 stand without a pattern; field 2 has a pattern and doesn't stand.
+// The stored sheet: field 0 is a digit and stands on both sides; fields 1 and 3 stand without a pattern; field 2 has a pattern and stands on the
+// right.
 use base_answers::Fault;
+use carry_anew::Rewritten;
 use carry_open::CarriedOver;
-use carry_open::SpeltOpen;
 use print_failures::refuse;
 use print_out::How;
 use print_out::read_first;
@@ -41,12 +42,12 @@ fn carry(bytes: &mut [u8]) {
     let mut out = [0u8; LONGEST];
     let spelt = spelt_open(bytes, &mut out);
     match spelt {
-        SpeltOpen::Refused { fault, place } => carry_catalogue(bytes, fault, place),
+        Rewritten::Refused { fault, place } => carry_catalogue(bytes, fault, place),
         _ => show(spelt, &out),
     }
 }
 
-fn spelt_open(bytes: &[u8], out: &mut [u8]) -> SpeltOpen {
+fn spelt_open(bytes: &[u8], out: &mut [u8]) -> Rewritten {
     let start = Cursor { at: 0 };
     if start.next_is(bytes, Mark::RU) {
         return carry_open::rule(bytes, out);
@@ -69,8 +70,8 @@ fn carry_catalogue(catalogue: &mut [u8], fault: Fault, place: usize) {
 }
 
 // What was written, or why nothing was.
-fn show(spelt: SpeltOpen, out: &[u8]) {
-    let told = carry_open::in_numbers(spelt);
+fn show(spelt: Rewritten, out: &[u8]) {
+    let told = carry_anew::in_numbers(spelt);
     let n = told.written;
     if told.number == 31 {
         tell(b"carry_over: 31: the rule names a field above 3\n");

@@ -19,6 +19,8 @@ const RECHECK: usize = b'R' as usize + 256 * (b'E' as usize);
 
 const CARRY: usize = b'S' as usize + 256 * (b'O' as usize);
 
+const DROP: usize = b'D' as usize + 256 * (b'S' as usize);
+
 const ADD_DECIDED: usize = b'A' as usize + 256 * (b'E' as usize);
 
 const RECHECK_DECIDED: usize = b'R' as usize + 256 * (b'D' as usize);
@@ -39,6 +41,8 @@ pub enum Mark {
     Recheck,
     // `SO`
     Carry,
+    // `DS`
+    Drop,
     // `AE`
     AddDecided,
     // `RD`
@@ -65,6 +69,7 @@ fn mark_of(letters: usize) -> Mark {
         SHOW => Mark::Show,
         RECHECK => Mark::Recheck,
         CARRY => Mark::Carry,
+        DROP => Mark::Drop,
         ADD_DECIDED => Mark::AddDecided,
         RECHECK_DECIDED => Mark::RecheckDecided,
         _ => Mark::None(How::Stopped),

@@ -1,5 +1,6 @@
 // `catalogue`: does the operations on standard input to a catalogue, and prints a line for each rule that is added or withdrawn, for each pair
-// that checking again lists, and for each time that the rules are carried over. There is no exit status: a failure is told on standard error.
+// that checking again lists, and for each time that the rules are carried over or their stray patterns dropped. There is no exit status: a failure is
+// told on standard error.
 //
 // After `SH` and 1 each line has every byte of the lent buffers too.
 //
@@ -41,7 +42,7 @@
 // 32  AD  17: 43 is no character
 // 33  AD  17: field 8, behind `LT`
 // 34  AD  31: a side with field 4
-// 35  AD  31: a pattern of field 4
+// 35  AD  22: a pattern of field 4, which does not stand
 // 36  WI  33: there is no rule 11
 // 37  WI  the rim latch goes, and the others move up
 // 38  AD  it comes back as rule 10
@@ -282,6 +283,7 @@ fn call_by(
         Mark::Recheck => check_again(false, LIST, catalogue, work, given, bytes),
         Mark::RecheckDecided => check_again(true, DECIDED_LIST, catalogue, work, given, bytes),
         Mark::Carry => carry(catalogue, bytes),
+        Mark::Drop => drop_strays(catalogue, bytes),
         Mark::None(how) => how,
         _ => How::Stopped,
     }
@@ -372,4 +374,10 @@ fn rechecked(decide: bool, catalogue: &[u8], work: &mut [u8], list: &mut [u8]) -
 fn carry(catalogue: &mut [u8], bytes: bool) -> How {
     let told = carry_open::number(carry_open::catalogue(catalogue));
     print_changed(b"carry", told, catalogue, bytes)
+}
+
+// `DS`
+fn drop_strays(catalogue: &mut [u8], bytes: bool) -> How {
+    let told = carry_strays::number(carry_strays::catalogue(catalogue));
+    print_changed(b"drop", told, catalogue, bytes)
 }

@@ -9,7 +9,7 @@ use Rattle.paper_catalogue.specs.PairAsking.{by-search}
 use Rattle.paper_catalogue.specs.Catalogue.{AddedBy, adding, adding-by, withdrawing}
 use Rattle.paper_catalogue.specs.Catalogue as Catalogue
 use Rattle.paper_catalogue_decide.specs.DecidedPairs.{adding-decided}
-use Rattle.base_answers.specs.declared.Fault.the-variants.{CutShort, WrongMark, WrongField, WrongLength, NotOnePattern, TooManyLeaves, WrongToken, WrongEdition}
+use Rattle.base_answers.specs.declared.Fault.the-variants.{CutShort, WrongMark, WrongField, WrongLength, NotOnePattern, TooManyLeaves, WrongToken, WrongEdition, StrayPattern}
 use Rattle.base_answers.proofs.Same.{fault-from}
 use Rattle.catalogue_add.specs.Addition.{told-added, search-of, told-added-by, told-withdrawn}
 use Rattle.catalogue_add.specs.declared.Added.{Added}
@@ -44,6 +44,7 @@ added-back (Added-as.Refused NotOnePattern at) catalogue work = (refl, refl, ref
 added-back (Added-as.Refused TooManyLeaves at) catalogue work = (refl, refl, refl)
 added-back (Added-as.Refused WrongToken at) catalogue work = (refl, refl, refl)
 added-back (Added-as.Refused WrongEdition at) catalogue work = (refl, refl, refl)
+added-back (Added-as.Refused StrayPattern at) catalogue work = (refl, refl, refl)
 added-back (Added-as.NotApart i p) catalogue work = (refl, refl, refl)
 added-back Added-as.ForeignField catalogue work = (refl, refl, refl)
 added-back Added-as.Full catalogue work = (refl, refl, refl)

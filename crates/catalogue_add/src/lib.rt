@@ -17,7 +17,7 @@ ghost use Rattle.catalogue_add.specs.Addition.{told-added, search-of, to
 pub enum Added {
     // 0: its record stands behind the last one
     Entered,
-    // 11 to 17: the rule is at fault
+    // 11 to 17 and 22: the rule is at fault
     Refused { fault: Fault, place: usize },
     // 30: its pair with the rule of this number is not answered 1
     NotApart { rule: usize, pair: Pair },

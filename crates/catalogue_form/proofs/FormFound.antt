@@ -2,10 +2,11 @@
 use Prim.Native.Nat.{ℕ}
 use native.Mathlib.Omega.{arith}
 use mathlib.Core.Path.{_≡_, refl, ap}
-use mathlib.Core.Bool.{true, false}
+use mathlib.Core.Bool.{Bool, true, false}
 use mathlib.Core.List.{List}
-use Rattle.paper_catalogue.specs.Catalogue.{Form, no-catalogue, rules, form}
-use Rattle.catalogue_form.specs.Kept.{kept-of, Of-form}
+use Rattle.paper.specs.Rule.{Rule}
+use Rattle.paper_catalogue.specs.Catalogue.{Form, no-catalogue, rules, unfit, form-by, form}
+use Rattle.catalogue_form.specs.Kept.{kept-of, Of-form-by, Of-form}
 use Rattle.catalogue_form.specs.declared.Kept.{Kept}
 
 module _ (k : Kept) where
@@ -13,9 +14,9 @@ module _ (k : Kept) where
   none-of no-catalogue e h = refl
   none-of (rules l) e h = let z : _≡_ {A = ℕ} 0 1 = cc in absurd (omega arith)
 
-  some-of : (catalogue : List ℕ) (f : Form) → form catalogue ≡ f → k ≡ kept-of f → k .good ≡ true → Of-form catalogue k
-  some-of catalogue no-catalogue g e h = let z : _≡_ {A = ℕ} 0 1 = cc in absurd (omega arith)
-  some-of catalogue (rules l) g e h =
+  some-of : (unfit : Rule → Bool) (catalogue : List ℕ) (f : Form) → form-by unfit catalogue ≡ f → k ≡ kept-of f → k .good ≡ true → Of-form-by unfit catalogue k
+  some-of unfit catalogue no-catalogue g e h = let z : _≡_ {A = ℕ} 0 1 = cc in absurd (omega arith)
+  some-of unfit catalogue (rules l) g e h =
       record {
         rules-present = l;
         of-form = g;
@@ -24,9 +25,17 @@ module _ (k : Kept) where
         its-begins = ap (λ (x : Kept). x .begins) e;
       }
 
+  -- whichever rules are unfit
+  module _ (unfit : Rule → Bool) (catalogue : List ℕ) (e : k ≡ kept-of (form-by unfit catalogue)) where
+    pub no-rules-by : k .good ≡ false → form-by unfit catalogue ≡ no-catalogue
+    no-rules-by h = none-of (form-by unfit catalogue) e h
+
+    pub some-rules-by : k .good ≡ true → Of-form-by unfit catalogue k
+    some-rules-by h = some-of unfit catalogue (form-by unfit catalogue) refl e h
+
   module _ (catalogue : List ℕ) (e : k ≡ kept-of (form catalogue)) where
     pub no-rules : k .good ≡ false → form catalogue ≡ no-catalogue
-    no-rules h = none-of (form catalogue) e h
+    no-rules = no-rules-by unfit catalogue e
 
     pub some-rules : k .good ≡ true → Of-form catalogue k
-    some-rules h = some-of catalogue (form catalogue) refl e h
+    some-rules = some-rules-by unfit catalogue e

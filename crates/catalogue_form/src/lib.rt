@@ -1,11 +1,14 @@
 // The form of a catalogue: "Records stand one behind the other from the buffer's start, then zero bytes."
 use base_answers::Found;
+use base_codes::CodedSide;
+use base_codes::SHEET_FIELDS;
+use base_question::Body;
 use read_rule::Rule;
 ghost use mathlib.Core.Path.{_≡_};
 ghost use mathlib.Core.Bool.{false};
 ghost use lib.ListN.{drop};
-ghost use Rattle.paper_catalogue.specs.Catalogue.{all-zero, form};
-ghost use Rattle.catalogue_form.specs.Kept.{no-begins, front-bytes, kept-of, rule-there};
+ghost use Rattle.paper_catalogue.specs.Catalogue.{all-zero, form-by, form, form-before};
+ghost use Rattle.catalogue_form.specs.Kept.{no-begins, unfit-by, unfit-coded, front-bytes, kept-of, rule-there};
 
 // "a catalogue of up to 32 rules"
 pub const CATALOGUE_RULES: usize = 32;
@@ -24,15 +27,29 @@ pub struct Kept {
     pub begins: [usize; BEGINS],
 }
 
-// Reads a catalogue, in one pass: its rules, and where each begins.
+// Reads a catalogue.
 pub fn find(catalogue: &[u8]) -> Kept
     ensures { λ r. ⌜ r ≡ kept-of (form (now (catalogue .entry))) ⌝ }
+{
+    find_by(catalogue, true)
+}
+
+// By the rule before request K13: its rules may have stray patterns.
+pub fn find_before(catalogue: &[u8]) -> Kept
+    ensures { λ r. ⌜ r ≡ kept-of (form-before (now (catalogue .entry))) ⌝ }
+{
+    find_by(catalogue, false)
+}
+
+// In one pass: its rules, and where each begins.
+fn find_by(catalogue: &[u8], strict: bool) -> Kept
+    ensures { λ r. ⌜ r ≡ kept-of (form-by (unfit-by strict) (now (catalogue .entry))) ⌝ }
 {
     let mut begins = no_begins();
     let mut rules = 0;
     let mut used = 0;
     while !is_zero(&catalogue[used..]) {
-        let next = front_bytes(&catalogue[used..], rules);
+        let next = front_bytes(&catalogue[used..], rules, strict);
         if next == 0 {
             return no_catalogue();
         }
@@ -80,9 +97,9 @@ fn is_zero(s: &[u8]) -> bool
     true
 }
 
-// How many bytes the rule at the front has, if one may stand behind so many; else 0.
-fn front_bytes(s: &[u8], rules: usize) -> usize
-    ensures { λ r. ⌜ r ≡ front-bytes rules (now (s .entry)) ⌝ }
+// How many bytes the rule at the front has, if it is not unfit and one may stand behind so many; else 0.
+fn front_bytes(s: &[u8], rules: usize, strict: bool) -> usize
+    ensures { λ r. ⌜ r ≡ front-bytes (unfit-by strict) rules (now (s .entry)) ⌝ }
 {
     if CATALOGUE_RULES <= rules {
         return 0;
@@ -92,10 +109,26 @@ fn front_bytes(s: &[u8], rules: usize) -> usize
     if let Found::Refused(_) = found {
         return 0;
     }
-    if r.foreign {
+    let foreign = r.foreign;
+    let bodies = r.bodies;
+    let side = r.side;
+    if is_unfit(strict, foreign, bodies, side) {
         return 0;
     }
     r.bytes
+}
+
+// May the rule not stand? It names a field above 3; or, where that is asked, it has a stray pattern.
+fn is_unfit(strict: bool, foreign: bool, bodies: [Body; SHEET_FIELDS], side: CodedSide) -> bool
+    ensures { λ r. ⌜ r ≡ unfit-coded strict foreign bodies side ⌝ }
+{
+    if foreign {
+        return true;
+    }
+    if !strict {
+        return false;
+    }
+    read_rule::first_stray(bodies, side) < SHEET_FIELDS
 }
 
 // The rule that begins at the offset; behind the end there is none, and it is cut short.

@@ -34,9 +34,8 @@ fn search(question: Question, work: &mut [u8]) -> Pair
     ensures answer { λ r. ⌜ r ≡ searched-pair question (length (now (work .entry))) ⌝ }
     ensures work { λ _. ⌜ now (work .exit) ≡ replicate (length (now (work .entry))) 0 ⌝ }
 {
-    let all = search_question::every();
     let mut none = [0; 1];
-    let ended = search_question::search(question, all, work, &mut none[0..0]);
+    let ended = search_question::search_all(question, work, &mut none[0..0]);
     let how = ended.how;
     catalogue_question::answered(how, ended.count, 1)
 }

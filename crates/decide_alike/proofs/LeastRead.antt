@@ -3,7 +3,7 @@
 --   fixed-read, standing-read, mask-read : the marks and the tables of a question say what its tokens and leaves do
 --   is-least-read : is-least-coded .. c ≡ is-least q c, of a character c of a question that can be searched
 -- Follows from the laws of masks, and from the codes of known tokens being different.
-use Prim.Native.Nat.{ℕ, _+_, _≤_, _<_}
+use Prim.Native.Nat.{ℕ, _+_, _<_}
 use native.Mathlib.Omega.{arith}
 use mathlib.Core.Path.{_≡_, refl, sym, ap, ap₂, _∙_}
 use mathlib.Core.Bool.{Bool, true, false, not, _&&_, _||_}

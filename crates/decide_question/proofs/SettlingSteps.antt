@@ -3,7 +3,7 @@
 --   Going, going-first, going-on   : what holds where the attempt k is to be made
 --   going-told, none-left          : it decides, or none is left
 --   first-told, first-undecided    : the first search decides, or the others do
--- Follows from `made-at-most` and `made-unchanged`.
+-- Follows from `made-at-most` and `made-unchanged`, and from `ended-uncut`: the first search is over every character.
 use Prim.Native.Nat.{ℕ, zero, suc, _+_, _*_, _≤_, _<_}
 use native.Mathlib.Nat.{zero-add}
 use native.Mathlib.Numerals.{add-one}
@@ -12,13 +12,12 @@ use mathlib.Core.Path.{_≡_, refl, sym, ap, _∙_, subst}
 use mathlib.Core.Bool.{Bool, true, false}
 use mathlib.Core.List.{List, [], _∷_}
 use lib.ListN.{length, drop, replicate, length-replicate}
-use Rattle.paper.specs.Numbers.{most-characters, most-room}
+use Rattle.paper.specs.Numbers.{most-room}
 use Rattle.paper.specs.Lists.{only}
-use Rattle.paper_chosen.specs.Chosen.{every}
 use Rattle.base_answers.specs.declared.Ended.{Ended}
 use Rattle.base_question.specs.declared.Question as Code
-use Rattle.search_tables.specs.Cut.{listed-by}
-use Rattle.search_question.proofs.Searched.{Searched}
+use Rattle.search_question.proofs.Searched.{SearchedAll}
+use Rattle.search_question.proofs.Uncut.{ended-uncut, buffer-uncut}
 use Rattle.decide_alike.specs.AlikeCoded.{least-coded}
 use Rattle.decide_alike.specs.declared.LeastOnes.{LeastOnes}
 use Rattle.decide_apart.specs.ApartCoded.{apart-coded}
@@ -184,15 +183,14 @@ module _ {s : Code.Question} {first : Ended} {entered : ℕ} {lent lent-answer :
       )
 
 -- The first search.
-module _ (s : Code.Question) (all : List Bool) (m : all ≡ listed-by every most-characters) (work answer after worked : List ℕ) (e : Ended)
-    (p : Searched all s work answer after worked e) where
+module _ (s : Code.Question) (work answer after worked : List ℕ) (e : Ended) (p : SearchedAll s work answer after worked e) where
   first-end : e ≡ made-coded (own-attempt s) (length work) answer
   unfolding made-coded
-  first-end = rw (sym m) (p .0)
+  first-end = p .0 ∙ ended-uncut s (length work) answer
 
   first-buffer : after ≡ buffer-made (own-attempt s) (length work) answer
   unfolding buffer-made
-  first-buffer = rw (sym m) (p .1 .0)
+  first-buffer = p .1 .0 ∙ buffer-uncut s (length work) answer
 
   own-first : attempts-coded s ≡ own-attempt s ∷ drop 1 (attempts-coded s)
   unfolding attempts-coded

@@ -31,8 +31,7 @@ pub fn decide(question: Question, work: &mut [u8], answer: &mut [u8]) -> Settled
     ensures answer { λ _. ⌜ now (answer .exit) ≡ settled-buffer question (length (now (work .entry))) (now (answer .entry)) ⌝ }
     ensures work { λ _. ⌜ now (work .exit) ≡ replicate (length (now (work .entry))) 0 ⌝ }
 {
-    let all = search_question::every();
-    let ended = search_question::search(question, all, work, answer);
+    let ended = search_question::search_all(question, work, answer);
     let count = ended.count;
     if decides(ended, true, true) {
         return told(ended, count, 1);

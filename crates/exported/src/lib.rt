@@ -6,6 +6,7 @@ ghost use Rattle.paper_catalogue.specs.Recheck.{rechecking};
 ghost use Rattle.paper_catalogue_decide.specs.DecidedPairs.{adding-decided, rechecking-decided};
 ghost use Rattle.paper_script.specs.Scripting.{scripting};
 ghost use Rattle.paper_carry.specs.Spelling.{spelling, rule-spelling, carrying-over};
+ghost use Rattle.paper_strays.specs.Dropping.{dropping, rule-dropping, catalogue-dropping};
 ghost use Rattle.paper_write.specs.Writing.{writing};
 ghost use Rattle.paper_plain.specs.Engine.{engine, needs};
 ghost use Rattle.paper_spell.specs.Spell.{spelling-text, reading-spelt};
@@ -210,6 +211,36 @@ pub extern "C" fn bradovusc_spell_open_catalogue(catalogue: &mut [u8]) -> u32
     ensures catalogue { λ _. ⌜ now (catalogue .exit) ≡ carrying-over (now (catalogue .entry)) .catalogue ⌝ }
 {
     c_carry::catalogue(catalogue)
+}
+
+// Writes the sheet without the patterns of fields that stand in neither side; it is read by the rule before request K13. Returns that request's number;
+// count (which is 0), place and written length go into the first three elements of `told`, as many as there is room for.
+#[no_mangle]
+pub extern "C" fn bradovusc_drop_strays(sheet: &[u8], out: &mut [u8], told: &mut [u64]) -> u32
+    ensures number { λ r. ⌜ r ≡ dropping (now (sheet .entry)) (now (out .entry)) .number ⌝ }
+    ensures told { λ _. ⌜ now (told .exit) ≡ telling-spelt (now (told .entry)) (dropping (now (sheet .entry)) (now (out .entry))) ⌝ }
+    ensures out { λ _. ⌜ now (out .exit) ≡ dropping (now (sheet .entry)) (now (out .entry)) .out ⌝ }
+{
+    c_strays::sheet(sheet, out, told)
+}
+
+// Writes the rule of a catalogue likewise.
+#[no_mangle]
+pub extern "C" fn bradovusc_drop_strays_rule(rule: &[u8], out: &mut [u8], told: &mut [u64]) -> u32
+    ensures number { λ r. ⌜ r ≡ rule-dropping (now (rule .entry)) (now (out .entry)) .number ⌝ }
+    ensures told { λ _. ⌜ now (told .exit) ≡ telling-spelt (now (told .entry)) (rule-dropping (now (rule .entry)) (now (out .entry))) ⌝ }
+    ensures out { λ _. ⌜ now (out .exit) ≡ rule-dropping (now (rule .entry)) (now (out .entry)) .out ⌝ }
+{
+    c_strays::rule(rule, out, told)
+}
+
+// Takes such patterns out of every rule of the catalogue, in its own buffer. Returns request K13's number.
+#[no_mangle]
+pub extern "C" fn bradovusc_drop_strays_catalogue(catalogue: &mut [u8]) -> u32
+    ensures number { λ r. ⌜ r ≡ catalogue-dropping (now (catalogue .entry)) .number ⌝ }
+    ensures catalogue { λ _. ⌜ now (catalogue .exit) ≡ catalogue-dropping (now (catalogue .entry)) .catalogue ⌝ }
+{
+    c_strays::catalogue(catalogue)
 }
 
 // Writes the one sheet that says these sides and patterns. `patterns` are the bytes of all patterns one behind the other; `lengths` says how many of

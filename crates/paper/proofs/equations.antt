@@ -1,6 +1,7 @@
 pub mod Same
 pub mod Trimming
 pub mod Standing
+pub mod SameHeld
 pub mod Labels
 pub mod Weight
 pub mod Solution

@@ -1,8 +1,11 @@
 pub mod Editions
 pub mod Asked
+pub mod Strays
+pub mod LastChecked
 pub mod FaultPlaces
 pub mod Hidden
 pub mod QuestionSearched
 pub mod TextLength
 pub mod Rows
 pub mod AnswerRoom
+pub mod SameAnswers

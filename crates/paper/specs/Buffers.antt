@@ -15,7 +15,7 @@ abbrev pub search-numbers : List ℕ
 search-numbers = 0 ∷ 1 ∷ 18 ∷ 19 ∷ 20 ∷ []
 
 abbrev pub sheet-numbers : List ℕ
-sheet-numbers = 11 ∷ 12 ∷ 13 ∷ 14 ∷ 15 ∷ 16 ∷ 17 ∷ 44 ∷ []
+sheet-numbers = 11 ∷ 12 ∷ 13 ∷ 14 ∷ 15 ∷ 16 ∷ 17 ∷ 44 ∷ 22 ∷ []
 
 -- rows 0, 1 and 18 to 20
 pub record AfterSearch (work : List ℕ) (o : Outcome) : Type 0 where
@@ -23,7 +23,7 @@ pub record AfterSearch (work : List ℕ) (o : Outcome) : Type 0 where
   -- "all zero": every byte, those behind the last situation too
   pub all-zero : o .work ≡ replicate (length work) 0
 
--- rows 11 to 17
+-- rows 11 to 17, 22 and 44
 pub record AfterFault (work : List ℕ) (o : Outcome) : Type 0 where
   pub count : o .count ≡ 0
   pub unchanged : o .work ≡ work

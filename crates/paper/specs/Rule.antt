@@ -2,7 +2,7 @@
 use Prim.Native.Nat.{ℕ, suc, _+_}
 use mathlib.Core.Path.{_≡_}
 use mathlib.Core.Bool.{Bool, true, false, cond, _||_}
-use mathlib.Core.List.{List, map, _++_}
+use mathlib.Core.List.{List, [], _∷_, map, _++_}
 use lib.Dec.{leb, ltb}
 use lib.ListN.{length, getD, take}
 use Rattle.paper.specs.Lists.{any}
@@ -11,7 +11,7 @@ use Rattle.paper.specs.Pattern.{Held, some-text, Holds}
 use Rattle.paper.specs.Equation.{Token, chr, fld, Side, stands-in, Texts, label, Over}
 use Rattle.paper.specs.Alphabet.{code-39, edition-1}
 use Rattle.paper.specs.Question.{Question}
-use Rattle.paper.specs.Sheet.{Checked, fault, read, cut-short, wrong-mark, LE, RU, marked, marked-side, Records, faulty, records, Fields, open-fields, read-patterns}
+use Rattle.paper.specs.Sheet.{Checked, fault, read, cut-short, wrong-mark, stray-pattern, LE, RU, marked, marked-side, Records, faulty, records, Fields, open-fields, read-patterns, strays-of}
 
 pub record Rule : Type 0 where
   pub side : Side
@@ -49,8 +49,24 @@ abbrev pub rule-end : List ℕ → Records Rule → Records Rule
 rule-end s (faulty x at) = faulty x at
 rule-end s (records r next) = cond (ltb next (length s)) (faulty wrong-mark next) (records r next)
 
+-- by the rule before request K13
+unfoldable pub read-rule-before : List ℕ → Records Rule
+read-rule-before s = rule-end s (rule-front s)
+
+-- "22 .. In a rule it comes between 17 and 31, its place from `RU`", behind the 12 for bytes behind it
+abbrev pub rule-strays : Rule → List ℕ
+rule-strays r = strays-of (r .fields .held) (r .side)
+
+abbrev pub rule-at-stray : Rule → ℕ → List ℕ → Records Rule
+rule-at-stray r next [] = records r next
+rule-at-stray r next (f ∷ fs) = faulty stray-pattern (getD (r .fields .marks) f 0)
+
+abbrev pub rule-checked : Records Rule → Records Rule
+rule-checked (faulty x at) = faulty x at
+rule-checked (records r next) = rule-at-stray r next (rule-strays r)
+
 unfoldable pub read-rule : List ℕ → Records Rule
-read-rule s = rule-end s (rule-front s)
+read-rule s = rule-checked (read-rule-before s)
 
 -- "31 for a field above 3": a pattern's field byte or a token of the side names one. Field numbers rise, so the last pattern's is the highest.
 abbrev pub foreign-token : Token → Bool

@@ -1,16 +1,16 @@
 -- The question sheet (document 01, "The question sheet" and "Checks on the sheet"): every fault in 01's order with its place, the byte itself
 -- (request K2), and the question of a good sheet. A sheet is any list of bytes.
 use Prim.Native.Nat.{ℕ, zero, suc, _+_, _-_}
-use mathlib.Core.Bool.{Bool, false, cond, _&&_, _||_}
-use mathlib.Core.List.{List, map}
+use mathlib.Core.Bool.{Bool, true, false, cond, not, _&&_, _||_}
+use mathlib.Core.List.{List, [], _∷_, _++_, map}
 use lib.Dec.{leb, ltb, eqb}
 use lib.ListN.{length, getD, take, drop, set, replicate}
-use Rattle.paper.specs.Lists.{all, leading}
+use Rattle.paper.specs.Lists.{upto, keep, all, leading}
 use Rattle.paper.specs.Numbers.{most-characters, fields, field-token, pattern-bytes, sheet-side}
 use Rattle.paper.specs.Pattern.{Pattern, Held, some-text, pattern}
 use Rattle.paper.specs.Written.{Judged, judged, judge}
 use Rattle.paper.specs.Written as Written
-use Rattle.paper.specs.Equation.{Token, chr, fld, Side}
+use Rattle.paper.specs.Equation.{Token, chr, fld, Side, stands-in}
 use Rattle.paper.specs.Alphabet.{Edition, edition-1, edition-2, alphabet-of, codes}
 use Rattle.paper.specs.Question.{Question}
 
@@ -24,8 +24,9 @@ pub data Fault : Type 0 where
   too-many-leaves : Fault
   wrong-token : Fault
   wrong-edition : Fault
+  stray-pattern : Fault
 
--- 01's numbers for them, and K10's for the last
+-- 01's numbers for them, and those of K10 and K13 for the last two
 abbrev pub fault-number : Fault → ℕ
 fault-number cut-short = 11
 fault-number wrong-mark = 12
@@ -35,6 +36,7 @@ fault-number not-one-pattern = 15
 fault-number too-many-leaves = 16
 fault-number wrong-token = 17
 fault-number wrong-edition = 44
+fault-number stray-pattern = 22
 
 -- what a check on a record finds: the fault and its place, or what the record says and the offset at which it ends
 pub data Checked (A : Type 0) : Type 0 where
@@ -134,29 +136,32 @@ pub data Records (A : Type 0) : Type 0 where
   faulty : Fault → ℕ → Records A
   records : A → ℕ → Records A
 
--- what the patterns' records say: what each field may hold, and one above the last pattern's field, 0 where there is none
+-- what the patterns' records say: what each field may hold, the place of its record's mark (0 where it has none), and one above the last pattern's
+-- field, 0 where there is none
 pub record Fields : Type 0 where
   pub held : List Held
+  pub marks : List ℕ
   pub above : ℕ
 
 -- "A field without `PA` is open": before the first record every field is.
 abbrev pub open-fields : Fields
-open-fields = record { held = replicate fields some-text; above = 0 }
+open-fields = record { held = replicate fields some-text; marks = replicate fields 0; above = 0 }
 
-abbrev pub with-pattern : Fields → FieldPattern → Fields
-with-pattern fs fp = record { held = set (fs .held) (fp .field) (pattern (fp .its)); above = suc (fp .field) }
+abbrev pub with-pattern : Fields → ℕ → FieldPattern → Fields
+with-pattern fs at fp =
+    record { held = set (fs .held) (fp .field) (pattern (fp .its)); marks = set (fs .marks) (fp .field) at; above = suc (fp .field) }
 
 -- A pattern's record, then what comes behind it: "Reading goes on from where the last record ended."
-abbrev pub pattern-read : Fields → (ℕ → Fields → Records Fields) → Checked FieldPattern → Records Fields
-pattern-read fs go-on (fault x at) = faulty x at
-pattern-read fs go-on (read fp next) = go-on next (with-pattern fs fp)
+abbrev pub pattern-read : Fields → ℕ → (ℕ → Fields → Records Fields) → Checked FieldPattern → Records Fields
+pattern-read fs mark go-on (fault x at) = faulty x at
+pattern-read fs mark go-on (read fp next) = go-on next (with-pattern fs mark fp)
 
 -- "no, one or several `PA`, field numbers rising", up to the first record that is none. Every record has bytes, so as many turns as there
 -- are bytes, and one, are enough.
 abbrev pub read-patterns : Edition → ℕ → List ℕ → ℕ → Fields → Records Fields
 read-patterns e zero s at fs = faulty cut-short (length s)
 read-patterns e (suc n) s at fs =
-    let behind = pattern-read fs (λ (next : ℕ) (more : Fields). read-patterns e n s next more) (pattern-record e s at (fs .above)) in
+    let behind = pattern-read fs at (λ (next : ℕ) (more : Fields). read-patterns e n s next more) (pattern-record e s at (fs .above)) in
     cond (next-is PA s at) behind (records fs at)
 
 -- what reading a sheet gives: the first fault met with its place, or the question
@@ -164,22 +169,52 @@ pub data Reading : Type 0 where
   refused : Fault → ℕ → Reading
   asked : Question → Reading
 
--- "after `RI`, any byte left gives 12", "the first byte after `RI`"
-unfoldable pub read-end : List ℕ → ℕ → Question → Reading
-read-end s at q = cond (ltb at (length s)) (refused wrong-mark at) (asked q)
+-- "Patterns for fields that stand in neither side" (request K13): by what the fields may hold and all tokens of the sides
+abbrev pub has-pattern : Held → Bool
+has-pattern some-text = false
+has-pattern (pattern p) = true
 
--- "one `LE`; one `RI`; the end": a sheet's question is in its edition's characters
-abbrev pub right-read : Edition → List ℕ → List Held → Side → Checked Side → Reading
-right-read e s held l (fault x at) = refused x at
-right-read e s held l (read r next) = read-end s next (record { alphabet = alphabet-of e; left = l; right = r; held = held })
+abbrev pub is-stray : List Held → Side → ℕ → Bool
+is-stray held side f = has-pattern (getD held f some-text) && not (stands-in f side)
 
-abbrev pub left-read : Edition → List ℕ → List Held → Checked Side → Reading
-left-read e s held (fault x at) = refused x at
-left-read e s held (read l next) = right-read e s held l (marked-side e RI s next)
+unfoldable pub strays-of : List Held → Side → List ℕ
+strays-of held side = keep (is-stray held side) (upto fields)
 
-abbrev pub sides-read : Edition → List ℕ → Records Fields → Reading
-sides-read e s (faulty x at) = refused x at
-sides-read e s (records fs at) = left-read e s (fs .held) (marked-side e LE s at)
+abbrev pub strays : Question → List ℕ
+strays q = strays-of (q .held) (q .left ++ q .right)
+
+-- the check behind all others: before request K13 there was none, and since "22, with the place of the first stray record's mark"; field numbers
+-- rise, so the first stray field's record is the first
+abbrev pub LastCheck : Type 0
+LastCheck = List ℕ → Question → Reading
+
+abbrev pub no-check : LastCheck
+no-check marks q = asked q
+
+abbrev pub at-stray : List ℕ → Question → List ℕ → Reading
+at-stray marks q [] = asked q
+at-stray marks q (f ∷ fs) = refused stray-pattern (getD marks f 0)
+
+abbrev pub stray-check : LastCheck
+stray-check marks q = at-stray marks q (strays q)
+
+-- "after `RI`, any byte left gives 12", "the first byte after `RI`"; then the last check
+unfoldable pub read-end : LastCheck → List ℕ → ℕ → List ℕ → Question → Reading
+read-end last s at marks q = cond (ltb at (length s)) (refused wrong-mark at) (last marks q)
+
+module _ (last : LastCheck) where
+  -- "one `LE`; one `RI`; the end": a sheet's question is in its edition's characters
+  abbrev pub right-read : Edition → List ℕ → Fields → Side → Checked Side → Reading
+  right-read e s fs l (fault x at) = refused x at
+  right-read e s fs l (read r next) = read-end last s next (fs .marks) (record { alphabet = alphabet-of e; left = l; right = r; held = fs .held })
+
+  abbrev pub left-read : Edition → List ℕ → Fields → Checked Side → Reading
+  left-read e s fs (fault x at) = refused x at
+  left-read e s fs (read l next) = right-read e s fs l (marked-side e RI s next)
+
+  abbrev pub sides-read : Edition → List ℕ → Records Fields → Reading
+  sides-read e s (faulty x at) = refused x at
+  sides-read e s (records fs at) = left-read e s fs (marked-side e LE s at)
 
 -- "A sheet may begin with the record `ED` and the byte 2. .. 11 for the missing byte, then 44 for an edition byte other than 2, its place that byte"
 unfoldable pub edition-front : List ℕ → Checked Edition
@@ -189,9 +224,16 @@ edition-front s =
     (read edition-1 0)
 
 -- "all else in 01's order"
-abbrev pub edition-read : List ℕ → Checked Edition → Reading
-edition-read s (fault x at) = refused x at
-edition-read s (read e at) = sides-read e s (read-patterns e (suc (length s)) s at open-fields)
+abbrev pub edition-read : LastCheck → List ℕ → Checked Edition → Reading
+edition-read last s (fault x at) = refused x at
+edition-read last s (read e at) = sides-read last e s (read-patterns e (suc (length s)) s at open-fields)
+
+-- reading with a last check: by the rule before request K13, and since
+unfoldable pub read-by : LastCheck → List ℕ → Reading
+read-by last s = edition-read last s (edition-front s)
+
+abbrev pub read-before : List ℕ → Reading
+read-before s = read-by no-check s
 
 unfoldable pub read-sheet : List ℕ → Reading
-read-sheet s = edition-read s (edition-front s)
+read-sheet s = read-by stray-check s

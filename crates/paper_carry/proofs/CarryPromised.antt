@@ -16,13 +16,14 @@ use lib.ListN.{length, take, drop, length-append, length-drop}
 use lib.Seq.{take-append-seam, drop-append-seam}
 use Rattle.paper.specs.Question.{Question}
 use Rattle.paper.specs.Sheet.{Fault, cut-short, wrong-mark, wrong-field, wrong-length, not-one-pattern, too-many-leaves, wrong-token}
-use Rattle.paper.specs.Sheet.{wrong-edition, fault-number, Records, faulty, records, Reading, refused, asked, read-sheet}
+use Rattle.paper.specs.Sheet.{wrong-edition, stray-pattern, fault-number, Records, faulty, records, Reading, refused, asked, read-sheet}
 use Rattle.paper.specs.Rule.{Rule, read-rule, foreign-field}
 use Rattle.paper.specs.Saying.{sheet-saying}
 use Rattle.paper_catalogue.specs.Catalogue.{Present, Form, no-catalogue, rules, form}
 use Rattle.paper_catalogue.specs.Calls.{Apart}
 use Rattle.paper.proofs.base.Tests.{cond-by, ltb-true, ltb-false}
 use Rattle.paper_catalogue.proofs.Form.{rules-at-most}
+use Rattle.paper_catalogue.proofs.Local.{rule-unstray}
 use Rattle.paper_catalogue.proofs.GoodRule.{new-good}
 use Rattle.paper_carry.specs.Opened.{spelt-open, rule-open}
 use Rattle.paper_carry.specs.Spelling.{Spelling, put-into, spelling-of, spelling, rule-spelling-of, rule-spelling, rules-open}
@@ -40,6 +41,7 @@ fault-between not-one-pattern = (omega arith, omega arith)
 fault-between too-many-leaves = (omega arith, omega arith)
 fault-between wrong-token = (omega arith, omega arith)
 fault-between wrong-edition = (omega arith, omega arith)
+fault-between stray-pattern = (omega arith, omega arith)
 
 pub fault-not-short : (x : Fault) → fault-number x ≡ 41 → ⊥
 fault-not-short cut-short h = omega arith
@@ -50,33 +52,34 @@ fault-not-short not-one-pattern h = omega arith
 fault-not-short too-many-leaves h = omega arith
 fault-not-short wrong-token h = omega arith
 fault-not-short wrong-edition h = omega arith
+fault-not-short stray-pattern h = omega arith
 
 -- what was read is one thing
-abbrev question-of : Question → Reading → Question
+abbrev pub question-of : Question → Reading → Question
 question-of p (refused x at) = p
 question-of p (asked q) = q
 
-abbrev rule-of : Rule → Records Rule → Rule
+abbrev pub rule-of : Rule → Records Rule → Rule
 rule-of p (faulty x at) = p
 rule-of p (records r n) = r
 
-abbrev rules-of : List Present → Form → List Present
+abbrev pub rules-of : List Present → Form → List Present
 rules-of m no-catalogue = m
 rules-of m (rules l) = l
 
 -- Bytes put into a buffer.
-record Put (P : List ℕ → Type 0) (out : List ℕ) (most : ℕ) (s : Spelling) : Type 0 where
-  its : s .number ≡ 0 → P (take (s .written) (s .out))
-  unchanged : (s .number ≡ 0 → ⊥) → s .out ≡ out
-  rest : drop (s .written) (s .out) ≡ drop (s .written) out
-  fits : s .written ≤ length out
-  same-length : length (s .out) ≡ length out
-  enough : most ≤ length out → s .number ≡ 41 → ⊥
+pub record Put (P : List ℕ → Type 0) (out : List ℕ) (most : ℕ) (s : Spelling) : Type 0 where
+  pub its : s .number ≡ 0 → P (take (s .written) (s .out))
+  pub unchanged : (s .number ≡ 0 → ⊥) → s .out ≡ out
+  pub rest : drop (s .written) (s .out) ≡ drop (s .written) out
+  pub fits : s .written ≤ length out
+  pub same-length : length (s .out) ≡ length out
+  pub enough : most ≤ length out → s .number ≡ 41 → ⊥
 
-length-kept : (bytes out : List ℕ) → length bytes ≤ length out → length (bytes ++ drop (length bytes) out) ≡ length out
+pub length-kept : (bytes out : List ℕ) → length bytes ≤ length out → length (bytes ++ drop (length bytes) out) ≡ length out
 length-kept bytes out room = omega (arith, length-append bytes (drop (length bytes) out), length-drop (length bytes) out)
 
-puts : (P : List ℕ → Type 0) (bytes out : List ℕ) (most : ℕ) → length bytes ≤ most → P bytes → Put P out most (put-into bytes out)
+pub puts : (P : List ℕ → Type 0) (bytes out : List ℕ) (most : ℕ) → length bytes ≤ most → P bytes → Put P out most (put-into bytes out)
 puts P bytes out most fits p =
     cond-by (Put P out most) (ltb (length out) (length bytes))
     (λ t. record {
@@ -156,7 +159,7 @@ rule-promised-of bytes out (records q m) e =
     let good = new-good bytes e own in
     let p = puts (λ (l : List ℕ). l ≡ new) new out longest-rule (rule-fits q good) refl in
     record {
-      carried = λ x n h z. rw (p .its z) (subst (λ (y : Rule). CarriedRule y new) (same x n h) (rule-carried q good own));
+      carried = λ x n h z. rw (p .its z) (subst (λ (y : Rule). CarriedRule y new) (same x n h) (rule-carried q good own (rule-unstray bytes e)));
       nothing-to-add = λ x n h none z.
           p .its z ∙ subst (λ (y : Rule). rule-open y ≡ bytes) (sym (same x n h)) (rule-same bytes h none);
       unchanged = p .unchanged;

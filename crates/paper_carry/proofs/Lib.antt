@@ -3,6 +3,7 @@ pub mod SameMeaning
 pub mod SaidBack
 pub mod RuleRead
 pub mod Lengths
+pub mod Changed
 pub mod Carried
 pub mod CarryPromised
 pub mod KnownSpelt

@@ -1,5 +1,5 @@
 -- Writing what was read from a good sheet, or from a rule, gives the same bytes.
---   said-back      : read-sheet s ≡ asked q → sheet-saying q ≡ s
+--   said-back      : read-before s ≡ asked q → sheet-saying q ≡ s
 --   rule-said-back : rule-front s ≡ records r n → rule-saying (r .fields .held) (r .side) ≡ take n s
 --   rule-top       : and where the fields from k on have no pattern, no field named by one is above k
 -- Follows from the checks on the records, test by test: what the records in front of an offset say are the bytes in front of it. Field numbers rise,
@@ -24,7 +24,7 @@ use Rattle.paper.specs.Question.{Question}
 use Rattle.paper.specs.Sheet.{Checked, fault, read, FieldPattern, byte-at, bytes-left, body, body-codes, Mark, PA, LE, RI, RU, ED, first-letter, second-letter, marked}
 use Rattle.paper.specs.Sheet.{pattern-judged, pattern-record, is-token, token, side-record, next-is, marked-side, Records, faulty, records, Fields}
 use Rattle.paper.specs.Sheet.{open-fields, with-pattern, pattern-read, read-patterns, Reading, refused, asked, read-end, right-read, left-read}
-use Rattle.paper.specs.Sheet.{sides-read, edition-front, edition-read, read-sheet}
+use Rattle.paper.specs.Sheet.{no-check, sides-read, edition-front, edition-read, read-by, read-before}
 use Rattle.paper.specs.Rule.{Rule, rule-holds, with-side, side-read, rule-front}
 use Rattle.paper.specs.Saying.{edition-laid, edition-byte, pattern-code, token-byte, mark-bytes, pattern-saying, patterns-saying, side-saying, sheet-saying}
 use Rattle.paper.proofs.base.Tests.{cond-by, by-bool, true-false, and-left, and-right, or-left-false, or-right-false}
@@ -202,7 +202,7 @@ module _ (ed : Edition) where
         (λ h. let l = leb-false k (fp .field) h in omega arith)
 
     more-before : (s : List ℕ) (at : ℕ) (fs : Fields) (fp : FieldPattern) (next : ℕ) → SaidBefore s at fs → Taken s at (fs .above) fp next
-        → SaidBefore s next (with-pattern fs fp)
+        → SaidBefore s next (with-pattern fs at fp)
     more-before s at fs fp next b t =
         let rises = t .rises in
         let known = t .known in
@@ -227,9 +227,9 @@ module _ (ed : Edition) where
 
     behind-before : (s : List ℕ) (at : ℕ) (fs : Fields) (go-on : ℕ → Fields → Records Fields) (x : Checked FieldPattern)
         → ((next : ℕ) (more : Fields) → SaidBefore s next more → Listed s (go-on next more))
-        → SaidBefore s at fs → Takes s at (fs .above) x → Listed s (pattern-read fs go-on x)
+        → SaidBefore s at fs → Takes s at (fs .above) x → Listed s (pattern-read fs at go-on x)
     behind-before s at fs go-on (fault x place) i b t = tt
-    behind-before s at fs go-on (read fp next) i b t = i next (with-pattern fs fp) (more-before s at fs fp next b t)
+    behind-before s at fs go-on (read fp next) i b t = i next (with-pattern fs at fp) (more-before s at fs fp next b t)
 
     patterns-before : (n : ℕ) (s : List ℕ) (at : ℕ) (fs : Fields) → SaidBefore s at fs → Listed s (read-patterns ed n s at fs)
     patterns-before zero s at fs b = tt
@@ -297,9 +297,9 @@ abbrev Asks : List ℕ → Reading → Type 0
 Asks s (refused x at) = Unit {0}
 Asks s (asked q) = sheet-saying q ≡ s
 
-end-asks : (s : List ℕ) (at : ℕ) (q : Question) → sheet-saying q ≡ take at s → Asks s (read-end s at q)
+end-asks : (s : List ℕ) (at : ℕ) (marks : List ℕ) (q : Question) → sheet-saying q ≡ take at s → Asks s (read-end no-check s at marks q)
 unfolding read-end
-end-asks s at q e = cond-by (Asks s) (ltb at (length s)) (λ _. tt) (λ h. e ∙ take-all at s (ltb-false at (length s) h))
+end-asks s at marks q e = cond-by (Asks s) (ltb at (length s)) (λ _. tt) (λ h. e ∙ take-all at s (ltb-false at (length s) h))
 
 -- the question that an edition's sheet asks, said record by record
 abbrev question-in : Edition → List Held → Side → Side → Question
@@ -315,36 +315,37 @@ module _ (ed : Edition) where
   abbrev front-bytes : List ℕ
   front-bytes = edition-laid (edition-byte ed)
 
-  right-asks : (s : List ℕ) (held : List Held) (l : Side) (at : ℕ) (x : Checked Side)
-      → (front-bytes ++ patterns-saying ed 0 held) ++ side-saying ed LE l ≡ take at s → SideTakes ed RI s at x → Asks s (right-read ed s held l x)
-  right-asks s held l at (fault x place) e k = tt
-  right-asks s held l at (read r next) e k =
+  right-asks : (s : List ℕ) (fs : Fields) (l : Side) (at : ℕ) (x : Checked Side)
+      → (front-bytes ++ patterns-saying ed 0 (fs .held)) ++ side-saying ed LE l ≡ take at s → SideTakes ed RI s at x → Asks s (right-read no-check ed s fs l x)
+  right-asks s fs l at (fault x place) e k = tt
+  right-asks s fs l at (read r next) e k =
+      let held = fs .held in
       let patterns = patterns-saying ed 0 held in
       let left = side-saying ed LE l in
       let right = side-saying ed RI r in
-      end-asks s next (question-in ed held l r)
+      end-asks s next (fs .marks) (question-in ed held l r)
       (said-in ed held l r ∙ sym (append-assoc front-bytes patterns (left ++ right)) ∙ sym (append-assoc (front-bytes ++ patterns) left right)
       ∙ ap (λ (b : List ℕ). b ++ right) e ∙ sym k)
 
-  left-asks : (s : List ℕ) (held : List Held) (at : ℕ) (x : Checked Side)
-      → front-bytes ++ patterns-saying ed 0 held ≡ take at s → SideTakes ed LE s at x → Asks s (left-read ed s held x)
-  left-asks s held at (fault x place) e k = tt
-  left-asks s held at (read l next) e k =
-      right-asks s held l next (marked-side ed RI s next) (ap (λ (b : List ℕ). b ++ side-saying ed LE l) e ∙ sym k) (marked-takes ed RI s next)
+  left-asks : (s : List ℕ) (fs : Fields) (at : ℕ) (x : Checked Side)
+      → front-bytes ++ patterns-saying ed 0 (fs .held) ≡ take at s → SideTakes ed LE s at x → Asks s (left-read no-check ed s fs x)
+  left-asks s fs at (fault x place) e k = tt
+  left-asks s fs at (read l next) e k =
+      right-asks s fs l next (marked-side ed RI s next) (ap (λ (b : List ℕ). b ++ side-saying ed LE l) e ∙ sym k) (marked-takes ed RI s next)
 
-  sides-ask : (s : List ℕ) (x : Records Fields) → Listed ed front-bytes s x → Asks s (sides-read ed s x)
+  sides-ask : (s : List ℕ) (x : Records Fields) → Listed ed front-bytes s x → Asks s (sides-read no-check ed s x)
   sides-ask s (faulty x at) b = tt
-  sides-ask s (records fs at) b = left-asks s (fs .held) at (marked-side ed LE s at) (b .bytes) (marked-takes ed LE s at)
+  sides-ask s (records fs at) b = left-asks s fs at (marked-side ed LE s at) (b .bytes) (marked-takes ed LE s at)
 
-edition-asks : (s : List ℕ) (x : Checked Edition) → EditionTakes s x → Asks s (edition-read s x)
+edition-asks : (s : List ℕ) (x : Checked Edition) → EditionTakes s x → Asks s (edition-read no-check s x)
 edition-asks s (fault x at) e = tt
 edition-asks s (read ed at) e =
     let front = edition-laid (edition-byte ed) in
     sides-ask ed s (read-patterns ed (suc (length s)) s at open-fields)
     (patterns-before ed front (suc (length s)) s at open-fields (open-before ed front s at e))
 
-pub said-back : (s : List ℕ) (q : Question) → read-sheet s ≡ asked q → sheet-saying q ≡ s
-unfolding read-sheet
+pub said-back : (s : List ℕ) (q : Question) → read-before s ≡ asked q → sheet-saying q ≡ s
+unfolding read-by
 said-back s q e = subst (Asks s) e (edition-asks s (edition-front s) (edition-takes s))
 
 -- A rule: its mark, its patterns, its side.

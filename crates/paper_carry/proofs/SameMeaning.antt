@@ -18,8 +18,8 @@ use Rattle.paper.specs.Rule.{Rule, rule-holds, Makes}
 use Rattle.paper.proofs.base.Tests.{both-true, le-leb}
 use Rattle.paper.proofs.sheets.Asked.{GoodQuestion, fields-known}
 use Rattle.paper_catalogue.proofs.GoodRule.{GoodRule, own-field}
-use Rattle.paper_carry.specs.Opened.{written-out, spelt-held, opened, stands-asked, spelt-open, stands-ruled, held-open, HeldBefore, SolutionBefore, MadeBefore}
-use Rattle.paper_carry.proofs.Opening.{opened-at}
+use Rattle.paper_carry.specs.Opened.{written-out, spelt-held, with-open, opened, stands-asked, spelt-open, stands-ruled, held-open, HeldBefore, SolutionBefore, MadeBefore}
+use Rattle.paper_carry.proofs.Opening.{changed-at}
 
 -- the pattern written out, of n characters, takes every text over them
 all-fit : (n : ℕ) (w : List ℕ) → Over n w → Fits (written-out n) w
@@ -40,7 +40,7 @@ to-old n (pattern p) w f = f
 -- what a standing field holds
 held-new : (n : ℕ) (stands : ℕ → Bool) (held : List Held) (f : ℕ) → f < length held → stands f ≡ true
     → getD (opened n stands 0 held) f some-text ≡ spelt-held n (getD held f some-text)
-held-new n stands held f k e = opened-at n stands held 0 f k ∙ rw (zero-add f, e)
+held-new n stands held f k e = changed-at (with-open n) stands held 0 f k ∙ rw (zero-add f, e)
 
 module _ (q : Question) (good : GoodQuestion q) where
   abbrev its : ℕ

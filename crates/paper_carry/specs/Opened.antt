@@ -24,17 +24,28 @@ abbrev pub spelt-held : ℕ → Held → Held
 spelt-held n some-text = pattern (written-out n)
 spelt-held n (pattern p) = pattern p
 
--- "adds it for an old sheet's standing fields without a pattern": what the fields from f on hold then
-abbrev pub opened : ℕ → (ℕ → Bool) → ℕ → List Held → List Held
-opened n stands f [] = []
-opened n stands f (h ∷ held) = cond (stands f) (spelt-held n h) h ∷ opened n stands (suc f) held
+-- what the fields from f on hold, each changed by whether it stands
+abbrev pub changed : (Bool → Held → Held) → (ℕ → Bool) → ℕ → List Held → List Held
+changed how stands f [] = []
+changed how stands f (h ∷ held) = how (stands f) h ∷ changed how stands (suc f) held
 
--- of a sheet: the question, in the characters that it has, with the pattern written out
+-- "adds it for an old sheet's standing fields without a pattern"
+abbrev pub with-open : ℕ → Bool → Held → Held
+with-open n stands h = cond stands (spelt-held n h) h
+
+abbrev pub opened : ℕ → (ℕ → Bool) → ℕ → List Held → List Held
+opened n stands f held = changed (with-open n) stands f held
+
+-- of a sheet: the question, in the characters that it has
 abbrev pub stands-asked : Question → ℕ → Bool
 stands-asked q f = stands-in f (q .left ++ q .right)
 
+abbrev pub question-changed : (Bool → Held → Held) → Question → Question
+question-changed how q = record { alphabet = q .alphabet; left = q .left; right = q .right; held = changed how (stands-asked q) 0 (q .held) }
+
+-- with the pattern written out
 abbrev pub spelt-open : Question → Question
-spelt-open q = record { alphabet = q .alphabet; left = q .left; right = q .right; held = opened (q .alphabet .characters) (stands-asked q) 0 (q .held) }
+spelt-open q = question-changed (with-open (q .alphabet .characters)) q
 
 -- of a rule: "the mark `RU`, the `PA` records of its own fields .. and one `LE`"; "a rule never has `ED`"
 abbrev pub rule-saying : List Held → Side → List ℕ
@@ -43,8 +54,11 @@ rule-saying held side = mark-bytes RU ++ patterns-saying edition-1 0 held ++ sid
 abbrev pub stands-ruled : Rule → ℕ → Bool
 stands-ruled r f = stands-in f (r .side)
 
+abbrev pub held-changed : (Bool → Held → Held) → Rule → List Held
+held-changed how r = changed how (stands-ruled r) 0 (r .fields .held)
+
 abbrev pub held-open : Rule → List Held
-held-open r = opened characters (stands-ruled r) 0 (r .fields .held)
+held-open r = held-changed (with-open characters) r
 
 unfoldable pub rule-open : Rule → List ℕ
 rule-open r = rule-saying (held-open r) (r .side)

@@ -1,5 +1,6 @@
 -- Good rules: what every rule has that was read and names no foreign field.
 --   rule-good     : rule-front s ≡ records r n → foreign-field r ≡ false → GoodRule r
+--   before-good   : read-rule-before s ≡ records r n → foreign-field r ≡ false → GoodRule r
 --   new-good      : read-rule s ≡ records r n → foreign-field r ≡ false → GoodRule r
 --   present-good : form catalogue ≡ rules l → each rule of l is good
 --   own-field     : a field that stands in a good rule's side is one of its own
@@ -11,7 +12,7 @@
 use Prim.Native.Nat.{ℕ, zero, suc, _+_, _≤_, _<_}
 use native.Mathlib.Omega.{arith}
 use mathlib.Core.Path.{_≡_, refl, sym, _∙_, subst}
-use mathlib.Core.Bool.{true, false}
+use mathlib.Core.Bool.{Bool, true, false}
 use mathlib.Core.List.{List, [], _∷_, _++_, List·Memᴰ, List·Memᴰ·not-nil}
 use lib.Dec.{ltb}
 use lib.ListN.{length, getD, take, drop, length-append, length-take, length-map}
@@ -25,14 +26,14 @@ use Rattle.paper.specs.Equation.{Token, chr, fld, Side, is-field, stands-in}
 use Rattle.paper.specs.Alphabet.{edition-1, code}
 use Rattle.paper.specs.Sheet.{Checked, fault, read, FieldPattern, byte-at, body, body-codes, LE, RU, marked, marked-side}
 use Rattle.paper.specs.Sheet.{Records, faulty, records, Fields, open-fields, with-pattern, read-patterns, asked}
-use Rattle.paper.specs.Rule.{Rule, rule-holds, with-side, side-read, rule-front, read-rule, foreign-token, foreign-field, moved-up, pair}
+use Rattle.paper.specs.Rule.{Rule, rule-holds, with-side, side-read, rule-front, read-rule-before, read-rule, foreign-token, foreign-field, moved-up, pair}
 use Rattle.paper_catalogue.specs.Catalogue.{Present, rules, form}
 use Rattle.paper.proofs.sheets.Asked.{InRange, GoodSide, GoodHeld, GoodFields, GoodQuestion, AsksGood, Found, PatternRead, set-by, open-by}
 use Rattle.paper.proofs.sheets.Asked.{fields-with, opens-good, Listed, patterns-by, marked-good}
 use Rattle.paper.proofs.saying.Code.{judged-code}
 use Rattle.paper.proofs.saying.Saying.{ShortCode, Sayable}
-use Rattle.paper_catalogue.proofs.Local.{rule-whole}
-use Rattle.paper_catalogue.proofs.Form.{LaidOut, zeros, rule, form-stands}
+use Rattle.paper_catalogue.proofs.Local.{rule-whole, rule-before}
+use Rattle.paper_catalogue.proofs.Form.{LaidOut, zeros, rule, fit-own, form-stands}
 
 -- "its own fields, numbered 0 to 3"
 abbrev pub OwnToken : Token → Type 0
@@ -58,7 +59,7 @@ short-code s at least fp h =
     rw (judged-code (body-codes edition-1 s (at + 4) n) (h .its-bytes), length-map (body s (at + 4) n) (code edition-1), length-take n (drop (at + 4) s)) (omega (arith, h .short))
 
 one-pattern : (s : List ℕ) (at : ℕ) (fs : Fields) (fp : FieldPattern) → GoodPatterns fs → PatternRead edition-1 s at (fs .above) fp
-    → GoodPatterns (with-pattern fs fp)
+    → GoodPatterns (with-pattern fs at fp)
 one-pattern s at fs fp h g =
     record {
       held = fields-with edition-1 s at fs fp (h .held) g;
@@ -116,16 +117,20 @@ read-good r h own =
 pub rule-good : (s : List ℕ) {r : Rule} {n : ℕ} → rule-front s ≡ records r n → foreign-field r ≡ false → GoodRule r
 rule-good s {r} e own = read-good r (subst (Listed RuleRead) e (rule-read s)) own
 
+pub before-good : (s : List ℕ) {r : Rule} {n : ℕ} → read-rule-before s ≡ records r n → foreign-field r ≡ false → GoodRule r
+before-good s e own = rule-good s (rule-whole s e .0) own
+
 pub new-good : (s : List ℕ) {r : Rule} {n : ℕ} → read-rule s ≡ records r n → foreign-field r ≡ false → GoodRule r
-new-good s e own = rule-good s (rule-whole s e .0) own
+new-good s e own = before-good s (rule-before s e) own
 
 -- Each rule that stands in a catalogue is good.
-stands-good : {s : List ℕ} {l : List Present} → LaidOut s l → (t : Present) → List·Memᴰ t l → GoodRule (t .rule)
-stands-good (zeros z) t d = absurd (List·Memᴰ·not-nil d)
-stands-good (rule {s = s} e own h) t d = mem-cons-by (λ (u : Present). GoodRule (u .rule)) (rule-good s e own) (λ u i. stands-good h u i) t d
+pub stands-good : {u : Rule → Bool} → ((r : Rule) → u r ≡ false → foreign-field r ≡ false) → {s : List ℕ} {l : List Present} → LaidOut u s l → (t : Present) → List·Memᴰ t l → GoodRule (t .rule)
+stands-good own-of (zeros z) t d = absurd (List·Memᴰ·not-nil d)
+stands-good own-of (rule {s = s} {r = r} e fit h) t d =
+    mem-cons-by (λ (p : Present). GoodRule (p .rule)) (rule-good s e (own-of r fit)) (λ p i. stands-good own-of h p i) t d
 
 pub present-good : (catalogue : List ℕ) {l : List Present} → form catalogue ≡ rules l → (t : Present) → List·Memᴰ t l → GoodRule (t .rule)
-present-good catalogue e = stands-good (form-stands catalogue e)
+present-good catalogue e = stands-good fit-own (form-stands catalogue e)
 
 -- A field that stands in its side is its own.
 pub own-field : (r : Rule) → GoodRule r → (f : ℕ) → stands-in f (r .side) ≡ true → f < rule-fields

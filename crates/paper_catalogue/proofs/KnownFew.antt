@@ -12,12 +12,12 @@ use Rattle.paper.specs.Situation.{trimmed, strike, put-before, open-moves, chil
 use Rattle.paper.specs.Way.{search-from}
 use Rattle.paper.specs.Question.{acceptor}
 use Rattle.paper.specs.Alphabet.{code}
-use Rattle.paper.specs.Sheet.{marked, pattern-record, side-record, marked-side, next-is}
+use Rattle.paper.specs.Sheet.{marked, pattern-record, side-record, marked-side, next-is, strays-of}
 use Rattle.paper.specs.Outcome.{room-of, searched, count-of, how-of}
 use Rattle.paper.specs.Rule.{rule-front, foreign-field, pair}
 use Rattle.paper.proofs.known.KnownSheet.{LE}
 use Rattle.paper_catalogue.specs.PairAsking.{pair-answer, pair-count}
-use Rattle.paper_catalogue.specs.Catalogue.{form}
+use Rattle.paper_catalogue.specs.Catalogue.{form-by}
 use Rattle.paper_catalogue.specs.Recheck.{rechecking}
 
 abbrev pub RU : List ℕ → List ℕ
@@ -51,12 +51,12 @@ two-and-two = rule-A ++ rule-B ++ B-space ++ A-spaces 1
 pub order-known :
     rechecking two-and-two (replicate 1150 90) (replicate 10 165)
     ≡ record { number = 0; pairs = 2; written = 10; list = 0 ∷ 3 ∷ 0 ∷ 6 ∷ 0 ∷ 1 ∷ 2 ∷ 0 ∷ 6 ∷ 0 ∷ []; work = replicate 1150 0 }
-unfolding set-after may-end judge enter offer take-next search trimmed strike put-before open-moves child-by children question search-from acceptor marked pattern-record side-record marked-side next-is code room-of searched count-of how-of rule-front foreign-field pair form pair-answer pair-count rechecking
+unfolding set-after may-end judge enter offer take-next search trimmed strike put-before open-moves child-by children question search-from acceptor marked pattern-record side-record marked-side next-is code room-of searched count-of how-of rule-front foreign-field pair form-by strays-of pair-answer pair-count rechecking
 order-known = refl
 
 -- a list buffer of a byte too little is left as it was lent
 pub too-short-known :
     rechecking kept-rules (replicate 1150 90) (replicate 4 165)
     ≡ record { number = 35; pairs = 0; written = 0; list = replicate 4 165; work = replicate 1150 0 }
-unfolding set-after may-end judge enter offer take-next search trimmed strike put-before open-moves child-by children question search-from acceptor marked pattern-record side-record marked-side next-is code room-of searched count-of how-of rule-front foreign-field pair form pair-answer pair-count rechecking
+unfolding set-after may-end judge enter offer take-next search trimmed strike put-before open-moves child-by children question search-from acceptor marked pattern-record side-record marked-side next-is code room-of searched count-of how-of rule-front foreign-field pair form-by strays-of pair-answer pair-count rechecking
 too-short-known = refl

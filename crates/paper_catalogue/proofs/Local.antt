@@ -2,9 +2,11 @@
 --   rule-local     : rule-front s ≡ records r n → take n t ≡ take n s → rule-front t ≡ records r n
 --   rule-bounds    : rule-front s ≡ records r n → 2 < n ≤ length s
 --   rule-not-zero  : rule-front s ≡ records r n → all-zero s ≡ false
---   rule-whole     : read-rule bytes ≡ records r n → rule-front bytes ≡ records r n and n ≡ length bytes
---   rule-in-front  : read-rule bytes ≡ records r n → rule-front (bytes ++ rest) ≡ records r n
---   rule-cut       : rule-front s ≡ records r n → read-rule (take n s) ≡ records r n
+--   rule-cut       : rule-front s ≡ records r n → read-rule-before (take n s) ≡ records r n
+--   rule-whole     : read-rule-before bytes ≡ records r n → rule-front bytes ≡ records r n and n ≡ length bytes
+--   rule-in-front  : read-rule-before bytes ≡ records r n → rule-front (bytes ++ rest) ≡ records r n
+--   rule-before    : read-rule bytes ≡ records r n → read-rule-before bytes ≡ records r n; rule-unstray: and rule-strays r ≡ []
+--   rule-since     : the same the other way
 -- Follows from the checks on the records, test by test: each looks only at bytes before the offset at which its record ends. That no pattern comes
 -- next is seen from the mark of the side behind it.
 use Prim.Native.Nat.{ℕ, zero, suc, _+_, _≤_, _<_}
@@ -26,7 +28,7 @@ use Rattle.paper.specs.Alphabet.{edition-1}
 use Rattle.paper.specs.Sheet.{Checked, fault, read, FieldPattern, byte-at, bytes-left, body, body-codes, Mark, PA, LE, RU, first-letter, marked}
 use Rattle.paper.specs.Sheet.{pattern-judged, pattern-record, is-token, side-record, marked-side, Records, faulty, records, Fields}
 use Rattle.paper.specs.Sheet.{open-fields, next-is, with-pattern, pattern-read, read-patterns}
-use Rattle.paper.specs.Rule.{Rule, with-side, side-read, rule-front, rule-end, read-rule}
+use Rattle.paper.specs.Rule.{Rule, with-side, side-read, rule-front, rule-end, read-rule-before, rule-strays, rule-at-stray, rule-checked, read-rule}
 use Rattle.paper_catalogue.specs.Catalogue.{all-zero}
 
 -- the part behind the first a, as the end of a front
@@ -158,7 +160,7 @@ module _ (n : ℕ) (s t : List ℕ) (same : take n t ≡ take n s) where
 
   one-next : (at : ℕ) (fs : Fields) (fp : FieldPattern) (mid : ℕ) → next-is PA s at ≡ true
       → Likewise at 4 (pattern-record edition-1 t at (fs .above)) (read fp mid)
-      → (x : Records Fields) → AllLikewise mid (with-pattern fs fp) x → AllLikewise at fs x
+      → (x : Records Fields) → AllLikewise mid (with-pattern fs at fp) x → AllLikewise at fs x
   one-next at fs fp mid h l (faulty x place) k = tt
   one-next at fs fp mid h (low, high, l) (records gs next) (m, k) = (omega arith, turned)
     where
@@ -169,9 +171,9 @@ module _ (n : ℕ) (s t : List ℕ) (same : take n t ≡ take n s) where
 
   behind-likewise : (at : ℕ) (fs : Fields) (go-on : ℕ → Fields → Records Fields) (x : Checked FieldPattern) → next-is PA s at ≡ true
       → ((next : ℕ) (more : Fields) → AllLikewise next more (go-on next more))
-      → Likewise at 4 (pattern-record edition-1 t at (fs .above)) x → AllLikewise at fs (pattern-read fs go-on x)
+      → Likewise at 4 (pattern-record edition-1 t at (fs .above)) x → AllLikewise at fs (pattern-read fs at go-on x)
   behind-likewise at fs go-on (fault x place) h i l = tt
-  behind-likewise at fs go-on (read fp mid) h i l = one-next at fs fp mid h l (go-on mid (with-pattern fs fp)) (i mid (with-pattern fs fp))
+  behind-likewise at fs go-on (read fp mid) h i l = one-next at fs fp mid h l (go-on mid (with-pattern fs at fp)) (i mid (with-pattern fs at fp))
 
   patterns-likewise : (turns : ℕ) (at : ℕ) (fs : Fields) → AllLikewise at fs (read-patterns edition-1 turns s at fs)
   patterns-likewise zero at fs = tt
@@ -229,13 +231,13 @@ module _ (s : List ℕ) {r : Rule} {n : ℕ} (e : rule-front s ≡ records r n) 
   rule-not-zero = let (low, high, first, k) = subst (RuleLikewise n s s refl) e (rule-likewise n s s refl) in begins-not-zero s first
 
   -- its own bytes by themselves
-  pub rule-cut : read-rule (take n s) ≡ records r n
-  unfolding read-rule
+  pub rule-cut : read-rule-before (take n s) ≡ records r n
+  unfolding read-rule-before
   rule-cut =
       rw (rule-local (take n s) (take-take n n s (omega arith)), le-ltb n (length (take n s)) (rw (length-take n s) (omega (arith, rule-bounds))))
 
 -- A rule by itself has all its bytes, and is read likewise with any bytes behind them.
-module _ (bytes : List ℕ) {r : Rule} {n : ℕ} (e : read-rule bytes ≡ records r n) where
+module _ (bytes : List ℕ) {r : Rule} {n : ℕ} (e : read-rule-before bytes ≡ records r n) where
   abbrev Whole : Records Rule → Type 0
   Whole (faulty x at) = Unit {0}
   Whole (records q next) = (rule-front bytes ≡ records q next) × (next ≡ length bytes)
@@ -247,10 +249,38 @@ module _ (bytes : List ℕ) {r : Rule} {n : ℕ} (e : read-rule bytes ≡ record
       (λ h. let (low, high) = rule-bounds bytes f in (f, omega (arith, ltb-false next (length bytes) h)))
 
   pub rule-whole : (rule-front bytes ≡ records r n) × (n ≡ length bytes)
-  unfolding read-rule
+  unfolding read-rule-before
   rule-whole = subst Whole e (whole (rule-front bytes) refl)
 
   pub rule-in-front : (rest : List ℕ) → rule-front (bytes ++ rest) ≡ records r n
   rule-in-front rest =
       let (f, all) = rule-whole in
       rule-local bytes f (bytes ++ rest) (rw all (take-append-seam bytes rest ∙ sym (take-length bytes)))
+
+-- A rule by itself, read with the check on strays and without it.
+abbrev Unstray : Records Rule → Records Rule → Type 0
+Unstray before (faulty x at) = Unit {0}
+Unstray before (records r n) = (before ≡ records r n) × (rule-strays r ≡ [])
+
+unstray-at : (r : Rule) (n : ℕ) (fs : List ℕ) → rule-strays r ≡ fs → Unstray (records r n) (rule-at-stray r n fs)
+unstray-at r n [] e = (refl, e)
+unstray-at r n (f ∷ fs) e = tt
+
+unstray : (x : Records Rule) → Unstray x (rule-checked x)
+unstray (faulty x at) = tt
+unstray (records r n) = unstray-at r n (rule-strays r) refl
+
+module _ (bytes : List ℕ) {r : Rule} {n : ℕ} where
+  both-read : read-rule bytes ≡ records r n → (read-rule-before bytes ≡ records r n) × (rule-strays r ≡ [])
+  unfolding read-rule
+  both-read e = subst (Unstray (read-rule-before bytes)) e (unstray (read-rule-before bytes))
+
+  pub rule-before : read-rule bytes ≡ records r n → read-rule-before bytes ≡ records r n
+  rule-before e = both-read e .0
+
+  pub rule-unstray : read-rule bytes ≡ records r n → rule-strays r ≡ []
+  rule-unstray e = both-read e .1
+
+  pub rule-since : read-rule-before bytes ≡ records r n → rule-strays r ≡ [] → read-rule bytes ≡ records r n
+  unfolding read-rule
+  rule-since e none = rw (e, none)

@@ -8,7 +8,7 @@ use Prim.Native.Nat.{ℕ, _+_, _-_, _<_}
 use native.Mathlib.Omega.{arith}
 use mathlib.Core.Path.{_≡_, refl, sym, ap, _∙_, subst}
 use mathlib.Core.Logic.{⊎-elim}
-use mathlib.Core.Bool.{true, cond}
+use mathlib.Core.Bool.{true, false, cond}
 use mathlib.Core.List.{List, [], _∷_, _++_, map, List·Memᴰ}
 use lib.Dec.{ltb, eqb}
 use lib.ListN.{getD, take, List·getD-append}
@@ -20,13 +20,15 @@ use Rattle.paper.specs.Search.{Entry, End, found, used-up, no-room, too-long}
 use Rattle.paper.specs.Equation.{Token, chr, fld, Side, is-field, stands-in, Texts, label, without-trailing, Same, Over}
 use Rattle.paper.specs.Situation.{Situation, Move}
 use Rattle.paper.specs.Question.{held-by, Solution, hidden}
-use Rattle.paper.specs.Rule.{Rule, rule-holds, Makes, moved-up, pair}
+use Rattle.paper.specs.Sheet.{has-pattern, strays}
+use Rattle.paper.specs.Rule.{Rule, rule-holds, rule-strays, Makes, moved-up, pair}
 use Rattle.paper.specs.Outcome.{searched, how-of}
 use Rattle.paper_catalogue.specs.PairAsking.{pair-number, pair-answer}
-use Rattle.paper.proofs.base.Tests.{true-false, or-is-true, left-true, right-true, lt-ltb, le-ltb, eqb-true, eqb-same, eq-eqb}
+use Rattle.paper.proofs.base.Tests.{by-bool, true-false, ltb-true, ltb-false, or-is-true, left-true, right-true, lt-ltb, le-ltb, eqb-true, eqb-same, eq-eqb}
 use Rattle.paper.proofs.base.Lists.{cons-eq, any-true, mem-any, any-append, mem-map, map-mem}
 use Rattle.paper.proofs.equations.Labels.{label-same}
 use Rattle.paper.proofs.sheets.Asked.{GoodQuestion}
+use Rattle.paper.proofs.sheets.Strays.{AllStand, stray-free, free-stands}
 use Rattle.paper.proofs.sheets.Hidden.{hidden-known, own-solves, with-spaces, hidden-solves}
 use Rattle.paper.proofs.sheets.QuestionSearched.{found-solves, used-up-unsolved}
 use Rattle.paper_catalogue.proofs.GoodRule.{GoodRule, own-field, own-held, pair-sayable}
@@ -83,13 +85,13 @@ answered-0 too-long h = absurd (omega (arith, h))
 
 module _ (r s : Rule) (g : GoodRule r) (h : GoodRule s) where
   -- What a field of the pair may hold: below `rule-fields` what the present rule's may, then what the new one's may.
-  held-present : (f : ℕ) → f < rule-fields → held-by (pair r s) f ≡ rule-holds r f
+  pub held-present : (f : ℕ) → f < rule-fields → held-by (pair r s) f ≡ rule-holds r f
   unfolding pair
   held-present f k =
       List·getD-append (take rule-fields (r .fields .held)) (take rule-fields (s .fields .held)) some-text f (omega (arith, own-held r g))
       ∙ getD-take rule-fields (r .fields .held) f some-text k
 
-  held-new : (f : ℕ) → f < rule-fields → held-by (pair r s) (rule-fields + f) ≡ rule-holds s f
+  pub held-new : (f : ℕ) → f < rule-fields → held-by (pair r s) (rule-fields + f) ≡ rule-holds s f
   unfolding pair
   held-new f k =
       let a = take rule-fields (r .fields .held) in
@@ -97,8 +99,37 @@ module _ (r s : Rule) (g : GoodRule r) (h : GoodRule s) where
       ap (λ (n : ℕ). getD (a ++ b) (n + f) some-text) (sym (own-held r g)) ∙ getD-append-add a b f some-text
       ∙ getD-take rule-fields (s .fields .held) f some-text k
 
+  -- Where neither rule has a stray pattern, the pair has none.
+  pub pair-free : rule-strays r ≡ [] → rule-strays s ≡ [] → strays (pair r s) ≡ []
+  unfolding pair
+  pair-free free-r free-s = stray-free (pair r s .held) (r .side ++ right) standing
+    where
+      right : Side
+      right = map moved-up (s .side)
+
+      present : (f : ℕ) → f < rule-fields → has-pattern (held-by (pair r s) f) ≡ true → stands-in f (r .side ++ right) ≡ true
+      present f k e =
+          any-append (is-field f) (r .side) right
+          ∙ left-true (stands-in f (r .side)) (stands-in f right)
+          (free-stands (r .fields .held) (r .side) free-r f (omega arith) (rw (held-present f k) at e))
+
+      new : (f : ℕ) → f < rule-fields → has-pattern (held-by (pair r s) (rule-fields + f)) ≡ true → stands-in (rule-fields + f) (r .side ++ right) ≡ true
+      new f k e =
+          any-append (is-field (rule-fields + f)) (r .side) right
+          ∙ right-true (stands-in (rule-fields + f) (r .side)) (stands-in (rule-fields + f) right)
+          (field-moved (s .side) f (free-stands (s .fields .held) (s .side) free-s f (omega arith) (rw (held-new f k) at e)))
+
+      standing : AllStand (pair r s .held) (r .side ++ right)
+      standing f k e =
+          by-bool (ltb f rule-fields) (λ (h : ltb f rule-fields ≡ true). present f (ltb-true f rule-fields h) e)
+          (λ (h : ltb f rule-fields ≡ false).
+          let low = ltb-false f rule-fields h in
+          let p : rule-fields + (f - rule-fields) ≡ f = omega arith in
+          subst (λ (n : ℕ). stands-in n (r .side ++ right) ≡ true) p
+          (new (f - rule-fields) (omega arith) (subst (λ (n : ℕ). has-pattern (held-by (pair r s) n) ≡ true) (sym p) e)))
+
   -- A field that stands in the sides of the pair is a field of the one rule or, moved up, of the other.
-  by-rule : (P : ℕ → Type 0)
+  pub by-rule : (P : ℕ → Type 0)
       → ((f : ℕ) → stands-in f (r .side) ≡ true → f < rule-fields → P f)
       → ((f : ℕ) → stands-in f (s .side) ≡ true → f < rule-fields → P (rule-fields + f))
       → (f : ℕ) → stands-in f (pair r s .left ++ pair r s .right) ≡ true → P f

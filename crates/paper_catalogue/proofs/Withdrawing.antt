@@ -24,10 +24,10 @@ use Rattle.paper_catalogue.specs.Catalogue.{Withdrawn, without-record, w
 use Rattle.paper_catalogue.specs.Calls.{behind-last, present-at, rule-at}
 use Rattle.paper.proofs.base.Tests.{by-bool, both-true, both-false, ltb-true, ltb-false, le-ltb, lt-leb}
 use Rattle.paper.proofs.base.Lists.{all-append}
-use Rattle.paper_catalogue.proofs.Local.{rule-bounds, rule-whole, rule-cut}
+use Rattle.paper_catalogue.proofs.Local.{rule-bounds, rule-whole, rule-cut, rule-before, rule-since}
 use Rattle.paper_catalogue.proofs.Form.{zero-bytes, all-zero-bytes, zero-drop, offset-of, offset-next}
 use Rattle.paper_catalogue.proofs.Form.{used-without, length-without, rules-at-most, used-inside, rest-zero, one-rule-less}
-use Rattle.paper_catalogue.proofs.Form.{read-at, own-fields, record-inside, form-without, rule-fits}
+use Rattle.paper_catalogue.proofs.Form.{read-at, own-fields, own-strays, record-inside, form-without, rule-fits}
 use Rattle.paper_catalogue.proofs.Adding.{Enters, enters, added-form}
 
 -- The ways that withdrawing goes, by what it tells and leaves.
@@ -168,7 +168,7 @@ added-withdrawn a c bytes work x =
     let l = x .rules-present in
     let new : Present = record { rule = x .rule; bytes = x .own-bytes } in
     let d = adding-by a c bytes work .added .catalogue in
-    let all : x .own-bytes ≡ length bytes = rule-whole bytes (x .is-read) .1 in
+    let all : x .own-bytes ≡ length bytes = rule-whole bytes (rule-before bytes (x .is-read)) .1 in
     let last : Leaves d (length l) =
     record { rules-present = l ++ (new ∷ []); of-form = added-form a c bytes work x; there = rw (length-append l (new ∷ [])) (omega arith) } in
     leaves d (length l) last
@@ -205,7 +205,7 @@ module _ (a : PairAsking) (c work : List ℕ) {l : List Present} (e : form c ≡
         of-form = withdrawn-form c i one-left ∙ ap rules others;
         rule = rule-at l i;
         own-bytes = present-at l i .bytes;
-        is-read = rule-cut (drop (offset-of l i) c) (read-at c e i there);
+        is-read = rule-since its-bytes (rule-cut (drop (offset-of l i) c) (read-at c e i there)) (own-strays c e i there);
         own-fields = own-fields c e i there;
         room = subst (λ (m : List Present). is-full m its-bytes (withdrawing c i .catalogue) ≡ false) others
             (room-again c i one-left its-bytes (omega (arith, its-size)));

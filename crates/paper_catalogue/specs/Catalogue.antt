@@ -8,7 +8,7 @@ use lib.ListN.{length, take, drop, replicate}
 use Rattle.paper.specs.Lists.{all}
 use Rattle.paper.specs.Numbers.{catalogue-rules}
 use Rattle.paper.specs.Sheet.{fault-number, Records, faulty, records}
-use Rattle.paper.specs.Rule.{Rule, rule-front, read-rule, foreign-field}
+use Rattle.paper.specs.Rule.{Rule, rule-front, rule-strays, read-rule, foreign-field}
 use Rattle.paper.specs.Outcome.{room-of, cleared}
 use Rattle.paper_catalogue.specs.PairAsking.{PairAnswered, PairAsking, by-search}
 
@@ -26,25 +26,35 @@ abbrev pub rule-behind : Present → Form → Form
 rule-behind r no-catalogue = no-catalogue
 rule-behind r (rules l) = rules (r ∷ l)
 
--- a rule passes its own checks, those of 31 too; reading goes on behind it
-abbrev pub rule-stands : Records Rule → (ℕ → Form) → Form
-rule-stands (faulty x at) go-on = no-catalogue
-rule-stands (records r next) go-on =
-    cond (foreign-field r) no-catalogue (rule-behind (record { rule = r; bytes = next }) (go-on next))
+-- "A catalogue holding a rule with one gives 34" (request K13): no rule stands in it that has a stray pattern, or names a field above 3
+abbrev pub unfit : Rule → Bool
+unfit r = foreign-field r || ltb 0 (length (rule-strays r))
+
+-- a rule passes its own checks, and is not unfit; reading goes on behind it
+abbrev pub rule-stands : (Rule → Bool) → Records Rule → (ℕ → Form) → Form
+rule-stands unfit (faulty x at) go-on = no-catalogue
+rule-stands unfit (records r next) go-on = cond (unfit r) no-catalogue (rule-behind (record { rule = r; bytes = next }) (go-on next))
 
 abbrev pub all-zero : List ℕ → Bool
 all-zero s = all (λ (b : ℕ). eqb b 0) s
 
 -- "Records stand one behind the other from the buffer's start, then zero bytes": at most n records
-abbrev pub form-within : ℕ → List ℕ → Form
-form-within zero s = cond (all-zero s) (rules []) no-catalogue
-form-within (suc n) s =
-    let first = rule-stands (rule-front s) (λ (next : ℕ). form-within n (drop next s)) in
+abbrev pub form-within : (Rule → Bool) → ℕ → List ℕ → Form
+form-within unfit zero s = cond (all-zero s) (rules []) no-catalogue
+form-within unfit (suc n) s =
+    let first = rule-stands unfit (rule-front s) (λ (next : ℕ). form-within unfit n (drop next s)) in
     cond (all-zero s) (rules []) first
 
 -- "a catalogue of up to 32 rules in a lent buffer"
-unfoldable pub form : List ℕ → Form
-form catalogue = form-within catalogue-rules catalogue
+unfoldable pub form-by : (Rule → Bool) → List ℕ → Form
+form-by unfit catalogue = form-within unfit catalogue-rules catalogue
+
+abbrev pub form : List ℕ → Form
+form catalogue = form-by unfit catalogue
+
+-- by the rule before request K13
+abbrev pub form-before : List ℕ → Form
+form-before catalogue = form-by foreign-field catalogue
 
 -- the bytes that the records of the rules have
 abbrev pub used : List Present → ℕ
@@ -133,7 +143,7 @@ entered-if (not-answered-1 i p) l bytes catalogue work =
 abbrev pub is-full : List Present → List ℕ → List ℕ → Bool
 is-full l bytes catalogue = leb catalogue-rules (length l) || ltb (length catalogue) (used l + length bytes)
 
--- "then the rule's own 11 to 17, then 31 for a field above 3, then 32 .., then 30"
+-- "then the rule's own 11 to 17, then 31 for a field above 3, then 32 .., then 30"; 22 is the rule's own too (request K13)
 abbrev pub added-rule : PairAsking → Records Rule → List Present → List ℕ → List ℕ → List ℕ → AddedBy
 added-rule a (faulty x at) l bytes catalogue work = not-asked (fault-number x) at catalogue work
 added-rule a (records r next) l bytes catalogue work =

@@ -1,5 +1,5 @@
 -- A pair of two good rules, decided.
---   own-decision     : it is answered as `decide` answers the sheet that says the pair
+--   own-decision     : if neither has a stray pattern, it is answered as `decide` answers the sheet that says the pair
 --   decision-tells   : so by what is decided of the pair's question
 --   deciding-right   : answered 1, the two make no labels that are the same
 --   decided-together : answered 0, they make some
@@ -22,7 +22,7 @@ use Rattle.paper.specs.Equation.{Texts, Same}
 use Rattle.paper.specs.Situation.{Situation, Move}
 use Rattle.paper.specs.Question.{Question, Solution, hidden}
 use Rattle.paper.specs.Sheet.{asked, read-sheet}
-use Rattle.paper.specs.Rule.{Rule, Makes, pair}
+use Rattle.paper.specs.Rule.{Rule, Makes, rule-strays, pair}
 use Rattle.paper.specs.Saying.{sheet-saying}
 use Rattle.paper.specs.Outcome.{Outcome, room-of, searched, records, clash, answered, count-of, how-of}
 use Rattle.paper.proofs.base.Tests.{cond-by, eqb-true}
@@ -34,7 +34,7 @@ use Rattle.paper_decide.proofs.Decided.{decided}
 use Rattle.paper_catalogue.specs.PairAsking.{pair-number, pair-answer, pair-count, by-search}
 use Rattle.paper_catalogue.specs.Calls.{without-20}
 use Rattle.paper_catalogue.proofs.GoodRule.{GoodRule, pair-sayable, pair-asks}
-use Rattle.paper_catalogue.proofs.Pair.{unsolved-apart, solved-together}
+use Rattle.paper_catalogue.proofs.Pair.{pair-free, unsolved-apart, solved-together}
 use Rattle.paper_catalogue.proofs.RightAsking.{AsksRight, number-not-1}
 use Rattle.paper_catalogue_decide.specs.DecidedPairs.{pair-decided, by-deciding, OwnDecision}
 
@@ -82,22 +82,23 @@ module _ (r s : Rule) (good-r : GoodRule r) (good-s : GoodRule s) (work answer :
       pair-decided r s (room-of work) ≡ record { answer = without-20 (d .outcome .number); count = d .outcome .count; search = d .search }
   decision-tells = λ i. record { answer = its-number i; count = sym its-count i; search = sym its-search i }
 
-  pub asks-pair : read-sheet (sheet-saying (pair r s)) ≡ asked (pair r s)
-  asks-pair = reads-back (pair r s) (pair-sayable r s good-r good-s)
+  -- "a pair is asked as `decide` asks": the sheet that says the pair is good, since neither rule has a stray pattern
+  module _ (free-r : rule-strays r ≡ []) (free-s : rule-strays s ≡ []) where
+    asks-pair : read-sheet (sheet-saying (pair r s)) ≡ asked (pair r s)
+    asks-pair = reads-back (pair r s) (pair-sayable r s good-r good-s) (pair-free r s good-r good-s free-r free-s)
 
-  same-decision : decision (sheet-saying (pair r s)) work answer ≡ its-decision
-  unfolding decision
-  same-decision = rw asks-pair
+    same-decision : decision (sheet-saying (pair r s)) work answer ≡ its-decision
+    unfolding decision
+    same-decision = rw asks-pair
 
-  -- "a pair is asked as `decide` asks"
-  pub own-decision : OwnDecision r s work answer
-  own-decision =
-      record {
-        asks = asks-pair;
-        number = its-number ∙ ap (λ (d : Decision). without-20 (d .outcome .number)) (sym same-decision);
-        count = ap (λ (d : Decision). d .outcome .count) same-decision ∙ its-count;
-        search = ap (λ (d : Decision). d .search) same-decision ∙ its-search;
-      }
+    pub own-decision : OwnDecision r s work answer
+    own-decision =
+        record {
+          asks = asks-pair;
+          number = its-number ∙ ap (λ (d : Decision). without-20 (d .outcome .number)) (sym same-decision);
+          count = ap (λ (d : Decision). d .outcome .count) same-decision ∙ its-count;
+          search = ap (λ (d : Decision). d .search) same-decision ∙ its-search;
+        }
 
   -- the pair's question, whatever a reading says of it
   unsolved : (q : Question) → asked (pair r s) ≡ asked q → ((texts : Texts) → Solution q texts → ⊥) → (texts : Texts) → Solution (pair r s) texts → ⊥

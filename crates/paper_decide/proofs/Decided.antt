@@ -21,7 +21,7 @@ use Rattle.paper.specs.Search.{Entry, End, found, used-up, no-room, too-long, S
 use Rattle.paper.specs.Equation.{Texts, stands-in}
 use Rattle.paper.specs.Situation.{Situation, Move}
 use Rattle.paper.specs.Question.{Question, Solution, hidden, Equated}
-use Rattle.paper.specs.Sheet.{Fault, cut-short, wrong-mark, wrong-field, wrong-length, not-one-pattern, too-many-leaves, wrong-token, wrong-edition}
+use Rattle.paper.specs.Sheet.{Fault, cut-short, wrong-mark, wrong-field, wrong-length, not-one-pattern, too-many-leaves, wrong-token, wrong-edition, stray-pattern}
 use Rattle.paper.specs.Sheet.{fault-number, Reading, refused, asked, read-sheet}
 use Rattle.paper.specs.Outcome.{Outcome, room-of, searched, standing, cleared, without-bytes, clash, answered, count-of, how-of, outcome-of}
 use Rattle.paper.specs.Demands.{texts-spelt}
@@ -324,6 +324,7 @@ no-search not-one-pattern = refl
 no-search too-many-leaves = refl
 no-search wrong-token = refl
 no-search wrong-edition = refl
+no-search stray-pattern = refl
 
 -- For every reading whose question is good, and all buffers.
 pub decided : (r : Reading) → AsksGood r → (work answer : List ℕ) → Decided r work answer (decision-of r work answer)

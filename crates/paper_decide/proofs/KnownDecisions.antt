@@ -16,7 +16,7 @@ use Rattle.paper.specs.Situation.{trimmed, strike, put-before, open-moves, chil
 use Rattle.paper.specs.Way.{search-from, texts-of}
 use Rattle.paper.specs.Alphabet.{code-39, code}
 use Rattle.paper.specs.Question.{Question, hidden, acceptor}
-use Rattle.paper.specs.Sheet.{marked, pattern-record, side-record, read-end, marked-side, next-is, edition-front, read-sheet}
+use Rattle.paper.specs.Sheet.{marked, pattern-record, side-record, read-end, marked-side, next-is, edition-front, strays-of, read-by, read-sheet}
 use Rattle.paper.specs.Outcome.{room-of, searched, standing, value-record, records, clash, count-of, how-of}
 use Rattle.paper.proofs.known.KnownSheet.{PA, LE, RI}
 use Rattle.paper_chosen.specs.Chosen.{acceptor-over, searched-over}
@@ -154,5 +154,5 @@ rows =
     []
 
 pub known-decisions : map got rows ≡ map wanted rows
-unfolding set-after may-end judge enter offer take-next search trimmed strike put-before open-moves child-by children question search-from texts-of acceptor marked pattern-record side-record read-end marked-side next-is code edition-front read-sheet room-of searched standing value-record records clash count-of how-of acceptor-over searched-over alike-in fixed fields-standing alike is-least least-ones leaf-choice chosen-for few is-few apart few-standings concluded decision
+unfolding set-after may-end judge enter offer take-next search trimmed strike put-before open-moves child-by children question search-from texts-of acceptor marked pattern-record side-record read-end marked-side next-is code edition-front read-by strays-of read-sheet room-of searched standing value-record records clash count-of how-of acceptor-over searched-over alike-in fixed fields-standing alike is-least least-ones leaf-choice chosen-for few is-few apart few-standings concluded decision
 known-decisions = refl

@@ -13,7 +13,7 @@ use Rattle.paper.specs.Places.{PlaceSet}
 use Rattle.paper.specs.Search.{End, found, used-up, no-room, too-long}
 use Rattle.paper.specs.Situation.{Situation, Move}
 use Rattle.paper.specs.Question.{Question, hidden}
-use Rattle.paper.specs.Sheet.{Fault, cut-short, wrong-mark, wrong-field, wrong-length, not-one-pattern, too-many-leaves, wrong-token, wrong-edition}
+use Rattle.paper.specs.Sheet.{Fault, cut-short, wrong-mark, wrong-field, wrong-length, not-one-pattern, too-many-leaves, wrong-token, wrong-edition, stray-pattern}
 use Rattle.paper.specs.Sheet.{fault-number, Reading, refused, asked, read-sheet}
 use Rattle.paper.specs.Outcome.{Outcome, room-of, searched, records, cleared, clash, answered, count-of, how-of, outcome-of, outcome}
 use Rattle.paper.proofs.base.Tests.{by-bool, cond-by, true-false}
@@ -50,6 +50,7 @@ fault-settles-not not-one-pattern = refl
 fault-settles-not too-many-leaves = refl
 fault-settles-not wrong-token = refl
 fault-settles-not wrong-edition = refl
+fault-settles-not stray-pattern = refl
 
 settled-not-18 : (n : ℕ) → settles n ≡ true → n ≡ 18 → ⊥
 settled-not-18 n h e = true-false (subst (λ (m : ℕ). settles m ≡ true) e h) refl

@@ -9,7 +9,7 @@ use Rattle.paper.specs.Lists.{upto, each}
 use Rattle.paper.specs.Search.{enter, offer, take-next, search}
 use Rattle.paper.specs.Written.{judge}
 use Rattle.paper.specs.Alphabet.{code}
-use Rattle.paper.specs.Sheet.{marked, pattern-record, side-record, read-end, marked-side, next-is, edition-front, read-sheet}
+use Rattle.paper.specs.Sheet.{marked, pattern-record, side-record, read-end, marked-side, next-is, edition-front, strays-of, read-by, read-sheet}
 use Rattle.paper.proofs.known.KnownSheet.{PA, LE, RI, x, A, B, space}
 use Rattle.paper.proofs.known.KnownFew.{leaves-by}
 use Rattle.paper_plain.specs.Standing.{next-pairs, pairs-searched}
@@ -44,12 +44,13 @@ few-sheets =
     row (LE (x ∷ []) ++ RI (A ∷ [])) 3 0 ∷
     -- x twice
     row (LE (x ∷ A ∷ []) ++ RI (B ∷ x ∷ [])) 4 42 ∷
-    -- a byte that is no token
+    -- a byte that is no token; a stray pattern, where x stands twice
     record { sheet = LE (43 ∷ []); lent = 2; number = 17; place = 3; all-zero = false } ∷
+    record { sheet = PA 0 (A ∷ []) ++ PA 1 (A ∷ []) ++ LE (x ∷ []) ++ RI (x ∷ []); lent = 2; number = 22; place = 5; all-zero = false } ∷
     []
 
 pub few-sheets-met : map got few-sheets ≡ map wanted few-sheets
-unfolding judge enter offer take-next search marked pattern-record side-record read-end marked-side next-is code edition-front read-sheet next-pairs pairs-searched bits-of clashes-apart engine
+unfolding judge enter offer take-next search marked pattern-record side-record read-end marked-side next-is code edition-front read-by strays-of read-sheet next-pairs pairs-searched bits-of clashes-apart engine
 few-sheets-met = refl
 
 -- Four fields of 63 leaves and 20 characters a side need all the bytes that are ever needed.
@@ -63,5 +64,5 @@ abbrev largest-sheet : List ℕ
 largest-sheet = each widest (upto 8) ++ LE (largest-side 64) ++ RI (largest-side 68)
 
 pub largest-needs : needs largest-sheet ≡ record { number = 0; place = 0; bytes = enough-bytes }
-unfolding judge marked pattern-record side-record read-end marked-side next-is code edition-front read-sheet bits-of needs
+unfolding judge marked pattern-record side-record read-end marked-side next-is code edition-front read-by strays-of read-sheet bits-of needs
 largest-needs = refl

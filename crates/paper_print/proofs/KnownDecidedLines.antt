@@ -13,9 +13,9 @@ use Rattle.paper.specs.Situation.{trimmed, strike, put-before, open-moves, chil
 use Rattle.paper.specs.Way.{search-from, texts-of}
 use Rattle.paper.specs.Question.{acceptor}
 use Rattle.paper.specs.Alphabet.{edition-1, edition-2, code}
-use Rattle.paper.specs.Sheet.{marked, pattern-record, side-record, read-end, marked-side, next-is, edition-front, read-sheet}
+use Rattle.paper.specs.Sheet.{marked, pattern-record, side-record, read-end, marked-side, next-is, edition-front, strays-of, read-by, read-sheet}
 use Rattle.paper.specs.Outcome.{room-of, searched, standing, value-record, records, clash, count-of, how-of}
-use Rattle.paper.proofs.known.KnownSheet.{LE, RI, sheet-S}
+use Rattle.paper.proofs.known.KnownSheet.{PA, LE, RI, sheet-S}
 use Rattle.paper_chosen.specs.Chosen.{acceptor-over, searched-over}
 use Rattle.paper_decide.specs.Deciding.{concluded, Decision, decision}
 use Rattle.paper_spell.specs.FullAscii.{table}
@@ -52,7 +52,8 @@ spelt-lines-known = refl
 abbrev ED : List ℕ → List ℕ
 ED sheet = 69 ∷ 68 ∷ 2 ∷ sheet
 
--- sheet S; `A` and `B`; a sheet that ends behind its left mark; behind `ED`, field 0 and `a#`, and field 0 and nothing, where its text is one space
+-- sheet S; `A` and `B`; a sheet that ends behind its left mark; behind `ED`, field 0 and `a#`, field 0 and nothing, where its text is one space, and a
+-- stray pattern
 pub sheets-decided-printed :
     map printed-decided
     (sheet-S ∷
@@ -60,6 +61,7 @@ pub sheets-decided-printed :
     (76 ∷ 69 ∷ []) ∷
     ED (LE (192 ∷ []) ++ RI (97 ∷ 35 ∷ [])) ∷
     ED (LE (192 ∷ []) ++ RI []) ∷
+    ED (PA 0 (65 ∷ []) ++ LE [] ++ RI []) ∷
     [])
     ≡ map ascii
     ("0 13 0 1\n0 4\n1 4\n" ∷
@@ -67,6 +69,7 @@ pub sheets-decided-printed :
     "11 0 2 0\n" ∷
     "0 12 0 1\n0 +A/C\n" ∷
     "0 9 0 1\n0  \n" ∷
+    "22 0 3 0\n" ∷
     [])
-unfolding set-after may-end judge enter offer take-next search trimmed strike put-before open-moves child-by children question search-from texts-of acceptor marked pattern-record side-record read-end marked-side next-is code edition-front read-sheet room-of searched standing value-record records clash count-of how-of acceptor-over searched-over concluded decision table sheet-edition printed-decision printed-decided
+unfolding set-after may-end judge enter offer take-next search trimmed strike put-before open-moves child-by children question search-from texts-of acceptor marked pattern-record side-record read-end marked-side next-is code edition-front read-by strays-of read-sheet room-of searched standing value-record records clash count-of how-of acceptor-over searched-over concluded decision table sheet-edition printed-decision printed-decided
 sheets-decided-printed = refl

@@ -1,5 +1,5 @@
 -- Known scripts: the checker computes two of the first edition and one of the second, reads some back and one in another layout, and refuses others.
--- And known answers: a buffer that fits exactly, one of a byte less, a sheet that is cut short, and one that begins with `ED`.
+-- And known answers: a buffer that fits exactly, one of a byte less, a sheet that is cut short, one with a stray pattern, and one that begins with `ED`.
 use Prim.Native.Nat.{ℕ}
 use mathlib.Core.Path.{_≡_, refl}
 use mathlib.Core.List.{List, [], _∷_, _++_, map}
@@ -11,7 +11,8 @@ use Rattle.paper.specs.Question.{Question}
 use Rattle.paper_script.specs.Language.{to-re, span, concat, union, star}
 use Rattle.paper_script.specs.Bytes.{bytes}
 use Rattle.paper_script.specs.Reader.{code-point, constant, set-logic, declare-const, in-re, equal, check-sat, no-script, commands, read-script}
-use Rattle.paper.specs.Sheet.{edition-front, read-sheet, read-end, marked-side, side-record, next-is, marked}
+use Rattle.paper.specs.Written.{judge}
+use Rattle.paper.specs.Sheet.{edition-front, strays-of, read-by, read-sheet, read-end, marked-side, side-record, pattern-record, next-is, marked}
 use Rattle.paper_script.specs.Escapes.{meaning}
 use Rattle.paper_script.specs.Script.{escaped, character, one-character, range-expression, field-lines, all-standing, equation, script, longest-script}
 use Rattle.paper_script.specs.Scripting.{scripting-told, scripting}
@@ -242,19 +243,24 @@ abbrev empty-sides : List ℕ
 empty-sides = 76 ∷ 69 ∷ 0 ∷ 82 ∷ 73 ∷ 0 ∷ []
 
 exact-room : scripting empty-sides (replicate 351 0) ≡ scripting-told 0 0 351 (script (record { alphabet = code-39; left = []; right = []; held = replicate 8 some-text }))
-unfolding character one-character range-expression field-lines all-standing equation script scripting code edition-front read-sheet read-end marked-side side-record next-is marked
+unfolding character one-character range-expression field-lines all-standing equation script scripting code edition-front read-by strays-of read-sheet read-end marked-side side-record next-is marked
 exact-room = refl
 
 one-less : scripting empty-sides (replicate 350 1) ≡ scripting-told 40 0 0 (replicate 350 1)
-unfolding character one-character range-expression field-lines all-standing equation script scripting code edition-front read-sheet read-end marked-side side-record next-is marked
+unfolding character one-character range-expression field-lines all-standing equation script scripting code edition-front read-by strays-of read-sheet read-end marked-side side-record next-is marked
 one-less = refl
 
 cut-short : scripting (76 ∷ 69 ∷ []) [] ≡ scripting-told 11 2 0 []
-unfolding scripting code edition-front read-sheet read-end marked-side side-record next-is marked
+unfolding scripting code edition-front read-by strays-of read-sheet read-end marked-side side-record next-is marked
 cut-short = refl
+
+-- field 0 has a pattern and doesn't stand: before a buffer that is too short
+stray : scripting (80 ∷ 65 ∷ 0 ∷ 1 ∷ 4 ∷ empty-sides) [] ≡ scripting-told 22 0 0 []
+unfolding judge pattern-record scripting code edition-front read-by strays-of read-sheet read-end marked-side side-record next-is marked
+stray = refl
 
 -- behind `ED` and the byte 2 the left side is a quotation mark, the right one DEL
 behind-edition : scripting (69 ∷ 68 ∷ 2 ∷ 76 ∷ 69 ∷ 1 ∷ 34 ∷ 82 ∷ 73 ∷ 1 ∷ 127 ∷ []) (replicate 383 0)
     ≡ scripting-told 0 0 383 (script (record { alphabet = full-ascii; left = chr 34 ∷ []; right = chr 127 ∷ []; held = replicate 8 some-text }))
-unfolding escaped character one-character range-expression field-lines all-standing equation script scripting code edition-front read-sheet read-end marked-side side-record next-is marked
+unfolding escaped character one-character range-expression field-lines all-standing equation script scripting code edition-front read-by strays-of read-sheet read-end marked-side side-record next-is marked
 behind-edition = refl

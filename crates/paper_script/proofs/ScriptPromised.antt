@@ -11,7 +11,7 @@ use lib.ListN.{length, take, drop, length-append, length-drop}
 use lib.Seq.{take-append-seam, drop-append-seam}
 use Rattle.paper.specs.Equation.{Texts}
 use Rattle.paper.specs.Question.{Question, Solution}
-use Rattle.paper.specs.Sheet.{Fault, cut-short, wrong-mark, wrong-field, wrong-length, not-one-pattern, too-many-leaves, wrong-token, wrong-edition, fault-number}
+use Rattle.paper.specs.Sheet.{Fault, cut-short, wrong-mark, wrong-field, wrong-length, not-one-pattern, too-many-leaves, wrong-token, wrong-edition, stray-pattern, fault-number}
 use Rattle.paper.specs.Sheet.{Reading, refused, asked, read-sheet}
 use Rattle.paper.proofs.base.Tests.{cond-by, leb-true, leb-false}
 use Rattle.paper.proofs.sheets.Asked.{GoodQuestion, sheet-good}
@@ -33,6 +33,7 @@ no-40 not-one-pattern e = omega arith
 no-40 too-many-leaves e = omega arith
 no-40 wrong-token e = omega arith
 no-40 wrong-edition e = omega arith
+no-40 stray-pattern e = omega arith
 
 no-0 : (x : Fault) → fault-number x ≡ 0 → ⊥
 no-0 x e = omega (arith, fault-above x)

@@ -11,9 +11,9 @@ use Rattle.paper.specs.Situation.{trimmed, strike, put-before, open-moves, chil
 use Rattle.paper.specs.Way.{search-from, texts-of}
 use Rattle.paper.specs.Question.{acceptor}
 use Rattle.paper.specs.Alphabet.{code}
-use Rattle.paper.specs.Sheet.{marked, pattern-record, side-record, read-end, marked-side, next-is, edition-front, read-sheet}
+use Rattle.paper.specs.Sheet.{marked, pattern-record, side-record, read-end, marked-side, next-is, edition-front, strays-of, read-by, read-sheet}
 use Rattle.paper.specs.Outcome.{room-of, searched, standing, value-record, records, clash, count-of, how-of}
-use Rattle.paper.proofs.known.KnownSheet.{LE, RI, VA, x, A}
+use Rattle.paper.proofs.known.KnownSheet.{PA, LE, RI, VA, x, A}
 use Rattle.paper_steps.specs.StepsOutcome.{StepsOutcome, with-steps, steps-outcome}
 use Rattle.paper_steps.specs.Player.{allowed, alive, step-made, Play, play-told, play}
 
@@ -44,6 +44,10 @@ x-way = reads A ++ left-struck ++ left-struck ++ right-struck
 -- a byte that is no token
 abbrev fault-sheet : List ℕ
 fault-sheet = LE (43 ∷ [])
+
+-- x and `A`, x `A`, and a pattern of field 1, which doesn't stand
+abbrev stray-sheet : List ℕ
+stray-sheet = PA 0 (A ∷ []) ++ PA 1 (A ∷ []) ++ x-sheet
 
 -- bytes in front of a buffer
 abbrev in-front : List ℕ → List ℕ → List ℕ
@@ -100,7 +104,7 @@ known-steps =
     []
 
 pub steps-met : map steps-got known-steps ≡ map steps-wanted known-steps
-unfolding set-after may-end judge enter offer take-next search trimmed strike put-before open-moves child-by children question search-from texts-of acceptor marked pattern-record side-record read-end marked-side next-is code edition-front read-sheet room-of searched standing value-record records clash count-of how-of with-steps steps-outcome
+unfolding set-after may-end judge enter offer take-next search trimmed strike put-before open-moves child-by children question search-from texts-of acceptor marked pattern-record side-record read-end marked-side next-is code edition-front read-by strays-of read-sheet room-of searched standing value-record records clash count-of how-of with-steps steps-outcome
 steps-met = refl
 
 -- a sheet, the bytes of steps, the answer bytes lent, and what must come
@@ -148,8 +152,9 @@ known-plays =
     play-row (LE (replicate 24 x) ++ RI (A ∷ A ∷ [])) (reads A ++ reads A) 8 19 [] ∷
     -- the sheet's own, before anything that is wrong with the steps
     record { sheet = fault-sheet; steps = 0 ∷ []; answer-bytes = 8; number = 17; place = 3; bytes = [] } ∷
+    record { sheet = stray-sheet; steps = 0 ∷ []; answer-bytes = 8; number = 22; place = 5; bytes = [] } ∷
     []
 
 pub plays-met : map play-got known-plays ≡ map play-wanted known-plays
-unfolding set-after may-end judge trimmed strike put-before open-moves question texts-of acceptor marked pattern-record side-record read-end marked-side next-is code edition-front read-sheet standing value-record allowed alive step-made play-told play
+unfolding set-after may-end judge trimmed strike put-before open-moves question texts-of acceptor marked pattern-record side-record read-end marked-side next-is code edition-front read-by strays-of read-sheet standing value-record allowed alive step-made play-told play
 plays-met = refl

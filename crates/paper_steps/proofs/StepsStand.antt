@@ -15,7 +15,7 @@ use Rattle.paper.specs.Search.{End, found, used-up, no-room, too-long}
 use Rattle.paper.specs.Situation.{Situation, Move, question}
 use Rattle.paper.specs.Way.{search-from}
 use Rattle.paper.specs.Question.{Question, hidden, acceptor}
-use Rattle.paper.specs.Sheet.{Fault, cut-short, wrong-mark, wrong-field, wrong-length, not-one-pattern, too-many-leaves, wrong-token, wrong-edition}
+use Rattle.paper.specs.Sheet.{Fault, cut-short, wrong-mark, wrong-field, wrong-length, not-one-pattern, too-many-leaves, wrong-token, wrong-edition, stray-pattern}
 use Rattle.paper.specs.Sheet.{fault-number, Reading, refused, asked, read-sheet}
 use Rattle.paper.specs.Outcome.{room-of, searched, records, cleared, clash, answered, count-of, how-of}
 use Rattle.paper.proofs.base.Tests.{by-bool, cond-by, true-false, neq-eqb}
@@ -82,6 +82,7 @@ fault-settles-not not-one-pattern = refl
 fault-settles-not too-many-leaves = refl
 fault-settles-not wrong-token = refl
 fault-settles-not wrong-edition = refl
+fault-settles-not stray-pattern = refl
 
 fault-not-0 : (x : Fault) → eqb (fault-number x) 0 ≡ false
 fault-not-0 x = let low = fault-above x in neq-eqb (fault-number x) 0 (λ (z : fault-number x ≡ 0). omega arith)

@@ -5,7 +5,7 @@
 -- The buffers are lent full of other bytes. Where 01 says nothing else it lends 356 situations; a row here lends a few more than are entered,
 -- since a larger room gives the same (`Searched.larger-room`), and most working buffers have bytes behind the last whole situation.
 --
--- Three rows more stand in `paper`, where an edit needs them (`KnownFew`).
+-- Six rows more stand in `paper`, where an edit needs them (`KnownFew`).
 use Prim.Native.Nat.{ℕ, zero, suc}
 use mathlib.Core.Path.{_≡_, refl}
 use mathlib.Core.List.{List, [], _∷_, _++_, map}
@@ -18,7 +18,7 @@ use Rattle.paper.specs.Situation.{trimmed, strike, put-before, open-moves, chil
 use Rattle.paper.specs.Way.{search-from, texts-of}
 use Rattle.paper.specs.Question.{acceptor}
 use Rattle.paper.specs.Alphabet.{code}
-use Rattle.paper.specs.Sheet.{marked, pattern-record, side-record, read-end, marked-side, next-is, edition-front, read-sheet}
+use Rattle.paper.specs.Sheet.{marked, pattern-record, side-record, read-end, marked-side, next-is, edition-front, strays-of, read-by, read-sheet}
 use Rattle.paper.specs.Outcome.{outcome, room-of, searched, standing, value-record, records, clash, count-of, how-of}
 use Rattle.paper.proofs.known.KnownSheet.{Known, answer-row, fault-row, got, wanted, PA, LE, RI, VA, x, y, A, B, space, sheet-S, answer-S}
 use Rattle.paper.proofs.known.KnownFew.{judged-only, leaves-by}
@@ -283,9 +283,9 @@ known-patterns =
     fault-row (judged-only (0 ∷ 43 ∷ 0 ∷ [])) 15 5 ∷
     fault-row (judged-only (66 ∷ 64 ∷ 65 ∷ 0 ∷ 9 ∷ 68 ∷ 0 ∷ [])) 15 9 ∷
     -- 63 leaves; neither the empty text nor a star is one
-    answer-row (judged-only (leaves-by 66 62)) 950 8 0 5 [] ∷
-    answer-row (judged-only (66 ∷ 64 ∷ leaves-by 66 62)) 950 8 0 5 [] ∷
-    answer-row (judged-only (68 ∷ leaves-by 67 62)) 950 8 0 5 [] ∷
+    answer-row (against (leaves-by 66 62) []) 750 20 1 2 [] ∷
+    answer-row (against (66 ∷ 64 ∷ leaves-by 66 62) []) 750 20 1 2 [] ∷
+    answer-row (against (68 ∷ leaves-by 67 62) []) 1500 20 0 7 (VA 0 []) ∷
     -- 64 leaves of a choice; the first a range
     fault-row (judged-only (leaves-by 67 63)) 16 130 ∷
     fault-row (judged-only (66 ∷ 65 ∷ 0 ∷ 9 ∷ leaves-by 66 62)) 16 132 ∷
@@ -306,7 +306,7 @@ known-patterns =
     answer-row (against (66 ∷ one-of 39 ++ one-of 22) (39 ∷ 22 ∷ [])) 1700 20 0 9 (VA 0 (39 ∷ 22 ∷ [])) ∷
     answer-row (against (66 ∷ one-of 39 ++ one-of 22) (39 ∷ 23 ∷ [])) 750 20 1 2 [] ∷
     -- 192 bytes
-    answer-row (judged-only (replicate 191 68 ++ 0 ∷ [])) 950 8 0 5 [] ∷
+    answer-row (against (replicate 191 68 ++ 0 ∷ []) []) 1500 20 0 7 (VA 0 []) ∷
     []
 
 -- "Checks on the sheet": marks, fields, lengths, bodies, tokens, in 01's order
@@ -384,9 +384,31 @@ known-records =
     fault-row (LE (A ∷ []) ++ RI (43 ∷ [])) 17 7 ∷
     []
 
+-- "Patterns for fields that stand in neither side" (request K13): 22 at the first one's mark, "after all other checks on the sheet"
+abbrev known-strays : List Known
+known-strays =
+    -- one alone; of field 7, where field 0 stands
+    fault-row (PA 0 (A ∷ []) ++ LE [] ++ RI []) 22 0 ∷
+    fault-row (PA 7 (A ∷ []) ++ LE (x ∷ []) ++ RI (A ∷ [])) 22 0 ∷
+    -- two behind one that stands: the first one's mark
+    fault-row (PA 0 As ++ PA 1 (A ∷ []) ++ PA 2 (B ∷ []) ++ LE (x ∷ []) ++ RI []) 22 6 ∷
+    -- between two that stand, one in each side; behind both
+    fault-row (PA 0 (A ∷ []) ++ PA 1 As ++ PA 2 (A ∷ []) ++ LE (x ∷ []) ++ RI (66 ∷ [])) 22 5 ∷
+    fault-row (PA 0 (A ∷ []) ++ PA 1 As ++ PA 2 (A ∷ []) ++ LE (x ∷ []) ++ RI (y ∷ [])) 22 11 ∷
+    -- beside a byte that is no token; a record behind `RI`; a right side of 25 tokens; no right side
+    fault-row (PA 0 (A ∷ []) ++ LE (43 ∷ []) ++ RI []) 17 8 ∷
+    fault-row (PA 0 (A ∷ []) ++ LE [] ++ RI [] ++ PA 1 (A ∷ [])) 12 11 ∷
+    fault-row (PA 0 (A ∷ []) ++ LE [] ++ 82 ∷ 73 ∷ 25 ∷ []) 14 10 ∷
+    fault-row (PA 0 (A ∷ []) ++ LE []) 11 8 ∷
+    -- none: the field stands in the right side alone; in both
+    answer-row (PA 0 (A ∷ []) ++ LE (A ∷ []) ++ RI (x ∷ [])) 1500 20 0 8 (VA 0 (A ∷ [])) ∷
+    answer-row (PA 1 (A ∷ []) ++ LE (y ∷ []) ++ RI (y ∷ [])) 1300 20 0 7 (VA 1 (A ∷ [])) ∷
+    []
+
 abbrev known-sheets : List Known
-known-sheets = known-in-01 ++ known-rooms ++ known-searches ++ known-open-fields ++ known-spaces ++ known-patterns ++ known-records
+known-sheets =
+    known-in-01 ++ known-rooms ++ known-searches ++ known-open-fields ++ known-spaces ++ known-patterns ++ known-records ++ known-strays
 
 pub known-sheets-met : map got known-sheets ≡ map wanted known-sheets
-unfolding set-after may-end judge enter offer take-next search trimmed strike put-before open-moves child-by children question search-from texts-of acceptor marked pattern-record side-record read-end marked-side next-is code edition-front read-sheet outcome room-of searched standing value-record records clash count-of how-of
+unfolding set-after may-end judge enter offer take-next search trimmed strike put-before open-moves child-by children question search-from texts-of acceptor marked pattern-record side-record read-end marked-side next-is code edition-front read-by strays-of read-sheet outcome room-of searched standing value-record records clash count-of how-of
 known-sheets-met = refl

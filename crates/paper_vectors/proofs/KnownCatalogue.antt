@@ -16,11 +16,11 @@ use Rattle.paper.specs.Situation.{trimmed, strike, put-before, open-moves, chil
 use Rattle.paper.specs.Way.{search-from}
 use Rattle.paper.specs.Question.{acceptor}
 use Rattle.paper.specs.Alphabet.{code}
-use Rattle.paper.specs.Sheet.{marked, pattern-record, side-record, marked-side, next-is}
+use Rattle.paper.specs.Sheet.{marked, pattern-record, side-record, marked-side, next-is, strays-of}
 use Rattle.paper.specs.Outcome.{room-of, searched, count-of, how-of}
-use Rattle.paper.specs.Rule.{rule-front, read-rule, foreign-field, pair}
+use Rattle.paper.specs.Rule.{rule-front, read-rule-before, read-rule, foreign-field, pair}
 use Rattle.paper_catalogue.specs.PairAsking.{pair-answer, pair-count}
-use Rattle.paper_catalogue.specs.Catalogue.{form, Added, adding, Withdrawn, withdrawing}
+use Rattle.paper_catalogue.specs.Catalogue.{form-by, Added, adding, Withdrawn, withdrawing}
 use Rattle.paper.proofs.known.KnownSheet.{ED-2, PA, LE, RI}
 use Rattle.paper_catalogue.proofs.KnownFew.{RU, zeros, rule-A, rule-B, A-spaces}
 
@@ -99,7 +99,11 @@ one-character f c = RU (PA f (c ∷ []) ++ LE ((64 + f) ∷ []))
 
 -- a rule of 33 bytes
 abbrev of-33-bytes : List ℕ
-of-33-bytes = RU (PA 0 (0 ∷ []) ++ LE (replicate 23 10))
+of-33-bytes = RU (PA 0 (0 ∷ []) ++ LE (64 ∷ replicate 22 10))
+
+-- `A`, and a pattern of field 0, which doesn't stand
+abbrev pub stray-A : List ℕ
+stray-A = RU (PA 0 (0 ∷ []) ++ LE (10 ∷ []))
 
 -- n rules without a token, of five bytes each
 abbrev pub empty-rules : ℕ → List ℕ
@@ -164,7 +168,7 @@ clashing-rules =
     clash-row (x-A-written-out ++ zeros 6) rule-A 2050 0 0 10 ∷
     []
 
--- the refusals before any pair: "34 .., then the rule's own 11 to 17, then 31 .., then 32"
+-- the refusals before any pair: "34 .., then the rule's own 11 to 17, then 31 .., then 32", and 22 "between 17 and 31" (request K13)
 abbrev refused-rules : List KnownAddition
 refused-rules =
     -- no byte for the rule; one byte too few; a rule of 33 bytes and 32 left
@@ -175,10 +179,20 @@ refused-rules =
     refused-row rule-A rule-A 32 0 ∷
     -- 32 rules stand
     refused-row (empty-rules 32 ++ zeros 20) rule-A 32 0 ∷
-    -- a token of field 4; a pattern of field 4, which stands in no side; 31 before 32
+    -- a token of field 4; with its pattern; 31 before 32
     refused-row (zeros 16) (RU (LE (68 ∷ []))) 31 0 ∷
-    refused-row (zeros 16) (RU (PA 4 (0 ∷ []) ++ LE (10 ∷ []))) 31 0 ∷
+    refused-row (zeros 16) (RU (PA 4 (0 ∷ []) ++ LE (68 ∷ []))) 31 0 ∷
     refused-row [] (RU (LE (10 ∷ 71 ∷ []))) 31 0 ∷
+    -- a stray pattern alone, before 32; two behind one that stands: the first one's mark, from `RU`
+    refused-row (zeros 16) stray-A 22 2 ∷
+    refused-row [] stray-A 22 2 ∷
+    refused-row (zeros 16) (RU (PA 0 (68 ∷ 0 ∷ []) ++ PA 1 (0 ∷ []) ++ PA 2 (0 ∷ []) ++ LE (64 ∷ []))) 22 8 ∷
+    -- 22 before 31: a stray pattern of field 4; one of field 1, and field 4 stands
+    refused-row (zeros 16) (RU (PA 4 (0 ∷ []) ++ LE (10 ∷ []))) 22 2 ∷
+    refused-row (zeros 16) (RU (PA 1 (0 ∷ []) ++ LE (68 ∷ []))) 22 2 ∷
+    -- a stray pattern and a byte behind the rule; a stray pattern and a byte that is no token
+    refused-row (zeros 16) (stray-A ++ 0 ∷ []) 12 11 ∷
+    refused-row (zeros 16) (RU (PA 0 (0 ∷ []) ++ LE (72 ∷ []))) 17 10 ∷
     -- no byte, one byte, the mark alone, a side cut short, behind a pattern too
     refused-row (zeros 16) [] 11 0 ∷
     refused-row (zeros 16) (82 ∷ []) 11 1 ∷
@@ -206,8 +220,11 @@ refused-rules =
     refused-row (zeros 16 ++ 1 ∷ []) rule-A 34 0 ∷
     refused-row (rule-A ++ 0 ∷ 82 ∷ []) rule-B 34 0 ∷
     refused-row (rule-A ++ 0 ∷ rule-B) rule-AB 34 0 ∷
-    -- a rule that names field 4; a rule cut short; a rule with `ED`; 33 rules; before a fault of the rule
+    -- a rule that names field 4; a rule with a stray pattern, the first and the second one
     refused-row (RU (LE (68 ∷ [])) ++ zeros 10) rule-A 34 0 ∷
+    refused-row (stray-A ++ zeros 10) rule-B 34 0 ∷
+    refused-row (rule-B ++ stray-A ++ zeros 10) rule-AB 34 0 ∷
+    -- a rule cut short; a rule with `ED`; 33 rules; before a fault of the rule
     refused-row (82 ∷ 85 ∷ 76 ∷ 69 ∷ 1 ∷ []) rule-A 34 0 ∷
     refused-row (RU (ED-2 ++ LE (10 ∷ [])) ++ zeros 10) rule-A 34 0 ∷
     refused-row (empty-rules 33 ++ zeros 20) rule-A 34 0 ∷
@@ -218,7 +235,7 @@ abbrev known-additions : List KnownAddition
 known-additions = entered-rules ++ clashing-rules ++ refused-rules
 
 pub known-additions-met : map got known-additions ≡ map wanted known-additions
-unfolding set-after may-end judge enter offer take-next search trimmed strike put-before open-moves child-by children question search-from acceptor marked pattern-record side-record marked-side next-is code room-of searched count-of how-of rule-front read-rule foreign-field pair form pair-answer pair-count adding
+unfolding set-after may-end judge enter offer take-next search trimmed strike put-before open-moves child-by children question search-from acceptor marked pattern-record side-record marked-side next-is code room-of searched count-of how-of rule-front read-rule-before read-rule foreign-field pair form-by strays-of pair-answer pair-count adding
 known-additions-met = refl
 
 -- a catalogue, the number of a rule, the number that must come, the catalogue afterwards
@@ -256,6 +273,8 @@ known-withdrawals =
     -- not of the form, whether or not a rule could have the number
     unchanged-row (rule-A ++ 0 ∷ 1 ∷ []) 0 34 ∷
     unchanged-row (RU (LE (68 ∷ []))) 1 34 ∷
+    unchanged-row (rule-B ++ stray-A ++ zeros 5) 0 34 ∷
+    unchanged-row stray-A 1 34 ∷
     unchanged-row (empty-rules 33) 0 34 ∷
     []
 
@@ -266,5 +285,5 @@ abbrev wanted-back : KnownWithdrawal → Withdrawn
 wanted-back k = record { number = k .number; catalogue = k .after }
 
 pub known-withdrawals-met : map got-back known-withdrawals ≡ map wanted-back known-withdrawals
-unfolding judge marked pattern-record side-record marked-side next-is code rule-front foreign-field form withdrawing
+unfolding judge marked pattern-record side-record marked-side next-is code rule-front foreign-field form-by strays-of withdrawing
 known-withdrawals-met = refl

@@ -14,7 +14,7 @@ use Rattle.paper.specs.Situation.{trimmed, strike, put-before, open-moves, chil
 use Rattle.paper.specs.Way.{search-from, texts-of}
 use Rattle.paper.specs.Question.{acceptor}
 use Rattle.paper.specs.Alphabet.{code}
-use Rattle.paper.specs.Sheet.{marked, pattern-record, side-record, read-end, marked-side, next-is, edition-front, read-sheet}
+use Rattle.paper.specs.Sheet.{marked, pattern-record, side-record, read-end, marked-side, next-is, edition-front, strays-of, read-by, read-sheet}
 use Rattle.paper.specs.Outcome.{outcome, room-of, searched, standing, value-record, records, clash, count-of, how-of}
 use Rattle.paper.proofs.known.KnownSheet.{Known, answer-row, fault-row, got, wanted, ED-2, PA, LE, RI, VA}
 use Rattle.paper.proofs.known.KnownFew.{judged-only}
@@ -138,9 +138,24 @@ known-patterns =
     fault-row (judged-only (192 ∷ [])) 15 4 ∷
     []
 
+-- a pattern for a field that stands in neither side (request K13)
+abbrev known-strays : List Known
+known-strays =
+    -- one alone, and one behind a pattern whose field stands: the place is counted from the sheet's start
+    fault-row (only-judged (A ∷ [])) 22 3 ∷
+    fault-row (ED-2 ++ PA 0 (A ∷ []) ++ PA 1 (B ∷ []) ++ LE (x ∷ []) ++ RI []) 22 8 ∷
+    -- 64 is a character, so field 0 doesn't stand
+    fault-row (ED-2 ++ PA 0 (A ∷ []) ++ LE (64 ∷ []) ++ RI []) 22 3 ∷
+    -- a byte that is no token; bytes behind `RI`
+    fault-row (ED-2 ++ PA 0 (A ∷ []) ++ LE (128 ∷ []) ++ RI []) 17 11 ∷
+    fault-row (only-judged (A ∷ []) ++ 0 ∷ []) 12 14 ∷
+    -- the field stands in the right side alone
+    answer-row (ED-2 ++ PA 0 (A ∷ []) ++ LE (A ∷ []) ++ RI (x ∷ [])) 1500 20 0 8 (VA 0 (A ∷ [])) ∷
+    []
+
 abbrev known-editions : List Known
-known-editions = known-marks ++ known-tokens ++ known-spaces ++ known-patterns
+known-editions = known-marks ++ known-tokens ++ known-spaces ++ known-patterns ++ known-strays
 
 pub known-editions-met : map got known-editions ≡ map wanted known-editions
-unfolding set-after may-end judge enter offer take-next search trimmed strike put-before open-moves child-by children question search-from texts-of acceptor marked pattern-record side-record read-end marked-side next-is code edition-front read-sheet outcome room-of searched standing value-record records clash count-of how-of
+unfolding set-after may-end judge enter offer take-next search trimmed strike put-before open-moves child-by children question search-from texts-of acceptor marked pattern-record side-record read-end marked-side next-is code edition-front read-by strays-of read-sheet outcome room-of searched standing value-record records clash count-of how-of
 known-editions-met = refl

@@ -20,7 +20,7 @@ use Rattle.paper.specs.Situation.{trimmed, strike, put-before, open-moves, chil
 use Rattle.paper.specs.Way.{search-from, texts-of}
 use Rattle.paper.specs.Question.{acceptor}
 use Rattle.paper.specs.Alphabet.{edition-1, edition-2, code}
-use Rattle.paper.specs.Sheet.{marked, pattern-record, side-record, read-end, marked-side, next-is, edition-front, read-sheet}
+use Rattle.paper.specs.Sheet.{marked, pattern-record, side-record, read-end, marked-side, next-is, edition-front, strays-of, read-by, read-sheet}
 use Rattle.paper.specs.Outcome.{Outcome, outcome, room-of, searched, standing, value-record, records, clash, count-of, how-of}
 use Rattle.paper.specs.Printed.{decimal}
 use Rattle.paper.proofs.known.KnownSheet.{PA, LE, RI, sheet-S}
@@ -82,7 +82,7 @@ pub spelt-lines-known :
 unfolding printed-of table
 spelt-lines-known = refl
 
--- eight patterns of 192 bytes, two sides of 24 tokens: 1,622 bytes
+-- eight patterns of 192 bytes, two sides of 24 tokens, the eight fields among them: 1,622 bytes
 abbrev longest-pattern : ℕ → List ℕ
 longest-pattern f = PA f (replicate 191 68 ++ 0 ∷ [])
 
@@ -91,10 +91,11 @@ abbrev ED : List ℕ → List ℕ
 ED sheet = 69 ∷ 68 ∷ 2 ∷ sheet
 
 abbrev longest-sheet : List ℕ
-longest-sheet = each longest-pattern (upto 8) ++ LE (replicate 24 10) ++ RI (replicate 24 10)
+longest-sheet = each longest-pattern (upto 8) ++ LE (from 64 8 ++ replicate 16 10) ++ RI (replicate 24 10)
 
 -- sheet S; xy and eight times `A`, open, which takes more situations than 4,096 bytes have; x and nothing, where x is one space, and where x has
--- the pattern 68 65 0 42 and is empty; the longest good sheet, and one byte more; behind `ED`, x and `a#`, and x and nothing, where x is one space
+-- the pattern 68 65 0 42 and is empty; the longest good sheet, and one byte more; behind `ED`, x and `a#`, x and nothing, where x is one space, and a
+-- stray pattern
 pub sheets-printed :
     map printed
     (sheet-S ∷
@@ -105,18 +106,20 @@ pub sheets-printed :
     (longest-sheet ++ 0 ∷ []) ∷
     ED (LE (192 ∷ []) ++ RI (97 ∷ 35 ∷ [])) ∷
     ED (LE (192 ∷ []) ++ RI []) ∷
+    ED (PA 0 (65 ∷ []) ++ LE [] ++ RI []) ∷
     [])
     ≡ map ascii
     ("0 13 0\n0 4\n1 4\n" ∷
     "0 42 0\n0 A\n1 AAAAAAA\n" ∷
     "0 9 0\n0  \n" ∷
     "0 10 0\n0 \n" ∷
-    "0 5 0\n" ∷
+    "1 9 0\n" ∷
     "12 0 1622\n" ∷
     "0 12 0\n0 +A/C\n" ∷
     "0 9 0\n0  \n" ∷
+    "22 0 3\n" ∷
     [])
-unfolding set-after may-end judge enter offer take-next search trimmed strike put-before open-moves child-by children question search-from texts-of acceptor marked pattern-record side-record read-end marked-side next-is code edition-front read-sheet outcome room-of searched standing value-record records clash count-of how-of table sheet-edition printed-of printed
+unfolding set-after may-end judge enter offer take-next search trimmed strike put-before open-moves child-by children question search-from texts-of acceptor marked pattern-record side-record read-end marked-side next-is code edition-front read-by strays-of read-sheet outcome room-of searched standing value-record records clash count-of how-of table sheet-edition printed-of printed
 sheets-printed = refl
 
 -- "reads the first" 2,048 "bytes of standard input, lends 65,520 bytes of work and 4,096 of answer"

@@ -17,15 +17,15 @@ use Rattle.paper.specs.Situation.{trimmed, strike, put-before, open-moves, chil
 use Rattle.paper.specs.Way.{search-from}
 use Rattle.paper.specs.Question.{acceptor}
 use Rattle.paper.specs.Alphabet.{code}
-use Rattle.paper.specs.Sheet.{marked, pattern-record, side-record, marked-side, next-is}
+use Rattle.paper.specs.Sheet.{marked, pattern-record, side-record, marked-side, next-is, strays-of}
 use Rattle.paper.specs.Outcome.{room-of, searched, count-of, how-of}
 use Rattle.paper.specs.Rule.{rule-front, foreign-field, pair}
 use Rattle.paper_catalogue.specs.PairAsking.{pair-answer, pair-count}
-use Rattle.paper_catalogue.specs.Catalogue.{form}
+use Rattle.paper_catalogue.specs.Catalogue.{form-by}
 use Rattle.paper_catalogue.specs.Recheck.{pair-record, Rechecked, rechecking}
 use Rattle.paper.proofs.known.KnownSheet.{PA, LE}
 use Rattle.paper_catalogue.proofs.KnownFew.{RU, zeros, rule-A, rule-B, A-spaces, kept-rules, two-and-two}
-use Rattle.paper_vectors.proofs.KnownCatalogue.{rule-x, x-A, x-A-written-out, many-x, empty-rules}
+use Rattle.paper_vectors.proofs.KnownCatalogue.{rule-x, x-A, x-A-written-out, many-x, stray-A, empty-rules}
 
 -- a catalogue, the bytes of work and of list lent, and what must come; whether the working buffer is all zero afterwards or unchanged
 record KnownRecheck : Type 0 where
@@ -118,15 +118,17 @@ known-rechecks =
     (0 ∷ 1 ∷ 0 ∷ 6 ∷ 0 ∷ 0 ∷ 2 ∷ 18 ∷ 6 ∷ 0 ∷ 1 ∷ 2 ∷ 0 ∷ 6 ∷ 0 ∷ []) ∷
     -- `A`, `B`, `B` with a space, `A` with a space: a byte too short
     too-short-row two-and-two 1150 9 ∷
-    -- not of the form: a byte behind the zeros, a rule that names field 4, 33 rules; before 35
+    -- not of the form: a byte behind the zeros, before 35 too; a rule that names field 4; one with a stray pattern, before 35 too; 33 rules
     no-catalogue-row (kept-rules ++ 1 ∷ []) 8 ∷
     no-catalogue-row (kept-rules ++ 1 ∷ []) 0 ∷
-    no-catalogue-row (rule-A ++ RU (PA 4 (0 ∷ []) ++ LE [])) 8 ∷
+    no-catalogue-row (rule-A ++ RU (PA 4 (0 ∷ []) ++ LE (68 ∷ []))) 8 ∷
+    no-catalogue-row (rule-A ++ stray-A) 8 ∷
+    no-catalogue-row (rule-A ++ stray-A) 0 ∷
     no-catalogue-row (empty-rules 33) 8 ∷
     []
 
 pub known-rechecks-met : map got known-rechecks ≡ map wanted known-rechecks
-unfolding set-after may-end judge enter offer take-next search trimmed strike put-before open-moves child-by children question search-from acceptor marked pattern-record side-record marked-side next-is code room-of searched count-of how-of rule-front foreign-field pair form pair-answer pair-count rechecking
+unfolding set-after may-end judge enter offer take-next search trimmed strike put-before open-moves child-by children question search-from acceptor marked pattern-record side-record marked-side next-is code room-of searched count-of how-of rule-front foreign-field pair form-by strays-of pair-answer pair-count rechecking
 known-rechecks-met = refl
 
 -- "the count in two bytes (low first)"

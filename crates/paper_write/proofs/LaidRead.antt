@@ -2,11 +2,12 @@
 --   laying-reads : Whole t (laying t) (read-sheet (sheet-laid t))
 --   wrong-edition-read : an edition other than 0 and 2 is 44 at place 2
 -- A fault is the same, at the same place. Where there is none, all of the sheet is laid out, and it asks what was given.
--- Follows from the checks on the records, test by test. What is left at an offset is all that a check there sees (`Saying`).
+-- Follows from the checks on the records, test by test, and on strays, field by field (`LaidStrays`). What is left at an offset is all that a check there
+-- sees (`Saying`).
 use Prim.Native.Nat.{ℕ, zero, suc, _+_, _≤_, _<_}
 use native.Mathlib.Nat.{add-zero, zero-add, add-assoc}
 use native.Mathlib.Omega.{arith}
-use mathlib.Core.Path.{_≡_, refl, sym, ap, _∙_}
+use mathlib.Core.Path.{_≡_, refl, sym, ap, _∙_, subst}
 use mathlib.Core.Bool.{Bool, true, false, cond}
 use mathlib.Core.List.{List, [], _∷_, _++_, map, append-assoc, append-nil}
 use lib.Dec.{leb, ltb, eqb}
@@ -18,13 +19,14 @@ use Rattle.paper.specs.Pattern.{Pattern, Held, some-text, pattern}
 use Rattle.paper.specs.Saying.{pattern-code}
 use Rattle.paper.specs.Written.{Judged, judged, judge}
 use Rattle.paper.specs.Written as Written
-use Rattle.paper.specs.Question.{Question, held-by}
+use Rattle.paper.specs.Question.{Question}
 use Rattle.paper.specs.Alphabet.{Edition, edition-1, edition-2, alphabet-of, codes, bytes-of}
 use Rattle.paper.specs.Equation.{Side}
 use Rattle.paper.specs.Sheet.{Fault, cut-short, wrong-field, wrong-length, not-one-pattern, too-many-leaves, wrong-token, wrong-edition, Checked, fault, read}
 use Rattle.paper.specs.Sheet.{FieldPattern, byte-at, bytes-left, body, Mark, PA, LE, RI, ED, first-letter, second-letter, marked, pattern-judged}
 use Rattle.paper.specs.Sheet.{pattern-record, is-token, token, side-record, next-is, marked-side, Records, faulty, records, Fields, open-fields}
 use Rattle.paper.specs.Sheet.{with-pattern, pattern-read, read-patterns, Reading, refused, asked, read-end, edition-front, read-sheet}
+use Rattle.paper.specs.Sheet.{strays-of, strays, at-stray, read-by}
 use Rattle.paper.proofs.base.Tests.{by-bool, cond-by, cond-true, cond-false, leb-true, leb-false, lt-leb, le-leb, ltb-true, ltb-false, le-ltb, lt-ltb}
 use Rattle.paper.proofs.base.Tests.{eqb-true, eqb-false, eqb-same, neq-eqb}
 use Rattle.paper.proofs.sheets.Asked.{open-by}
@@ -33,7 +35,9 @@ use Rattle.paper.proofs.saying.Saying.{left-there, byte-there, behind-there, no
 use Rattle.paper.specs.Saying.{ToSay, mark-bytes, pattern-laid, side-laid, edition-laid, edition-byte, laid-from, sheet-laid, held-code}
 use Rattle.paper_write.specs.Writing.{field-bytes}
 use Rattle.paper_write.specs.Writing.{Says}
-use Rattle.paper_write.specs.Laying.{Laying, at-fault, laid-out, judged-laid, record-laid, side-record-laid, then-laid, fields-laid, then-side, laying-in, laying}
+use Rattle.paper_write.specs.Laying.{Laying, at-fault, laid-out, judged-laid, record-laid, side-record-laid, then-laid, fields-laid, then-side}
+use Rattle.paper_write.specs.Laying.{strays-laid, then-strays, both-sides, laying-in, laying}
+use Rattle.paper_write.proofs.LaidStrays.{StraysAs, LaidAs, none-laid, open-laid, with-laid}
 
 -- A mark at an offset.
 mark-at : (m : Mark) (s : List ℕ) (at : ℕ) (t : List ℕ) → drop at s ≡ first-letter m ∷ second-letter m ∷ t → marked m s at ≡ true
@@ -46,17 +50,19 @@ mark-at m s at t e =
 -- the fields from f on are still open
 record Open (fs : Fields) (f : ℕ) : Type 0 where
   every : length (fs .held) ≡ fields
+  every-mark : length (fs .marks) ≡ fields
   rises : fs .above ≤ f
   later : (i : ℕ) → f ≤ i → getD (fs .held) i some-text ≡ some-text
 
 open-more : {fs : Fields} {f : ℕ} → Open fs f → Open fs (suc f)
 open-more {fs} {f} o =
-    let r = o .rises in record { every = o .every; rises = omega arith; later = λ (i : ℕ) (h : suc f ≤ i). o .later i (omega arith) }
+    let r = o .rises in record { every = o .every; every-mark = o .every-mark; rises = omega arith; later = λ (i : ℕ) (h : suc f ≤ i). o .later i (omega arith) }
 
-open-with : {fs : Fields} {f : ℕ} (p : Pattern) → Open fs f → Open (with-pattern fs (record { field = f; its = p })) (suc f)
-open-with {fs} {f} p o =
+open-with : {fs : Fields} {f : ℕ} (p : Pattern) (at : ℕ) → Open fs f → Open (with-pattern fs at (record { field = f; its = p })) (suc f)
+open-with {fs} {f} p at o =
     record {
       every = length-set (fs .held) f (pattern p) ∙ o .every;
+      every-mark = length-set (fs .marks) f at ∙ o .every-mark;
       rises = omega arith;
       later = λ (i : ℕ) (h : suc f ≤ i).
           getD-set-other (fs .held) f i (pattern p) some-text (λ (e : i ≡ f). omega arith) ∙ o .later i (omega arith);
@@ -164,39 +170,47 @@ module _ (ed : Edition) where
           )
 
   -- What reading the patterns' records finds, where what is left of the fields from f on was laid out behind those read.
-  pub record FieldsRead (s rest : List ℕ) (f : ℕ) (lengths patterns : List ℕ) (fs : Fields) (done : List ℕ) (r : Records Fields) : Type 0 where
+  pub record FieldsRead (s rest : List ℕ) (f : ℕ) (lengths patterns : List ℕ) (fs : Fields) (at : ℕ) (done : List ℕ) (r : Records Fields) : Type 0 where
     pub its : Fields
     pub reads : r ≡ records its (length done)
     pub whole : s ≡ done ++ rest
     pub here : (j : ℕ) → held-code ed (getD (its .held) (f + j) some-text) ≡ field-bytes lengths patterns j
     pub before : (i : ℕ) → i < f → getD (its .held) i some-text ≡ getD (fs .held) i some-text
+    pub marks-before : (i : ℕ) → i < f → getD (its .marks) i 0 ≡ getD (fs .marks) i 0
+    -- the last check, behind whatever is done by then
+    pub strays : (side : Side) (all : List ℕ) → LaidAs its side all f (strays-laid side all at f lengths)
 
-  abbrev Reached : List ℕ → List ℕ → ℕ → List ℕ → List ℕ → Fields → Laying → Records Fields → Type 0
-  Reached s rest f lengths patterns fs (at-fault x at) r = r ≡ faulty x at
-  Reached s rest f lengths patterns fs (laid-out done) r = FieldsRead s rest f lengths patterns fs done r
+  abbrev Reached : List ℕ → List ℕ → ℕ → List ℕ → List ℕ → Fields → ℕ → Laying → Records Fields → Type 0
+  Reached s rest f lengths patterns fs at (at-fault x place) r = r ≡ faulty x place
+  Reached s rest f lengths patterns fs at (laid-out done) r = FieldsRead s rest f lengths patterns fs at done r
 
   -- a field without a pattern
-  skipped : (s rest : List ℕ) (f n : ℕ) (lengths patterns : List ℕ) (fs : Fields) (w : Laying) (r : Records Fields) → n ≡ 0 → Open fs f
-      → Reached s rest (suc f) lengths patterns fs w r → Reached s rest f (n ∷ lengths) patterns fs w r
-  skipped s rest f n lengths patterns fs (at-fault x at) r z o h = h
-  skipped s rest f n lengths patterns fs (laid-out done) r z o h =
+  skipped : (s rest : List ℕ) (f n : ℕ) (lengths patterns : List ℕ) (fs : Fields) (at : ℕ) (w : Laying) (r : Records Fields) → n ≡ 0 → Open fs f
+      → Reached s rest (suc f) lengths patterns fs at w r → Reached s rest f (n ∷ lengths) patterns fs at w r
+  skipped s rest f n lengths patterns fs at (at-fault x place) r z o h = h
+  skipped s rest f n lengths patterns fs at (laid-out done) r z o h =
       record {
         its = h .its;
         reads = h .reads;
         whole = h .whole;
         here = each-one;
         before = λ (i : ℕ) (k : i < f). h .before i (omega arith);
+        marks-before = λ (i : ℕ) (k : i < f). h .marks-before i (omega arith);
+        strays = λ side all. rw z (open-laid (h .its) side all f (strays-laid side all at (suc f) lengths) still-open (h .strays side all));
       }
     where
+      still-open : getD (h .its .held) f some-text ≡ some-text
+      still-open = h .before f (omega arith) ∙ o .later f (omega arith)
+
       each-one : (j : ℕ) → held-code ed (getD (h .its .held) (f + j) some-text) ≡ field-bytes (n ∷ lengths) patterns j
-      each-one zero = rw (add-zero f, h .before f (omega arith), o .later f (omega arith), z)
+      each-one zero = rw (add-zero f, still-open, z)
       each-one (suc j) = rw (next-field f j, z) (h .here j)
 
   -- a field with a pattern
-  module _ (s rest : List ℕ) (f n : ℕ) (lengths patterns : List ℕ) (fs : Fields) (p : Pattern) (known : f < fields) (o : Open fs f) (code : bytes-of ed (pattern-code p) ≡ take n patterns) where
-    with-it : (w : Laying) (r : Records Fields) → Reached s rest (suc f) lengths (drop n patterns) (with-pattern fs (record { field = f; its = p })) w r
-        → Reached s rest f (n ∷ lengths) patterns fs w r
-    with-it (at-fault x at) r h = h
+  module _ (s rest : List ℕ) (f n : ℕ) (lengths patterns : List ℕ) (fs : Fields) (at : ℕ) (p : Pattern) (known : f < fields) (some : 0 < n) (o : Open fs f) (code : bytes-of ed (pattern-code p) ≡ take n patterns) where
+    with-it : (w : Laying) (r : Records Fields) → Reached s rest (suc f) lengths (drop n patterns) (with-pattern fs at (record { field = f; its = p })) (at + (4 + n)) w r
+        → Reached s rest f (n ∷ lengths) patterns fs at w r
+    with-it (at-fault x place) r h = h
     with-it (laid-out done) r h =
         record {
           its = h .its;
@@ -205,11 +219,19 @@ module _ (ed : Edition) where
           here = each-one;
           before = λ (i : ℕ) (k : i < f).
               h .before i (omega arith) ∙ getD-set-other (fs .held) f i (pattern p) some-text (λ (e : i ≡ f). omega arith);
+          marks-before = λ (i : ℕ) (k : i < f).
+              h .marks-before i (omega arith) ∙ getD-set-other (fs .marks) f i at 0 (λ (e : i ≡ f). omega arith);
+          strays = λ side all.
+              rw (neq-eqb n 0 (λ (z : n ≡ 0). omega arith))
+              (with-laid (h .its) side all f (strays-laid side all (at + (4 + n)) (suc f) lengths) p at known now-held
+              (h .marks-before f (omega arith) ∙ getD-set-same (fs .marks) f at 0 (omega (arith, o .every-mark))) (h .strays side all));
         }
       where
+        now-held : getD (h .its .held) f some-text ≡ pattern p
+        now-held = h .before f (omega arith) ∙ getD-set-same (fs .held) f (pattern p) some-text (omega (arith, o .every))
+
         each-one : (j : ℕ) → held-code ed (getD (h .its .held) (f + j) some-text) ≡ field-bytes (n ∷ lengths) patterns j
-        each-one zero =
-            rw (add-zero f, h .before f (omega arith), getD-set-same (fs .held) f (pattern p) some-text (omega (arith, o .every))) code
+        each-one zero = rw (add-zero f, now-held) code
         each-one (suc j) = rw (next-field f j) (h .here j)
 
   -- One field that has a pattern, where the records behind it are read as they were laid out.
@@ -221,11 +243,11 @@ module _ (ed : Edition) where
     code = take n patterns
 
     abbrev ReadAs : Laying → Type 0
-    ReadAs w = Reached s rest f (n ∷ lengths) patterns fs w (read-patterns ed (suc k) s (length done) fs)
+    ReadAs w = Reached s rest f (n ∷ lengths) patterns fs (length done) w (read-patterns ed (suc k) s (length done) fs)
 
     abbrev Further : List ℕ → Fields → Type 0
     Further done more =
-        Reached s rest (suc f) lengths (drop n patterns) more (fields-laid ed done (suc f) lengths (drop n patterns)) (read-patterns ed k s (length done) more)
+        Reached s rest (suc f) lengths (drop n patterns) more (length done) (fields-laid ed done (suc f) lengths (drop n patterns)) (read-patterns ed k s (length done) more)
 
     abbrev go-on : List ℕ → Laying
     go-on more = fields-laid ed more (suc f) lengths (drop n patterns)
@@ -237,15 +259,15 @@ module _ (ed : Edition) where
     judged-read : (known : f < fields) → drop (length done) s ≡ pattern-laid f n code ++ behind → length code ≡ n
         → (j : Judged) → judge (codes ed code) ≡ j
         → pattern-record ed s (length done) (fs .above) ≡ pattern-judged j (length done + 4) f (length done + (4 + n))
-        → ((p : Pattern) → Further (done ++ pattern-laid f n code) (with-pattern fs (record { field = f; its = p })))
+        → ((p : Pattern) → Further (done ++ pattern-laid f n code) (with-pattern fs (length done) (record { field = f; its = p })))
         → ReadAs (then-laid done (judged-laid j f n code) go-on)
     judged-read known e l (Written.not-one-pattern i) q h next = stop-read code behind e not-one-pattern (length done + (4 + i)) (h ∙ ap (fault not-one-pattern) (add-assoc (length done) 4 i))
     judged-read known e l (Written.too-many-leaves i) q h next = stop-read code behind e too-many-leaves (length done + (4 + i)) (h ∙ ap (fault too-many-leaves) (add-assoc (length done) 4 i))
     judged-read known e l (judged p) q h next =
         let there : length (done ++ pattern-laid f n code) ≡ length done + (4 + n) = omega (arith, length-append done (pattern-laid f n code), l) in
         rw (next-there s (length done) f n code behind e, h)
-        (with-it s rest f n lengths patterns fs p known o (judged-bytes ed code q) (go-on (done ++ pattern-laid f n code))
-        (read-patterns ed k s (length done + (4 + n)) (with-pattern fs (record { field = f; its = p })))
+        (with-it s rest f n lengths patterns fs (length done) p known some o (judged-bytes ed code q) (go-on (done ++ pattern-laid f n code))
+        (read-patterns ed k s (length done + (4 + n)) (with-pattern fs (length done) (record { field = f; its = p })))
         (rw there at (next p)))
 
     -- the records from this field on: all of its bytes are there, or not
@@ -256,7 +278,7 @@ module _ (ed : Edition) where
     whole = pattern-laid f n code ++ behind
 
     field-read : (e : s ≡ done ++ cond (ltb (length patterns) n) cut whole)
-        → (n ≤ length patterns → (p : Pattern) → Further (done ++ pattern-laid f n code) (with-pattern fs (record { field = f; its = p })))
+        → (n ≤ length patterns → (p : Pattern) → Further (done ++ pattern-laid f n code) (with-pattern fs (length done) (record { field = f; its = p })))
         → ReadAs (then-laid done (record-laid ed f n patterns) go-on)
     unfolding record-laid
     field-read e next =
@@ -297,7 +319,7 @@ module _ (ed : Edition) where
   -- All fields from f on.
   fields-read : (lengths : List ℕ) (k : ℕ) (s rest : List ℕ) (f : ℕ) (done patterns : List ℕ) (fs : Fields)
       → s ≡ done ++ laid-from f lengths patterns rest → marked PA rest 0 ≡ false → length (laid-from f lengths patterns rest) < k → Open fs f
-      → Reached s rest f lengths patterns fs (fields-laid ed done f lengths patterns) (read-patterns ed k s (length done) fs)
+      → Reached s rest f lengths patterns fs (length done) (fields-laid ed done f lengths patterns) (read-patterns ed k s (length done) fs)
   fields-read [] zero s rest f done patterns fs e u l o = absurd (omega arith)
   fields-read [] (suc k) s rest f done patterns fs e u l o =
       record {
@@ -306,6 +328,8 @@ module _ (ed : Edition) where
         whole = e;
         here = λ j. ap (held-code ed) (o .later (f + j) (omega arith));
         before = λ i h. refl;
+        marks-before = λ i h. refl;
+        strays = λ side all. none-laid fs side all f (o .later);
       }
   fields-read (n ∷ lengths) zero s rest f done patterns fs e u l o = absurd (omega arith)
   fields-read (n ∷ lengths) (suc k) s rest f done patterns fs e u l o =
@@ -316,16 +340,16 @@ module _ (ed : Edition) where
       by-bool (eqb n 0)
       (λ z. let same : laid-from f (n ∷ lengths) patterns rest ≡ none = cond-true (eqb n 0) none some z in
       rw z
-      (skipped s rest f n lengths patterns fs (fields-laid ed done (suc f) lengths patterns) (read-patterns ed (suc k) s (length done) fs)
+      (skipped s rest f n lengths patterns fs (length done) (fields-laid ed done (suc f) lengths patterns) (read-patterns ed (suc k) s (length done) fs)
       (eqb-true n 0 z) o
       (fields-read lengths (suc k) s rest (suc f) done patterns fs (e ∙ ap (λ (t : List ℕ). done ++ t) same) u (omega (arith, ap length same)) (open-more o))))
       (λ z. let same : laid-from f (n ∷ lengths) patterns rest ≡ some = cond-false (eqb n 0) none some z in
       rw z
       (field-read k s rest f n lengths done patterns fs o (some-bytes n z) (e ∙ ap (λ (t : List ℕ). done ++ t) same)
       (λ all p. let whole : some ≡ record-bytes ++ behind = cond-false (ltb (length patterns) n) (pattern-laid f n patterns) (record-bytes ++ behind) (le-ltb (length patterns) n all) in
-      fields-read lengths k s rest (suc f) (done ++ record-bytes) (drop n patterns) (with-pattern fs (record { field = f; its = p }))
+      fields-read lengths k s rest (suc f) (done ++ record-bytes) (drop n patterns) (with-pattern fs (length done) (record { field = f; its = p }))
       (e ∙ ap (λ (t : List ℕ). done ++ t) (same ∙ whole) ∙ sym (append-assoc done record-bytes behind)) u
-      (omega (arith, ap length (same ∙ whole), length-append record-bytes behind)) (open-with p o))))
+      (omega (arith, ap length (same ∙ whole), length-append record-bytes behind)) (open-with p (length done) o))))
     where
       some-bytes : (n : ℕ) → eqb n 0 ≡ false → 0 < n
       some-bytes zero z = absurd (eqb-false 0 0 z refl)
@@ -399,7 +423,7 @@ module _ (t : ToSay) where
 
   -- "44 at place 2 for any other than 2"
   pub wrong-edition-read : eqb (t .edition) 0 ≡ false → eqb (t .edition) 2 ≡ false → read-sheet s ≡ refused wrong-edition 2
-  unfolding read-sheet sheet-laid
+  unfolding read-by read-sheet sheet-laid
   wrong-edition-read none other = rw (wrong-front (t .edition) records-bytes none other)
 
   module _ (ed : Edition) (given : t .edition ≡ edition-byte ed) where
@@ -417,41 +441,59 @@ module _ (t : ToSay) where
     all-patterns = read-patterns ed (suc (length s)) s (length in-front) open-fields
 
     abbrev PatternsRead : List ℕ → Type 0
-    PatternsRead done = FieldsRead ed s (left-bytes ++ right-bytes) 0 (t .lengths) (t .patterns) open-fields done all-patterns
+    PatternsRead done = FieldsRead ed s (left-bytes ++ right-bytes) 0 (t .lengths) (t .patterns) open-fields (length in-front) done all-patterns
 
-    right-whole : (done more : List ℕ) (h : PatternsRead done) → marked-side ed LE s (length done) ≡ read (map token (codes ed (t .left))) (length more)
-        → (w : Laying) → SideAs ed s more (t .right) [] w (marked-side ed RI s (length more)) → Whole t (then-laid more w laid-out)
-    unfolding read-sheet read-end
-    right-whole done more h l (at-fault x at) r = rw (its-front, h .reads, l, r)
-    right-whole done more h l (laid-out bytes) r =
-        let all = r .1 ∙ append-nil (more ++ bytes) in
-        let q : Question =
-        record { alphabet = alphabet-of ed; left = map token (codes ed (t .left)); right = map token (codes ed (t .right)); held = h .its .held } in (
-          sym all,
+    -- the question that is asked, with what the fields may hold
+    abbrev its-question : List Held → Question
+    its-question held = record { alphabet = alphabet-of ed; left = map token (codes ed (t .left)); right = map token (codes ed (t .right)); held = held }
+
+    -- the last check, behind all of the sheet
+    abbrev checked : Laying → Laying
+    checked w = then-strays (both-sides ed (t .left) (t .right)) (length in-front) (t .lengths) w
+
+    strays-whole : (fs : Fields) (done : List ℕ) → done ≡ s
+        → ((f : ℕ) → held-code ed (getD (fs .held) f some-text) ≡ field-bytes (t .lengths) (t .patterns) f)
+        → (found : List ℕ) → read-sheet s ≡ at-stray (fs .marks) (its-question (fs .held)) found → (w : Laying) → StraysAs fs done found w → Whole t w
+    strays-whole fs done same patterns [] reads w h =
+        subst (Whole t) (sym h) (
+          same,
           record {
             edition = ed;
             same-edition = sym given;
-            question = q;
-            asks = rw (its-front, h .reads, l, r .0, le-ltb (length (more ++ bytes)) (length s) (omega (arith, ap length all)));
+            question = its-question (fs .held);
+            asks = reads;
             same-alphabet = refl;
             same-left = refl;
             same-right = refl;
-            same-patterns = λ f. ap (λ (i : ℕ). held-code ed (getD (h .its .held) i some-text)) (sym (zero-add f)) ∙ h .here f;
+            same-patterns = patterns;
           },
         )
+    strays-whole fs done same patterns (f ∷ found) reads w h = subst (Whole t) (sym h) reads
+
+    right-whole : (done more : List ℕ) (h : PatternsRead done) → marked-side ed LE s (length done) ≡ read (map token (codes ed (t .left))) (length more)
+        → (w : Laying) → SideAs ed s more (t .right) [] w (marked-side ed RI s (length more)) → Whole t (checked (then-laid more w laid-out))
+    unfolding read-by read-sheet read-end strays-of
+    right-whole done more h l (at-fault x at) r = rw (its-front, h .reads, l, r)
+    right-whole done more h l (laid-out bytes) r =
+        let all = r .1 ∙ append-nil (more ++ bytes) in
+        let fs = h .its in
+        strays-whole fs (more ++ bytes) (sym all) (λ f. ap (λ (i : ℕ). held-code ed (getD (fs .held) i some-text)) (sym (zero-add f)) ∙ h .here f)
+        (strays (its-question (fs .held)))
+        (rw (its-front, h .reads, l, r .0, le-ltb (length (more ++ bytes)) (length s) (omega (arith, ap length all))))
+        (checked (laid-out (more ++ bytes))) (h .strays (both-sides ed (t .left) (t .right)) (more ++ bytes) fields (omega arith))
 
     left-whole : (done : List ℕ) (h : PatternsRead done) (w : Laying) → SideAs ed s done (t .left) right-bytes w (marked-side ed LE s (length done))
-        → Whole t (then-side ed RI (t .right) (then-laid done w laid-out))
-    unfolding read-sheet
+        → Whole t (checked (then-side ed RI (t .right) (then-laid done w laid-out)))
+    unfolding read-by read-sheet
     left-whole done h (at-fault x at) l = rw (its-front, h .reads, l)
     left-whole done h (laid-out bytes) l =
         let more = done ++ bytes in
         right-whole done more h (l .0) (side-record-laid ed RI (t .right))
         (side-read-as ed RI s more (t .right) [] (l .1 ∙ ap (λ (b : List ℕ). more ++ b) (sym (append-nil right-bytes))))
 
-    fields-whole : (w : Laying) → Reached ed s (left-bytes ++ right-bytes) 0 (t .lengths) (t .patterns) open-fields w all-patterns
-        → Whole t (then-side ed RI (t .right) (then-side ed LE (t .left) w))
-    unfolding read-sheet
+    fields-whole : (w : Laying) → Reached ed s (left-bytes ++ right-bytes) 0 (t .lengths) (t .patterns) open-fields (length in-front) w all-patterns
+        → Whole t (checked (then-side ed RI (t .right) (then-side ed LE (t .left) w)))
+    unfolding read-by read-sheet
     fields-whole (at-fault x at) h = rw (its-front, h)
     fields-whole (laid-out done) h =
         left-whole done h (side-record-laid ed LE (t .left)) (side-read-as ed LE s done (t .left) right-bytes (h .whole))
@@ -460,6 +502,7 @@ module _ (t : ToSay) where
     none-read =
         record {
           every = length-replicate fields some-text;
+          every-mark = length-replicate {A = ℕ} fields 0;
           rises = omega arith;
           later = λ i h. open-by (λ (x : Held). x ≡ some-text) refl fields i;
         }

@@ -16,13 +16,14 @@ use Rattle.paper.specs.Lists.{all, leading}
 use Rattle.paper.specs.Numbers.{fields, pattern-bytes, sheet-side}
 use Rattle.paper.specs.Alphabet.{Edition, edition-1, edition-2, codes}
 use Rattle.paper.specs.Alphabet as Alphabet
+use Rattle.paper.specs.Equation.{Side}
 use Rattle.paper.specs.Written.{Judged, judged, judge}
 use Rattle.paper.specs.Written as Written
 use Rattle.paper.specs.Sheet.{Fault, wrong-field, wrong-length, wrong-edition, byte-at, Mark, PA, LE, RI, ED, first-letter, second-letter, is-token, refused, read-sheet}
 use Rattle.paper.proofs.base.Tests.{by-bool, cond-by, cond-true, cond-false, true-false, leb-true, leb-false, ltb-true, ltb-false, eqb-true}
 use Rattle.paper.proofs.places.Judged.{within-not-one, within-too-many}
 use Rattle.paper.specs.Saying.{ToSay, mark-bytes, pattern-laid, side-laid, edition-laid, edition-byte, laid-from, sheet-laid}
-use Rattle.paper_write.specs.Laying.{Laying, at-fault, laid-out, judged-laid, record-laid, side-record-laid, then-laid, fields-laid, then-side, laying-in, laying}
+use Rattle.paper_write.specs.Laying.{Laying, at-fault, laid-out, judged-laid, record-laid, side-record-laid, then-laid, fields-laid, then-side, then-strays, both-sides, laying-in, laying}
 use Rattle.paper.proofs.sheets.FaultPlaces.{leading-below}
 use Rattle.paper_write.proofs.LaidRead.{Whole, laying-reads}
 
@@ -71,6 +72,14 @@ module _ (s : List ℕ) (i : ℕ) (above : 256 ≤ byte-at s i) where
   -- and it stands in the sheet
   not-at-end : length s ≤ i → ⊥
   not-at-end h = omega (arith, List·getD-eq-default s 0 {n = i} h)
+
+  not-behind-all : (done : List ℕ) → Meets s i [] (laid-out done) → ⊥
+  not-behind-all done h = not-at-end (omega (arith, ap length (h .1), ap length (append-nil done), h .0))
+
+  -- so the last check doesn't come to it
+  strays-meet : (side : Side) (at : ℕ) (lengths : List ℕ) (w : Laying) → Meets s i [] w → Meets s i [] (then-strays side at lengths w)
+  strays-meet side at lengths (at-fault x place) h = h
+  strays-meet side at lengths (laid-out done) h = absurd (not-behind-all done h)
 
   first-byte : (lengths : List ℕ) (f : ℕ) (patterns rest : List ℕ) → byte-at rest 0 < 256 → byte-at (laid-from f lengths patterns rest) 0 < 256
   first-byte [] f patterns rest h = h
@@ -250,9 +259,10 @@ module _ (t : ToSay) (i : ℕ) (above : 256 ≤ byte-at (sheet-laid t) i) (patte
       let w = fields-laid ed front 0 (t .lengths) (t .patterns) in
       let parts : s ≡ front ++ records-bytes = ap (λ (n : ℕ). edition-laid n ++ records-bytes) given in
       let behind = past s i above front records-bytes 0 (edition-bytes ed) parts (omega arith) in
-      side-meet s i above ed RI right-bytes (t .right) [] right (omega arith) (omega arith) (sym (append-nil right-bytes)) (then-side ed LE (t .left) w)
+      strays-meet s i above (both-sides ed (t .left) (t .right)) (length front) (t .lengths) (then-side ed RI (t .right) (then-side ed LE (t .left) w))
+      (side-meet s i above ed RI right-bytes (t .right) [] right (omega arith) (omega arith) (sym (append-nil right-bytes)) (then-side ed LE (t .left) w)
       (side-meet s i above ed LE (left-bytes ++ right-bytes) (t .left) right-bytes left (omega arith) (omega arith) refl w
-      (fields-meet s i above ed (t .lengths) 0 front (t .patterns) (left-bytes ++ right-bytes) patterns (omega arith) (omega (arith, behind)) parts))
+      (fields-meet s i above ed (t .lengths) 0 front (t .patterns) (left-bytes ++ right-bytes) patterns (omega arith) (omega (arith, behind)) parts)))
 
   met-other : eqb (t .edition) 0 ≡ false → Before i wrong-edition 2
   unfolding sheet-laid
@@ -282,4 +292,4 @@ module _ (t : ToSay) (patterns : AllBytes (t .patterns)) (left : AllBytes (t .le
     where
       by-laying : (w : Laying) → Whole t w → Meets (sheet-laid t) i [] w → RefusedBefore (sheet-laid t) i
       by-laying (at-fault x at) r m = record { its = x; place = at; reads = r; where-met = m }
-      by-laying (laid-out bytes) r m = absurd (not-at-end (sheet-laid t) i above (omega (arith, ap length (m .1), ap length (append-nil bytes), m .0)))
+      by-laying (laid-out bytes) r m = absurd (not-behind-all (sheet-laid t) i above bytes m)

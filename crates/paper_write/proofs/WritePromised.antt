@@ -12,6 +12,7 @@ use lib.Seq.{take-append-seam, drop-append-seam}
 use Rattle.paper.specs.Question.{Question}
 use Rattle.paper.specs.Sheet.{Fault, fault-number, Reading, refused, asked, read-sheet}
 use Rattle.paper.proofs.base.Tests.{cond-by, ltb-true}
+use Rattle.paper.proofs.sheets.LastChecked.{asked-before}
 use Rattle.paper.proofs.saying.Sayable.{sheet-sayable}
 use Rattle.paper_carry.specs.Spelling.{Spelling, put-into, longest-sheet}
 use Rattle.paper_carry.proofs.SaidBack.{said-back}
@@ -44,7 +45,8 @@ module _ (t : ToSay) where
       by-laying (laid-out bytes) h = h .1
 
   pub laid-fits : (q : Question) → read-sheet (sheet-laid t) ≡ asked q → length (sheet-laid t) ≤ longest-sheet
-  laid-fits q e = let same = ap length (said-back (sheet-laid t) q e) in omega (arith, same, sheet-length q (sheet-sayable (sheet-laid t) q e))
+  laid-fits q e =
+      let same = ap length (said-back (sheet-laid t) q (asked-before (sheet-laid t) q e)) in omega (arith, same, sheet-length q (sheet-sayable (sheet-laid t) q e))
 
   module _ (out : List ℕ) where
     by-reading : (r : Reading) → read-sheet (sheet-laid t) ≡ r → WritePromised t out (writing-of r (sheet-laid t) out)

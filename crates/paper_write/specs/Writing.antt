@@ -24,8 +24,8 @@ field-bytes [] patterns f = []
 field-bytes (n ∷ lengths) patterns zero = take n patterns
 field-bytes (n ∷ lengths) patterns (suc f) = field-bytes lengths (drop n patterns) f
 
--- "Reading what it wrote gives the same question": in the edition that was given, the same sides, and the same patterns byte for byte, those of fields
--- that don't stand included. What bytes of a side say is said by their codes in that edition.
+-- "Reading what it wrote gives the same question": in the edition that was given, the same sides, and the same patterns byte for byte; since request K13
+-- there is none of a field that doesn't stand. What bytes of a side say is said by their codes in that edition.
 pub record Says (t : ToSay) (bytes : List ℕ) : Type 0 where
   pub edition : Edition
   pub same-edition : edition-byte edition ≡ t .edition

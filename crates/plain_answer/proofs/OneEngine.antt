@@ -8,7 +8,7 @@ use mathlib.Core.Bool.{cond}
 use mathlib.Core.List.{List}
 use lib.Dec.{eqb}
 use Rattle.paper_plain.specs.Engine.{Engine, Needs}
-use Rattle.base_answers.specs.declared.Fault.the-variants.{CutShort, WrongMark, WrongField, WrongLength, NotOnePattern, TooManyLeaves, WrongToken, WrongEdition}
+use Rattle.base_answers.specs.declared.Fault.the-variants.{CutShort, WrongMark, WrongField, WrongLength, NotOnePattern, TooManyLeaves, WrongToken, WrongEdition, StrayPattern}
 use Rattle.base_answers.proofs.Same.{fault-from}
 use Rattle.plain_answer.specs.EngineNumbers.{told-plain, told-needed}
 use Rattle.plain_answer.specs.declared.PlainAnswer.{PlainAnswer}
@@ -37,6 +37,7 @@ answer-back (Refused NotOnePattern at) bits = refl
 answer-back (Refused TooManyLeaves at) bits = refl
 answer-back (Refused WrongToken at) bits = refl
 answer-back (Refused WrongEdition at) bits = refl
+answer-back (Refused StrayPattern at) bits = refl
 
 pub one-engine : (e : Engine) (a a′ : PlainAnswer) (bits bits′ : List ℕ) → told-plain a bits ≡ e → told-plain a′ bits′ ≡ e
     → (a ≡ a′) × (bits ≡ bits′)
@@ -60,6 +61,7 @@ needed-back (Of.Refused NotOnePattern at) = refl
 needed-back (Of.Refused TooManyLeaves at) = refl
 needed-back (Of.Refused WrongToken at) = refl
 needed-back (Of.Refused WrongEdition at) = refl
+needed-back (Of.Refused StrayPattern at) = refl
 
 pub one-needed : (e : Needs) (n n′ : Needed) → told-needed n ≡ e → told-needed n′ ≡ e → n ≡ n′
 one-needed e n n′ h h′ = sym (needed-back n) ∙ ap needed-from (h ∙ sym h′) ∙ needed-back n′

@@ -21,7 +21,7 @@ pub enum PlainAnswer {
     StandsTwice,
     // 43: the bits don't fit
     BitsTooFew,
-    // 11 to 17, and 44: the sheet's own
+    // 11 to 17, 22 and 44: the sheet's own
     Refused { fault: Fault, place: usize },
 }
 
@@ -37,7 +37,7 @@ pub enum Needed {
     Bytes { bytes: usize },
     // 42: a field stands more than once
     StandsTwice,
-    // 11 to 17, and 44: the sheet's own
+    // 11 to 17, 22 and 44: the sheet's own
     Refused { fault: Fault, place: usize },
 }
 

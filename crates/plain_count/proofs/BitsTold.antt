@@ -23,7 +23,7 @@ use Rattle.base_places.specs.declared.PlaceTables.{PlaceTables}
 use Rattle.base_codes.specs.Inner.{field-code, token-code, side-code, tokens, padded}
 use Rattle.base_question.specs.Asked.{field-tables, question-of}
 use Rattle.base_question.specs.declared.Body.{Body}
-use Rattle.search_hidden.proofs.Codes.{side-back}
+use Rattle.base_question.proofs.SidesBack.{side-back}
 use Rattle.plain_count.specs.StandingsCoded.{no-tables, places-by, all-places, token-adds, standings-coded, bits-coded}
 use Rattle.plain_count.proofs.PlacesTold.{places-told}
 

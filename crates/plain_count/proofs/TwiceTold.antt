@@ -21,7 +21,7 @@ use Rattle.paper.proofs.sheets.Hidden.{HasSet, in-range-has-set}
 use Rattle.base_codes.specs.Inner.{field-code, token-code, side-code, tokens, padded}
 use Rattle.base_question.specs.Standings.{times, count, standing-times}
 use Rattle.base_question.proofs.HowOften.{standings-are, stands-times}
-use Rattle.search_hidden.proofs.Codes.{side-back}
+use Rattle.base_question.proofs.SidesBack.{side-back}
 use Rattle.plain_count.specs.StandingsCoded.{twice-coded}
 
 -- how often a field stands, one more in front

@@ -8,7 +8,7 @@ use mathlib.Core.List.{List}
 use lib.Dec.{eqb, lit<}
 use Rattle.paper_steps.specs.Player.{Play, play}
 use Rattle.base_answers.specs.Faults.{fault-of}
-use Rattle.base_answers.specs.declared.Fault.the-variants.{CutShort, WrongMark, WrongField, WrongLength, NotOnePattern, TooManyLeaves, WrongToken, WrongEdition}
+use Rattle.base_answers.specs.declared.Fault.the-variants.{CutShort, WrongMark, WrongField, WrongLength, NotOnePattern, TooManyLeaves, WrongToken, WrongEdition, StrayPattern}
 use Rattle.base_answers.proofs.FaultNumbers.{fault-below}
 use Rattle.base_answers.proofs.Same.{fault-from}
 use Rattle.play_walk.specs.declared.Stop.the-variants.{PastMost, NoRecord, NotAllowed, SideTooLong, Unfinished}
@@ -45,6 +45,7 @@ playing-back (Refused NotOnePattern at) answer = refl
 playing-back (Refused TooManyLeaves at) answer = refl
 playing-back (Refused WrongToken at) answer = refl
 playing-back (Refused WrongEdition at) answer = refl
+playing-back (Refused StrayPattern at) answer = refl
 
 pub one-play : (sheet steps answer : List ℕ) (r r′ : Playing) (a a′ : List ℕ)
     → told-play r a ≡ play sheet steps answer → told-play r′ a′ ≡ play sheet steps answer → (r ≡ r′) × (a ≡ a′)

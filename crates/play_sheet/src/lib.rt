@@ -20,7 +20,7 @@ ghost use Rattle.play_sheet.specs.PlayNumbers.{end-numbers, play-numbers
 // The answer to a sheet and records of steps.
 pub enum Playing {
     Ended { end: End },
-    // 11 to 17, and 44: the sheet is at fault
+    // 11 to 17, 22 and 44: the sheet is at fault
     Refused { fault: Fault, place: usize },
 }
 

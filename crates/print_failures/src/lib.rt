@@ -26,5 +26,6 @@ fn tell_words(fault: Fault) {
         Fault::TooManyLeaves => tell(b"a pattern with too many leaves"),
         Fault::WrongToken => tell(b"a wrong token"),
         Fault::WrongEdition => tell(b"a wrong edition"),
+        Fault::StrayPattern => tell(b"a stray pattern"),
     }
 }

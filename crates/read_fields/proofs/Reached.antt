@@ -34,9 +34,10 @@ all-read e s from = read-patterns e (suc (length s)) s from open-fields
 -- stand; the turns left are enough
 pub record Reached (e : Edition) (s : List ℕ) (from at above : ℕ) (works : List PlaceTables) (bodies : List Body) : Type 0 where
   pub held : List Held
+  pub marks : List ℕ
   pub turns : ℕ
   pub enough : length s ≤ turns + at
-  pub reads : all-read e s from ≡ read-patterns e (suc turns) s at (record { held = held; above = above })
+  pub reads : all-read e s from ≡ read-patterns e (suc turns) s at (record { held = held; marks = marks; above = above })
   pub stand : bodies-in s from ≡ bodies-from (suc turns) s at bodies
   pub all : length held ≡ fields
   pub worked : works ≡ map worked-out held
@@ -52,6 +53,7 @@ unfolding bodies-in
 reached-start e s from open-one h bodies f =
     record {
       held = replicate fields some-text;
+      marks = replicate fields 0;
       turns = length s;
       enough = omega arith;
       reads = refl;
@@ -68,13 +70,14 @@ module _ {e : Edition} {s : List ℕ} {from at above : ℕ} {works : List PlaceT
       → Reached e s from (f .next .at) (f .next .above) (set works (f .field) (f .tables)) (set bodies (f .field) (f .body))
   reached-next f p w = turn (r .turns) (r .enough) (r .reads) (r .stand)
     where
-      turn : (m : ℕ) → length s ≤ m + at → all-read e s from ≡ read-patterns e (suc m) s at (record { held = r .held; above = above })
+      turn : (m : ℕ) → length s ≤ m + at → all-read e s from ≡ read-patterns e (suc m) s at (record { held = r .held; marks = r .marks; above = above })
           → bodies-in s from ≡ bodies-from (suc m) s at bodies
           → Reached e s from (f .next .at) (f .next .above) (set works (f .field) (f .tables)) (set bodies (f .field) (f .body))
       turn zero h i k = absurd (omega (arith, w .moves, w .goes-on))
       turn (suc m) h i k =
           record {
             held = set (r .held) (f .field) (pattern (w .its));
+            marks = set (r .marks) (f .field) at;
             turns = m;
             enough = omega (arith, w .moves);
             reads = i ∙ rw (p, w .reads, w .rises);

@@ -13,6 +13,7 @@ use Rattle.paper.specs.Sheet.{Records, faulty, records}
 use Rattle.base_codes.specs.Inner.{field-code, no-token, side-code, padded}
 use Rattle.base_places.specs.WorkedOut.{worked-out}
 use Rattle.base_question.specs.Bodies.{no-bodies}
+use Rattle.base_question.specs.StraysCoded.{strays-coded}
 use Rattle.base_question.specs.declared.Body.{Body}
 use Rattle.base_answers.specs.Faults.{as-fault}
 use Rattle.base_answers.specs.declared.Found.the-variants.{NoFault, Refused}
@@ -26,6 +27,10 @@ foreign-code b = leb (field-code + rule-fields) b && not (eqb b no-token)
 -- where the patterns of the rule stand: behind "the mark `RU`"
 unfoldable pub rule-bodies : List ℕ → List Body
 rule-bodies s = bodies-in s 2
+
+-- the fields with a pattern that don't stand: a rule has one side
+abbrev pub rule-strays-coded : List Body → List ℕ → List ℕ
+rule-strays-coded bodies side = strays-coded bodies side (padded [])
 
 -- what reading a rule hands on, its patterns standing there
 abbrev pub rule-of : List Body → Records Paper.Rule → Rule

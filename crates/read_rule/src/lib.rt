@@ -9,6 +9,7 @@ use base_codes::SHEET_FIELDS;
 use base_editions::Edition;
 use base_places::PlaceTables;
 use base_question::Body;
+use base_question::mark_of;
 use read_side::Cursor;
 use read_side::Mark;
 ghost use mathlib.Core.Path.{_≡_};
@@ -16,11 +17,12 @@ ghost use mathlib.Core.Bool.{_||_};
 ghost use lib.Dec.{ltb};
 ghost use Rattle.paper.specs.Lists.{any};
 ghost use Rattle.paper.specs.Numbers.{rule-fields};
-ghost use Rattle.paper.specs.Rule.{rule-front, read-rule};
+ghost use Rattle.paper.specs.Rule.{rule-front, read-rule-before, read-rule};
 ghost use Rattle.paper.specs.Sheet.{faulty};
 ghost use Rattle.base_answers.specs.Faults.{fault-of};
 ghost use Rattle.base_question.specs.Bodies.{no-bodies};
-ghost use Rattle.read_rule.specs.RuleRead.{foreign-code, rule-bodies, rule-of};
+ghost use Rattle.base_question.specs.StraysCoded.{first-of};
+ghost use Rattle.read_rule.specs.RuleRead.{foreign-code, rule-bodies, rule-of, rule-strays-coded};
 
 // "its own fields, numbered 0 to 3"
 pub const RULE_FIELDS: usize = 4;
@@ -81,7 +83,7 @@ pub fn front(s: &[u8]) -> Rule
     }
 }
 
-// A rule by itself: behind it any byte left gives 12, as behind `RI`.
+// A rule by itself: behind it any byte left gives 12, as behind `RI`. Then "22 .. its place from `RU`".
 pub fn read(s: &[u8]) -> Rule
     ensures { λ r. ⌜ r ≡ rule-of (rule-bodies (now (s .entry))) (read-rule (now (s .entry))) ⌝ }
 {
@@ -94,7 +96,37 @@ pub fn read(s: &[u8]) -> Rule
     if end < s.len() {
         return refuse(Fault::WrongMark, end);
     }
+    let bodies = r.bodies;
+    let side = r.side;
+    let f = first_stray(bodies, side);
+    if f < SHEET_FIELDS {
+        let body = bodies[f];
+        return refuse(Fault::StrayPattern, mark_of(body));
+    }
     r
+}
+
+// By the rule before request K13: no check on strays.
+pub fn read_before(s: &[u8]) -> Rule
+    ensures { λ r. ⌜ r ≡ rule-of (rule-bodies (now (s .entry))) (read-rule-before (now (s .entry))) ⌝ }
+{
+    let r = front(s);
+    let found = r.found;
+    if let Found::Refused(_) = found {
+        return r;
+    }
+    let end = r.bytes;
+    if end < s.len() {
+        return refuse(Fault::WrongMark, end);
+    }
+    r
+}
+
+// The first field with a pattern that doesn't stand in the rule's side; SHEET_FIELDS where there is none.
+pub fn first_stray(bodies: [Body; SHEET_FIELDS], side: CodedSide) -> usize
+    ensures { λ r. ⌜ r ≡ first-of (rule-strays-coded bodies side) ⌝ }
+{
+    base_question::first_stray(bodies, side, [NO_TOKEN; LONGEST_SIDE])
 }
 
 // A rule with a fault.

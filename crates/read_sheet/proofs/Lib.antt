@@ -3,3 +3,4 @@ pub mod SheetWhole
 pub mod SheetStruct
 pub mod SheetPatterns
 pub mod SidesTold
+pub mod LastSides

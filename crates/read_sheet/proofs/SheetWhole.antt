@@ -1,4 +1,4 @@
--- A sheet by what its parts are: its edition, the patterns' records, the sides, the end. Follows from the definition of `read-sheet` by its cases.
+-- A sheet by what its parts are: its edition, the patterns' records, the sides, the end. Follows from the definition of `read-before` by its cases.
 use Prim.Native.Nat.{ℕ, suc, _≤_, _<_}
 use mathlib.Core.Path.{_≡_, refl}
 use mathlib.Core.List.{List, map}
@@ -6,9 +6,9 @@ use lib.ListN.{length}
 use Rattle.paper.specs.Equation.{Side}
 use Rattle.paper.specs.Alphabet.{Edition, alphabet-of}
 use Rattle.paper.specs.Question.{Question}
-use Rattle.paper.specs.Sheet.{Fault, fault, read, wrong-mark, LE, RI, marked-side, Records, faulty, records, Fields, open-fields, read-patterns, refused, asked, read-end, edition-front, read-sheet}
+use Rattle.paper.specs.Sheet.{Fault, fault, read, wrong-mark, LE, RI, marked-side, Records, faulty, records, Fields, open-fields, read-patterns, refused, asked, read-end, edition-front, read-by, read-before}
 use Rattle.paper.proofs.base.Tests.{lt-ltb, le-ltb}
-use Rattle.paper.proofs.sheets.Asked.{sheet-good}
+use Rattle.paper.proofs.sheets.Asked.{before-good}
 use Rattle.paper.proofs.sheets.Editions.{known-edition}
 use Rattle.base_editions.specs.Editions.{paper-edition, edition-code}
 use Rattle.base_editions.specs.declared.Edition.the-variants.{First, Second}
@@ -38,42 +38,42 @@ unfolding bodies-of
 bodies-here s e from d = rw d
 
 module _ (s : List ℕ) where
-  pub front-fault : (x : Fault) (at : ℕ) → edition-front s ≡ fault x at → read-sheet s ≡ refused x at
-  unfolding read-sheet
+  pub front-fault : (x : Fault) (at : ℕ) → edition-front s ≡ fault x at → read-before s ≡ refused x at
+  unfolding read-by
   front-fault x at d = rw d
 
   module _ (e : Edition) (from : ℕ) (d : edition-front s ≡ read e from) where
-    pub patterns-fault : (x : Fault) (at : ℕ) → patterns-of e s from ≡ faulty x at → read-sheet s ≡ refused x at
-    unfolding read-sheet
+    pub patterns-fault : (x : Fault) (at : ℕ) → patterns-of e s from ≡ faulty x at → read-before s ≡ refused x at
+    unfolding read-by
     patterns-fault x at p = rw (d, p)
 
     module _ (fs : Fields) (at : ℕ) (p : patterns-of e s from ≡ records fs at) where
-      pub left-fault : (x : Fault) (place : ℕ) → marked-side e LE s at ≡ fault x place → read-sheet s ≡ refused x place
-      unfolding read-sheet
+      pub left-fault : (x : Fault) (place : ℕ) → marked-side e LE s at ≡ fault x place → read-before s ≡ refused x place
+      unfolding read-by
       left-fault x place f = rw (d, p, f)
 
       module _ (l : Side) (behind : ℕ) (f : marked-side e LE s at ≡ read l behind) where
-        pub right-fault : (x : Fault) (place : ℕ) → marked-side e RI s behind ≡ fault x place → read-sheet s ≡ refused x place
-        unfolding read-sheet
+        pub right-fault : (x : Fault) (place : ℕ) → marked-side e RI s behind ≡ fault x place → read-before s ≡ refused x place
+        unfolding read-by
         right-fault x place g = rw (d, p, f, g)
 
         module _ (r : Side) (end : ℕ) (g : marked-side e RI s behind ≡ read r end) where
-          pub byte-left : end < length s → read-sheet s ≡ refused wrong-mark end
-          unfolding read-sheet read-end
+          pub byte-left : end < length s → read-before s ≡ refused wrong-mark end
+          unfolding read-by read-end
           byte-left h = rw (d, p, f, g, lt-ltb end (length s) h)
 
           abbrev question-read : Question
           question-read = record { alphabet = alphabet-of e; left = l; right = r; held = fs .held }
 
-          sheet-ends : length s ≤ end → read-sheet s ≡ asked question-read
-          unfolding read-sheet read-end
+          sheet-ends : length s ≤ end → read-before s ≡ asked question-read
+          unfolding read-by read-end
           sheet-ends h = rw (d, p, f, g, le-ltb end (length s) h)
 
           pub whole : length s ≤ end → (edition : Code-edition.Edition) → paper-edition edition ≡ e
               → (left right : List ℕ) (tables : List PlaceTables) (bodies : List Body)
               → left ≡ padded (side-code l) → right ≡ padded (side-code r) → tables ≡ map worked-out (fs .held) → (standing : List Body) → bodies ≡ standing →
               with-fields (record { found = NoFault; place = 0; edition = edition; left = left; right = right }) tables bodies
-              ≡ sheet-of standing (read-sheet s)
+              ≡ sheet-of standing (read-before s)
           whole h edition same left right tables bodies a b t standing i =
               let asks = sheet-ends h in
-              rw (asks, a, b, t, i, by-number (fs .held) (sheet-good s question-read asks .held .each-field), known-edition e, ← same, same-code edition)
+              rw (asks, a, b, t, i, by-number (fs .held) (before-good s question-read asks .held .each-field), known-edition e, ← same, same-code edition)

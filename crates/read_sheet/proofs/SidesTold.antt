@@ -5,7 +5,7 @@ use mathlib.Core.List.{List}
 use lib.ListN.{replicate}
 use Rattle.paper.specs.Numbers.{fields}
 use Rattle.paper.specs.Pattern.{some-text}
-use Rattle.paper.specs.Sheet.{refused, read-sheet}
+use Rattle.paper.specs.Sheet.{Reading, refused}
 use Rattle.base_places.specs.WorkedOut.{worked-out}
 use Rattle.base_question.specs.Bodies.{no-bodies}
 use Rattle.base_answers.specs.Faults.{fault-of}
@@ -18,14 +18,14 @@ use Rattle.read_sheet.specs.SheetRead.{bodies-of, sheet-of}
 use Rattle.read_sheet.specs.SidesRead.{no-sides, with-fields, Sides-told}
 use Rattle.read_sheet.specs.declared.Sides.{Sides}
 
-module _ (s : List ℕ) (p : Fields) (b : Sides) where
-  pub fault-sides : (x : Fault) (at : ℕ) → b ≡ no-sides x at → read-sheet s ≡ refused (fault-of x) at → Sides-told s p (b .found) b
-  fault-sides x at e k = subst (λ (r : Sides). Sides-told s p (r .found) r) (sym e) (rw (k, same-fault x))
+module _ (y : Reading) (s : List ℕ) (p : Fields) (b : Sides) where
+  pub fault-sides : (x : Fault) (at : ℕ) → b ≡ no-sides x at → y ≡ refused (fault-of x) at → Sides-told y s p (b .found) b
+  fault-sides x at e k = subst (λ (r : Sides). Sides-told y s p (r .found) r) (sym e) (rw (k, same-fault x))
 
   pub told-fault : (x : Fault) → b .found ≡ Refused x → (q : Fields) → q .tables ≡ replicate fields (worked-out some-text) → q .bodies ≡ no-bodies
-      → Sides-told s p (b .found) b → with-fields b (q .tables) (q .bodies) ≡ sheet-of (bodies-of s) (read-sheet s)
-  told-fault x e q t n d = rw (t, n) (subst (λ (k : Found). Sides-told s p k b) e d)
+      → Sides-told y s p (b .found) b → with-fields b (q .tables) (q .bodies) ≡ sheet-of (bodies-of s) y
+  told-fault x e q t n d = rw (t, n) (subst (λ (k : Found). Sides-told y s p k b) e d)
 
   pub told-good : b .found ≡ NoFault → (q : Fields) → q ≡ p
-      → Sides-told s p (b .found) b → with-fields b (q .tables) (q .bodies) ≡ sheet-of (bodies-of s) (read-sheet s)
-  told-good e q h d = rw h (subst (λ (k : Found). Sides-told s p k b) e d)
+      → Sides-told y s p (b .found) b → with-fields b (q .tables) (q .bodies) ≡ sheet-of (bodies-of s) y
+  told-good e q h d = rw h (subst (λ (k : Found). Sides-told y s p k b) e d)

@@ -7,14 +7,17 @@ use base_codes::NO_TOKEN;
 use base_codes::SHEET_FIELDS;
 use base_editions::Edition;
 use base_editions::alphabet_of;
+use base_question::Body;
 use base_question::Question;
+use base_question::first_stray;
+use base_question::mark_of;
 use read_side::Cursor;
 use read_side::Mark;
 ghost use mathlib.Core.Path.{_≡_};
-ghost use Rattle.paper.specs.Sheet.{edition-front, read-sheet};
+ghost use Rattle.paper.specs.Sheet.{edition-front, read-before, read-sheet};
 ghost use Rattle.read_fields.specs.declared.Fields.{Fields};
 ghost use Rattle.read_sheet.specs.SheetRead.{bodies-of, sheet-of};
-ghost use Rattle.read_sheet.specs.SidesRead.{front-of, no-front, fields-read, no-sides, Sides-told};
+ghost use Rattle.read_sheet.specs.SidesRead.{front-of, no-front, fields-read, no-sides, Sides-told, last-checked};
 
 // What a sheet says.
 pub struct Sheet {
@@ -45,10 +48,51 @@ struct Sides {
     right: CodedSide,
 }
 
-// Reads a sheet, in one walk: "no, one or several `PA`, field numbers rising; one `LE`; one `RI`; the end", and before them its edition. With a fault
-// all fields are open again: their tables are written over in place, for while a pattern is read each copy of them is so much more stack.
+// Reads a sheet, in one walk: "no, one or several `PA`, field numbers rising; one `LE`; one `RI`; the end", and before them its edition; then the check
+// on strays. With a fault all fields are open again: their tables are written over in place, for while a pattern is read each copy of them is so much
+// more stack. For that cause too neither of the two functions calls the other: a struct that is handed on is copied.
 pub fn read(s: &[u8]) -> Sheet
     ensures { λ r. ⌜ r ≡ sheet-of (bodies-of (now (s .entry))) (read-sheet (now (s .entry))) ⌝ }
+{
+    let f = edition_front(s);
+    let its = f.edition;
+    let mut p = read_fields::read(s, Cursor { at: f.at }, its);
+    let c = p.next;
+    let patterns = p.found;
+    let sides = both_sides(s, f, patterns, c);
+    let standing = p.bodies;
+    let b = last_check(standing, sides);
+    let found = b.found;
+    if let Found::Refused(_) = found {
+        let open = base_places::open_tables();
+        p.tables = [open; SHEET_FIELDS];
+        let none = base_question::no_bodies();
+        p.bodies = none;
+    }
+    let edition = b.edition;
+    let alphabet = alphabet_of(edition);
+    let left = b.left;
+    let right = b.right;
+    let fields = p.tables;
+    let bodies = p.bodies;
+    let question = Question {
+        alphabet,
+        left,
+        right,
+        fields,
+        bodies,
+    };
+    Sheet {
+        found,
+        place: b.place,
+        edition,
+        question,
+    }
+}
+
+// By the rule before request K13: no check on strays.
+pub fn read_before(s: &[u8]) -> Sheet
+    ensures { λ r. ⌜ r ≡ sheet-of (bodies-of (now (s .entry))) (read-before (now (s .entry))) ⌝ }
 {
     let f = edition_front(s);
     let its = f.edition;
@@ -121,7 +165,7 @@ fn refuse_front(x: Fault, at: usize) -> Front
 
 // "one `LE`; one `RI`; the end", behind patterns' records of which this was found.
 fn both_sides(s: &[u8], f: Front, patterns: Found, c: Cursor) -> Sides
-    ensures { λ r. ⌜ ((p : Fields) → p .found ≡ patterns → p .next ≡ c → f ≡ front-of (edition-front (now (s .entry))) → p ≡ fields-read (now (s .entry)) f → Sides-told (now (s .entry)) p (r .found) r) ⌝ }
+    ensures { λ r. ⌜ ((p : Fields) → p .found ≡ patterns → p .next ≡ c → f ≡ front-of (edition-front (now (s .entry))) → p ≡ fields-read (now (s .entry)) f → Sides-told (read-before (now (s .entry))) (now (s .entry)) p (r .found) r) ⌝ }
 {
     let front_found = f.found;
     if let Found::Refused(x) = front_found {
@@ -155,6 +199,24 @@ fn both_sides(s: &[u8], f: Front, patterns: Found, c: Cursor) -> Sides
         left,
         right,
     }
+}
+
+// "22, with the place of the first stray record's mark", behind all other checks.
+fn last_check(bodies: [Body; SHEET_FIELDS], b: Sides) -> Sides
+    ensures { λ r. ⌜ r ≡ last-checked bodies (b .found) b ⌝ }
+{
+    let found = b.found;
+    if let Found::Refused(_) = found {
+        return b;
+    }
+    let left = b.left;
+    let right = b.right;
+    let f = first_stray(bodies, left, right);
+    if f < SHEET_FIELDS {
+        let body = bodies[f];
+        return refuse(Fault::StrayPattern, mark_of(body));
+    }
+    b
 }
 
 // A fault, and no tokens.

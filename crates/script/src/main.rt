@@ -2,7 +2,7 @@
 // or a failure is told on standard error, and nothing is written.
 //
 // The stored sheet: left `K`, field 0, `-4`, field 0, field 2; right `K7`, field 1, `.$`. Field 0 is `LT`, or a digit and any of the values 34 to 38
-// (`YZ-. `); field 2 is empty or `$`; field 1 is open. The pattern of field 4, which stands in neither side, is left out.
+// (`YZ-. `); field 2 is empty or `$`; field 1 is open.
 use print_failures::refuse;
 use print_out::How;
 use print_out::read_first;

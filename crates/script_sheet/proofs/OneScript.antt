@@ -5,7 +5,7 @@ use mathlib.Core.List.{List}
 use Prim.Native.Nat.{ℕ}
 use lib.Dec.{eqb}
 use Rattle.paper_script.specs.Scripting.{Scripting, scripting}
-use Rattle.base_answers.specs.declared.Fault.the-variants.{CutShort, WrongMark, WrongField, WrongLength, NotOnePattern, TooManyLeaves, WrongToken, WrongEdition}
+use Rattle.base_answers.specs.declared.Fault.the-variants.{CutShort, WrongMark, WrongField, WrongLength, NotOnePattern, TooManyLeaves, WrongToken, WrongEdition, StrayPattern}
 use Rattle.base_answers.proofs.Same.{fault-from}
 use Rattle.script_sheet.specs.WrittenOut.{told-scripted}
 use Rattle.script_sheet.specs.declared.Scripted.{Scripted}
@@ -26,6 +26,7 @@ scripted-back (Refused NotOnePattern at) out = refl
 scripted-back (Refused TooManyLeaves at) out = refl
 scripted-back (Refused WrongToken at) out = refl
 scripted-back (Refused WrongEdition at) out = refl
+scripted-back (Refused StrayPattern at) out = refl
 scripted-back TooShort out = refl
 
 pub one-script : (sheet out : List ℕ) (r r′ : Scripted) (o o′ : List ℕ)

@@ -23,7 +23,8 @@ use Rattle.base_codes.specs.Inner.{field-code, token-code, side-code, tokens, p
 use Rattle.base_question.specs.Standings.{standing-times, is-counted}
 use Rattle.base_question.proofs.HowOften.{standings-are, stands-times}
 use Rattle.search_hidden.specs.Behind.{side-with}
-use Rattle.search_hidden.proofs.Codes.{side-back, side-behind}
+use Rattle.base_question.proofs.SidesBack.{side-back}
+use Rattle.search_hidden.proofs.Codes.{side-behind}
 use Rattle.script_equation.specs.Arguments.{equation-spelt}
 use Rattle.script_sheet.specs.WrittenOut.{Asks-in, fields-counted}
 use Rattle.script_equation.proofs.Sides.{equation-alike}

@@ -34,7 +34,7 @@ ghost use Rattle.script_sheet.specs.WrittenOut.{scripted-numbers, told-s
 pub enum Scripted {
     // 0: so many bytes of script stand in front of the buffer
     Written { bytes: usize },
-    // 11 to 17, 44: the sheet is at fault
+    // 11 to 17, 22 and 44: the sheet is at fault
     Refused { fault: Fault, place: usize },
     // 40: the output buffer is too short
     TooShort,

@@ -1,58 +1,42 @@
 -- What is searched is the question with its hidden fields:
---   codes-are-tokens : the codes of a side whose tokens have place sets are tokens
---   side-back     : a good side is read back from its codes
 --   side-behind   : a good side with a field behind it is read back from the codes of the side, with the field's code put behind them
 --   fields-behind : what is worked out of a question's own fields, and behind it twice what is worked out of any spaces, is what is worked out of the
 --                   fields of the question with its hidden fields
 --   left-hidden, right-hidden, part-hidden : so the struct of a question with its hidden fields has the sides and the tables of `hidden q`
--- The first follows by induction on the side: the code of a token that has a place set is no 255. The second is computed.
+-- The first follows from a good side being read back (`SidesBack`). The second is computed.
 use Prim.Native.Nat.{ℕ, _+_, _≤_, _<_}
 use native.Mathlib.Omega.{arith}
 use mathlib.Core.Path.{_≡_, refl, sym, ap, _∙_}
-use mathlib.Core.Bool.{true}
-use mathlib.Core.List.{List, [], _∷_, _++_, map, map-map, List·Memᴰ, List·Memᴰ·head, List·Memᴰ·tail}
+use mathlib.Core.List.{List, [], _∷_, _++_, map, map-map}
 use lib.ListN.{length, take, length-append, length-map}
 use lib.Seq.{take-all}
-use Rattle.paper.specs.Lists.{all, upto}
+use Rattle.paper.specs.Lists.{upto}
 use Rattle.paper.specs.Numbers.{most-characters, fields, set-fields, longest-side, hidden-left, hidden-right}
-use Rattle.paper.specs.Equation.{Token, chr, fld, Side}
+use Rattle.paper.specs.Equation.{fld, Side}
 use Rattle.paper.specs.Question.{Question, held-by, any-spaces, hidden}
-use Rattle.paper.proofs.base.Tests.{neq-eqb, false-not, both-true}
 use Rattle.paper.proofs.base.Lists.{map-append}
 use Rattle.paper.proofs.sheets.Asked.{GoodSide}
-use Rattle.paper.proofs.sheets.Hidden.{HasSet, in-range-has-set, has-sets-with}
+use Rattle.paper.proofs.sheets.Hidden.{has-sets-with}
 use Rattle.base_places.specs.WorkedOut.{worked-out}
-use Rattle.base_codes.specs.Inner.{field-code, no-token, is-code, token-code, side-code, tokens, padded}
+use Rattle.base_codes.specs.Inner.{field-code, token-code, side-code, tokens, padded}
 use Rattle.base_codes.proofs.Tokens.{tokens-padded}
 use Rattle.base_places.specs.declared.PlaceTables.{PlaceTables}
 use Rattle.base_question.specs.Asked.{question-of}
 use Rattle.base_question.specs.declared.Body.{Body}
+use Rattle.base_question.proofs.SidesBack.{codes-are-tokens, side-back}
 use Rattle.search_hidden.specs.Behind.{side-with, with-hidden}
 
-code-is-token : (t : Token) → HasSet t → is-code (token-code t) ≡ true
-code-is-token (chr c) h = false-not (neq-eqb c no-token (λ e. omega arith))
-code-is-token (fld f) h = false-not (neq-eqb (token-code (fld f)) no-token (λ e. omega arith))
+module _ (n : ℕ) (most : n ≤ most-characters) (side : Side) (g : GoodSide n side) (f : ℕ) (h : f < set-fields) where
+  with-code : side-code side ++ ((field-code + f) ∷ []) ≡ side-code (side ++ (fld f ∷ []))
+  with-code = sym (map-append token-code side (fld f ∷ []))
 
-pub codes-are-tokens : (side : Side) → ((t : Token) → List·Memᴰ t side → HasSet t) → all is-code (side-code side) ≡ true
-codes-are-tokens [] h = refl
-codes-are-tokens (t ∷ side) h =
-    both-true (code-is-token t (h t (List·Memᴰ·head refl))) (codes-are-tokens side (λ u d. h u (List·Memᴰ·tail d)))
-
-module _ (n : ℕ) (most : n ≤ most-characters) (side : Side) (g : GoodSide n side) where
-  pub side-back : tokens (padded (side-code side)) ≡ side-code side
-  side-back = tokens-padded (side-code side) (codes-are-tokens side (λ t d. in-range-has-set n most t (g .tokens t d)))
-
-  module _ (f : ℕ) (h : f < set-fields) where
-    with-code : side-code side ++ ((field-code + f) ∷ []) ≡ side-code (side ++ (fld f ∷ []))
-    with-code = sym (map-append token-code side (fld f ∷ []))
-
-    pub side-behind : tokens (side-with (field-code + f) (padded (side-code side))) ≡ side-code (side ++ (fld f ∷ []))
-    side-behind =
-        let long : length (side-code side ++ ((field-code + f) ∷ [])) < longest-side =
-        omega (arith, length-append (side-code side) ((field-code + f) ∷ []), length-map side token-code, g .short) in
-        ap (λ (l : List ℕ). tokens (padded (take longest-side (l ++ ((field-code + f) ∷ []))))) side-back
-        ∙ ap (λ (l : List ℕ). tokens (padded l)) (take-all longest-side (side-code side ++ ((field-code + f) ∷ [])) (omega arith) ∙ with-code)
-        ∙ tokens-padded (side-code (side ++ (fld f ∷ []))) (codes-are-tokens (side ++ (fld f ∷ [])) (has-sets-with n most side f g h))
+  pub side-behind : tokens (side-with (field-code + f) (padded (side-code side))) ≡ side-code (side ++ (fld f ∷ []))
+  side-behind =
+      let long : length (side-code side ++ ((field-code + f) ∷ [])) < longest-side =
+      omega (arith, length-append (side-code side) ((field-code + f) ∷ []), length-map side token-code, g .short) in
+      ap (λ (l : List ℕ). tokens (padded (take longest-side (l ++ ((field-code + f) ∷ []))))) (side-back n most side g)
+      ∙ ap (λ (l : List ℕ). tokens (padded l)) (take-all longest-side (side-code side ++ ((field-code + f) ∷ [])) (omega arith) ∙ with-code)
+      ∙ tokens-padded (side-code (side ++ (fld f ∷ []))) (codes-are-tokens (side ++ (fld f ∷ [])) (has-sets-with n most side f g h))
 
 pub fields-behind : (q : Question)
     → map (λ (f : ℕ). worked-out (held-by q f)) (upto fields)

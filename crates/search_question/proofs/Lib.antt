@@ -1,1 +1,2 @@
 pub mod Searched
+pub mod Uncut

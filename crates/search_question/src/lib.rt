@@ -8,18 +8,8 @@ use base_question::Question;
 use base_steps::StepsEnded;
 ghost use mathlib.Core.Path.{_≡_};
 ghost use lib.ListN.{length, replicate};
-ghost use Rattle.paper.specs.Numbers.{most-characters};
-ghost use Rattle.paper_chosen.specs.Chosen.{every};
-ghost use Rattle.search_tables.specs.Cut.{listed-by};
 ghost use Rattle.search_run.specs.StepsEnded.{steps-run};
 ghost use Rattle.search_question.specs.Over.{ended-over, buffer-over, ended-all, buffer-all, steps-all};
-
-// Every character that a table has room for; a question is searched over its own.
-pub fn every() -> [bool; CHARACTERS]
-    ensures { λ r. ⌜ r ≡ listed-by every most-characters ⌝ }
-{
-    [true; CHARACTERS]
-}
 
 // Searches the question over these characters. The working buffer is all zero afterwards.
 pub fn search(

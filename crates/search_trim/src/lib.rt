@@ -6,12 +6,12 @@ use base_codes::LONGEST_SIDE;
 use base_codes::NO_TOKEN;
 use base_codes::Situation;
 use base_codes::length_of;
+use base_codes::stands;
 use base_places::PlaceSet;
 ghost use mathlib.Core.List.{_++_};
 ghost use mathlib.Core.Path.{_≡_};
 ghost use Prim.Native.Nat.{_≤_, _<_};
 ghost use lib.ListN.{length, take, replicate};
-ghost use Rattle.paper.specs.Lists.{member};
 ghost use Rattle.paper.specs.Numbers.{set-fields, longest-side};
 ghost use Rattle.base_codes.specs.Inner.{no-token, tokens, padded};
 ghost use Rattle.base_codes.specs.Coded.{as-struct};
@@ -85,21 +85,6 @@ pub fn trim(l: &[u8], r: &[u8]) -> Trimmed
         left_len: l.len() - n,
         right_len: r.len() - n,
     }
-}
-
-// Does the token stand in the side?
-fn stands(side: &[u8], token: u8) -> bool
-    ensures { λ r. ⌜ r ≡ member token (now (side .entry)) ⌝ }
-{
-    let mut i: usize = 0;
-    while i < side.len() {
-        let x = side[i];
-        if token == x {
-            return true;
-        }
-        i += 1;
-    }
-    false
 }
 
 // The mask of the start for a field that stands in either side, 0 for one that does not.

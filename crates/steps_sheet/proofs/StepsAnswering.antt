@@ -37,6 +37,7 @@ fault-not-0 Paper.not-one-pattern = refl
 fault-not-0 Paper.too-many-leaves = refl
 fault-not-0 Paper.wrong-token = refl
 fault-not-0 Paper.wrong-edition = refl
+fault-not-0 Paper.stray-pattern = refl
 
 other-than-0 : (bytes : List ℕ) (o : Outcome) (answer steps : List ℕ) → eqb (o .number) 0 ≡ false → without-steps o steps ≡ with-steps bytes o answer steps
 unfolding with-steps

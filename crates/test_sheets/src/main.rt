@@ -3,8 +3,8 @@
 // of sheets is handed, or a text to be spelt or read back. The program ends where the input does, and also before a part or a case that is cut
 // short, has another mark or asks for more than is lent here. A read or a write that fails is told on standard error.
 //
-// The stored parts are these twenty-one, from 13 on those of the second edition (request K10); tools/part frames a part. The second program prints
-// the same lines. tools/compare tries fresh parts.
+// The stored parts are these twenty-four, from 13 on those of the second edition (request K10), from 22 on those with stray patterns (request K13);
+// tools/part frames a part. The second program prints the same lines. tools/compare tries fresh parts.
 //
 // 1. `BY`: the known sheets of document 01
 //
@@ -46,7 +46,8 @@
 //  63 to  80  15: a byte that is no code, an operator without its parts, lo above hi, hi 43, a byte left over
 //  81 to  85  16: 64 and 96 leaves, in the first pattern and in a later one, of a field that stands and of one that does not
 //  86 to  94  17: 43, 63, 72 and 255 in either side
-//  95 to 104  good sheets: both sides empty, 24 tokens a side, a pattern for each field, one of 63 leaves, one of 192 bytes, 191 deep
+//  95 to 104  good sheets: both sides empty, 24 tokens a side, a pattern for each field, one of 63 leaves, one of 192 bytes, 191 deep; three of
+//             them, 100 to 102, have a pattern that is stray
 // 105 to 166  x with a pattern and y open: each operator under the others, ranges, 63 leaves, and patterns with a fault
 // 167 to 198  the place of a fault: the rows of docs/RULES.md, section 5, that do not stand above
 // 199 to 214  15 in a later pattern, at the sheet's end and in 192 bytes: lo above 42, with hi and without, hi below lo, a byte left over
@@ -55,7 +56,7 @@
 // 238 to 241  17: the last of 24 tokens, the first of several that are none
 // 242 to 246  a choice of 40 characters, and one of 23 behind it, which makes 63 leaves
 // 247 to 253  32 leaves, 97 bytes, 63 leaves in 192 bytes; 193 bytes in a later pattern, with 64 leaves, and without a code; the 192nd missing
-// 254 to 258  the longest sheet, 1,622 bytes; a byte less, a byte more, its last pattern a byte longer, with a leaf more
+// 254 to 258  the longest sheet, 1,622 bytes, whose patterns are stray; a byte less, a byte more, its last pattern a byte longer, with a leaf more
 //
 // 3. `LI`: what the program `clash` prints
 //
@@ -78,32 +79,32 @@
 //
 // 4. `BY`: sheets by chance
 //
-// What the second program's `sheets 1 20000` makes. `second --many` prints the same.
+// What the second program's `sheets --kept 1 20000` makes: stray patterns are taken out, here and below. `second --many` prints the same.
 //
 // 5. `DE`: sheets to decide
 //
-// What the second program's `sheets --decide 7 1500` makes: pairs of rules and small sheets, in rooms that are often just what the deciding
+// What the second program's `sheets --kept --decide 7 1500` makes: pairs of rules and small sheets, in rooms that are often just what the deciding
 // search needs, or one less; every search decides some, and some are not decided, refused, or have an answer buffer that is too short. `second
 // --decide` prints the same.
 //
 // 6. `SC`: sheets written out as scripts
 //
-// What the second program's `sheets 4 60` makes; 26 of its sheets are refused. `second --write-scripts` prints the same, and `second --scripts`
+// What the second program's `sheets --kept 4 60` makes; 26 of its sheets are refused. `second --write-scripts` prints the same, and `second --scripts`
 // reads it.
 //
 // 7. `SP`: sheets and rules carried over
 //
-// What the second program's `sheets --spelt 6 1500` makes. `second --spelt` prints the same.
+// What the second program's `sheets --kept --spelt 6 1500` makes. `second --spelt` prints the same.
 //
 // 8. `WR`: sheets written by the program
 //
-// What the second program's `sheets --write 8 1500` makes: good sides and patterns, up to the longest sheet; each refusal, among them patterns cut
+// What the second program's `sheets --kept --write 8 1500` makes: good sides and patterns, up to the longest sheet; each refusal, among them patterns cut
 // short, fields from 8 on and lengths that no byte holds; and output buffers of just the right length, of every length around it, and of none.
 // `second --write` prints the same.
 //
 // 9. `PL`: sheets for the engine for plain rules
 //
-// What the second program's `sheets --plain 9 1500` makes: sheets in which no field stands twice, with patterns of no leaf to 63, some up to
+// What the second program's `sheets --kept --plain 9 1500` makes: sheets in which no field stands twice, with patterns of no leaf to 63, some up to
 // the largest of all, ends at which spaces decide, pairs of rules; sheets in which a field stands twice; refused ones; and bit buffers of just
 // the right length, of every length around it, and of none. `second --plain` prints the same.
 //
@@ -115,20 +116,20 @@
 //
 // 11. `ST`: sheets answered with their steps
 //
-// What the second program's `sheets --steps 10 800` makes: sheets that clash, with rooms, answer buffers and steps buffers that are often just
+// What the second program's `sheets --kept --steps 10 800` makes: sheets that clash, with rooms, answer buffers and steps buffers that are often just
 // what is needed, or one less; one whose way has 1,214 bytes; some without a clash, not decided or refused. `second --steps` prints the same.
 //
 // 12. `PY`: ways that are played
 //
 // First what the second program's `sheets --play-each` makes: every damage of every record of three short ways, and single steps that are not
-// allowed. Then what `sheets --play 11 550` makes: good ways, ways with one record damaged, left out, doubled or exchanged, ways by chance, and
+// allowed. Then what `sheets --kept --play 11 550` makes: good ways, ways with one record damaged, left out, doubled or exchanged, ways by chance, and
 // ways of other sheets, with answer buffers around the right length. `second --play` prints the same.
 //
 // 13. `BY`: sheets of the two editions
 //
 // First what the second program's `sheets --editions` makes: `ED` with each byte behind it, cut short, twice, and behind each other record; in
 // both editions each byte as a token, as a pattern and as a range's ends, and each pair of those next to a limit as lo and hi; good sheets with
-// each of the 128 characters. Then what `sheets --edition 2 21 3000` makes: sheets of the second edition by chance. `second --many` prints the
+// each of the 128 characters. Then what `sheets --edition 2 --kept 21 3000` makes: sheets of the second edition by chance. `second --many` prints the
 // same.
 //
 // 14. `LI`: what the program `clash` prints of the second edition
@@ -151,37 +152,50 @@
 // 15. `DE`: sheets of the two editions to decide
 //
 // First what the second program's `sheets --editions --few` makes: those of the thirteenth part with a byte next to a limit. Then what `sheets
-// --edition 2 --decide 27 400` makes, as in the fifth part. `second --decide` prints the same.
+// --edition 2 --kept --decide 27 400` makes, as in the fifth part. `second --decide` prints the same.
 //
 // 16. `SC`: sheets of the second edition written out as scripts
 //
-// What the second program's `sheets --edition 2 24 60` makes; 18 of its sheets are refused. `second --write-scripts` prints the same, and `second
+// What the second program's `sheets --edition 2 --kept 24 60` makes; 18 of its sheets are refused. `second --write-scripts` prints the same, and `second
 // --scripts` reads it.
 //
 // 17. `SP`: sheets of the two editions carried over
 //
-// First what the second program's `sheets --editions --few` makes, then what `sheets --edition 2 --spelt 26 600` makes. Rules have no edition:
+// First what the second program's `sheets --editions --few` makes, then what `sheets --edition 2 --kept --spelt 26 600` makes. Rules have no edition:
 // some have an `ED` behind `RU`. `second --spelt` prints the same.
 //
 // 18. `WE`: sheets of either edition written by the program
 //
 // First what the second program's `sheets --editions --write` makes: edition numbers from 0 to 4, from 254 to 258 and such that no byte holds, each
 // with good and with faulty sides and patterns and with short output buffers; each byte as a token, as a pattern and as a range's ends; the longest
-// sheets, 1,622 and 1,625 bytes, and a byte less. Then what `sheets --edition 2 --write 28 800` makes, as in the eighth part. `second
+// sheets, 1,622 and 1,625 bytes, and a byte less. Then what `sheets --edition 2 --kept --write 28 800` makes, as in the eighth part. `second
 // --write-edition` prints the same.
 //
 // 19. `PL`: sheets of the second edition for the engine for plain rules
 //
-// What the second program's `sheets --edition 2 --plain 29 600` makes. `second --plain` prints the same.
+// What the second program's `sheets --edition 2 --kept --plain 29 600` makes. `second --plain` prints the same.
 //
 // 20. `ST`: sheets of the second edition answered with their steps
 //
-// What the second program's `sheets --edition 2 --steps 30 300` makes. `second --steps` prints the same.
+// What the second program's `sheets --edition 2 --kept --steps 30 300` makes. `second --steps` prints the same.
 //
 // 21. `PY`: ways of the second edition that are played
 //
-// What the second program's `sheets --edition 2 --play-each` makes, then what `sheets --edition 2 --play 31 200` makes. `second --play` prints the
+// What the second program's `sheets --edition 2 --play-each` makes, then what `sheets --edition 2 --kept --play 31 200` makes. `second --play` prints the
 // same.
+//
+// 22. `BY`: sheets with stray patterns
+//
+// First what the second program's `sheets --strays` makes: strays in every place, of every field and beside every other fault, in both editions. Then
+// what `sheets --strays 41 1500` and `sheets --edition 2 --strays 42 500` make. `second --many` prints the same.
+//
+// 23. `DS`: sheets and rules whose stray patterns are taken out
+//
+// What `sheets --drop`, `sheets --drop 43 1000` and `sheets --edition 2 --drop 44 400` make. `second --drop` prints the same.
+//
+// 24. `WE`: sheets with stray patterns that the writer is to say
+//
+// What `sheets --strays --write` makes. `second --write-edition` prints the same.
 mod ascii;
 mod part;
 mod plain;
@@ -308,6 +322,7 @@ fn answer_case(sheet: &[u8], work: &mut [u8], answer: &mut [u8], shown: Shown) -
         Shown::Lines => show_lines(sheet, work, answer),
         Shown::Scripts => script::show_script(sheet),
         Shown::Spelt => spelt::show_spelt(sheet, answer),
+        Shown::Dropped => spelt::show_dropped(sheet, answer),
         Shown::Plain => plain::show_plain(sheet, work),
         Shown::Steps => steps::show_steps(sheet, work, answer),
         Shown::Played => steps::show_played(sheet, answer),

@@ -29,6 +29,8 @@ pub enum Shown {
     Scripts,
     // `SP`: a line: number, place and written length of the sheet or rule carried over into the answer buffer, and every byte of that
     Spelt,
+    // `DS`: the same of the sheet or rule without its stray patterns
+    Dropped,
     // `PL`: a line: number, count and place of the engine for plain rules, and every byte of the bit buffer, which is the working buffer; then
     // number, place and bytes of what the sheet needs
     Plain,
@@ -60,6 +62,8 @@ const SCRIPTS: usize = b'S' as usize + 256 * (b'C' as usize);
 
 const SPELT: usize = b'S' as usize + 256 * (b'P' as usize);
 
+const DROPPED: usize = b'D' as usize + 256 * (b'S' as usize);
+
 const PLAIN: usize = b'P' as usize + 256 * (b'L' as usize);
 
 const STEPS: usize = b'S' as usize + 256 * (b'T' as usize);
@@ -90,6 +94,7 @@ fn part_of(mark: usize, number: usize) -> Part {
         LINES => cases(How::Going, Kind::Sheets(Shown::Lines), number),
         SCRIPTS => cases(How::Going, Kind::Sheets(Shown::Scripts), number),
         SPELT => cases(How::Going, Kind::Sheets(Shown::Spelt), number),
+        DROPPED => cases(How::Going, Kind::Sheets(Shown::Dropped), number),
         PLAIN => cases(How::Going, Kind::Sheets(Shown::Plain), number),
         STEPS => cases(How::Going, Kind::Sheets(Shown::Steps), number),
         PLAYED => cases(How::Going, Kind::Sheets(Shown::Played), number),

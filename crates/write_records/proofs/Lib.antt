@@ -1,1 +1,2 @@
 pub mod RecordChecks
+pub mod FieldsStanding

@@ -1,8 +1,11 @@
-// A record of the sheet that is to be written: judged by itself, by 01's checks in their order, in the edition of the sheet, and put if it is good.
+// A record of the sheet that is to be written: judged by itself, by 01's checks in their order, in the edition of the sheet, and put if it is good. And
+// whether a field stands in the sides that are to be written.
 use base_answers::Fault;
 use base_answers::Found;
 use base_codes::SHEET_FIELDS;
+use base_codes::stands;
 use base_editions::Edition;
+use base_editions::codes_from;
 use base_put::put;
 use base_put::put_all;
 use read_codes::PATTERN_BYTES;
@@ -10,11 +13,15 @@ use read_codes::codes_of;
 use read_pattern::Verdict;
 use read_side::SHEET_SIDE;
 ghost use mathlib.Core.Path.{_≡_};
+ghost use mathlib.Core.Bool.{_&&_};
 ghost use Prim.Native.Nat.{_<_};
+ghost use lib.Dec.{ltb};
+ghost use Rattle.paper.specs.Numbers.{fields};
+ghost use Rattle.paper.specs.Equation.{stands-in};
 ghost use Rattle.paper.specs.Sheet.{Mark};
 ghost use Rattle.paper.specs.Saying.{mark-bytes};
 ghost use Rattle.paper.specs.Saying.{pattern-laid};
-ghost use Rattle.paper_write.specs.Laying.{record-laid, side-record-laid};
+ghost use Rattle.paper_write.specs.Laying.{record-laid, side-record-laid, both-sides};
 ghost use Rattle.base_answers.specs.declared.Found.the-variants.{Refused};
 ghost use Rattle.base_editions.specs.Editions.{paper-edition};
 ghost use Rattle.base_put.specs.Counted.{Counted};
@@ -106,6 +113,20 @@ pub fn side(out: &mut [u8], at: usize, mark: &[u8], tokens: &[u8], edition: Edit
         found: Found::NoFault,
         bytes: 3 + n,
     }
+}
+
+// Does the field stand in one of the sides? By its token in the edition; a field above 7 has none.
+pub fn field_stands(f: usize, left: &[u8], right: &[u8], edition: Edition) -> bool
+    ensures { λ r. ⌜ r ≡ (ltb f fields && stands-in f (both-sides (paper-edition edition) (now (left .entry)) (now (right .entry)))) ⌝ }
+{
+    if SHEET_FIELDS <= f {
+        return false;
+    }
+    let token = codes_from(edition) + f as u8;
+    if stands(left, token) {
+        return true;
+    }
+    stands(right, token)
 }
 
 // A record with a fault.

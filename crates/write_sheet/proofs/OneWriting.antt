@@ -7,7 +7,7 @@ use mathlib.Core.List.{List}
 use Prim.Native.Nat.{ℕ}
 use lib.Dec.{eqb}
 use Rattle.paper_carry.specs.Spelling.{Spelling}
-use Rattle.base_answers.specs.declared.Fault.the-variants.{CutShort, WrongMark, WrongField, WrongLength, NotOnePattern, TooManyLeaves, WrongToken, WrongEdition}
+use Rattle.base_answers.specs.declared.Fault.the-variants.{CutShort, WrongMark, WrongField, WrongLength, NotOnePattern, TooManyLeaves, WrongToken, WrongEdition, StrayPattern}
 use Rattle.base_answers.proofs.Same.{fault-from}
 use Rattle.write_sheet.specs.SheetWritten.{told-written}
 use Rattle.write_sheet.specs.declared.Written.{Written}
@@ -27,6 +27,7 @@ written-back (Refused NotOnePattern at) out = refl
 written-back (Refused TooManyLeaves at) out = refl
 written-back (Refused WrongToken at) out = refl
 written-back (Refused WrongEdition at) out = refl
+written-back (Refused StrayPattern at) out = refl
 written-back TooShort out = refl
 
 pub one-writing : (s : Spelling) (r r′ : Written) (o o′ : List ℕ) → told-written r o ≡ s → told-written r′ o′ ≡ s → (r ≡ r′) × (o ≡ o′)

@@ -1,8 +1,9 @@
 -- What the answers of writing a sheet tell, in numbers.
-use Prim.Native.Nat.{ℕ}
+use Prim.Native.Nat.{ℕ, _≤_, _<_}
 use mathlib.Core.Path.{_≡_}
 use mathlib.Core.List.{List}
-use lib.ListN.{length}
+use lib.ListN.{length, getD}
+use Rattle.paper.specs.Numbers.{fields, pattern-bytes}
 use Rattle.paper.specs.Alphabet.{Edition}
 use Rattle.paper.specs.Sheet.{fault-number}
 use Rattle.paper_carry.specs.Spelling.{Spelling, spelling-told}
@@ -33,3 +34,7 @@ told-written w out = let n = written-numbers w in spelling-told (n .number) (n .
 abbrev pub Patterns-laid : Edition → List ℕ → List ℕ → List ℕ → List ℕ → ℕ → Laid → Type 0
 Patterns-laid e lengths patterns before after start r =
     (d front : List ℕ) → start ≡ length front → before ≡ put-from d 0 front → Lays d after 0 r (fields-laid e front 0 lengths patterns)
+
+-- lengths whose records were laid out: a field that has a pattern is known, and its pattern fits into a record
+abbrev pub Known-lengths : List ℕ → Type 0
+Known-lengths lengths = (f : ℕ) → 0 < getD lengths f 0 → (f < fields) × (getD lengths f 0 ≤ pattern-bytes)

@@ -12,18 +12,19 @@ ghost use mathlib.Core.List.{List};
 ghost use Prim.Native.Nat.{ℕ, _+_, _≤_};
 ghost use Rattle.paper.specs.Sheet.{Mark};
 ghost use Rattle.paper.specs.Saying.{mark-bytes, edition-laid, edition-byte};
-ghost use Rattle.paper_write.specs.Laying.{Laying, then-side, laying-in, laying};
+ghost use Rattle.paper_write.specs.Laying.{Laying, then-side, both-sides, then-strays, laying-in, laying};
 ghost use Rattle.paper_write.specs.Writing.{writing, WritePromised};
+ghost use Rattle.base_answers.specs.declared.Found.the-variants.{NoFault};
 ghost use Rattle.base_editions.specs.Editions.{paper-edition};
 ghost use Rattle.base_put.specs.Counted.{Counted};
 ghost use Rattle.write_records.specs.RecordPut.{Lays};
-ghost use Rattle.write_sheet.specs.SheetWritten.{given, written-numbers, told-written, Patterns-laid};
+ghost use Rattle.write_sheet.specs.SheetWritten.{given, written-numbers, told-written, Patterns-laid, Known-lengths};
 
 // The answer to sides and patterns that a sheet is to say. specs/SheetWritten.antt gives each its numbers.
 pub enum Written {
     // 0: so many bytes stand in front of the buffer
     Sheet { bytes: usize },
-    // 44, 11, 13 to 17: what reading the sheet would meet first
+    // 44, 11, 13 to 17, 22: what reading the sheet would meet first
     Refused { fault: Fault, place: usize },
     // 41: the output buffer is too short
     TooShort,
@@ -129,7 +130,8 @@ fn put_in(
     let front = put_edition(out, edition);
     let fields = put_patterns(out, front, patterns, lengths, edition);
     let first = put_side(out, fields, b"LE", left, edition);
-    put_side(out, first, b"RI", right, edition)
+    let last = put_side(out, first, b"RI", right, edition);
+    check_strays(last, front, lengths, left, right, edition)
 }
 
 // `ED` and its byte, or nothing.
@@ -196,5 +198,47 @@ fn put_side(out: &mut [u8], before: Laid, mark: &[u8], tokens: &[u8], edition: E
     Laid {
         found: its_found,
         bytes: at + its.bytes,
+    }
+}
+
+// The last check, behind all records, if no fault was met: a pattern whose field stands in neither side, the first of them at its record's mark. The
+// records begin behind so many bytes.
+fn check_strays(
+    before: Laid,
+    start: usize,
+    lengths: &[u64],
+    left: &[u8],
+    right: &[u8],
+    edition: Edition,
+) -> Laid
+    requires { ⌜ (start ≤ 3) × (before .found ≡ NoFault → Known-lengths (now lengths)) ⌝ }
+    ensures { λ r. ⌜ ((d e : List ℕ) (w : Laying) → Lays d e 0 before w → Lays d e 0 r (then-strays (both-sides (paper-edition edition) (now (left .entry)) (now (right .entry))) start (now (lengths .entry)) w)) ⌝ }
+{
+    let found = before.found;
+    let bytes = before.bytes;
+    if let Found::Refused(x) = found {
+        return Laid {
+            found: Found::Refused(x),
+            bytes,
+        };
+    }
+    let mut at = start;
+    let mut f = 0;
+    while f < lengths.len() {
+        let n = lengths[f] as usize;
+        if n > 0 {
+            if !write_records::field_stands(f, left, right, edition) {
+                return Laid {
+                    found: Found::Refused(Fault::StrayPattern),
+                    bytes: at,
+                };
+            }
+            at += 4 + n;
+        }
+        f += 1;
+    }
+    Laid {
+        found: Found::NoFault,
+        bytes,
     }
 }

@@ -35,13 +35,16 @@ class Fault(enum.Enum):
     TOO_MANY_LEAVES = 16
     #: A side holds a byte that is neither a character nor a field 0 to 7. The place is the first such byte.
     WRONG_TOKEN = 17
+    #: A pattern is for a field that stands in neither side, or not in the rule. Nothing else is wrong with it. The place is the first byte
+    #: of the first such pattern's mark. What is from before is mended by :func:`drop_strays`.
+    STRAY_PATTERN = 22
     #: The byte behind ``ED``, or the edition of a sheet that is to be written, is none. The place is the edition byte, 2. A rule has no
     #: ``ED``, and never gets this.
     WRONG_EDITION = 44
 
     @property
     def number(self) -> int:
-        """Its number, 11 to 17 or 44."""
+        """Its number, 11 to 17, 22 or 44."""
         return int(self.value)
 
     def __str__(self) -> str:
@@ -56,6 +59,7 @@ _FAULTS = {
     Fault.NOT_ONE_PATTERN: "not one pattern",
     Fault.TOO_MANY_LEAVES: "a pattern with too many leaves",
     Fault.WRONG_TOKEN: "a wrong token",
+    Fault.STRAY_PATTERN: "a stray pattern",
     Fault.WRONG_EDITION: "a wrong edition",
 }
 
@@ -157,7 +161,7 @@ class NoClash(Told):
 
 @dataclass(frozen=True)
 class Refused(_Open):
-    """11 to 17, 44: the sheet, or the rule, is at fault, or what a sheet is to be written of."""
+    """11 to 17, 22, 44: the sheet, or the rule, is at fault, or what a sheet is to be written of."""
 
     fault: Fault
     #: The offset of the byte at fault, as :class:`Fault` says.
@@ -398,7 +402,7 @@ class NoRule(Told):
 
 @dataclass(frozen=True)
 class NoCatalogue(Told):
-    """34: the buffer is no catalogue."""
+    """34: the buffer is no catalogue. Nor is one from before in which a rule has a stray pattern: :func:`drop_strays_catalogue` mends it."""
 
     number = 34
     _words = "the buffer is no catalogue"
@@ -414,7 +418,7 @@ class ListTooShort(Told):
 
 @dataclass(frozen=True)
 class Done(Told):
-    """0: the rule is added or withdrawn, or every rule of the catalogue is carried over."""
+    """0: the rule is added or withdrawn, or every rule of the catalogue is carried over, or has no stray pattern."""
 
     number = 0
     _words = "done"
@@ -525,6 +529,10 @@ SpeltOpen = Union[Written, Refused, ForeignField, OutputTooShort]
 Spelt = Union[Written, NotInTable, SpeltTooShort]
 #: The answer to a catalogue that is to be carried over.
 CarriedOver = Union[Done, Full, NoCatalogue]
+#: The answer to a sheet or a rule whose strays are to be dropped.
+Mended = Union[Written, Refused, ForeignField, OutputTooShort]
+#: The answer to a catalogue whose strays are to be dropped.
+MendedCatalogue = Union[Done, NoCatalogue]
 
 
 def refused(number: int, place: int) -> Refused:

@@ -15,6 +15,7 @@ from ._answers import (
     Listed,
     ListedDecided,
     ListTooShort,
+    MendedCatalogue,
     NoCatalogue,
     NoRule,
     NotApart,
@@ -77,8 +78,10 @@ def add(catalogue: Writable, rule: Readable, work: Optional[Writable] = None) ->
     the rule is not added. Only :class:`Done` changes the catalogue, and only the bytes where the rule then stands.
 
     A catalogue is rules one behind the other from the first byte on, and zeros behind them. One that began as zeros,
-    ``bytearray(catalogue_bytes())``, and was changed by :func:`add`, :func:`add_decided` and :func:`withdraw` alone has no two rules that
-    make the same label. Of one that was filled otherwise :func:`recheck` says which rules do.
+    ``bytearray(catalogue_bytes())``, and was changed by :func:`add`, :func:`add_decided`, :func:`withdraw` and
+    :func:`drop_strays_catalogue` alone has no two rules that make the same label. Of one that was filled otherwise :func:`recheck` says
+    which rules do. One in which a rule has a stray pattern, as versions up to 0.8 took it, is :class:`NoCatalogue`:
+    :func:`drop_strays_catalogue` mends it, before all else.
     """
     number, told = call("bradovusc_add", Lent(catalogue), bytes(rule), lent_work(work), told=4)
     return _added(number, *told)
@@ -155,12 +158,24 @@ def spell_open_catalogue(catalogue: Writable) -> CarriedOver:
     any rule is added to it. A rule grows by eight bytes for each field that stands in it without a pattern; after :class:`Full` put the
     catalogue into a longer buffer, with zeros behind it: ``catalogue_bytes()`` are always enough. Only :class:`Done` changes it.
 
-    A catalogue from before 0.4, and one to which a rule was added by 0.6 first, should be checked again after it.
+    A catalogue from before 0.4, and one to which a rule was added by 0.6 first, should be checked again after it. One with stray patterns
+    is refused: :func:`drop_strays_catalogue` comes first.
     """
     number, _ = call("bradovusc_spell_open_catalogue", Lent(catalogue))
     if number == Done.number:
         return Done()
     return Full() if number == Full.number else _no_catalogue(number)
+
+
+def drop_strays_catalogue(catalogue: Writable) -> MendedCatalogue:
+    """Drops the stray patterns of every rule of a catalogue, in its own buffer.
+
+    Each rule keeps its number, and it is proved that it makes exactly the labels that it made before, and that each pair keeps its answer
+    and its count. The bytes freed at the end are zero. Every other call refuses a catalogue with strays, as :class:`NoCatalogue`; so one
+    from before 0.6 loses them first, and is then carried over. Only :class:`Done` changes it.
+    """
+    number, _ = call("bradovusc_drop_strays_catalogue", Lent(catalogue))
+    return Done() if number == Done.number else _no_catalogue(number)
 
 
 def _no_catalogue(number: int) -> NoCatalogue:

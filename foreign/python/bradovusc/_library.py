@@ -48,6 +48,9 @@ _FUNCTIONS = {
     "bradovusc_spell_open": _READ + _LENT + _TOLD,
     "bradovusc_spell_open_rule": _READ + _LENT + _TOLD,
     "bradovusc_spell_open_catalogue": _LENT,
+    "bradovusc_drop_strays": _READ + _LENT + _TOLD,
+    "bradovusc_drop_strays_rule": _READ + _LENT + _TOLD,
+    "bradovusc_drop_strays_catalogue": _LENT,
 }
 
 

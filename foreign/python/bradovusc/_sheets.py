@@ -1,14 +1,15 @@
-"""Sheets answered, written out as scripts and carried over."""
+"""Sheets answered, written out as scripts, carried over and mended."""
 
 from __future__ import annotations
 
-from typing import Iterator, Optional, Tuple
+from typing import Iterator, Optional, Tuple, Union
 
 from ._answers import (
     Answer,
     Clash,
     Decision,
     ForeignField,
+    Mended,
     OutputTooShort,
     Scripted,
     ScriptTooShort,
@@ -120,7 +121,8 @@ def script(sheet: Readable, out: Optional[Writable] = None) -> Scripted:
     return refused(number, place)
 
 
-def _spelt_open(name: str, old: Readable, out: Optional[Writable], enough: int) -> SpeltOpen:
+def _written_new(name: str, old: Readable, out: Optional[Writable], enough: int) -> Union[SpeltOpen, Mended]:
+    """The new sheet or rule, as this function writes it."""
     lent = Lent(bytearray(enough) if out is None else out)
     number, (_, place, written) = call(name, bytes(old), lent, told=3)
     if number == Written.number:
@@ -140,10 +142,10 @@ def spell_open(sheet: Readable, out: Optional[Writable] = None) -> SpeltOpen:
     was. It is proved that the new sheet's question has exactly the solutions that the old meaning gave the old sheet.
 
     Carry a sheet over once, and only one from before 0.6: nothing in its bytes says for which version it was written, and a sheet for 0.6
-    would get another meaning. Only :class:`Written` changes the buffer. :data:`SHEET_BYTES` are always enough. A sheet never gets
-    :class:`ForeignField`.
+    would get another meaning. One with stray patterns is refused: :func:`drop_strays` comes first. Only :class:`Written` changes the
+    buffer. :data:`SHEET_BYTES` are always enough. A sheet never gets :class:`ForeignField`.
     """
-    return _spelt_open("bradovusc_spell_open", sheet, out, SHEET_BYTES)
+    return _written_new("bradovusc_spell_open", sheet, out, SHEET_BYTES)
 
 
 def spell_open_rule(rule: Readable, out: Optional[Writable] = None) -> SpeltOpen:
@@ -151,4 +153,30 @@ def spell_open_rule(rule: Readable, out: Optional[Writable] = None) -> SpeltOpen
 
     It is proved that the new rule makes exactly the labels that the old one made. :data:`RULE_BYTES` are always enough.
     """
-    return _spelt_open("bradovusc_spell_open_rule", rule, out, RULE_BYTES)
+    return _written_new("bradovusc_spell_open_rule", rule, out, RULE_BYTES)
+
+
+def drop_strays(sheet: Readable, out: Optional[Writable] = None) -> Mended:
+    """Drops the stray patterns of a sheet: those of fields that stand in neither side.
+
+    Up to version 0.8 a sheet could have such patterns, and nothing depended on them. Now it is refused, as ``Fault.STRAY_PATTERN``. This
+    reads it as it was read before and writes it without them. All else, ``ED`` included, stays byte for byte as it was, so a sheet without
+    strays comes out unchanged, and it may be done again. It is proved that every answer about the new sheet is the one that was given about
+    the old one, in every number and byte, by :func:`clash`, :func:`decide` and :func:`plain`.
+
+    A sheet from before 0.6 loses its strays first, and is then carried over by :func:`spell_open`. Only :class:`Written` changes the buffer.
+    :data:`SHEET_BYTES` are always enough. A sheet never gets :class:`ForeignField`, and ``Fault.STRAY_PATTERN`` never comes.
+
+    >>> drop_strays(b"PA\\x07\\x01\\x04LE\\x01\\x04RI\\x01\\x05").data
+    b'LE\\x01\\x04RI\\x01\\x05'
+    """
+    return _written_new("bradovusc_drop_strays", sheet, out, SHEET_BYTES)
+
+
+def drop_strays_rule(rule: Readable, out: Optional[Writable] = None) -> Mended:
+    """Drops the stray patterns of a rule of a catalogue, as :func:`drop_strays` does those of a sheet.
+
+    It is proved that the new rule makes exactly the labels that the old one made. :class:`ForeignField` is told of a stray pattern's field
+    too. :data:`RULE_BYTES` are always enough.
+    """
+    return _written_new("bradovusc_drop_strays_rule", rule, out, RULE_BYTES)

@@ -22,8 +22,9 @@ def write(
     sides and the same patterns, byte for byte.
 
     :class:`Refused` is the first fault that reading the sheet would meet: those of the patterns come first, by rising field, then those of
-    the left side, then those of the right one. Its place is an offset in the sheet that would be written. A length that is not 0 for a field
-    above 7 is ``Fault.WRONG_FIELD``; a pattern with fewer bytes than its length says is ``Fault.CUT_SHORT``.
+    the left side, then those of the right one, then ``Fault.STRAY_PATTERN``, for a pattern whose field stands in neither side. Its place is
+    an offset in the sheet that would be written. A length that is not 0 for a field above 7 is ``Fault.WRONG_FIELD``; a pattern with fewer
+    bytes than its length says is ``Fault.CUT_SHORT``.
 
     Only :class:`Written` changes the buffer, and only the bytes of the sheet. :data:`SHEET_BYTES` are always enough, and so many are taken
     where no buffer is lent. Raises :class:`OverflowError` for a length or an edition below 0, or above what 64 bits hold.
@@ -47,8 +48,8 @@ def sheet(left: str, right: str, patterns: Optional[Mapping[int, bytes]] = None,
     or more. A field of the one rule and a field of the other should have different numbers, unless they are to hold the same text. In a
     sheet of Full ASCII the characters ``{`` and ``}`` are written twice, and the patterns are put together by :data:`full_ascii`.
 
-    Raises :class:`NotWritten`, with the place of the fault, where no sheet says these rules, and :class:`ValueError` for a sign that is no
-    character, a field below 0, and a pattern of no byte.
+    Raises :class:`NotWritten`, with the place of the fault, where no sheet says these rules, also where a field with a pattern stands in
+    neither, and :class:`ValueError` for a sign that is no character, a field below 0, and a pattern of no byte.
 
     >>> from bradovusc import between, many
     >>> sheet("LT{0}", "{1}4", {0: many(between("0", "9"))}).hex(" ")

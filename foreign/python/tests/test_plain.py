@@ -61,6 +61,7 @@ class Plain(unittest.TestCase):
             self.assertEqual(plain(b"", bits), Refused(Fault.CUT_SHORT, 0))
             self.assertEqual(plain(FOUR + b"X", bits), Refused(Fault.WRONG_MARK, len(FOUR)))
             self.assertEqual(plain(b"LE\2\x40\x40RI\1\x48", bits), Refused(Fault.WRONG_TOKEN, 8))
+            self.assertEqual(plain(b"PA\1\1\4LE\2\x40\x40RI\0", bits), Refused(Fault.STRAY_PATTERN, 0))
             self.assertEqual(bits, bytearray([FILL]) * length)
         self.assertEqual(plain_bytes(b"LE"), Refused(Fault.CUT_SHORT, 2))
 

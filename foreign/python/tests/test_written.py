@@ -44,8 +44,8 @@ class Sheets(unittest.TestCase):
         self.assertEqual(sheet("", ""), b"LE\0RI\0")
         self.assertEqual(sheet("LT4", "LT4 "), bytes.fromhex("4C 45 03 15 1D 04 52 49 04 15 1D 04 26"))
         self.assertEqual(sheet("{0}", "{1}", {1: word("4"), 0: many(between("0", "9"))}), FOUR)
-        # a field that doesn't stand, and fields without a pattern before and between
-        self.assertEqual(sheet("{0}", "{2}", {7: word(""), 1: word("A")}), b"PA\1\1\x0aPA\7\1\x40LE\1\x40RI\1\x42")
+        # fields without a pattern before and between
+        self.assertEqual(sheet("{0}{1}", "{7}", {7: word(""), 1: word("A")}), b"PA\1\1\x0aPA\7\1\x40LE\2\x40\x41RI\1\x47")
 
     def test_what_is_no_text(self):
         for wrong in ("a", "{", "{x}", "A{0", "}", "{0}}"):
@@ -71,6 +71,9 @@ class Sheets(unittest.TestCase):
         for field in (8, 9, 255, 256, 10**12):
             self.refused(Fault.WRONG_FIELD, 2, "", "", {field: word("A")})
             self.refused(Fault.WRONG_FIELD, 7, "{8}", "", {field: word("A"), 5: word("B"), field + 1: word("C")})
+        # a field that doesn't stand: the first of two, and behind all other faults
+        self.refused(Fault.STRAY_PATTERN, 5, "{0}", "{1}", {0: word("A"), 2: word("A"), 7: word("A")})
+        self.refused(Fault.WRONG_TOKEN, 12, "{0}", "{8}", {7: word("A")})
 
     def test_patterns_that_no_field_has(self):
         # no byte is no pattern, and a length of 0 would say that the field has none
@@ -115,6 +118,7 @@ class Calls(unittest.TestCase):
             for length in (193, 256 + 1, 2**32 + 1, 2**64 - 1):
                 self.assertEqual(write(b"\4", [length], b"", b"", out), Refused(Fault.WRONG_LENGTH, 3))
             self.assertEqual(write(b"\4", [1], b"\4\x48", b"", out), Refused(Fault.WRONG_TOKEN, 9))
+            self.assertEqual(write(b"\4", [0, 1], b"\4\x40", b"", out), Refused(Fault.STRAY_PATTERN, 0))
             self.assertEqual(bytes(out), before)
 
     def test_lengths_that_are_none(self):
@@ -128,10 +132,10 @@ class Calls(unittest.TestCase):
             write(b"", [], b"", b"", bytes(SHEET_BYTES))
 
     def test_the_longest(self):
-        longest = (bytes([68] * 191 + [0]) * 8, [192] * 8, bytes([71] * 24), bytes([42] * 24))
+        longest = (bytes([68] * 191 + [0]) * 8, [192] * 8, bytes(range(64, 72)) * 3, bytes([42] * 24))
         self.assertEqual(len(write(*longest).data), SHEET_BYTES - 3)
         self.assertEqual(write(*longest, bytearray(SHEET_BYTES - 4)), OutputTooShort())
-        longest = (bytes([196] * 191 + [0]) * 8, [192] * 8, bytes([199] * 24), bytes([42] * 24))
+        longest = (bytes([196] * 191 + [0]) * 8, [192] * 8, bytes(range(192, 200)) * 3, bytes([42] * 24))
         self.assertEqual(len(write(*longest, edition=2).data), SHEET_BYTES)
         self.assertEqual(write(*longest, bytearray(SHEET_BYTES - 1), Edition.FULL_ASCII), OutputTooShort())
 
@@ -202,7 +206,8 @@ class AsToolsSheet(unittest.TestCase):
         for number in range(25):
             fields = range(8)
             sides = [[dice.choice([*"09AZ-. $/+%", *fields]) for _ in range(dice.randrange(25))] for _ in range(2)]
-            chosen = {field: self.pattern(dice, 2) for field in fields if dice.randrange(3)}
+            standing = {one for side in sides for one in side if one in fields}
+            chosen = {field: self.pattern(dice, 2) for field in standing if dice.randrange(3)}
             letters = "abcdefgh"
             words = ["".join(one if isinstance(one, str) else letters[one] for one in side) for side in sides]
             words += [f"{letters[field]}={text}" for field, (_, text) in chosen.items()]

@@ -13,8 +13,8 @@ pub const SHEET_BYTES: usize = 1625;
 pub enum SpeltOpen {
     /// 0: the new sheet, or the new rule, is the first `bytes` bytes of the buffer.
     Written { bytes: usize },
-    /// 11 to 17, 44: the sheet or the rule is at fault. `place` is the offset of the byte at fault, as
-    /// [`Fault`] says.
+    /// 11 to 17, 22, 44: the sheet or the rule is at fault. `place` is the offset of the byte at fault,
+    /// as [`Fault`] says.
     Refused { fault: Fault, place: usize },
     /// 31: the rule names a field above 3. No place is told. A sheet never gets this.
     ForeignField,
@@ -118,7 +118,8 @@ impl fmt::Display for CarriedOver {
 /// solutions that the old meaning gave the old sheet.
 ///
 /// Carry a sheet over once, and only one from before 0.6: nothing in its bytes says for which
-/// version it was written, and a sheet for 0.6 would get another meaning.
+/// version it was written, and a sheet for 0.6 would get another meaning. One with stray patterns is
+/// refused: [`drop_strays`](crate::drop_strays) comes first.
 ///
 /// Only [`SpeltOpen::Written`] changes the buffer, and only the bytes of the new sheet.
 /// [`SHEET_BYTES`] are always enough.
@@ -173,7 +174,8 @@ pub fn spell_open_rule(rule: &[u8], out: &mut [u8]) -> SpeltOpen {
 /// fewer labels than before, and a new rule could make one that is in use.
 ///
 /// A catalogue from before 0.4, and one to which a rule was added by 0.6 first, should be checked
-/// again after it, by [`recheck`](crate::recheck).
+/// again after it, by [`recheck`](crate::recheck). One with stray patterns is refused:
+/// [`drop_strays_catalogue`](crate::drop_strays_catalogue) comes first.
 ///
 /// A rule grows by eight bytes for each field that stands in it without a pattern. After
 /// [`CarriedOver::Full`] put the catalogue into a longer buffer, with zeros behind it:

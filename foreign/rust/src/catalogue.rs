@@ -33,7 +33,7 @@ pub const fn list_bytes(rules: usize) -> usize {
 pub enum Added {
     /// 0: its bytes stand behind the last rule.
     Entered,
-    /// 11 to 17: the rule is at fault. `place` is the offset of the byte at fault, from its `RU`,
+    /// 11 to 17, 22: the rule is at fault. `place` is the offset of the byte at fault, from its `RU`,
     /// as [`Fault`] says.
     Refused { fault: Fault, place: usize },
     /// 30: it clashes with a rule that is there, or that is not decided. `rule` is the number of
@@ -214,12 +214,14 @@ impl FusedIterator for Pairs<'_> {}
 /// is unchanged.
 ///
 /// A catalogue is rules one behind the other from the first byte on, and zeros behind them. One
-/// that began as zeros and was changed by [`add`], [`add_decided`](crate::add_decided) and
-/// [`withdraw`] alone has no two rules that make the same label. Of one that was filled otherwise,
-/// or kept since a version before 0.4, for which a space at the end made another label, [`recheck`]
-/// says which rules do. One that was kept since a version before 0.6, for which a field without a
-/// pattern could be empty, should first be carried over by
-/// [`spell_open_catalogue`](crate::spell_open_catalogue).
+/// that began as zeros and was changed by [`add`], [`add_decided`](crate::add_decided), [`withdraw`]
+/// and [`drop_strays_catalogue`](crate::drop_strays_catalogue) alone has no two rules that make the
+/// same label. Of one that was filled otherwise, or kept since a version before 0.4, for which a
+/// space at the end made another label, [`recheck`] says which rules do. One that was kept since a
+/// version before 0.6, for which a field without a pattern could be empty, should first be carried
+/// over by [`spell_open_catalogue`](crate::spell_open_catalogue). One in which a rule has a stray
+/// pattern, as versions up to 0.8 took it, is [`Added::NoCatalogue`]:
+/// [`drop_strays_catalogue`](crate::drop_strays_catalogue) mends it, before all else.
 pub fn add(catalogue: &mut [u8], rule: &[u8], work: &mut [u8]) -> Added {
     let mut told = [0; 4];
     // SAFETY: each pointer and length are those of one slice. No two of the slices overlap, since

@@ -19,16 +19,21 @@ pub enum Edition {
     FullAscii,
 }
 
-/// The record in front of a sheet of Full ASCII.
-const FULL_ASCII: &[u8] = b"ED\x02";
-
 impl Edition {
     /// The edition of a sheet, by how it begins.
     pub fn of(sheet: &[u8]) -> Edition {
-        if sheet.starts_with(FULL_ASCII) {
+        if sheet.starts_with(Edition::FullAscii.record()) {
             Edition::FullAscii
         } else {
             Edition::Code39
+        }
+    }
+
+    /// The record in front of a sheet; no byte in Code 39.
+    pub const fn record(self) -> &'static [u8] {
+        match self {
+            Edition::Code39 => b"",
+            Edition::FullAscii => b"ED\x02",
         }
     }
 

@@ -229,6 +229,26 @@
 //! assert_eq!(clash(&new[..bytes], &mut work, &mut answer).clashes(), Some(true));
 //! ```
 //!
+//! Up to version 0.8 a sheet could have a stray pattern, one for a field that stands in neither side.
+//! Now it is refused. [`drop_strays`] drops the strays of a sheet from before, [`drop_strays_rule`]
+//! those of a rule and [`drop_strays_catalogue`] those of a whole catalogue: every answer about them
+//! stays as it was. What is from before 0.6 loses its strays first, and is then carried over.
+//!
+//! ```
+//! use bradovusc::{clash, drop_strays, Answer, Fault, Mended, SHEET_BYTES, SITUATION_BYTES};
+//!
+//! // The digit 4 on both sides, and a pattern for field 0, which stands in neither.
+//! let old = b"PA\x00\x01\x04LE\x01\x04RI\x01\x04";
+//! let mut work = [0; 356 * SITUATION_BYTES];
+//! let refused = clash(old, &mut work, &mut []);
+//! assert_eq!(refused, Answer::Refused { fault: Fault::StrayPattern, place: 0 });
+//! assert_eq!(refused.to_string(), "a stray pattern, at offset 0");
+//! let mut new = [0; SHEET_BYTES];
+//! assert_eq!(drop_strays(old, &mut new), Mended::Written { bytes: 8 });
+//! assert_eq!(&new[..8], b"LE\x01\x04RI\x01\x04");
+//! assert_eq!(clash(&new[..8], &mut work, &mut []).clashes(), Some(true));
+//! ```
+//!
 //! [`spell`] spells a text of Full ASCII in values of Code 39, and [`read_spelt`] reads it back.
 //!
 //! ```
@@ -256,6 +276,7 @@ mod plain;
 mod scripts;
 mod spelling;
 mod steps;
+mod strays;
 mod writing;
 
 pub use carrying::{
@@ -275,6 +296,7 @@ pub use plain::{plain, plain_bytes, Plain, PlainBytes, PLAIN_BYTES};
 pub use scripts::{script, Scripted, SCRIPT_BYTES};
 pub use spelling::{read_spelt, spell, spelt_bytes, Spelt};
 pub use steps::{play, steps, steps_bytes, way, Played, Step, Stepped, Way, MOST_STEPS};
+pub use strays::{drop_strays, drop_strays_catalogue, drop_strays_rule, Mended, MendedCatalogue};
 pub use writing::{write, write_edition, Written};
 
 use std::error::Error;
@@ -348,13 +370,17 @@ pub enum Fault {
     /// 17: a side holds a byte that is neither a character nor a field 0 to 7. Its place is the
     /// first such byte.
     WrongToken,
+    /// 22: a pattern is for a field that stands in neither side, or not in the rule. Nothing else is
+    /// wrong with it. Its place is the first byte of the first such pattern's mark. What is from
+    /// before is mended by [`drop_strays`].
+    StrayPattern,
     /// 44: the byte behind `ED` is not 2. Its place is that byte. A rule has no `ED`, and never gets
     /// this.
     WrongEdition,
 }
 
 impl Fault {
-    /// Its number, 11 to 17 or 44.
+    /// Its number, 11 to 17, 22 or 44.
     pub fn number(self) -> u32 {
         match self {
             Fault::CutShort => 11,
@@ -364,6 +390,7 @@ impl Fault {
             Fault::NotOnePattern => 15,
             Fault::TooManyLeaves => 16,
             Fault::WrongToken => 17,
+            Fault::StrayPattern => 22,
             Fault::WrongEdition => 44,
         }
     }
@@ -378,6 +405,7 @@ impl Fault {
             15 => Fault::NotOnePattern,
             16 => Fault::TooManyLeaves,
             17 => Fault::WrongToken,
+            22 => Fault::StrayPattern,
             44 => Fault::WrongEdition,
             _ => unreachable!("the library promises its numbers"),
         }
@@ -395,6 +423,7 @@ impl fmt::Display for Fault {
             Fault::NotOnePattern => "not one pattern",
             Fault::TooManyLeaves => "a pattern with too many leaves",
             Fault::WrongToken => "a wrong token",
+            Fault::StrayPattern => "a stray pattern",
             Fault::WrongEdition => "a wrong edition",
         })
     }
@@ -411,8 +440,8 @@ pub enum Answer {
     Clash { count: usize, written: usize },
     /// 1: no label, however long, and with whatever spaces at its end, can be made by both rules.
     NoClash { count: usize },
-    /// 11 to 17, 44: the sheet is at fault. `place` is the offset of the byte at fault, as [`Fault`]
-    /// says.
+    /// 11 to 17, 22, 44: the sheet is at fault. `place` is the offset of the byte at fault, as
+    /// [`Fault`] says.
     Refused { fault: Fault, place: usize },
     /// 18: neither yes nor no; the working buffer is full.
     NoRoom { count: usize },

@@ -15,8 +15,8 @@ pub enum Plain {
     Clash,
     /// 1: no label, however long, and with whatever spaces at its end, can be made by both rules.
     NoClash,
-    /// 11 to 17, 44: the sheet is at fault. `place` is the offset of the byte at fault, as [`Fault`]
-    /// says.
+    /// 11 to 17, 22, 44: the sheet is at fault. `place` is the offset of the byte at fault, as
+    /// [`Fault`] says.
     Refused { fault: Fault, place: usize },
     /// 42: a field stands more than once in the two sides together. Ask by
     /// [`clash`](crate::clash) or [`decide`](crate::decide).
@@ -76,8 +76,8 @@ const NOT_PLAIN: &str = "a field stands more than once";
 pub enum PlainBytes {
     /// 0: the shortest bit buffer that will do has so many bytes.
     Needed { bytes: usize },
-    /// 11 to 17, 44: the sheet is at fault. `place` is the offset of the byte at fault, as [`Fault`]
-    /// says.
+    /// 11 to 17, 22, 44: the sheet is at fault. `place` is the offset of the byte at fault, as
+    /// [`Fault`] says.
     Refused { fault: Fault, place: usize },
     /// 42: a field stands more than once in the two sides together.
     NotPlain,

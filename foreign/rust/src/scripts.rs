@@ -12,8 +12,8 @@ pub const SCRIPT_BYTES: usize = 280_000;
 pub enum Scripted {
     /// 0: the script is the first `bytes` bytes of the buffer.
     Written { bytes: usize },
-    /// 11 to 17, 44: the sheet is at fault. `place` is the offset of the byte at fault, as [`Fault`]
-    /// says.
+    /// 11 to 17, 22, 44: the sheet is at fault. `place` is the offset of the byte at fault, as
+    /// [`Fault`] says.
     Refused { fault: Fault, place: usize },
     /// 40: the output buffer is too short for the script. Not a byte of it is written.
     TooShort,

@@ -151,8 +151,8 @@ pub enum Played {
     /// 0: the steps lead to the finish. The first `written` bytes of the answer buffer hold the
     /// [`texts`](crate::texts()) of the fields.
     Finished { written: usize },
-    /// 11 to 17, 44: the sheet is at fault. `place` is the offset of the byte at fault, as [`Fault`]
-    /// says.
+    /// 11 to 17, 22, 44: the sheet is at fault. `place` is the offset of the byte at fault, as
+    /// [`Fault`] says.
     Refused { fault: Fault, place: usize },
     /// 19: a side grew above 48 tokens, the hidden field of spaces at its end counted.
     SideTooLong,

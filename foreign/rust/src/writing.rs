@@ -9,7 +9,7 @@ use crate::{Edition, Fault};
 pub enum Written {
     /// 0: the sheet is the first `bytes` bytes of the buffer.
     Sheet { bytes: usize },
-    /// 11, 13 to 17: a pattern or a side is at fault. `place` is the offset of the byte at fault in
+    /// 11, 13 to 17, 22: a pattern or a side is at fault. `place` is the offset of the byte at fault in
     /// the sheet that would be written, as [`Fault`] says. [`Fault::WrongMark`] and
     /// [`Fault::WrongEdition`] never come.
     Refused { fault: Fault, place: usize },
@@ -70,7 +70,8 @@ impl fmt::Display for Written {
 /// byte for byte.
 ///
 /// [`Written::Refused`] is the first fault that reading the sheet would meet: those of the patterns
-/// come first, by rising field, then those of the left side, then those of the right one.
+/// come first, by rising field, then those of the left side, then those of the right one, then
+/// [`Fault::StrayPattern`], for a pattern whose field stands in neither side.
 /// [`Fault::WrongField`] is told of a length that is not 0 for a field above 7, and
 /// [`Fault::CutShort`] where a pattern has fewer bytes than its length says.
 ///

@@ -4,13 +4,14 @@
 use std::collections::BTreeSet;
 
 use bradovusc::{
-    add, add_decided, recheck, recheck_decided, spell_open_catalogue, withdraw, Added, DecidedPair,
-    Pair, Rechecked, RecheckedDecided, DECIDED_PAIR_BYTES, PAIR_BYTES,
+    add, add_decided, drop_strays_catalogue, recheck, recheck_decided, spell_open_catalogue,
+    withdraw, Added, DecidedPair, Pair, Rechecked, RecheckedDecided, DECIDED_PAIR_BYTES,
+    PAIR_BYTES,
 };
 use second::calls::{After, Call, Calls, Operation, LIST_FILL, MOST_CATALOGUE, WORK};
 use second::cases::WORK_FILL;
 use second::catalogue::HASHING;
-use second::make::calls::{decided_operations, operations};
+use second::make::calls::{decided_operations, operations, strays_operations};
 use second::make::Dice;
 use second::storeroom;
 
@@ -69,6 +70,10 @@ impl Library {
             Operation::Carry => {
                 let carried = spell_open_catalogue(&mut self.catalogue);
                 Call::Carry { number: carried.number() as u8 }
+            }
+            Operation::Drop => {
+                let mended = drop_strays_catalogue(&mut self.catalogue);
+                Call::Drop { number: mended.number() as u8 }
             }
         };
         Some(After { call, catalogue: self.catalogue.clone() })
@@ -150,13 +155,13 @@ fn generated_calls() {
                 ("recheck", told.number, 0)
             }
             Call::Carry { number } => ("carry", number, 0),
-            Call::AddDecided { .. } | Call::RecheckDecided { .. } => {
-                panic!("none of these is decided")
+            Call::AddDecided { .. } | Call::RecheckDecided { .. } | Call::Drop { .. } => {
+                panic!("none of these is decided, and no strays are dropped")
             }
         };
         seen.insert(answered);
     }
-    let alone = [0, 11, 12, 13, 14, 15, 16, 17, 31, 32, 34].map(|number| ("add", number, 0));
+    let alone = [0, 11, 12, 13, 14, 15, 16, 17, 22, 31, 32, 34].map(|number| ("add", number, 0));
     let pairs = [0, 18, 19].map(|answer| ("add", 30, answer));
     let withdrawals = [0, 33, 34].map(|number| ("withdraw", number, 0));
     let rechecks = [0, 34, 35].map(|number| ("recheck", number, 0));
@@ -177,7 +182,7 @@ fn a_storeroom() {
 #[test]
 fn decided_calls() {
     let mut seen = BTreeSet::new();
-    for call in agreed(&decided_operations(&mut Dice::new(39), 2000)) {
+    for call in agreed(&decided_operations(&mut Dice::new(40), 2000)) {
         match call {
             Call::AddDecided { told, .. } => {
                 seen.insert(("add", told.added.number, told.added.pair, told.search));
@@ -190,13 +195,36 @@ fn decided_calls() {
             _ => (),
         }
     }
-    let alone = [0, 11, 12, 13, 14, 15, 16, 17, 31, 32, 34].map(|number| ("add", number, 0, 0));
+    let alone = [0, 11, 12, 13, 14, 15, 16, 17, 22, 31, 32, 34].map(|number| ("add", number, 0, 0));
     let answers = [(0, 1), (0, 2), (0, 3), (18, 0), (19, 0)];
     let pairs = answers.map(|(answer, search)| ("add", 30, answer, search));
     let listed = answers.map(|(answer, search)| ("listed", 0, answer, search));
     let rechecks = [0, 34, 35].map(|number| ("recheck", number, 0, 0));
     let expected = alone.into_iter().chain(pairs).chain(listed).chain(rechecks);
     assert_eq!(seen, expected.collect());
+}
+
+/// Rules with strays are added, stand there and are dropped.
+#[test]
+fn calls_with_strays() {
+    let mut seen = BTreeSet::new();
+    for call in agreed(&strays_operations(&mut Dice::new(39), 2000)) {
+        seen.insert(match call {
+            Call::Add { told, .. } => ("add", told.number),
+            Call::Withdraw { number } => ("withdraw", number),
+            Call::Recheck { told, .. } => ("recheck", told.number),
+            Call::Carry { number } => ("carry", number),
+            Call::AddDecided { told, .. } => ("add", told.added.number),
+            Call::RecheckDecided { told, .. } => ("recheck", told.number),
+            Call::Drop { number } => ("drop", number),
+        });
+    }
+    let refused = ["add", "withdraw", "recheck", "carry", "drop"].map(|call| (call, 34));
+    let others = [("add", 0), ("add", 22), ("add", 31), ("drop", 0)];
+    for answered in refused.into_iter().chain(others) {
+        assert!(seen.contains(&answered), "{answered:?} in {seen:?}");
+    }
+    assert!(!seen.contains(&("drop", 32)));
 }
 
 #[test]

@@ -45,13 +45,13 @@ fn any(field: u8) -> Vec<u8> {
     [b"PA", &[field, 4, 68, 65, 0, 42][..]].concat()
 }
 
-/// Fields 1 and 3 stand and have no pattern; field 0 has one and stands; field 2 has one and doesn't.
+/// Fields 1 and 3 stand and have no pattern; fields 0 and 2 have one.
 #[test]
 fn a_sheet() {
-    let (digit, stray) = (&b"PA\x00\x03\x41\x00\x09"[..], &b"PA\x02\x01\x0A"[..]);
-    let sides = b"LE\x03\x40\x41\x24RI\x02\x40\x43";
-    let new = [digit, &any(1), stray, &any(3), sides].concat();
-    known(spell_open, &[digit, stray, sides].concat(), &new);
+    let (digit, letter) = (&b"PA\x00\x03\x41\x00\x09"[..], &b"PA\x02\x01\x0A"[..]);
+    let sides = b"LE\x03\x40\x41\x24RI\x03\x40\x43\x42";
+    let new = [digit, &any(1), letter, &any(3), sides].concat();
+    known(spell_open, &[digit, letter, sides].concat(), &new);
     known(spell_open, b"LE\x00RI\x00", b"LE\x00RI\x00");
 }
 
@@ -93,10 +93,12 @@ fn faults_of_a_sheet() {
         refused(b"LE\x01\x48RI\x00", Fault::WrongToken, 3);
         let leaves = [&b"PA\x00\x7F"[..], &[66; 63], &[7; 64]].concat();
         refused(&leaves, Fault::TooManyLeaves, 130);
+        refused(b"PA\x00\x01\x04PA\x02\x01\x04LE\x01\x40RI\x01\x41", Fault::StrayPattern, 5);
+        refused(b"PA\x00\x01\x04LE\x00RI\x00\x00", Fault::WrongMark, 11);
     }
 }
 
-/// Those of a rule come before 31, and 31 before 41.
+/// Those of a rule come before 31, and 31 before 41. A stray pattern of field 4 is both.
 #[test]
 fn faults_of_a_rule() {
     for length in [0, RULE_BYTES] {
@@ -109,7 +111,9 @@ fn faults_of_a_rule() {
         refused(b"RULE\x02\x44\x48", fault(Fault::WrongToken, 6));
         refused(b"RULE\x01\x44\x00", fault(Fault::WrongMark, 6));
         refused(b"RULE\x01\x44", SpeltOpen::ForeignField);
-        refused(b"RUPA\x04\x01\x0ALE\x01\x40", SpeltOpen::ForeignField);
+        refused(b"RUPA\x04\x01\x0ALE\x01\x44", SpeltOpen::ForeignField);
+        refused(b"RUPA\x04\x01\x0ALE\x01\x40", fault(Fault::StrayPattern, 2));
+        refused(b"RUPA\x04\x01\x0ALE\x01\x40\x00", fault(Fault::WrongMark, 11));
     }
 }
 
@@ -136,9 +140,11 @@ fn a_catalogue() {
         assert_eq!(spell_open_catalogue(&mut catalogue), CarriedOver::Full);
         assert_eq!(catalogue, old(length));
     }
-    let mut none = *b"RULE\x01\x40RULE\x01";
-    assert_eq!(spell_open_catalogue(&mut none), CarriedOver::NoCatalogue);
-    assert_eq!(none, *b"RULE\x01\x40RULE\x01");
+    for none in [&b"RULE\x01\x40RULE\x01"[..], b"RULE\x01\x40RUPA\x01\x01\x04LE\x01\x40"] {
+        let mut catalogue = none.to_vec();
+        assert_eq!(spell_open_catalogue(&mut catalogue), CarriedOver::NoCatalogue);
+        assert_eq!(catalogue, none);
+    }
     assert_eq!(spell_open_catalogue(&mut []), CarriedOver::Done);
 }
 
@@ -179,8 +185,8 @@ fn generated_sheets_and_rules() {
         assert_eq!(ours, theirs, "{case:?}");
         seen.insert((rule, number));
     }
-    let sheets = [0, 11, 12, 13, 14, 15, 16, 17, 41, 44].map(|number| (false, number));
-    let rules = [0, 11, 12, 13, 14, 15, 16, 17, 31, 41].map(|number| (true, number));
+    let sheets = [0, 11, 12, 13, 14, 15, 16, 17, 22, 41, 44].map(|number| (false, number));
+    let rules = [0, 11, 12, 13, 14, 15, 16, 17, 22, 31, 41].map(|number| (true, number));
     assert_eq!(seen, sheets.into_iter().chain(rules).collect());
 }
 
@@ -192,13 +198,16 @@ fn buffers_that_are_always_long_enough() {
         assert_ne!(written(spell_open, &old, SHEET_BYTES).0, SpeltOpen::TooShort, "{old:?}");
         assert_ne!(written(spell_open_rule, &old, RULE_BYTES).0, SpeltOpen::TooShort, "{old:?}");
     }
-    // Patterns of the greatest length for all fields but the last, which stands without one.
+    // Patterns of the greatest length for all fields but the last, and all of them stand.
     let pattern = [&[68][..], &[67; 47], &[65, 0, 42].repeat(48)].concat();
     let record = |field: u8| [b"PA", &[field, 192][..], &pattern].concat();
-    let side = |mark: &[u8], token: u8| [mark, &[24], &[token; 24]].concat();
+    let side = |mark: &[u8], fields: u8| {
+        let tokens: Vec<u8> = (64..64 + fields).cycle().take(24).collect();
+        [mark, &[24], &tokens].concat()
+    };
     let patterns = |fields: u8| (0..fields).flat_map(record).collect::<Vec<u8>>();
-    let sheet = [patterns(7), side(b"LE", 71), side(b"RI", 71)].concat();
+    let sheet = [patterns(7), side(b"LE", 8), side(b"RI", 8)].concat();
     assert_eq!(written(spell_open, &sheet, SHEET_BYTES).0.written(), SHEET_BYTES - 3 - 188);
-    let rule = [&RULE[..], &patterns(3), &side(b"LE", 67)].concat();
+    let rule = [&RULE[..], &patterns(3), &side(b"LE", 4)].concat();
     assert_eq!(written(spell_open_rule, &rule, RULE_BYTES).0.written(), RULE_BYTES - 188);
 }

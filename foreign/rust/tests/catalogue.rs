@@ -163,6 +163,11 @@ fn faults_of_the_rule() {
     let leaves = [&b"PA\x00\x7f"[..], &[66; 63], &[0; 64]].concat();
     fault(&with(&leaves, &[X]), Fault::TooManyLeaves, 132);
     fault(&rule(&[X + 4, 43]), Fault::WrongToken, 6);
+    // Stray: the first of two, behind one that stands; then one of field 4, before 31 and behind 12.
+    let patterns = b"PA\x00\x01\x04PA\x01\x01\x04PA\x03\x01\x04";
+    fault(&with(patterns, &[A, X]), Fault::StrayPattern, 7);
+    fault(b"RUPA\x04\x01\x04LE\x01\x45", Fault::StrayPattern, 2);
+    fault(b"RUPA\x04\x01\x04LE\x00\x00", Fault::WrongMark, 10);
 }
 
 #[test]
@@ -170,7 +175,7 @@ fn a_field_above_3() {
     for field in RULE_FIELDS as u8..8 {
         assert_eq!(refused(&[0; 16], &rule(&[A, X + field])), Added::ForeignField);
         let pattern = [b'P', b'A', field, 1, 4];
-        assert_eq!(refused(&[0; 16], &with(&pattern, &[A])), Added::ForeignField);
+        assert_eq!(refused(&[0; 16], &with(&pattern, &[X + field])), Added::ForeignField);
     }
     // Before 32.
     assert_eq!(refused(&[], &rule(&[X + 7])), Added::ForeignField);
@@ -196,7 +201,7 @@ fn full() {
 fn the_longest_rule() {
     let pattern = |field| [&[b'P', b'A', field, 192][..], &[68; 191], &[A]].concat();
     let patterns: Vec<u8> = (0..RULE_FIELDS as u8).flat_map(pattern).collect();
-    let longest = with(&patterns, &[X; 24]);
+    let longest = with(&patterns, &[X, X + 1, X + 2, X + 3].repeat(6));
     assert_eq!(longest.len(), RULE_BYTES);
     enters(&[], &longest, 0);
 }
@@ -224,7 +229,7 @@ fn withdrawn() {
 #[test]
 fn no_catalogue() {
     let (a, b) = (rule(&[A]), rule(&[B]));
-    let wrong: [Vec<u8>; 6] = [
+    let wrong: [Vec<u8>; 7] = [
         // a byte behind the zeros, a gap between two records
         [&a[..], &[0, 1]].concat(),
         [&a[..], &[0], &b].concat(),
@@ -232,6 +237,8 @@ fn no_catalogue() {
         [&a[..], b"RU"].concat(),
         [&a[..], b"LE\x00"].concat(),
         rule(&[X + 4]),
+        // a stray pattern
+        [&a[..], &with(b"PA\x01\x01\x04", &[X])].concat(),
         // 33 of them
         (0..33).flat_map(|label| rule(&[label])).collect(),
     ];
@@ -332,9 +339,10 @@ fn every_pair_by_the_lower_number() {
 
 #[test]
 fn nothing_to_check_again() {
-    // A byte behind the zeros; field 4; 33 rules. Before 35.
+    // A byte behind the zeros; field 4; a stray pattern; 33 rules. Before 35.
     let rules: Vec<u8> = (0..33).flat_map(|_| rule(&[])).collect();
-    for wrong in [[&rule(&[A])[..], &[0, 1]].concat(), rule(&[X + 4]), rules] {
+    let stray = with(b"PA\x01\x01\x04", &[X]);
+    for wrong in [[&rule(&[A])[..], &[0, 1]].concat(), rule(&[X + 4]), stray, rules] {
         assert_eq!(rechecked(&wrong, 864, 8, false), (34, vec![]));
         assert_eq!(rechecked(&wrong, 864, 0, false), (34, vec![]));
     }

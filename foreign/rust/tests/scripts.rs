@@ -74,11 +74,10 @@ fn each_kind_of_pattern() {
     known(sheet, fields, "(str.++ f0 \"AB\" f2 f0 f8) (str.++ f5 f3 \"%\" f9)");
 }
 
-/// An open field is one of the 43 characters, then any number of them. A pattern of a field that does
-/// not stand is none.
+/// An open field is one of the 43 characters, then any number of them.
 #[test]
 fn an_open_field() {
-    let sheet = b"PA\x03\x01\x0ALE\x01\x47RI\x00";
+    let sheet = b"LE\x01\x47RI\x00";
     let each: String = SIGNS.iter().map(|&c| format!(" (str.to_re \"{}\")", c as char)).collect();
     let any = format!("(re.union{each})");
     let member = format!("(assert (str.in_re f7 (re.++ {any} (re.* {any}))))\n");
@@ -103,6 +102,7 @@ fn faults() {
         refused(b"LE\x01\x48RI\x00", Fault::WrongToken, 3);
         let leaves = [&b"PA\x00\x7F"[..], &[66; 63], &[7; 64]].concat();
         refused(&leaves, Fault::TooManyLeaves, 130);
+        refused(b"PA\x03\x01\x0ALE\x01\x47RI\x00", Fault::StrayPattern, 0);
     }
 }
 

@@ -18,6 +18,8 @@ const ANSWER_FILL: u8 = 165;
 /// Field 0, any digits, is the left side; field 1, the digit 4, the right one.
 const SHEET: &[u8] = b"PA\x00\x04\x44\x41\x00\x09PA\x01\x01\x04LE\x01\x40RI\x01\x41";
 const TEXTS: &[u8] = b"VA\x00\x01\x00\x04VA\x01\x01\x00\x04";
+/// Field 0 has a pattern and stands in neither side.
+const STRAY: &[u8] = b"PA\x00\x01\x04LE\x00RI\x00";
 const WAY: &[u8] = b"ST\x02\x04ST\x00ST\x00ST\x01ST\x01";
 
 fn records(steps: &[Step]) -> Vec<u8> {
@@ -70,6 +72,9 @@ fn short_buffers() {
     let refused = steps(b"LE\x00RI\x00X", &mut [], &mut [], &mut []);
     let answer = Answer::Refused { fault: Fault::WrongMark, place: 6 };
     assert_eq!(refused, Stepped::Answered { answer, steps: 0 });
+    let refused = steps(STRAY, &mut [], &mut [], &mut []);
+    let answer = Answer::Refused { fault: Fault::StrayPattern, place: 0 };
+    assert_eq!(refused, Stepped::Answered { answer, steps: 0 });
 }
 
 /// Played into a filled buffer of this length, which is unchanged behind what is written.
@@ -105,6 +110,8 @@ fn the_player() {
     refused(&[WAY, b"ST\x00"].concat(), Played::StepNotAllowed);
     let (fault, place) = (Fault::CutShort, 0);
     assert_eq!(played(b"", b"X", 9).0, Played::Refused { fault, place });
+    let fault = Fault::StrayPattern;
+    assert_eq!(played(STRAY, b"X", 9).0, Played::Refused { fault, place });
     // 24 times field 0, which has no pattern
     let long = [&b"LE\x18"[..], &[64; 24], b"RI\x01\x41"].concat();
     let puts = records(&[Step::Put(10), Step::Put(10)]);

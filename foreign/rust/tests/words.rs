@@ -2,15 +2,16 @@
 
 use bradovusc::{
     catalogue_bytes, decided_list_bytes, list_bytes, recheck, recheck_decided, sign, spelt_bytes,
-    texts, value, Added, AddedDecided, Answer, CarriedOver, DecidedPair, Edition, Fault, Pair,
-    Plain, PlainBytes, Played, Rechecked, RecheckedDecided, Scripted, Spelt, SpeltOpen, Stepped,
-    Text, Withdrawn, Written, DECIDED_PAIR_BYTES, MOST_CHARACTERS, MOST_RULES, MOST_STEPS,
-    PAIR_BYTES, PLAIN_BYTES, RULE_BYTES, RULE_FIELDS, SCRIPT_BYTES, SHEET_BYTES, SIGNS, VERSION,
+    texts, value, Added, AddedDecided, Answer, CarriedOver, DecidedPair, Edition, Fault, Mended,
+    MendedCatalogue, Pair, Plain, PlainBytes, Played, Rechecked, RecheckedDecided, Scripted, Spelt,
+    SpeltOpen, Stepped, Text, Withdrawn, Written, DECIDED_PAIR_BYTES, MOST_CHARACTERS, MOST_RULES,
+    MOST_STEPS, PAIR_BYTES, PLAIN_BYTES, RULE_BYTES, RULE_FIELDS, SCRIPT_BYTES, SHEET_BYTES, SIGNS,
+    VERSION,
 };
 
 const HEADER: &str = include_str!("../../c/bradovusc.h");
 
-const FAULTS: [Fault; 8] = [
+const FAULTS: [Fault; 9] = [
     Fault::CutShort,
     Fault::WrongMark,
     Fault::WrongField,
@@ -18,6 +19,7 @@ const FAULTS: [Fault; 8] = [
     Fault::NotOnePattern,
     Fault::TooManyLeaves,
     Fault::WrongToken,
+    Fault::StrayPattern,
     Fault::WrongEdition,
 ];
 
@@ -52,7 +54,7 @@ fn header_texts() -> Vec<(u32, &'static str)> {
 #[test]
 fn answers_in_words() {
     let expected = header_texts();
-    assert_eq!(expected.len(), 30);
+    assert_eq!(expected.len(), 31);
     let faults = FAULTS.map(|fault| (fault.number(), fault.to_string()));
     let others = OTHERS.map(|answer| (answer.number(), answer.to_string()));
     let added = [Added::ForeignField, Added::Full, Added::NoCatalogue]
@@ -255,6 +257,33 @@ fn carrying_over_in_words() {
     let done = CarriedOver::Done;
     assert_eq!((done.number(), done.to_string()), (0, written.to_string()));
     assert_eq!(written.to_string(), "done");
+}
+
+/// Those of dropping strays are the same.
+#[test]
+fn dropping_strays_in_words() {
+    for fault in FAULTS {
+        let (mended, spelt) =
+            (Mended::Refused { fault, place: 13 }, SpeltOpen::Refused { fault, place: 13 });
+        assert_eq!((mended.number(), mended.to_string()), (spelt.number(), spelt.to_string()));
+        assert_eq!((mended.place(), mended.written()), (13, 0));
+    }
+    let written = Mended::Written { bytes: 9 };
+    assert_eq!((written.number(), written.place(), written.written()), (0, 0, 9));
+    assert_eq!(written.to_string(), "done");
+    let refused =
+        [(Mended::ForeignField, SpeltOpen::ForeignField), (Mended::TooShort, SpeltOpen::TooShort)];
+    for (mended, spelt) in refused {
+        assert_eq!((mended.number(), mended.to_string()), (spelt.number(), spelt.to_string()));
+        assert_eq!((mended.place(), mended.written()), (0, 0));
+    }
+    let catalogues = [
+        (MendedCatalogue::Done, CarriedOver::Done),
+        (MendedCatalogue::NoCatalogue, CarriedOver::NoCatalogue),
+    ];
+    for (mended, carried) in catalogues {
+        assert_eq!((mended.number(), mended.to_string()), (carried.number(), carried.to_string()));
+    }
 }
 
 #[test]

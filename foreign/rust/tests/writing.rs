@@ -68,28 +68,31 @@ fn sheets() {
     // bytes behind the last pattern, no code among them
     known(Parts { patterns: &[68, 65, 0, 9, 4, 255, 255], ..four }, sheet);
     known(Parts { patterns: &[255], lengths: &[0, 0], ..NOTHING }, b"LE\x00RI\x00");
-    // fields without a pattern between two that don't stand
-    let stray = Parts { patterns: &[64, 7], lengths: &[0, 1, 0, 0, 0, 0, 0, 1], ..NOTHING };
-    known(stray, b"PA\x01\x01\x40PA\x07\x01\x07LE\x00RI\x00");
+    // fields without a pattern between two that have one
+    let far = Parts { patterns: &[64, 7], lengths: &[0, 1, 0, 0, 0, 0, 0, 1], ..NOTHING };
+    let sheet = b"PA\x01\x01\x40PA\x07\x01\x07LE\x01\x41RI\x01\x47";
+    known(Parts { left: &[65], right: &[71], ..far }, sheet);
 }
 
 /// One slice for several parts: they are only read.
 #[test]
 fn parts_that_are_the_same() {
-    let same = [4, 4];
-    let parts = Parts { patterns: &same, lengths: &[1, 1], left: &same, right: &same, ..NOTHING };
-    known(parts, b"PA\x00\x01\x04PA\x01\x01\x04LE\x02\x04\x04RI\x02\x04\x04");
+    // the pattern of the empty text, and field 0
+    let same = [64];
+    let parts = Parts { patterns: &same, lengths: &[1], left: &same, right: &same, ..NOTHING };
+    known(parts, b"PA\x00\x01\x40LE\x01\x40RI\x01\x40");
 }
 
 #[test]
 fn the_longest_sheet() {
     let patterns = [vec![68; 191], vec![0]].concat().repeat(8);
-    let (lengths, sides) = (&[192; 8], ([71; 24], [42; 24]));
-    let parts = Parts { patterns: &patterns, lengths, left: &sides.0, right: &sides.1, ..NOTHING };
+    let fields = |first: u8| (first..first + 8).collect::<Vec<u8>>().repeat(3);
+    let (lengths, left) = (&[192; 8], fields(64));
+    let parts = Parts { patterns: &patterns, lengths, left: &left, right: &[42; 24], ..NOTHING };
     assert_eq!(written(parts, SHEET_BYTES).0, Written::Sheet { bytes: SHEET_BYTES - 3 });
     assert_eq!(written(parts, SHEET_BYTES - 4).0, Written::TooShort);
     let patterns = [vec![196; 191], vec![0]].concat().repeat(8);
-    let (edition, left) = (Edition::FullAscii, [199; 24]);
+    let (edition, left) = (Edition::FullAscii, fields(192));
     let parts = Parts { edition, patterns: &patterns, left: &left, ..parts };
     assert_eq!(written(parts, SHEET_BYTES).0, Written::Sheet { bytes: SHEET_BYTES });
     assert_eq!(written(parts, SHEET_BYTES - 1).0, Written::TooShort);
@@ -105,10 +108,10 @@ fn in_full_ascii() {
             patterns: b"@\xC4D",
             lengths: &[1, 0, 2],
             left: b"A\xC2",
-            right: b"\0\x7F",
+            right: b"\0\x7F\xC0",
             ..ascii
         },
-        b"ED\x02PA\x00\x01@PA\x02\x02\xC4DLE\x02A\xC2RI\x02\0\x7F",
+        b"ED\x02PA\x00\x01@PA\x02\x02\xC4DLE\x02A\xC2RI\x03\0\x7F\xC0",
     );
     let refused = |parts, fault, place| {
         assert_eq!(written(parts, SHEET_BYTES).0, Written::Refused { fault, place });
@@ -119,6 +122,7 @@ fn in_full_ascii() {
     refused(Parts { left: &[128], ..ascii }, Fault::WrongToken, 6);
     refused(Parts { right: &[200], ..ascii }, Fault::WrongToken, 9);
     refused(Parts { left: &[192], ..NOTHING }, Fault::WrongToken, 3);
+    refused(Parts { patterns: b"@", lengths: &[0, 1], ..ascii }, Fault::StrayPattern, 3);
     for (sheet, edition) in [(&b"ED\x02LE"[..], Edition::FullAscii), (b"ED\x03", Edition::Code39)] {
         assert_eq!(Edition::of(sheet), edition);
     }
@@ -154,6 +158,11 @@ fn faults() {
     refused(Parts { left: &[4; 25], ..of(&[4], &[1]) }, Fault::WrongLength, 7);
     refused(Parts { left: &[4], right: &[43; 280], ..NOTHING }, Fault::WrongLength, 6);
     refused(Parts { left: &[4], right: &[71, 72], ..NOTHING }, Fault::WrongToken, 8);
+    // a pattern of a field that doesn't stand: behind all others, and the first of two
+    let stray = Parts { left: &[4], right: &[66], ..of(&[4, 4, 4, 4], &[0, 0, 1, 2, 1]) };
+    refused(stray, Fault::NotOnePattern, 10);
+    refused(Parts { lengths: &[0, 0, 1, 1, 0, 0, 0, 1], ..stray }, Fault::StrayPattern, 5);
+    refused(Parts { lengths: &[1], right: &[72], ..stray }, Fault::WrongToken, 12);
 }
 
 /// The edition with this number.
@@ -190,7 +199,7 @@ fn generated_cases() {
         let mut longest = [FILL; SHEET_BYTES];
         assert_ne!(write(&mut longest), Written::TooShort, "{case:?}");
     }
-    assert!(seen.keys().eq(&[0, 11, 13, 14, 15, 16, 17, 41]));
+    assert!(seen.keys().eq(&[0, 11, 13, 14, 15, 16, 17, 22, 41]));
     assert!(seen.values().all(|&times| times > 100), "{seen:?}");
 }
 
@@ -205,7 +214,7 @@ fn sheets_written_again() {
             continue;
         }
         let edition = Edition::of(&sheet);
-        let front = if edition == Edition::FullAscii { 3 } else { 0 };
+        let front = edition.record().len();
         let (mut patterns, mut lengths, mut rest) = (Vec::new(), [0; 8], &sheet[front..]);
         while rest.starts_with(b"PA") {
             let (record, behind) = rest.split_at(4 + usize::from(rest[3]));

@@ -9,7 +9,7 @@ use std::io::{self, Read, Write};
 use std::os::unix::fs::{fchown, MetadataExt};
 use std::path::{Path, PathBuf};
 
-use bradovusc::{catalogue_bytes, MOST_RULES};
+use bradovusc::{catalogue_bytes, drop_strays_catalogue, MendedCatalogue, MOST_RULES};
 
 use crate::decompile::{entries, Entry};
 use crate::report::grouped;
@@ -84,7 +84,7 @@ impl Catalogue {
             )));
         }
         let Some(entries) = entries(&bytes) else {
-            return Err(Problem::Fault(format!("{name} is no catalogue (34)")));
+            return Err(Problem::Fault(no_catalogue(&name, &bytes)));
         };
         let path = fs::canonicalize(path).map_err(failed)?;
         Ok(Catalogue { path, name, bytes, entries, locked: None })
@@ -112,6 +112,21 @@ impl Catalogue {
         Ok(())
     }
 }
+
+/// That the bytes are no catalogue; of such as versions up to 0.8 took for one, how it is mended.
+fn no_catalogue(name: &str, bytes: &[u8]) -> String {
+    let words = format!("{name} is no catalogue (34)");
+    // what the library can mend was one, but for stray patterns
+    match drop_strays_catalogue(&mut bytes.to_vec()) {
+        MendedCatalogue::Done => words + STRAYS,
+        MendedCatalogue::NoCatalogue => words,
+    }
+}
+
+const STRAYS: &str =
+    ": a rule has a pattern for a field that does not stand in it, so it may be from version 0.8 or \
+     before. The program drop_strays, or the library's bradovusc_drop_strays_catalogue, takes such \
+     patterns out; that comes before carrying over";
 
 /// Puts a new file to a place where none is. A link is never made over a file that someone else has
 /// put there meanwhile; where there are no links, the file is renamed.

@@ -1,7 +1,7 @@
 //! Rules as bytes, for the library. Of each byte it is known from which part of the source it was
 //! made, so that a fault which the library finds can be shown there.
 
-use bradovusc::{Answer, Edition, Fault, RULE_FIELDS};
+use bradovusc::{Answer, Fault, RULE_FIELDS};
 
 use crate::notation::{Field, Rule, Stands};
 use crate::plain::{plain, Form, Plain};
@@ -22,8 +22,6 @@ const THEN: u8 = 2;
 const OR: u8 = 3;
 const MANY: u8 = 4;
 
-/// The record in front of a sheet of Full ASCII.
-const FULL_ASCII: &[u8] = b"ED\x02";
 /// A right side that is empty.
 const NO_RIGHT: &[u8] = b"RI\x00";
 
@@ -105,9 +103,7 @@ fn compile(rule: &Rule) -> Compiled {
     let (edition, codes) = (rule.edition, rule.edition.codes());
     let mut front = Traced::default();
     let mut patterns = Vec::new();
-    if edition == Edition::FullAscii {
-        front.mark(FULL_ASCII, rule.span);
-    }
+    front.mark(edition.record(), rule.span);
     for (index, field) in rule.fields.iter().enumerate() {
         let Some(pattern) = &field.pattern else {
             continue;
@@ -248,6 +244,36 @@ mod tests {
             sheet(&rules[0], &rules[1]).unwrap(),
             b"PA\x01\x04\x44\x41\x00\x09PA\x04\x05\x43\x0A\x42\x0B\x1BLE\x04\x15\x1D\x40\x41RI\x03\x44\x04\x44"
         );
+    }
+
+    /// A field that does not stand is a mistake before anything is compiled, and a field that has a
+    /// pattern and stands is never stray, wherever it stands.
+    #[test]
+    fn no_strays() {
+        let rules = judged("a = A{x}{x}\n x = B\nb = {n}{m}{o}{p}\n p = A\n m = B*\nc = A\n");
+        for (left, right) in
+            rules.iter().flat_map(|left| rules.iter().map(move |right| (left, right)))
+        {
+            let sheet = sheet(left, right).unwrap();
+            let mut mended = vec![0; sheet.len()];
+            assert_eq!(bradovusc::drop_strays(&sheet, &mut mended).written(), sheet.len());
+            let mut record = left.record();
+            let given = record.clone();
+            assert_eq!(bradovusc::drop_strays_rule(&given, &mut record).written(), given.len());
+        }
+        for text in ["a = A\n x = B\n", "a = {x}\n y = B\n", "full ascii\na = x\n x = B\n"] {
+            let mistakes = read(&Source::new("f", text.as_bytes())).unwrap_err();
+            assert!(mistakes[0].words.ends_with("does not stand in its rule"), "{mistakes:?}");
+        }
+    }
+
+    /// Should one come all the same, it is told as the library's other faults are.
+    #[test]
+    fn a_stray_pattern_in_words() {
+        let rules = read(&Source::new("f", b"a = {x}\n x = B\n")).unwrap();
+        let mistake = compile(&rules[0]).front.mistake(Fault::StrayPattern, 0);
+        assert_eq!(mistake.words, "the library says: a stray pattern");
+        assert_eq!(mistake.span, rules[0].fields[0].span);
     }
 
     #[test]

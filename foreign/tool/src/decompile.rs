@@ -18,9 +18,6 @@ const FIELD: u8 = EDITION.codes();
 #[derive(Clone, Debug)]
 pub struct Entry {
     pub rule: Rule,
-    /// Patterns of fields that don't stand in the template, by the field's name. No label depends on
-    /// them, and the notation has no line for them.
-    pub stray: Vec<(String, Pattern)>,
     pub side: Side,
     /// The bytes of its record.
     pub bytes: usize,
@@ -82,11 +79,11 @@ impl<'a> Reader<'a> {
         }
         let length = usize::from(self.take()?);
         let tokens = self.take_many(length)?.to_vec();
-        let (rule, stray) = rule(number, &tokens, given);
+        let rule = rule(number, &tokens, &given);
         let fields = standing(&tokens).map(|field| (field, field_name(field))).collect();
         let (edition, title) = (EDITION, Title::Number(number));
         let side = Side { edition, title, patterns: bodies, tokens, fields };
-        Some(Entry { rule, stray, side, bytes: self.at - start })
+        Some(Entry { rule, side, bytes: self.at - start })
     }
 
     fn pattern(&mut self) -> Option<Pattern> {
@@ -149,8 +146,8 @@ fn standing(tokens: &[u8]) -> impl Iterator<Item = u8> + '_ {
     (0..RIGHT).filter(|field| tokens.contains(&(FIELD + field)))
 }
 
-/// A rule with the fields that stand in it, by rising number, and the other patterns.
-fn rule(number: usize, tokens: &[u8], given: Vec<(u8, Pattern)>) -> (Rule, Vec<(String, Pattern)>) {
+/// A rule with the fields that stand in it, by rising number. No other field has a pattern.
+fn rule(number: usize, tokens: &[u8], given: &[(u8, Pattern)]) -> Rule {
     let place = |token: u8| standing(tokens).position(|field| FIELD + field == token);
     let token = |&token: &u8| Token {
         stands: place(token).map_or(Stands::Character(token), Stands::Field),
@@ -166,9 +163,6 @@ fn rule(number: usize, tokens: &[u8], given: Vec<(u8, Pattern)>) -> (Rule, Vec<(
             .map(|(_, pattern)| pattern.clone()),
     };
     let fields = standing(tokens).map(field).collect();
-    let astray = |(field, _): &&(u8, Pattern)| place(FIELD + field).is_none();
-    let named = |(field, pattern): &(u8, Pattern)| (field_name(*field), pattern.clone());
-    let stray = given.iter().filter(astray).map(named).collect();
     let (name, span) = (number.to_string(), Span::default());
-    (Rule { edition: EDITION, name, span, template, fields }, stray)
+    Rule { edition: EDITION, name, span, template, fields }
 }

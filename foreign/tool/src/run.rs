@@ -262,11 +262,8 @@ impl Run<'_> {
         let catalogue = Catalogue::read(path, self.bytes())?;
         let mut used = 0;
         for entry in &catalogue.entries {
-            let (rule, mut words) = (&entry.rule, rule_text(&entry.rule));
-            for (field, pattern) in &entry.stray {
-                words += &format!("  # {field} = {} (it does not stand)\n", pattern_text(pattern));
-            }
-            self.say(&words, || rule_object(&entry.side.title, rule))?;
+            let rule = &entry.rule;
+            self.say(&rule_text(rule), || rule_object(&entry.side.title, rule))?;
             used += entry.bytes;
         }
         if !self.options.json {

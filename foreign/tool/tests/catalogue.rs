@@ -6,6 +6,7 @@ use std::fs::{self, OpenOptions, Permissions};
 use std::os::unix::fs::{symlink, PermissionsExt};
 use std::process::{Command, Stdio};
 
+use bradovusc::{drop_strays_catalogue, MendedCatalogue};
 use bradovusc_tool::catalogue::BYTES;
 use common::{call, golden, program, program_in, Folder};
 
@@ -92,6 +93,36 @@ fn changed_in_any_byte() {
         }
     }
     assert!(refused > 500, "{refused}");
+}
+
+/// A catalogue that another program filled, with stray patterns: it is refused and left, and the
+/// words say how it is mended. Once the library has mended it, every command does its work.
+#[test]
+fn stray_patterns() {
+    let folder = Folder::with_files("strays");
+    let (path, rules) = (stocked(&folder, "200"), folder.path("apart.rules"));
+    let whole = fs::read(&path).unwrap();
+    // a pattern of field d in the first rule, before its side
+    let side = whole.windows(2).position(|two| two == b"LE").unwrap();
+    let mut strays = [&whole[..side], b"PA\x03\x01\x04", &whole[side..195]].concat();
+    for words in all_commands(&path, &rules, "200") {
+        fs::write(&path, &strays).unwrap();
+        let said = call(&words);
+        assert_eq!((said.status, said.text().as_str()), (3, ""), "{words:?}");
+        assert!(said.errors.contains("(34): a rule has a pattern for a field that does not stand"));
+        assert!(said.errors.contains("The program drop_strays"), "{}", said.errors);
+        assert_eq!(fs::read(&path).unwrap(), strays);
+    }
+    assert_eq!(drop_strays_catalogue(&mut strays), MendedCatalogue::Done);
+    assert_eq!(strays, whole);
+    for words in all_commands(&path, &rules, "200") {
+        fs::write(&path, &strays).unwrap();
+        assert_eq!(call(&words).status, 0, "{words:?}");
+    }
+    // what is no catalogue for another cause has no such words
+    fs::write(&path, [&[1], &strays[1..]].concat()).unwrap();
+    let said = call(&["list", "--bytes", "200", &path]);
+    assert!(said.errors.ends_with("is no catalogue (34)\n"), "{}", said.errors);
 }
 
 /// A process that is ended in the midst of writing: here it may write no file above one block.

@@ -5,11 +5,12 @@ mod common;
 
 use std::fs;
 
-use bradovusc::Edition;
+use bradovusc::{drop_strays, Edition, Mended};
 use bradovusc_tool::ask::{Buffers, Room};
 use bradovusc_tool::notation::{read, rule_text};
 use bradovusc_tool::report::{problem_objects, problem_words};
 use bradovusc_tool::run::judged;
+use bradovusc_tool::sides::sheet;
 use bradovusc_tool::source::{Mistake, Source};
 use bradovusc_tool::status::Problem;
 use common::{files, golden, Dice};
@@ -156,6 +157,12 @@ fn ten_thousand_files() {
                     if let Some(shared) = &asked.shared {
                         assert_eq!(shared.label, pair[1].label(&shared.right), "{number}");
                     }
+                    // no pattern is stray: the library has nothing to drop
+                    let sheet = sheet(&pair[0], &pair[1]).unwrap();
+                    let mut mended = vec![0; sheet.len()];
+                    let written = Mended::Written { bytes: sheet.len() };
+                    assert_eq!(drop_strays(&sheet, &mut mended), written, "{number}");
+                    assert_eq!(mended, sheet, "{number}");
                     pairs += 1;
                 }
             }
@@ -166,6 +173,7 @@ fn ten_thousand_files() {
                 assert!(!mistakes.is_empty());
                 for mistake in mistakes {
                     assert!(inside(mistake, &lengths), "{number}: {mistake:?} {bytes:?}");
+                    assert!(!mistake.words.contains("stray"), "{number}: {mistake:?}");
                 }
                 mistakes_seen += mistakes.len();
                 assert!(problem_words(&problem).lines().count() > mistakes.len());

@@ -9,13 +9,18 @@
 //!   refused by `AD` and entered by `AE`
 //! - `calls --editions`: rules with a record `ED` or with bytes of the second
 //!   edition, and catalogues that hold such
+//! - `calls --strays SEED NUMBER`: as `--decided`, with `DS` among them, and with
+//!   stray patterns in many of the rules and of the catalogues
+//! - `calls --strays`: rules with stray patterns, beside every other fault too, and
+//!   catalogues that hold such
 //! - `calls --share SEED NUMBER`: no stream; of so many rules as storerooms write
 //!   them, how many are refused though they clash with none, by `AD` and by `AE`
 
 use std::io::{self, Write};
 use std::process::ExitCode;
 
-use second::make::{calls, editions, pairs, Dice};
+use second::calls::Operation;
+use second::make::{calls, editions, pairs, strays, Dice};
 use second::share::share;
 use second::storeroom;
 
@@ -26,11 +31,12 @@ fn main() -> ExitCode {
         ["--storeroom"] => storeroom::stream(),
         ["--full"] => storeroom::full_stream(),
         ["--serial"] => storeroom::serial_stream(),
-        ["--editions"] => {
-            let mut stream = Vec::new();
-            editions::calls().iter().for_each(|operation| operation.write(&mut stream));
-            stream
-        }
+        ["--editions"] => written(&editions::calls()),
+        ["--strays"] => written(&strays::calls()),
+        ["--strays", seed, number] => match parsed(seed, number) {
+            Some((mut dice, number)) => calls::strays_stream(&mut dice, number),
+            None => return usage(),
+        },
         ["--decided", seed, number] => match parsed(seed, number) {
             Some((mut dice, number)) => calls::decided_stream(&mut dice, number),
             None => return usage(),
@@ -54,6 +60,13 @@ fn main() -> ExitCode {
     }
 }
 
+/// The operations one behind the other.
+fn written(operations: &[Operation]) -> Vec<u8> {
+    let mut stream = Vec::new();
+    operations.iter().for_each(|operation| operation.write(&mut stream));
+    stream
+}
+
 /// A seed and a number.
 fn parsed(seed: &str, number: &str) -> Option<(Dice, usize)> {
     Some((Dice::new(seed.parse().ok()?), number.parse().ok()?))
@@ -74,7 +87,8 @@ fn shares(mut dice: Dice, number: usize) -> String {
 }
 
 fn usage() -> ExitCode {
-    eprintln!("usage: calls [--decided] SEED NUMBER | calls --storeroom | calls --full");
-    eprintln!("       calls --serial | calls --editions | calls --share SEED NUMBER");
+    eprintln!("usage: calls [--decided | --strays] SEED NUMBER | calls --storeroom | calls --full");
+    eprintln!("       calls --serial | calls --editions | calls --strays");
+    eprintln!("       calls --share SEED NUMBER");
     ExitCode::from(2)
 }

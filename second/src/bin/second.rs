@@ -25,6 +25,10 @@
 //! - `second --spelt`: a stream of cases, a line for each: what
 //!   `--spell-open-rule` writes where it begins with `RU`, and `--spell-open`
 //!   where not, into a buffer of the answer buffer's length
+//! - `second --drop-strays`, `second --drop-strays-rule`: an old sheet or rule
+//!   without its stray patterns; a refusal as above
+//! - `second --drop`: a stream of cases, a line for each, as `--spelt`: the sheet or
+//!   the rule without its stray patterns
 //! - `second --write`: a stream of cases of the writer of sheets, a line for each
 //! - `second --write-edition`: the same with the edition in front of each case
 //! - `second --plain`: a stream of cases, a line for each: what the engine for
@@ -47,7 +51,7 @@ use second::catalogue::{Searcher, HASHING, SCANNING};
 use second::decide::{self, SEARCHES};
 use second::fault::Fault;
 use second::smt::{self, compare, output, Told};
-use second::{full_ascii, sheet, shown, spell_open, steps, writer};
+use second::{drop_strays, full_ascii, sheet, shown, spell_open, steps, writer};
 use second::{ANSWER_BUFFER_TOO_SHORT, CLASH, NO_CLASH, NO_ROOM, SIDE_TOO_LONG};
 
 /// "the program's 65,520 hold 356; it reads 2,048 bytes of input", and lends
@@ -83,6 +87,9 @@ fn main() -> ExitCode {
         ["--spelt"] => many(|case| case.spelt() + "\n"),
         ["--spell-open"] => return spelt(spell_open::sheet),
         ["--spell-open-rule"] => return spelt(spell_open::rule),
+        ["--drop"] => many(|case| case.dropped() + "\n"),
+        ["--drop-strays"] => return spelt(drop_strays::sheet),
+        ["--drop-strays-rule"] => return spelt(drop_strays::rule),
         ["--calls"] => calls(HASHING, calls::After::line),
         ["--calls", "--scan"] => calls(SCANNING, calls::After::line),
         ["--calls", "--lines"] => calls(HASHING, calls::After::numbers),
@@ -113,6 +120,7 @@ fn usage() -> ExitCode {
     eprintln!("       second --decide [--scan | --lines | --table | --left]");
     eprintln!("       second --scripts STREAM | second --script SHEET | second --write-scripts");
     eprintln!("       second --spell-open | second --spell-open-rule | second --spelt");
+    eprintln!("       second --drop-strays | second --drop-strays-rule | second --drop");
     eprintln!("       second --write | second --write-edition | second --ascii");
     eprintln!("       second --plain [--lines]");
     eprintln!("       second --steps [--scan | --lines] | second --play");
@@ -136,8 +144,8 @@ fn one(work_length: usize, answer_length: usize) -> io::Result<()> {
     io::stdout().lock().write_all(lines.as_bytes())
 }
 
-/// One sheet or rule with the old meaning written out. None has more bytes than
-/// are read.
+/// One sheet or rule with the old meaning written out, or without its stray
+/// patterns. None has more bytes than are read.
 fn spelt(spell: fn(&[u8]) -> Result<Vec<u8>, Fault>) -> ExitCode {
     match read_one().map(|bytes| spell(&bytes)) {
         Ok(Ok(spelt)) => status(io::stdout().lock().write_all(&spelt)),

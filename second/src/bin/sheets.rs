@@ -34,10 +34,24 @@
 //! - `sheets --editions --few`: those of them with a byte next to a limit
 //! - `sheets --editions --write`: the same for the writer of sheets, the edition in
 //!   front of each case
+//! - `sheets --strays SEED NUMBER`: so many sheets with stray patterns, made from the
+//!   seed, some of them with other faults too
+//! - `sheets --strays`: each set of strays around two fields that stand, and every
+//!   other fault beside strays
+//! - `sheets --strays --write`: the same for the writer of sheets, the edition in
+//!   front of each case
+//! - `sheets --drop SEED NUMBER`: so many sheets and rules with stray patterns, to be
+//!   dropped, made from the seed
+//! - `sheets --drop`: those of `--strays`, and as many rules
 //!
 //! With `--edition 2` in front, what is made from a seed is of the second edition,
-//! and so are `--play-each` and `--printed`; a case of the writer has the edition in
-//! front.
+//! and so are `--play-each`, `--printed`, `--strays` and `--drop`; a case of the
+//! writer has the edition in front.
+//!
+//! With `--kept` in front, or behind `--edition 2`, what is made from a seed is the
+//! same, and so are `--play-each` and `--printed`, but stray patterns are taken out of
+//! the sheets and rules that were good with them. Of `--printed` the first sheet is
+//! another one.
 
 use std::io::{self, Write};
 use std::process::ExitCode;
@@ -46,9 +60,9 @@ use second::cases::Case;
 use second::edition::{Edition, FIRST, SECOND};
 use second::make::editions::Tried;
 use second::make::{
-    ascii, case, decided, editions, long, pairs, plainly, spelt, ways, written, Dice,
+    ascii, case, decided, editions, kept, long, pairs, plainly, spelt, strays, ways, written, Dice,
 };
-use second::{printed, storeroom, writer, MOST_ROOM};
+use second::{printed, steps, storeroom, writer, MOST_ROOM};
 
 fn main() -> ExitCode {
     let arguments: Vec<String> = std::env::args().skip(1).collect();
@@ -59,6 +73,13 @@ fn main() -> ExitCode {
         | ["--edition", "2", "--pairs"] => return usage(),
         ["--edition", "2", rest @ ..] => (SECOND, rest),
         all => (FIRST, all),
+    };
+    let (keeps, arguments) = match arguments {
+        // What has no stray patterns, or has them on purpose.
+        ["--kept", "--long" | "--growing" | "--ascii" | "--editions", ..]
+        | ["--kept", "--pairs" | "--plain-pairs" | "--strays" | "--drop", ..] => return usage(),
+        ["--kept", rest @ ..] => (true, rest),
+        all => (false, all),
     };
     let cases: Vec<Case> = match *arguments {
         ["--long", room] => match filling(room) {
@@ -71,20 +92,34 @@ fn main() -> ExitCode {
                 None => usage(),
             };
         }
-        ["--printed"] => printed_of(edition),
+        ["--printed"] => printed_of(edition, keeps),
         ["--pairs"] => storeroom::full_pairs(),
-        ["--printed", number] => return put_one(&printed_of(edition), number),
+        ["--printed", number] => return put_one(&printed_of(edition, keeps), number),
         ["--spelt", seed, number] => match made(edition, seed, number, spelt::case) {
-            Some(cases) => cases,
+            Some(cases) => return put_all(&keep(keeps, cases, kept::spelt), Case::write),
             None => return usage(),
         },
         ["--write", seed, number] => {
-            return match made(edition, seed, number, written::case) {
+            let cases = made(edition, seed, number, written::case);
+            return match cases.map(|cases| keep(keeps, cases, kept::written)) {
                 Some(cases) if edition == FIRST => put_all(&cases, writer::Case::write),
                 Some(cases) => put_all(&cases, writer::Case::write_edition),
                 None => usage(),
             };
         }
+        ["--strays"] => strays::each(edition),
+        ["--strays", "--write"] => {
+            return put_all(&strays::written(edition), writer::Case::write_edition)
+        }
+        ["--strays", seed, number] => match made(edition, seed, number, strays::case) {
+            Some(cases) => cases,
+            None => return usage(),
+        },
+        ["--drop"] => strays::each_dropped(edition),
+        ["--drop", seed, number] => match made(edition, seed, number, strays::dropped) {
+            Some(cases) => cases,
+            None => return usage(),
+        },
         ["--editions"] => editions::cases(Tried::All),
         ["--editions", "--few"] => editions::cases(Tried::AtLimits),
         ["--editions", "--write"] => {
@@ -99,17 +134,20 @@ fn main() -> ExitCode {
         }
         ["--steps", seed, number] => {
             return match made(edition, seed, number, ways::case) {
-                Some(cases) => put_all(&cases, |case, stream| case.write(stream)),
+                Some(cases) => put_all(&keep(keeps, cases, kept::stepped), steps::Case::write),
                 None => usage(),
             };
         }
         ["--play", seed, number] => {
             return match made(edition, seed, number, ways::played) {
-                Some(cases) => put_all(&cases, |case, stream| case.write(stream)),
+                Some(cases) => put_all(&keep(keeps, cases, kept::played), steps::Played::write),
                 None => usage(),
             };
         }
-        ["--play-each"] => return put_all(&ways::each(edition), |case, stream| case.write(stream)),
+        ["--play-each"] => {
+            let cases = ways::each(edition);
+            return put_all(&keep(keeps, cases, kept::played), steps::Played::write);
+        }
         ["--pairs", seed, number, ref rest @ ..] => match paired(edition, seed, number, rest) {
             Some(cases) => cases,
             None => return usage(),
@@ -134,7 +172,16 @@ fn main() -> ExitCode {
         },
         _ => return usage(),
     };
-    put_all(&cases, Case::write)
+    put_all(&keep(keeps, cases, kept::case), Case::write)
+}
+
+/// The cases as they are, or without their strays.
+fn keep<C>(keeps: bool, cases: Vec<C>, without: fn(C) -> C) -> Vec<C> {
+    if keeps {
+        cases.into_iter().map(without).collect()
+    } else {
+        cases
+    }
 }
 
 /// The cases one behind the other.
@@ -173,11 +220,11 @@ fn paired(edition: Edition, seed: &str, number: &str, rest: &[&str]) -> Option<V
 }
 
 /// Those whose lines tell wrong printers apart.
-fn printed_of(edition: Edition) -> Vec<Case> {
-    if edition == FIRST {
-        printed::cases()
-    } else {
-        printed::second_cases()
+fn printed_of(edition: Edition, keeps: bool) -> Vec<Case> {
+    match edition {
+        FIRST if keeps => printed::kept_cases(),
+        FIRST => printed::cases(),
+        _ => printed::second_cases(),
     }
 }
 
@@ -213,7 +260,8 @@ fn usage() -> ExitCode {
     eprintln!("       sheets --long ROOM [N] | sheets --printed [N] | sheets --decide SEED NUMBER");
     eprintln!("       sheets --pairs [SEED NUMBER [--twice] [--room ROOM]]");
     eprintln!("       sheets --ascii [SEED NUMBER] | sheets --editions [--few | --write]");
-    eprintln!("       sheets --edition 2 ..");
+    eprintln!("       sheets --strays [SEED NUMBER | --write] | sheets --drop [SEED NUMBER]");
+    eprintln!("       sheets --edition 2 .. | sheets --kept .. | sheets --edition 2 --kept ..");
     eprintln!("ROOM is at most 65535");
     ExitCode::from(2)
 }

@@ -3,16 +3,17 @@
 //! rules that clash, rooms of all sizes, list buffers near their bounds,
 //! catalogues that still fit once they are carried over and those that do not.
 //! Where they are asked for, `AE` and `RD` too: half of the additions and checks,
-//! and pairs with just the room in which a later search decides.
+//! and pairs with just the room in which a later search decides. And where those are
+//! asked for, strays: in many of the rules and of the catalogues, and `DS`.
 
-use super::decided;
 use super::{alphabet, damaged, patterns, random_bytes, sides, some_fields, spaces, write_out};
 use super::{big_pattern, Dice, Record, Sides, CHARACTERS, MOST_SIDE, SPACE};
+use super::{decided, strays};
 use crate::calls::MOST_DECIDED_LIST;
 use crate::calls::{After, Call, Calls, Operation, MOST_CATALOGUE, MOST_LIST, MOST_WORK};
 use crate::catalogue::DECIDED_PAIR_BYTES;
-use crate::catalogue::{read, HASHING, MOST_RULES, PAIR_BYTES, RULE, RULE_FIELDS};
-use crate::sheet::{FIELDS, LEFT, PATTERN};
+use crate::catalogue::{read_by, HASHING, MOST_RULES, PAIR_BYTES, RULE, RULE_FIELDS};
+use crate::sheet::{Reading, FIELDS, LEFT, PATTERN};
 use crate::spell_open;
 use crate::storeroom::{by_first_letter, FINISHES};
 use crate::write::{self, choice, many, row, tokens};
@@ -29,6 +30,14 @@ pub fn stream(dice: &mut Dice, number: usize) -> Vec<u8> {
 pub fn decided_stream(dice: &mut Dice, number: usize) -> Vec<u8> {
     let mut stream = written(&decided_operations(dice, number));
     stream.extend_from_slice(dice.pick(&DECIDED_ENDS));
+    stream
+}
+
+/// A stream of so many `AD`, `AE`, `WI`, `RE`, `RD`, `SO` and `DS` together, with
+/// strays among the rules, and an end.
+pub fn strays_stream(dice: &mut Dice, number: usize) -> Vec<u8> {
+    let mut stream = written(&strays_operations(dice, number));
+    stream.extend_from_slice(dice.pick(&STRAYS_ENDS));
     stream
 }
 
@@ -74,19 +83,27 @@ const DECIDED_ENDS: [&[u8]; 7] = [
     b"AFWI\x00",
 ];
 
+/// The same for `DS`.
+const STRAYS_ENDS: [&[u8]; 5] = [b"", b"D", b"DXWI\x00", b"SDWI\x00", b"dsWI\x00"];
+
 /// So many `AD`, `WI`, `RE` and `SO` together, with the `CA` and `WO` between
 /// them.
 pub fn operations(dice: &mut Dice, number: usize) -> Vec<Operation> {
-    made(dice, number, false)
+    made(dice, number, false, Reading::Old)
 }
 
 /// The same, with `AE` and `RD` among them.
 pub fn decided_operations(dice: &mut Dice, number: usize) -> Vec<Operation> {
-    made(dice, number, true)
+    made(dice, number, true, Reading::Old)
 }
 
-fn made(dice: &mut Dice, number: usize, decided: bool) -> Vec<Operation> {
-    let mut maker = Maker::new(dice, decided);
+/// The same, with strays and `DS` among them.
+pub fn strays_operations(dice: &mut Dice, number: usize) -> Vec<Operation> {
+    made(dice, number, true, Reading::New)
+}
+
+fn made(dice: &mut Dice, number: usize, decided: bool, reading: Reading) -> Vec<Operation> {
+    let mut maker = Maker::new(dice, decided, reading);
     while maker.told < number {
         maker.next();
     }
@@ -111,6 +128,8 @@ struct Maker<'a> {
     dice: &'a mut Dice,
     /// `AE` and `RD` are made too.
     decided: bool,
+    /// Strays and `DS` are made too, and the calls go by the new rule.
+    strays: bool,
     made: Vec<Operation>,
     /// How many of them are none of `CA` and `WO`.
     told: usize,
@@ -129,12 +148,12 @@ struct Maker<'a> {
 impl Maker<'_> {
     /// Begins with the catalogue and the bytes of work that are there at the
     /// start.
-    fn new(dice: &mut Dice, decided: bool) -> Maker<'_> {
-        let calls = Calls::new(HASHING);
+    fn new(dice: &mut Dice, decided: bool, reading: Reading) -> Maker<'_> {
+        let (calls, strays) = (Calls::by(reading, HASHING), reading == Reading::New);
         let style = Style::Storeroom(PREFIXES.to_vec());
         let (made, soon) = (Vec::new(), Vec::new());
         let (recheck, carry) = (false, false);
-        Maker { dice, decided, made, told: 0, calls, style, left: 12, soon, recheck, carry }
+        Maker { dice, decided, strays, made, told: 0, calls, style, left: 12, soon, recheck, carry }
     }
 
     fn make(&mut self, operation: Operation) {
@@ -160,6 +179,7 @@ impl Maker<'_> {
             self.other_work();
         }
         let operation = match self.dice.below(20) {
+            _ if self.strays && self.drops() => Operation::Drop,
             _ if self.carry => self.carry(),
             _ if self.recheck => self.recheck(),
             0..=3 => self.withdrawal(),
@@ -175,6 +195,33 @@ impl Maker<'_> {
             other => other,
         };
         self.make(operation);
+    }
+
+    /// Whether the strays are dropped now: soon where the catalogue holds some.
+    fn drops(&mut self) -> bool {
+        let holds = |reading| read_by(reading, &self.calls.catalogue).is_some();
+        let mends = holds(Reading::Old) && !holds(Reading::New);
+        self.dice.one_in(if mends { 3 } else { 30 })
+    }
+
+    /// The catalogue with strays in some of its rules, if it is of the form.
+    fn with_strays(&mut self, operation: Operation) -> Operation {
+        let Operation::Catalogue { length, front } = operation else { return operation };
+        let Some(present) = read_by(Reading::Old, &front) else {
+            return Operation::Catalogue { length, front };
+        };
+        let one_in = self.dice.pick(&[1, 2, 2, present.len().max(1)]);
+        let mut other = Vec::new();
+        for rule in present {
+            let rule = &front[rule.bytes];
+            let some = self.dice.one_in(one_in);
+            other.extend(if some { strays::into_rule(self.dice, rule) } else { rule.to_vec() });
+        }
+        let longer = length + other.len().saturating_sub(front.len());
+        if longer > MOST_CATALOGUE {
+            return Operation::Catalogue { length, front };
+        }
+        Operation::Catalogue { length: longer, front: other }
     }
 
     /// Two rules, one with a field that stands so often that a side grows too long,
@@ -243,8 +290,15 @@ impl Maker<'_> {
         self.make(Operation::Work(length.min(MOST_WORK)));
         let all = rules.concat();
         let operation = if self.dice.one_in(3) {
-            let with_zeros = self.with_zeros(all);
+            let mut with_zeros = self.with_zeros(all);
+            let dropped = self.strays && self.dice.one_in(2);
+            if dropped {
+                with_zeros = self.with_strays(with_zeros);
+            }
             self.make(with_zeros);
+            if dropped {
+                self.make(Operation::Drop);
+            }
             self.recheck_decided()
         } else {
             let new = rules.pop().expect("two rules at least");
@@ -279,8 +333,8 @@ impl Maker<'_> {
             *rule = self.with_fewer_patterns(rule);
         }
         let front = rules.concat();
-        let spelt = rules.iter().map(|rule| spell_open::rule(rule).map_or(0, |new| new.len()));
-        let needed: usize = spelt.sum();
+        let spelt = rules.iter().map(|rule| spell_open::rule_by(Reading::Old, rule));
+        let needed: usize = spelt.map(|spelt| spelt.map_or(0, |new| new.len())).sum();
         let length = match self.dice.below(8) {
             0 | 1 => needed,
             2 | 3 => needed - 1,
@@ -315,7 +369,7 @@ impl Maker<'_> {
 
     /// The bytes of the rules in the catalogue, if it is of the form.
     fn present(&self) -> Vec<Vec<u8>> {
-        let present = read(&self.calls.catalogue).unwrap_or_default();
+        let present = read_by(Reading::Old, &self.calls.catalogue).unwrap_or_default();
         present.into_iter().map(|rule| self.calls.catalogue[rule.bytes].to_vec()).collect()
     }
 
@@ -408,6 +462,10 @@ impl Maker<'_> {
         if matches!(operation, Operation::Catalogue { length: 0..60, .. }) {
             self.left = self.dice.between(1, 4);
         }
+        let operation = match operation {
+            other if self.strays && self.dice.one_in(2) => self.with_strays(other),
+            other => other,
+        };
         self.make(operation);
         self.other_work();
     }
@@ -441,7 +499,7 @@ impl Maker<'_> {
             let rule = self.good_rule();
             // A big pattern of the small style may have too many leaves. Not
             // too long, so that 20 of them fit.
-            if read(&rule).is_some() && rule.len() <= 200 {
+            if read_by(Reading::Old, &rule).is_some() && rule.len() <= 200 {
                 rules.push(rule);
             }
         }
@@ -593,6 +651,15 @@ impl Maker<'_> {
     }
 
     fn good_records(&mut self) -> Vec<Record> {
+        let mut records = self.records_in_style();
+        if self.strays && self.dice.one_in(4) {
+            let most = if self.dice.one_in(8) { FIELDS } else { RULE_FIELDS };
+            strays::add(self.dice, 1, 0..most as u8, &mut records);
+        }
+        records
+    }
+
+    fn records_in_style(&mut self) -> Vec<Record> {
         match &self.style {
             Style::Storeroom(prefixes) => as_in_a_storeroom(self.dice, prefixes),
             Style::Small(alphabet) => {

@@ -3,8 +3,8 @@
 
 use super::{any_answer_length, good_sheet, pairs, with_any_buffers, work_length, Dice};
 use crate::cases::Case;
-use crate::decide::{decides, questions, HASHING, SEARCHES};
-use crate::sheet::read;
+use crate::decide::{decide_by, decides, questions, HASHING, SEARCHES};
+use crate::sheet::Reading;
 use crate::{search, CLASH, SITUATION_BYTES};
 
 /// One case.
@@ -69,8 +69,8 @@ pub(super) fn two_rules(dice: &mut Dice) -> ([Vec<u8>; 2], usize) {
 /// Buffers for a good sheet: the answer buffer often exactly as long as the
 /// records, or one less.
 fn with_room(dice: &mut Dice, sheet: Vec<u8>, room: usize) -> Case {
-    let work = (room * SITUATION_BYTES) as u32;
-    let decided = Case { work, answer: 4096, sheet: sheet.clone() }.decide(HASHING).decided;
+    let (mut work, mut answer) = (vec![0; room * SITUATION_BYTES], [0; 4096]);
+    let decided = decide_by(Reading::Old, &sheet, &mut work, &mut answer, HASHING);
     let written = decided.outcome.written;
     let answer = match (decided.outcome.number, dice.below(4)) {
         (CLASH, 0) => written as u32,
@@ -97,7 +97,7 @@ const MOST_TRIED: usize = 356;
 /// least and the greatest of them.
 fn rooms(sheet: &[u8]) -> [Option<(usize, usize)>; SEARCHES] {
     let mut rooms = [None; SEARCHES];
-    let Ok(question) = read(sheet) else { return rooms };
+    let Ok(question) = Reading::Old.sheet(sheet) else { return rooms };
     let mut to = MOST_TRIED;
     for (search, question) in (1..).zip(questions(&question)) {
         let Some(question) = question else { continue };

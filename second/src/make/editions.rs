@@ -7,7 +7,7 @@ use crate::cases::Case;
 use crate::catalogue::RULE;
 use crate::edition::{Edition, FIRST, NONE, SECOND};
 use crate::pattern::{EMPTY, MANY, OR, RANGE, THEN};
-use crate::sheet::{LEFT, PATTERN, RIGHT};
+use crate::sheet::{Reading, LEFT, PATTERN, RIGHT};
 use crate::{writer, SITUATION_BYTES};
 
 /// Both sides of each limit of an edition: the edition byte, 43 and 128 characters,
@@ -320,6 +320,6 @@ fn case(edition: u64, patterns: &[&[u8]], left: &[u8], right: &[u8]) -> writer::
 
 /// The bytes of its sheet; 0 for one at fault.
 fn needed(writer::Case { edition, lengths, patterns, left, right, .. }: &writer::Case) -> u16 {
-    let sheet = writer::sheet(*edition, patterns, lengths, left, right);
+    let sheet = writer::sheet_by(Reading::Old, *edition, patterns, lengths, left, right);
     sheet.map_or(0, |sheet| sheet.len() as u16)
 }

@@ -8,8 +8,8 @@ use super::{said, write_out, Dice, Record, MOST_SIDE, SPACE};
 use crate::cases::Case;
 use crate::edition::FIRST;
 use crate::pattern::{Pattern, MOST_LEAVES};
-use crate::plain::plain_bytes;
-use crate::sheet::{FIELDS, LEFT, MOST_PATTERN, RIGHT};
+use crate::plain::plain_bytes_by;
+use crate::sheet::{Reading, FIELDS, LEFT, MOST_PATTERN, RIGHT};
 use crate::write::{choice, many, row};
 
 /// The bytes that are always enough.
@@ -45,7 +45,7 @@ pub fn case(dice: &mut Dice) -> Case {
 }
 
 /// A sheet in which no field stands twice.
-fn any(dice: &mut Dice) -> Vec<Record> {
+pub(super) fn any(dice: &mut Dice) -> Vec<Record> {
     match dice.below(16) {
         0..=3 => by_chance(dice),
         4..=9 => planted(dice),
@@ -335,7 +335,7 @@ fn large(dice: &mut Dice) -> Vec<Record> {
 /// A length of the bit buffer: just what is needed, or a few bytes less or more,
 /// none, plenty.
 fn bits(dice: &mut Dice, sheet: &[u8]) -> u32 {
-    let needed = match plain_bytes(sheet).bytes {
+    let needed = match plain_bytes_by(Reading::Old, sheet).bytes {
         // A refused sheet needs none, and must leave or clear what there is.
         0 => dice.between(1, 60),
         needed => needed,

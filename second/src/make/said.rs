@@ -94,7 +94,7 @@ impl Said {
     fn ends(&self, ends: &[u8]) -> Vec<u8> {
         let said = self.side(ends);
         match (ends, &said[..]) {
-            ([0, hi], _) if hi + 1 == CHARACTERS => vec![0, self.edition.characters - 1],
+            ([0, hi], _) if *hi == CHARACTERS - 1 => vec![0, self.edition.characters - 1],
             ([lo, hi], &[a, b]) if FIRST.has(*lo) && FIRST.has(*hi) && (lo < hi) != (a < b) => {
                 vec![b, a]
             }

@@ -8,7 +8,7 @@ use super::{said, work_length, Dice, Record, MOST_SIDE};
 use crate::cases::Case;
 use crate::catalogue::{RULE, RULE_FIELDS};
 use crate::edition::FIRST;
-use crate::sheet::{FIELDS, LEFT, RIGHT};
+use crate::sheet::{Reading, FIELDS, LEFT, RIGHT};
 use crate::{spell_open, write};
 
 /// One case; its bytes are a rule's where they begin with `RU`.
@@ -19,11 +19,15 @@ pub fn case(dice: &mut Dice) -> Case {
     Case { work: work_length(dice, room), answer: length(dice, &bytes), sheet: bytes }
 }
 
+fn length(dice: &mut Dice, bytes: &[u8]) -> u32 {
+    let spelt = if bytes.starts_with(RULE) { spell_open::rule_by } else { spell_open::sheet_by };
+    let needed = spelt(Reading::Old, bytes).map_or(bytes.len(), |spelt| spelt.len());
+    around(dice, needed, bytes)
+}
+
 /// A length of the output buffer: just what is needed, a byte or a record less
 /// or more, none, or plenty.
-fn length(dice: &mut Dice, bytes: &[u8]) -> u32 {
-    let spelt = if bytes.starts_with(RULE) { spell_open::rule } else { spell_open::sheet };
-    let needed = spelt(bytes).map_or(bytes.len(), |spelt| spelt.len());
+pub(super) fn around(dice: &mut Dice, needed: usize, bytes: &[u8]) -> u32 {
     let length = match dice.below(16) {
         0..=3 => needed,
         4 | 5 => needed.saturating_sub(1),
@@ -103,7 +107,7 @@ pub(super) fn records(dice: &mut Dice, below: usize, marks: &[&[u8; 2]]) -> Vec<
 }
 
 /// A field above 3, in a pattern behind the others or in the side.
-fn field_above_3(dice: &mut Dice, records: &mut Vec<Record>) {
+pub(super) fn field_above_3(dice: &mut Dice, records: &mut Vec<Record>) {
     let field = dice.between(RULE_FIELDS, FIELDS - 1) as u8;
     let at = records.iter().position(|record| record.field.is_none()).unwrap_or(0);
     if dice.one_in(2) {

@@ -9,9 +9,9 @@ use super::{any_answer_length, any_room, good, good_sheet, pairs, plainly, work_
 use crate::cases;
 use crate::edition::Edition;
 use crate::search::{search, Ending};
-use crate::sheet::{read, LEFT, RIGHT};
+use crate::sheet::{read, Reading, LEFT, RIGHT};
 use crate::situation::{Situation, State};
-use crate::steps::{child, steps, written, Case, Played, Record, A_CHARACTER, STEP};
+use crate::steps::{child, play_by, steps_by, written, Case, Played, Record, A_CHARACTER, STEP};
 use crate::write::{choice, many, row, sheet, text, tokens};
 use crate::{printed, records, SITUATION_BYTES};
 
@@ -32,7 +32,7 @@ pub fn case(dice: &mut Dice) -> Case {
     };
     let tried = |room: usize| {
         let (mut work, mut answer) = (vec![0; room * SITUATION_BYTES], vec![0; 65_536]);
-        steps(&sheet, &mut work, &mut answer, &mut [0; MOST_STEPS_BYTES])
+        steps_by(Reading::Old, &sheet, &mut work, &mut answer, &mut [0; MOST_STEPS_BYTES])
     };
     let found = tried(ROOM);
     let room = match dice.below(10) {
@@ -97,7 +97,7 @@ pub fn played(dice: &mut Dice) -> Played {
 fn with_answer(dice: &mut Dice, sheet: Vec<u8>, mut steps: Vec<u8>) -> Played {
     steps.truncate(MOST_STEPS_BYTES);
     let case = |answer: usize| cases::Case { work: 0, answer: answer as u32, sheet: sheet.clone() };
-    let (told, _) = Played { case: case(4_096), steps: steps.clone() }.run();
+    let told = play_by(Reading::Old, &sheet, &steps, &mut [0; 4_096]);
     let answer = match dice.below(10) {
         0 => 0,
         1 => any_answer_length(dice) as usize,
@@ -120,7 +120,7 @@ fn good_way(dice: &mut Dice) -> (Vec<u8>, Vec<Vec<u8>>) {
 
 /// The records of the search's way, one by one.
 fn way(sheet: &[u8]) -> Option<Vec<Vec<u8>>> {
-    match search(&read(sheet).ok()?, ROOM).ending {
+    match search(&Reading::Old.sheet(sheet).ok()?, ROOM).ending {
         Ending::Clash(way) => {
             Some(way.steps.iter().map(|step| written(std::slice::from_ref(step))).collect())
         }
@@ -189,7 +189,9 @@ fn wandering(dice: &mut Dice) -> (Vec<u8>, Vec<u8>) {
         1 => clashing(dice),
         _ => good_sheet(dice),
     };
-    let Ok(question) = read(&sheet) else { return (sheet, random_records(dice)) };
+    let Ok(question) = Reading::Old.sheet(&sheet) else {
+        return (sheet, random_records(dice));
+    };
     let mut situation = Situation::of(&question).trimmed();
     let mut steps = Vec::new();
     let (most, puts) = (dice.between(1, 60), dice.pick(&[1, 2, 6, 20]));

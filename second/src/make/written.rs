@@ -8,7 +8,7 @@ use super::said::said_parts;
 use super::{alphabet, good, parts, spelt, Dice, Record, MOST_SIDE};
 use crate::edition::FIRST;
 use crate::pattern::MOST_LEAVES;
-use crate::sheet::{FIELDS, LEFT, MOST_PATTERN, RIGHT};
+use crate::sheet::{Reading, FIELDS, LEFT, MOST_PATTERN, RIGHT};
 use crate::writer::{self, Case, MOST_SHEET};
 
 /// What `write` is handed, taken apart: a field's number, its length and its
@@ -72,7 +72,7 @@ fn longest(dice: &mut Dice) -> Made {
 }
 
 /// A pattern of just so many bytes.
-fn full(dice: &mut Dice, length: usize) -> Vec<u8> {
+pub(super) fn full(dice: &mut Dice, length: usize) -> Vec<u8> {
     let leaves = dice.pick(&[1, 2, 30, MOST_LEAVES]);
     let alphabet = alphabet(dice);
     let parts = parts(dice, &alphabet, leaves, length.min(MOST_PATTERN));
@@ -196,7 +196,7 @@ fn edition(dice: &mut Dice) -> u64 {
 /// more, none, plenty.
 fn output(dice: &mut Dice, case: &Case) -> u16 {
     let Case { edition, patterns, lengths, left, right, .. } = case;
-    let sheet = writer::sheet(*edition, patterns, lengths, left, right);
+    let sheet = writer::sheet_by(Reading::Old, *edition, patterns, lengths, left, right);
     let needed = sheet.map_or(0, |sheet| sheet.len());
     let most = dice.edition.record.len() + MOST_SHEET;
     let length = match dice.below(16) {

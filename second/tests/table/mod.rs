@@ -27,6 +27,7 @@ pub enum Shown {
     FirstToken,
     LaterToken,
     EditionByte,
+    Stray,
 }
 
 use Shown::*;
@@ -68,7 +69,8 @@ pub struct Met {
 }
 
 /// The first fault of records that stand behind this front, the last of them
-/// sides with these marks. A sheet, which has no front, may have an edition.
+/// sides with these marks. A sheet, which has no front, may have an edition. Where
+/// there is none, a stray pattern is one.
 pub fn met(bytes: &[u8], front: &[u8], sides: &[&[u8; 2]]) -> Option<Met> {
     let mut sides = sides.iter().peekable();
     let mut field_before = None;
@@ -81,7 +83,10 @@ pub fn met(bytes: &[u8], front: &[u8], sides: &[&[u8; 2]]) -> Option<Met> {
     loop {
         let next_side = sides.peek().map(|mark| &mark[..]);
         let read = match (next_side, &bytes[at..]) {
-            (None, []) => return None,
+            (None, []) => {
+                let (number, place, shown) = of_strays(second, bytes, first)?;
+                return Some(Met { number, place, shown, later: place > first });
+            }
             (None, _) => Err((12, at, BehindTheEnd)),
             (Some(_), [] | [_]) => Err((11, bytes.len(), CutShort)),
             (Some(_), rest) if at < front.len() => {
@@ -110,6 +115,29 @@ fn of_edition(bytes: &[u8]) -> Option<Fault> {
         [_, _, 2, ..] => None,
         _ => Some((44, 2, EditionByte)),
     }
+}
+
+/// The first pattern of a field whose token stands behind the patterns nowhere but in
+/// a mark or a length, of records without another fault.
+fn of_strays(second: bool, bytes: &[u8], first: usize) -> Option<Fault> {
+    let mut marks = Vec::new();
+    let mut at = first;
+    while bytes[at] == b'P' {
+        marks.push(at);
+        at += 4 + usize::from(bytes[at + 3]);
+    }
+    let mut standing = [false; 8];
+    while at < bytes.len() {
+        let end = at + 3 + usize::from(bytes[at + 2]);
+        for &token in &bytes[at + 3..end] {
+            if let Kind::Code(field) = kind(second, token) {
+                standing[usize::from(field)] = true;
+            }
+        }
+        at = end;
+    }
+    let stray = marks.into_iter().find(|mark| !standing[usize::from(bytes[mark + 2])])?;
+    Some((22, stray, Stray))
 }
 
 /// Where the record ends, or its fault.
@@ -235,6 +263,7 @@ pub fn all_come_up(seen: &BTreeMap<(Shown, bool), usize>, times: usize) {
         Range,
         FirstToken,
         LaterToken,
+        Stray,
     ];
     let first = everywhere.map(|shown| (shown, false));
     let later = everywhere.map(|shown| (shown, true));

@@ -22,7 +22,7 @@ same-length c = search needs
 returns : tie.Need-returns
 returns c =
     let at-carried = c .before .before .before in
-    carried-promised (at-carried .catalogue .result) (c .number .result) (at-carried .catalogue .ensures .0) (c .number .ensures)
+    carried-promised _ (c .number .result) (at-carried .catalogue .ensures .0) (c .number .ensures)
 
 pub catalogue-spec : {M : Type 1} → statement M
 catalogue-spec = tie.close (tie.spec catalogue-requires number-requires cast-result same-length returns)

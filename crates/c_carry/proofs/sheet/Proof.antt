@@ -1,26 +1,14 @@
 -- `sheet` meets its contract: it hands on what carrying over answers. Follows from `Spelt`.
-use mathlib.Core.Path.{ap}
-use native.Mathlib.Omega.{arith}
 use borrow.Author.Needs.{needs}
-use Rattle.base_answers.specs.declared.Numbers.{Numbers}
-use Rattle.c_carry.proofs.Spelt.{spelt-below, spelt-promised}
+use Rattle.c_carry.proofs.Spelt.{spelt-promised}
 use Rattle.c_carry.proofs.sheet.Statement.{statement}
 use Rattle.c_carry.proofs.sheet.Tie as tie
 
 sheet-requires : tie.Need-sheet-requires
 sheet-requires c κs = search needs
 
-in-numbers-requires : tie.Need-in-numbers-requires
-in-numbers-requires c κs = search needs
-
-tell-requires : tie.Need-tell-requires
-tell-requires c κs = search needs
-
-cast-result : tie.Need-cast-result
-cast-result c =
-    let at-numbers = c .before .before .before .before .before in
-    let spelt = at-numbers .before .before .before .sheet .result in
-    record { fits = omega (arith, spelt-below spelt, ap (λ (n : Numbers). n .number) (at-numbers .in-numbers .ensures)) }
+tell-spelt-requires : tie.Need-tell-spelt-requires
+tell-spelt-requires c κs = search needs
 
 same-length : tie.Need-same-length
 same-length c = search needs
@@ -30,13 +18,10 @@ same-length-2 c = search needs
 
 returns : tie.Need-returns
 returns c =
-    let at-tell = c .before .before .before in
-    let at-numbers = at-tell .before .before in
-    let at-spelt = at-numbers .before .before .before in
-    let at-start = at-spelt .before .before .before .before .before in
-    spelt-promised (at-spelt .sheet .result) (at-numbers .in-numbers .result) (at-start .args .told .now) (at-spelt .sheet .ensures .0)
-    (at-numbers .in-numbers .ensures)
-    (at-tell .tell .ensures)
+    let told = c .before .before in
+    let spelt = told .before .before .before .before in
+    let start = spelt .before .before .before .before .before in
+    spelt-promised (spelt .sheet .result) (start .args .told .now) (spelt .sheet .ensures .0) (told .tell-spelt .ensures .0) (told .tell-spelt .ensures .1)
 
 pub sheet-spec : {M : Type 1} → statement M
-sheet-spec = tie.close (tie.spec sheet-requires in-numbers-requires tell-requires cast-result same-length same-length-2 returns)
+sheet-spec = tie.close (tie.spec sheet-requires tell-spelt-requires same-length same-length-2 returns)

@@ -1,4 +1,4 @@
--- `catalogue` meets its contract, from what was read and put (`Answered`).
+-- `catalogue` meets its contract, from what was read and put (`CarryAnswered`).
 use Prim.Native.Nat.{ℕ}
 use native.Mathlib.Nat.{sub-zero}
 use native.Mathlib.Omega.{arith}
@@ -9,7 +9,7 @@ use lib.ListN.{length, take, length-replicate}
 use Rattle.catalogue_form.specs.Kept.{Of-form}
 use Rattle.catalogue_form.proofs.FormFound.{no-rules, some-rules}
 use Rattle.paper_carry.specs.Spelling.{longest-rules}
-use Rattle.carry_open.proofs.CarryAnswered.{and-kept-promised, none-kept, within, too-full, all-put}
+use Rattle.carry_open.proofs.CarryAnswered.{and-promised, none-kept, within, too-full, all-put}
 use borrow.Author.Needs.{needs}
 use Rattle.carry_open.proofs.catalogue.Statement.{statement}
 use Rattle.carry_open.proofs.catalogue.Tie as tie
@@ -23,7 +23,7 @@ same-length c = search needs
 returns : tie.Need-returns
 returns c =
     let f = c .before .before in
-    and-kept-promised _ _ (none-kept _ (no-rules (f .find .result) _ (f .find .ensures) (not-true (f .find .result .good) (c .if1 .taken))))
+    and-promised _ _ (none-kept _ (no-rules (f .find .result) _ (f .find .ensures) (not-true (f .find .result .good) (c .if1 .taken))))
 
 -- the rules that stand
 standing : (c : tie.Else1) →
@@ -44,7 +44,7 @@ slice-aggregate-put-rules : tie.Need-slice-aggregate-put-rules
 slice-aggregate-put-rules c = search needs
 
 put-rules-requires : tie.Need-put-rules-requires
-put-rules-requires c κs = standing (c .before .before .before)
+put-rules-requires c κs = search needs
 
 same-length-2 : tie.Need-same-length-2
 same-length-2 c = search needs
@@ -57,7 +57,7 @@ returns-2 : tie.Need-returns-2
 returns-2 c =
     let a = c .before .before in
     let x = standing (begun a .before) in
-    and-kept-promised _ _ (too-full x (a .put-rules .ensures x) (c .if2 .taken))
+    and-promised _ _ (too-full _ _ (x .of-form) _ (x .counted) (a .put-rules .ensures) (c .if2 .taken))
 
 sub-put : tie.Need-sub-put
 sub-put c = search needs
@@ -69,7 +69,7 @@ part-put-end : tie.Need-part-put-end
 part-put-end c =
     let a = c .before .before .before .before in
     let x = standing (begun a .before) in
-    omega (arith, within x (a .put-rules .ensures x), room (begun a), a .put-rules .kept .1 .1 .0)
+    omega (arith, within _ _ (x .of-form) _ (x .counted) (a .put-rules .ensures), room (begun a), a .put-rules .kept .0)
 
 put-requires : tie.Need-put-requires
 put-requires c κs = search needs
@@ -83,9 +83,9 @@ returns-3 c =
     let e = p .before .before .before .before in
     let a = e .before .before in
     let x = standing (begun a .before) in
-    and-kept-promised _ _
-    (all-put x (a .put-rules .ensures x) (room (begun a)) (e .if2 .left) _ _
-    (ap (λ (n : ℕ). take n (a .put-rules .last .1 .1 .0)) (sub-zero (a .put-rules .result))) (p .put .ensures))
+    and-promised _ _
+    (all-put _ _ (x .of-form) _ (x .counted) (a .put-rules .ensures) (room (begun a)) (e .if2 .left) _ _
+    (ap (λ (n : ℕ). take n (a .put-rules .last .0)) (sub-zero (a .put-rules .result))) (p .put .ensures))
 
 pub catalogue-spec : {M : Type 1} → statement M
 catalogue-spec =

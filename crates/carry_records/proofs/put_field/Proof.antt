@@ -1,12 +1,15 @@
--- `put_field` meets its contract: the record that stands there, or the one that is missing.
+-- `put_field` meets its contract: the record that stands there, if it is not left out, or what is put where there is none.
 use Prim.Native.Nat.{ℕ, _+_, _≤_}
 use native.Mathlib.Nat.{add-zero, add-sub-cancel-left}
 use native.Mathlib.Omega.{arith}
 use mathlib.Core.Path.{_≡_, sym, ap, _∙_}
 use denote.Ref.{now}
+use mathlib.Core.Bool.{false}
+use lib.Dec.{eqb}
 use lib.ListN.{length}
 use borrow.Author.Tests.{ne-eqb}
-use Rattle.carry_records.specs.Opening.{record-length, field-put}
+use Rattle.base_put.proofs.Counting.{counted-none}
+use Rattle.carry_records.specs.Changing.{record-length, field-put}
 use Rattle.carry_records.proofs.Records.{record-within}
 use borrow.Author.Needs.{needs}
 use Rattle.carry_records.proofs.put_field.Statement.{statement}
@@ -47,6 +50,26 @@ returns c =
 add-next : tie.Need-add-next
 add-next c = omega (arith, inside c)
 
+leaves-out-requires : tie.Need-leaves-out-requires
+leaves-out-requires c κs = search needs
+
+-- the field has a record
+stands-there : (c : tie.Else1) →
+    let a = c .before .before .before .before .args in
+    eqb (record-length (now (a .s)) (a .from) (a .length)) 0 ≡ false
+stands-there c = rw (← its-record (c .before)) (ne-eqb (c .before .record-at .result) 0 (c .if1 .left))
+
+behind-it : (c : tie.Else1) →
+    let a = c .before .before .before .before .args in
+    a .from + c .before .record-at .result ≡ a .from + record-length (now (a .s)) (a .from) (a .length)
+behind-it c = ap (λ (n : ℕ). c .before .before .before .before .args .from + n) (its-record (c .before))
+
+returns-2 : tie.Need-returns-2
+unfolding field-put
+returns-2 c =
+    let some = c .before .before in
+    (behind-it some, rw (stands-there some, sym (c .before .leaves-out .ensures) ∙ c .if2 .taken) counted-none)
+
 sub-put-all : tie.Need-sub-put-all
 sub-put-all c = search needs
 
@@ -54,7 +77,7 @@ part-put-all-start : tie.Need-part-put-all-start
 part-put-all-start c = search needs
 
 part-put-all-end : tie.Need-part-put-all-end
-part-put-all-end c = inside (c .before)
+part-put-all-end c = inside (c .before .before .before)
 
 put-all-requires : tie.Need-put-all-requires
 put-all-requires c κs = search needs
@@ -62,16 +85,16 @@ put-all-requires c κs = search needs
 same-length-2 : tie.Need-same-length-2
 same-length-2 c = search needs
 
-returns-2 : tie.Need-returns-2
+returns-3 : tie.Need-returns-3
 unfolding field-put
-returns-2 c =
+returns-3 c =
     let put = c .before .before in
-    let some = put .before .before .before in
+    let stays = put .before .before .before in
+    let some = stays .before .before in
     let at = some .before in
-    let a = at .before .before .before .args in
-    let same = its-record at in (
-      ap (λ (n : ℕ). a .from + n) same,
-      rw (← same, ne-eqb (at .record-at .result) 0 (some .if1 .left))
+    let a = at .before .before .before .args in (
+      behind-it some,
+      rw (stands-there some, sym (stays .before .leaves-out .ensures) ∙ stays .if2 .left, ← its-record at)
           (rw (add-sub-cancel-left (a .from) (at .record-at .result)) at (put .put-all .ensures)),
     )
 
@@ -84,9 +107,11 @@ put-field-spec =
     same-length
     returns
     add-next
+    leaves-out-requires
+    returns-2
     sub-put-all
     part-put-all-start
     part-put-all-end
     put-all-requires
     same-length-2
-    returns-2)
+    returns-3)

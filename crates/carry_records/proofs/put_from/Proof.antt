@@ -5,17 +5,16 @@ use mathlib.Core.Path.{_≡_, refl, _∙_}
 use lib.ListN.{length}
 use borrow.Author.Needs.{needs}
 use Rattle.paper.specs.Numbers.{fields}
-use Rattle.base_editions.specs.Editions.{paper-edition}
 use Rattle.carry_records.proofs.Records.{Going, going-start, going-on, going-ends}
 use Rattle.carry_records.proofs.put_from.Statement.{statement}
 use Rattle.carry_records.proofs.put_from.Tie as tie
 
 abbrev Inv-loop : tie.InvT-loop
-Inv-loop out₀ at s from edition bodies counts end₀ next₀ f₀ out end next f =
-    (f ≤ fields) × (length out ≡ length out₀) × Going (paper-edition edition) out₀ out at end s from next f bodies counts
+Inv-loop out₀ at s from change bodies counts end₀ next₀ f₀ out end next f =
+    (f ≤ fields) × (length out ≡ length out₀) × Going change out₀ out at end s from next f bodies counts
 
 abbrev μ-loop : tie.MeasureT-loop
-μ-loop out₀ at s from edition bodies counts end₀ next₀ f₀ out end next f = fields - f
+μ-loop out₀ at s from change bodies counts end₀ next₀ f₀ out end next f = fields - f
 
 loop-holds : tie.Need-loop-holds Inv-loop μ-loop
 loop-holds c = (omega arith, refl, going-start _ _ _ _ _ _ _)

@@ -1,61 +1,26 @@
--- `put_missing` meets its contract: nothing, or the record's parts one behind the other.
-use borrow.Author.Tests.{eq-eqb, ne-eqb}
-use Rattle.base_put.proofs.Counting.{counted-none, counted-then}
-use Rattle.base_editions.specs.Editions.{paper-edition}
-use Rattle.carry_records.proofs.FromSaid.{out-said}
+-- `put_missing` meets its contract: the record that is written out, or nothing.
 use borrow.Author.Needs.{needs}
+use Rattle.base_put.proofs.Counting.{counted-none}
 use Rattle.carry_records.proofs.put_missing.Statement.{statement}
 use Rattle.carry_records.proofs.put_missing.Tie as tie
 
-returns : tie.Need-returns
-returns c = rw (eq-eqb (c .before .before .args .count) 0 (c .if1 .taken)) counted-none
+enum-known-change : tie.Need-enum-known-change
+enum-known-change c = search needs
 
-slice-aggregate-put-all : tie.Need-slice-aggregate-put-all
-slice-aggregate-put-all c = search needs
+put-open-requires : tie.Need-put-open-requires
+put-open-requires c κs = search needs
 
-put-all-requires : tie.Need-put-all-requires
-put-all-requires c κs = search needs
-
-cast-put : tie.Need-cast-put
-cast-put c = search needs
-
-put-requires : tie.Need-put-requires
-put-requires c κs = search needs
-
-written-out-requires : tie.Need-written-out-requires
-written-out-requires c κs = search needs
-
-slice-aggregate-put-all-2 : tie.Need-slice-aggregate-put-all-2
-slice-aggregate-put-all-2 c = search needs
-
-put-all-requires-2 : tie.Need-put-all-requires-2
-put-all-requires-2 c κs = search needs
+enum-told : tie.Need-enum-told
+enum-told c = search needs
 
 same-length : tie.Need-same-length
 same-length c = search needs
 
+returns : tie.Need-returns
+returns c = let put = c .before .before in rw (put .before .before .before .change .given .1) (put .put-open .ensures)
+
 returns-2 : tie.Need-returns-2
-returns-2 c =
-    let code = c .before .before in
-    let written = code .before .before .before in
-    let named = written .before .before .before in
-    let marked = named .before .before .before .before in
-    let test = marked .before .before .before in
-    let a = test .before .before .args in
-    rw (ne-eqb (a .count) 0 (test .if1 .left), ← out-said (paper-edition (a .edition)) (a .f))
-    (counted-then (counted-then (marked .put-all .ensures) (named .put .ensures)) (rw (written .written-out .ensures) at (code .put-all2 .ensures)))
+returns-2 c = rw (c .enum-told .given .1) counted-none
 
 pub put-missing-spec : {M : Type 1} → statement M
-put-missing-spec =
-    tie.close
-    (tie.spec
-    returns
-    slice-aggregate-put-all
-    put-all-requires
-    cast-put
-    put-requires
-    written-out-requires
-    slice-aggregate-put-all-2
-    put-all-requires-2
-    same-length
-    returns-2)
+put-missing-spec = tie.close (tie.spec enum-known-change put-open-requires enum-told same-length returns returns-2)

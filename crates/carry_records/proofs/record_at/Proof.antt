@@ -4,7 +4,7 @@ use native.Mathlib.Omega.{arith}
 use denote.Ref.{now}
 use borrow.Author.Tests.{lt-ltb, le-ltb, eq-eqb, ne-eqb}
 use Rattle.paper.specs.Sheet.{bytes-left}
-use Rattle.carry_records.specs.Opening.{record-length}
+use Rattle.carry_records.specs.Changing.{record-length}
 use borrow.Author.Needs.{needs}
 use Rattle.carry_records.proofs.record_at.Statement.{statement}
 use Rattle.carry_records.proofs.record_at.Tie as tie

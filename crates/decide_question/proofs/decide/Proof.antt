@@ -6,11 +6,8 @@ use borrow.Author.Needs.{needs}
 use Rattle.decide_question.proofs.decide.Statement.{statement}
 use Rattle.decide_question.proofs.decide.Tie as tie
 
-every-requires : tie.Need-every-requires
-every-requires c κs = search needs
-
-search-requires : tie.Need-search-requires
-search-requires c κs = search needs
+search-all-requires : tie.Need-search-all-requires
+search-all-requires c κs = search needs
 
 decides-requires : tie.Need-decides-requires
 decides-requires c κs = search needs
@@ -28,19 +25,17 @@ returns : tie.Need-returns
 returns c =
     let d = c .before .before in
     let s = d .before .before .before .before .before in
-    let every = s .before .before .before in
-    let start = every .before .before .before in
-    first-told _ _ (every .every .ensures) (now (start .args .work)) (now (start .args .answer)) _ _ _ (s .search .ensures) (sym (d .decides .ensures) ∙ c .before .if1 .taken) _ (c .told .ensures)
+    let start = s .before .before .before .before .before in
+    first-told _ (now (start .args .work)) (now (start .args .answer)) _ _ _ (s .search-all .ensures) (sym (d .decides .ensures) ∙ c .before .if1 .taken) _ (c .told .ensures)
 
 further-searches-requires : tie.Need-further-searches-requires
 further-searches-requires c κs =
     let e = c .before .before in
     let d = e .before in
     let s = d .before .before .before .before .before in
-    let every = s .before .before .before in
-    let start = every .before .before .before in (
-      still-clear _ _ (every .every .ensures) (now (start .args .work)) (now (start .args .answer)) _ _ _ (s .search .ensures),
-      first-at-most _ _ (every .every .ensures) (now (start .args .work)) (now (start .args .answer)) _ _ _ (s .search .ensures),
+    let start = s .before .before .before .before .before in (
+      still-clear _ (now (start .args .work)) (now (start .args .answer)) _ _ _ (s .search-all .ensures),
+      first-at-most _ (now (start .args .work)) (now (start .args .answer)) _ _ _ (s .search-all .ensures),
     )
 
 same-length-3 : tie.Need-same-length-3
@@ -55,17 +50,15 @@ returns-2 c =
     let e = x .before .before .before in
     let d = e .before in
     let s = d .before .before .before .before .before in
-    let every = s .before .before .before in
-    let start = every .before .before .before in
-    first-undecided _ _ (every .every .ensures) (now (start .args .work)) (now (start .args .answer)) _ _ _ (s .search .ensures) (sym (d .decides .ensures) ∙ e .if1 .left)
+    let start = s .before .before .before .before .before in
+    first-undecided _ (now (start .args .work)) (now (start .args .answer)) _ _ _ (s .search-all .ensures) (sym (d .decides .ensures) ∙ e .if1 .left)
     _ _ _ (x .further-searches .ensures)
 
 pub decide-spec : {M : Type 1} → statement M
 decide-spec =
     tie.close
     (tie.spec
-    every-requires
-    search-requires
+    search-all-requires
     decides-requires
     told-requires
     same-length

@@ -13,7 +13,7 @@ use Rattle.paper.specs.Places.{PlaceSet}
 use Rattle.paper.specs.Search.{Entry, End, found, used-up, no-room, too-long}
 use Rattle.paper.specs.Situation.{Situation, Move}
 use Rattle.paper.specs.Question.{Question, hidden}
-use Rattle.paper.specs.Sheet.{Fault, cut-short, wrong-mark, wrong-field, wrong-length, not-one-pattern, too-many-leaves, wrong-token, wrong-edition}
+use Rattle.paper.specs.Sheet.{Fault, cut-short, wrong-mark, wrong-field, wrong-length, not-one-pattern, too-many-leaves, wrong-token, wrong-edition, stray-pattern}
 use Rattle.paper.specs.Sheet.{fault-number, Reading, refused, asked, read-sheet}
 use Rattle.paper.specs.Outcome.{Outcome, room-of, searched, records, without-bytes, clash, answered, count-of, how-of}
 use Rattle.paper.specs.Outcome.{outcome-of, outcome}
@@ -30,6 +30,7 @@ fault-numbered not-one-pattern = (refl, false≢true)
 fault-numbered too-many-leaves = (refl, false≢true)
 fault-numbered wrong-token = (refl, false≢true)
 fault-numbered wrong-edition = (refl, false≢true)
+fault-numbered stray-pattern = (refl, false≢true)
 
 module _ (work answer : List ℕ) where
   fault-met : (x : Fault) (at : ℕ) → Demand1 (refused x at) work answer (outcome-of (refused x at) work answer)

@@ -16,7 +16,7 @@ use Rattle.paper.specs.Equation.{fld}
 use Rattle.paper.specs.Plain.{plain, Reaches}
 use Rattle.paper.specs.Alphabet.{code-39, code}
 use Rattle.paper.specs.Question.{Question, held-by, hidden, acceptor}
-use Rattle.paper.specs.Sheet.{marked, pattern-record, side-record, Reading, read-end, marked-side, next-is, edition-front, read-sheet}
+use Rattle.paper.specs.Sheet.{marked, pattern-record, side-record, Reading, read-end, marked-side, next-is, edition-front, strays-of, read-by, read-sheet}
 use Rattle.paper.specs.Outcome.{room-of, searched, count-of, how-of, outcome-of, outcome}
 use Rattle.paper.specs.Demands.{Good, end-of, bound-of, Demand3}
 use Rattle.paper.proofs.base.Tests.{true-false}
@@ -87,7 +87,7 @@ question-S =
     }
 
 pub sheet-S-asks : Good (read-sheet sheet-S) question-S
-unfolding judge marked pattern-record side-record read-end marked-side next-is code edition-front read-sheet
+unfolding judge marked pattern-record side-record read-end marked-side next-is code edition-front read-by strays-of read-sheet
 sheet-S-asks = refl
 
 pub sheet-S-bound : bound-of question-S ≡ 25

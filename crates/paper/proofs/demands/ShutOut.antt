@@ -21,7 +21,7 @@ use Rattle.paper.specs.Situation.{Situation, Move, trimmed, strike, put-
 use Rattle.paper.specs.Way.{search-from, texts-of}
 use Rattle.paper.specs.Question.{Question, hidden, acceptor}
 use Rattle.paper.specs.Alphabet.{code}
-use Rattle.paper.specs.Sheet.{marked, pattern-record, side-record, Reading, read-end, marked-side, next-is, edition-front, read-sheet}
+use Rattle.paper.specs.Sheet.{marked, pattern-record, side-record, Reading, read-end, marked-side, next-is, edition-front, strays-of, read-by, read-sheet}
 use Rattle.paper.specs.Outcome.{Outcome, outcome, room-of, searched, standing, value-record, records, cleared, clash, count-of, how-of}
 use Rattle.paper.specs.Demands.{Good, end-of, Solved, texts-found, records-of, Clash, Demand2}
 use Rattle.paper.proofs.base.Tests.{le-leb}
@@ -115,7 +115,7 @@ unfolding clash
 written-S answer h = rw (records-S, le-leb 12 (length answer) h)
 
 number-AB : outcome sheet-AB roomy [] .number ≡ 1
-unfolding set-after may-end judge enter offer take-next search trimmed strike put-before open-moves child-by children question search-from texts-of acceptor marked pattern-record side-record read-end marked-side next-is code edition-front read-sheet outcome room-of searched clash count-of how-of
+unfolding set-after may-end judge enter offer take-next search trimmed strike put-before open-moves child-by children question search-from texts-of acceptor marked pattern-record side-record read-end marked-side next-is code edition-front read-by strays-of read-sheet outcome room-of searched clash count-of how-of
 number-AB = refl
 
 outcome-S : (answer : List ℕ) → 12 ≤ length answer

@@ -12,7 +12,7 @@ use mathlib.Core.Path.{_≡_, refl, sym, ap, ap₂, _∙_}
 use mathlib.Core.Bool.{Bool, true, false, _&&_}
 use mathlib.Core.List.{List, [], _∷_, _++_, map, append-assoc, append-nil, List·Memᴰ, List·Memᴰ·head, List·Memᴰ·tail}
 use lib.Dec.{ltb, eqb}
-use lib.ListN.{length, getD, take, drop, replicate, length-append, length-drop, length-map}
+use lib.ListN.{length, getD, take, drop, set, replicate, length-append, length-drop, length-map}
 use lib.Seq.{getD-drop, drop-drop, take-append-seam, drop-append-seam, take-at, drop-at, set-at, append-snoc}
 use Rattle.paper.specs.Lists.{all}
 use Rattle.paper.specs.Numbers.{most-characters, fields, field-token, pattern-bytes, sheet-side}
@@ -25,6 +25,7 @@ use Rattle.paper.specs.Question.{Question}
 use Rattle.paper.specs.Sheet.{read, byte-at, bytes-left, body, Mark, PA, LE, RI, ED, first-letter, second-letter, marked}
 use Rattle.paper.specs.Sheet.{pattern-record, is-token, token, side-record, marked-side, Records, records, Fields}
 use Rattle.paper.specs.Sheet.{open-fields, next-is, read-patterns, asked, read-end, left-read, edition-front, read-sheet}
+use Rattle.paper.specs.Sheet.{strays, LastCheck, no-check, at-stray, stray-check, read-by, read-before}
 use Rattle.paper.specs.Saying.{edition-laid, edition-byte, pattern-code, token-byte, pattern-saying, patterns-saying, side-saying, sheet-saying}
 use Rattle.paper.proofs.sheets.Asked.{InRange, GoodSide, GoodHeld, GoodQuestion, characters}
 use Rattle.paper.proofs.sheets.Editions.{most-of, code-character, code-sign}
@@ -108,57 +109,58 @@ none-next s at rest e u = cond-by (λ (b : Bool). b ≡ false) (ltb (bytes-left 
 -- What reading the patterns' records gives: what each field may hold, up to the bytes behind them.
 pub record Said (s : List ℕ) (held : List Held) (rest : List ℕ) (x : Records Fields) : Type 0 where
   pub last : ℕ
+  pub marks : List ℕ
   pub next : ℕ
-  pub reads : x ≡ records (record { held = held; above = last }) next
+  pub reads : x ≡ records (record { held = held; marks = marks; above = last }) next
   pub behind : drop next s ≡ rest
 
 -- the patterns of some fields are done, the others are left
-abbrev pub partly : List Held → List Held → ℕ → Fields
-partly done left above = record { held = done ++ replicate (length left) some-text; above = above }
+abbrev pub partly : List Held → List Held → List ℕ → ℕ → Fields
+partly done left marks above = record { held = done ++ replicate (length left) some-text; marks = marks; above = above }
 
 module _ (ed : Edition) where
   -- an open field has no record
-  open-done : (done left : List Held) (n : ℕ) (s : List ℕ) (at above : ℕ) (rest : List ℕ)
-      → Said s (done ++ (some-text ∷ []) ++ left) rest (read-patterns ed n s at (partly (done ++ (some-text ∷ [])) left above))
-      → Said s (done ++ some-text ∷ left) rest (read-patterns ed n s at (partly done (some-text ∷ left) above))
-  open-done done left n s at above rest h =
+  open-done : (done left : List Held) (n : ℕ) (s : List ℕ) (at : ℕ) (marks : List ℕ) (above : ℕ) (rest : List ℕ)
+      → Said s (done ++ (some-text ∷ []) ++ left) rest (read-patterns ed n s at (partly (done ++ (some-text ∷ [])) left marks above))
+      → Said s (done ++ some-text ∷ left) rest (read-patterns ed n s at (partly done (some-text ∷ left) marks above))
+  open-done done left n s at marks above rest h =
       rw (append-snoc done some-text left, append-snoc done some-text (replicate (length left) some-text)) at h
 
   -- a pattern's record is read
   module _ (done left : List Held) (p : Pattern) (s : List ℕ) (at f : ℕ) (behind : List ℕ) (e : drop at s ≡ pattern-saying ed f (pattern p) ++ behind) where
-    abbrev with-it : ℕ → Records Fields
-    with-it n = read-patterns ed n s (at + (4 + length (pattern-code p))) (partly (done ++ (pattern p ∷ [])) left (suc f))
+    abbrev with-it : ℕ → List ℕ → Records Fields
+    with-it n marks = read-patterns ed n s (at + (4 + length (pattern-code p))) (partly (done ++ (pattern p ∷ [])) left (set marks f at) (suc f))
 
-    pattern-done : (n above : ℕ) (rest : List ℕ) → length done ≡ f → f < fields → above ≤ f → GoodHeld (characters ed) (pattern p) → ShortCode (pattern p)
-        → Said s (done ++ (pattern p ∷ []) ++ left) rest (with-it n)
-        → Said s (done ++ pattern p ∷ left) rest (read-patterns ed (suc n) s at (partly done (pattern p ∷ left) above))
-    pattern-done n above rest d known rises good short h =
+    pattern-done : (n : ℕ) (marks : List ℕ) (above : ℕ) (rest : List ℕ) → length done ≡ f → f < fields → above ≤ f → GoodHeld (characters ed) (pattern p) → ShortCode (pattern p)
+        → Said s (done ++ (pattern p ∷ []) ++ left) rest (with-it n marks)
+        → Said s (done ++ pattern p ∷ left) rest (read-patterns ed (suc n) s at (partly done (pattern p ∷ left) marks above))
+    pattern-done n marks above rest d known rises good short h =
         let others = replicate (length left) some-text in
         rw (record-next ed s at f p behind e, record-said ed s at f p behind e above known rises good short, set-at done some-text others (pattern p) f d)
         (rw (append-snoc done (pattern p) left, append-snoc done (pattern p) others) at h)
 
   -- The patterns of the fields from f on are read behind those done.
-  pub patterns-said : (left done : List Held) (n : ℕ) (s : List ℕ) (at f above : ℕ) (rest : List ℕ)
+  pub patterns-said : (left done : List Held) (n : ℕ) (s : List ℕ) (at f : ℕ) (marks : List ℕ) (above : ℕ) (rest : List ℕ)
       → drop at s ≡ patterns-saying ed f left ++ rest → marked PA rest 0 ≡ false → length (patterns-saying ed f left) < n
       → length done ≡ f → f + length left ≡ fields → above ≤ f
       → ((i : ℕ) → GoodHeld (characters ed) (getD left i some-text)) → ((i : ℕ) → ShortCode (getD left i some-text))
-      → Said s (done ++ left) rest (read-patterns ed n s at (partly done left above))
-  patterns-said [] done zero s at f above rest e u k d l r good short = absurd (omega arith)
-  patterns-said [] done (suc n) s at f above rest e u k d l r good short =
-      record { last = above; next = at; reads = rw (none-next s at rest e u); behind = e }
-  patterns-said (some-text ∷ left) done n s at f above rest e u k d l r good short =
+      → Said s (done ++ left) rest (read-patterns ed n s at (partly done left marks above))
+  patterns-said [] done zero s at f marks above rest e u k d l r good short = absurd (omega arith)
+  patterns-said [] done (suc n) s at f marks above rest e u k d l r good short =
+      record { last = above; marks = marks; next = at; reads = rw (none-next s at rest e u); behind = e }
+  patterns-said (some-text ∷ left) done n s at f marks above rest e u k d l r good short =
       let more = length-append done (some-text ∷ []) in
-      open-done done left n s at above rest
-      (patterns-said left (done ++ (some-text ∷ [])) n s at (suc f) above rest e u k (omega arith) (omega arith) (omega arith)
+      open-done done left n s at marks above rest
+      (patterns-said left (done ++ (some-text ∷ [])) n s at (suc f) marks above rest e u k (omega arith) (omega arith) (omega arith)
       (λ i. good (suc i)) (λ i. short (suc i)))
-  patterns-said (pattern p ∷ left) done zero s at f above rest e u k d l r good short = absurd (omega arith)
-  patterns-said (pattern p ∷ left) done (suc n) s at f above rest e u k d l r good short =
+  patterns-said (pattern p ∷ left) done zero s at f marks above rest e u k d l r good short = absurd (omega arith)
+  patterns-said (pattern p ∷ left) done (suc n) s at f marks above rest e u k d l r good short =
       let behind = patterns-saying ed (suc f) left ++ rest in
       let here = e ∙ append-assoc (pattern-saying ed f (pattern p)) (patterns-saying ed (suc f) left) rest in
       let more = length-append done (pattern p ∷ []) in
       let bytes = length-append (bytes-of ed (pattern-code p)) (patterns-saying ed (suc f) left) in
-      pattern-done done left p s at f behind here n above rest d (omega arith) r (good 0) (short 0)
-      (patterns-said left (done ++ (pattern p ∷ [])) n s (at + (4 + length (pattern-code p))) (suc f) (suc f) rest (record-behind ed s at f p behind here) u
+      pattern-done done left p s at f behind here n marks above rest d (omega arith) r (good 0) (short 0)
+      (patterns-said left (done ++ (pattern p ∷ [])) n s (at + (4 + length (pattern-code p))) (suc f) (set marks f at) (suc f) rest (record-behind ed s at f p behind here) u
       (omega arith) (omega arith) (omega arith) (omega arith) (λ i. good (suc i)) (λ i. short (suc i)))
 
   -- Sides: a token's byte has a token's code, and says it.
@@ -217,18 +219,18 @@ module _ (ed : Edition) where
         ∙ sym (drop-drop (length side) 3 (side-saying ed m side ++ rest)) ∙ drop-at (map (token-byte ed) side) rest (length side) (length-map side (token-byte ed))
 
 -- The end: nothing is left.
-end-said : (s : List ℕ) (at : ℕ) (q : Question) → drop at s ≡ [] → read-end s at q ≡ asked q
+end-said : (last : LastCheck) (s : List ℕ) (at : ℕ) (marks : List ℕ) (q : Question) → drop at s ≡ [] → read-end last s at marks q ≡ last marks q
 unfolding read-end
-end-said s at q e = let none = left-there s at [] e in rw (le-ltb at (length s) (omega arith))
+end-said last s at marks q e = let none = left-there s at [] e in rw (le-ltb at (length s) (omega arith))
 
 module _ (q : Question) where
   abbrev ed : Edition
   ed = edition-of (q .alphabet)
 
   -- Both sides' records, behind the patterns'.
-  sides-said : (s : List ℕ) (at : ℕ) → GoodQuestion q → drop at s ≡ side-saying ed LE (q .left) ++ side-saying ed RI (q .right)
-      → left-read ed s (q .held) (marked-side ed LE s at) ≡ asked q
-  sides-said s at good e =
+  sides-said : (last : LastCheck) (s : List ℕ) (at : ℕ) (fs : Fields) → fs .held ≡ q .held → GoodQuestion q → drop at s ≡ side-saying ed LE (q .left) ++ side-saying ed RI (q .right)
+      → left-read last ed s fs (marked-side ed LE s at) ≡ last (fs .marks) q
+  sides-said last s at fs same good e =
       let left = q .left in
       let right = q .right in
       let after-left = side-behind ed LE s at left (side-saying ed RI right) e ∙ sym (append-nil (side-saying ed RI right)) in
@@ -237,9 +239,9 @@ module _ (q : Question) where
         side-said ed LE s at left (side-saying ed RI right) e (rw (good .alphabet) at (good .left)),
         side-said ed RI s next right [] after-left (rw (good .alphabet) at (good .right)),
       )
-      (end-said s (next + (3 + length right)) (record { alphabet = alphabet-of ed; left = left; right = right; held = q .held })
+      (end-said last s (next + (3 + length right)) (fs .marks) (record { alphabet = alphabet-of ed; left = left; right = right; held = fs .held })
       (side-behind ed RI s next right [] after-left)
-      ∙ ap asked (λ i. record { alphabet = sym (good .alphabet) i; left = left; right = right; held = q .held }))
+      ∙ ap (last (fs .marks)) (λ i. record { alphabet = sym (good .alphabet) i; left = left; right = right; held = same i }))
 
 pub not-marked : (ed : Edition) (side : Side) (rest : List ℕ) → marked PA (side-saying ed LE side ++ rest) 0 ≡ false
 unfolding marked
@@ -288,13 +290,24 @@ all-said q h =
     let whole = length-append (edition-laid (edition-byte ed)) (behind-edition ed q) in
     let every = h .good .held .each-field in
     rw every at
-    (patterns-said ed (q .held) [] (suc (length s)) s start 0 0 (left ++ right) here (not-marked ed (q .left) right)
+    (patterns-said ed (q .held) [] (suc (length s)) s start 0 (replicate fields 0) 0 (left ++ right) here (not-marked ed (q .left) right)
     (omega arith) refl (omega arith) (omega arith) (rw (h .good .alphabet) at (h .good .held .good)) (h .codes))
 
-pub reads-back : (q : Question) → Sayable q → read-sheet (sheet-saying q) ≡ asked q
-unfolding read-sheet
-reads-back q h =
+-- with any last check: it is handed the question
+pub reads-back-by : (last : LastCheck) (q : Question) → Sayable q → (marks : List ℕ) × (read-by last (sheet-saying q) ≡ last marks q)
+unfolding read-by
+reads-back-by last q h =
     let ed = edition-of (q .alphabet) in
-    let said = all-said q h in
-    rw (ap edition-front (said-parts q) ∙ edition-said ed (behind-edition ed q) (no-edition ed 0 (q .held) (q .left) (side-saying ed RI (q .right))), said .reads)
-    (sides-said q (sheet-saying q) (said .next) (h .good) (said .behind))
+    let said = all-said q h in (
+      said .marks,
+      rw (ap edition-front (said-parts q) ∙ edition-said ed (behind-edition ed q) (no-edition ed 0 (q .held) (q .left) (side-saying ed RI (q .right))), said .reads)
+          (sides-said q last (sheet-saying q) (said .next) (record { held = q .held; marks = said .marks; above = said .last }) refl (h .good) (said .behind)),
+    )
+
+pub reads-back-before : (q : Question) → Sayable q → read-before (sheet-saying q) ≡ asked q
+reads-back-before q h = reads-back-by no-check q h .1
+
+-- where no pattern is stray
+pub reads-back : (q : Question) → Sayable q → strays q ≡ [] → read-sheet (sheet-saying q) ≡ asked q
+unfolding read-sheet
+reads-back q h none = let (marks, e) = reads-back-by stray-check q h in e ∙ ap (at-stray marks q) none

@@ -12,7 +12,7 @@ use Prim.Native.Nat.{ℕ, zero, suc, _+_, _≤_, _<_}
 use native.Mathlib.Omega.{arith}
 use mathlib.Core.Path.{_≡_, refl, sym, _∙_, ap, subst}
 use mathlib.Core.Logic.{⊎-elim}
-use mathlib.Core.Bool.{true, _&&_, _||_}
+use mathlib.Core.Bool.{true, false, _&&_, _||_}
 use mathlib.Core.List.{List, [], _∷_, _++_, List·Memᴰ}
 use lib.Dec.{leb, ltb, eqb}
 use lib.ListN.{length, getD, drop, set, replicate, length-set, length-map, length-take, length-replicate}
@@ -31,6 +31,7 @@ use Rattle.paper.specs.Question.{Question}
 use Rattle.paper.specs.Sheet.{Checked, fault, read, FieldPattern, byte-at, bytes-left, body, body-codes, Mark, PA, LE, RI, ED, marked}
 use Rattle.paper.specs.Sheet.{pattern-judged, pattern-record, is-token, token, side-record, marked-side, Records, faulty, records, Fields}
 use Rattle.paper.specs.Sheet.{open-fields, next-is, with-pattern, pattern-read, read-patterns, Reading, refused, asked, read-end, right-read, left-read, sides-read, edition-front, edition-read, read-sheet}
+use Rattle.paper.specs.Sheet.{strays, LastCheck, no-check, at-stray, stray-check, read-by, read-before}
 use Rattle.paper.proofs.places.Judged.{judged-takes, judged-leaves}
 use Rattle.paper.proofs.sheets.Editions.{known-edition, most-of, space-of, code-below}
 
@@ -102,27 +103,28 @@ side-good e s at =
 
 -- Patterns: what the checks on a record say of the field and the pattern that were read.
 pub record PatternRead (e : Edition) (s : List ℕ) (at least : ℕ) (fp : FieldPattern) : Type 0 where
+  pub there : at < length s
   pub rises : least ≤ fp .field
   pub short : byte-at s (at + 3) ≤ pattern-bytes
   pub its-bytes : judge (body-codes e s (at + 4) (byte-at s (at + 3))) ≡ judged (fp .its)
 
 judged-read : (e : Edition) (s : List ℕ) (at least start f next : ℕ) (j : Judged) → judge (body-codes e s (at + 4) (byte-at s (at + 3))) ≡ j
-    → least ≤ f → byte-at s (at + 3) ≤ pattern-bytes → Found (PatternRead e s at least) (pattern-judged j start f next)
-judged-read e s at least start f next (Written.not-one-pattern i) h rises short = tt
-judged-read e s at least start f next (Written.too-many-leaves i) h rises short = tt
-judged-read e s at least start f next (judged p) h rises short = record { rises = rises; short = short; its-bytes = h }
+    → at < length s → least ≤ f → byte-at s (at + 3) ≤ pattern-bytes → Found (PatternRead e s at least) (pattern-judged j start f next)
+judged-read e s at least start f next (Written.not-one-pattern i) h there rises short = tt
+judged-read e s at least start f next (Written.too-many-leaves i) h there rises short = tt
+judged-read e s at least start f next (judged p) h there rises short = record { there = there; rises = rises; short = short; its-bytes = h }
 
-record-read : (e : Edition) (s : List ℕ) (at least : ℕ) → Found (PatternRead e s at least) (pattern-record e s at least)
+pub record-read : (e : Edition) (s : List ℕ) (at least : ℕ) → Found (PatternRead e s at least) (pattern-record e s at least)
 unfolding pattern-record
 record-read e s at least =
     let f = byte-at s (at + 2) in
     let n = byte-at s (at + 3) in
     let b = body-codes e s (at + 4) n in
     cond-by (Found (PatternRead e s at least)) (ltb (bytes-left s at) 4) (λ _. tt)
-    (λ _. cond-by (Found (PatternRead e s at least)) (leb fields f || ltb f least) (λ _. tt)
+    (λ (there : ltb (bytes-left s at) 4 ≡ false). cond-by (Found (PatternRead e s at least)) (leb fields f || ltb f least) (λ _. tt)
     (λ i. cond-by (Found (PatternRead e s at least)) (eqb n 0 || ltb pattern-bytes n) (λ _. tt)
     (λ j. cond-by (Found (PatternRead e s at least)) (ltb (bytes-left s at) (4 + n)) (λ _. tt)
-    (λ _. judged-read e s at least (at + 4) f (at + (4 + n)) (judge b) refl
+    (λ _. judged-read e s at least (at + 4) f (at + (4 + n)) (judge b) refl (omega (arith, ltb-false (bytes-left s at) 4 there))
     (ltb-false f least (or-right-false (leb fields f) (ltb f least) i))
     (ltb-false pattern-bytes n (or-right-false (eqb n 0) (ltb pattern-bytes n) j))))))
 
@@ -145,7 +147,7 @@ abbrev pub Goods : Edition → Fields → Type 0
 Goods e fs = GoodFields (characters e) (fs .held)
 
 pub fields-with : (e : Edition) (s : List ℕ) (at : ℕ) (fs : Fields) (fp : FieldPattern) → Goods e fs → PatternRead e s at (fs .above) fp
-    → Goods e (with-pattern fs fp)
+    → Goods e (with-pattern fs at fp)
 fields-with e s at fs fp h g =
     let b = body s (at + 4) (byte-at s (at + 3)) in
     record {
@@ -166,12 +168,12 @@ Listed Good (records a next) = Good a
 module _
     (e : Edition)
     (Good : Fields → Type 0)
-    (kept : (s : List ℕ) (at : ℕ) (fs : Fields) (fp : FieldPattern) → Good fs → PatternRead e s at (fs .above) fp → Good (with-pattern fs fp)) where
+    (kept : (s : List ℕ) (at : ℕ) (fs : Fields) (fp : FieldPattern) → Good fs → PatternRead e s at (fs .above) fp → Good (with-pattern fs at fp)) where
   behind-by : (s : List ℕ) (at : ℕ) (fs : Fields) (go-on : ℕ → Fields → Records Fields) (x : Checked FieldPattern)
       → ((next : ℕ) (more : Fields) → Good more → Listed Good (go-on next more))
-      → Good fs → Found (PatternRead e s at (fs .above)) x → Listed Good (pattern-read fs go-on x)
+      → Good fs → Found (PatternRead e s at (fs .above)) x → Listed Good (pattern-read fs at go-on x)
   behind-by s at fs go-on (fault x place) i h k = tt
-  behind-by s at fs go-on (read fp next) i h k = i next (with-pattern fs fp) (kept s at fs fp h k)
+  behind-by s at fs go-on (read fp next) i h k = i next (with-pattern fs at fp) (kept s at fs fp h k)
 
   pub patterns-by : (n : ℕ) (s : List ℕ) (at : ℕ) (fs : Fields) → Good fs → Listed Good (read-patterns e n s at fs)
   patterns-by zero s at fs h = tt
@@ -194,34 +196,51 @@ abbrev Asks : Reading → Type 0
 Asks (refused x at) = Unit {0}
 Asks (asked q) = GoodQuestion q
 
-end-asks : (s : List ℕ) (at : ℕ) (q : Question) → GoodQuestion q → Asks (read-end s at q)
-unfolding read-end
-end-asks s at q g = cond-by Asks (ltb at (length s)) (λ _. tt) (λ _. g)
+-- a last check that asks nothing but the question that it is handed
+abbrev pub AsksIt : LastCheck → Type 0
+AsksIt last = (marks : List ℕ) (q : Question) → GoodQuestion q → Asks (last marks q)
 
-module _ (e : Edition) (s : List ℕ) where
-  right-asks : (held : List Held) (l : Side) (x : Checked Side)
-      → GoodFields (characters e) held → GoodSide (characters e) l → Found (GoodSide (characters e)) x → Asks (right-read e s held l x)
-  right-asks held l (fault x at) h g k = tt
-  right-asks held l (read r next) h g k =
-      end-asks s next (record { alphabet = alphabet-of e; left = l; right = r; held = held })
-      (record { alphabet = ap alphabet-of (sym (known-edition e)); left = g; right = k; held = h })
+module _ (last : LastCheck) (it : AsksIt last) where
+  end-asks : (s : List ℕ) (at : ℕ) (marks : List ℕ) (q : Question) → GoodQuestion q → Asks (read-end last s at marks q)
+  unfolding read-end
+  end-asks s at marks q g = cond-by Asks (ltb at (length s)) (λ _. tt) (λ _. it marks q g)
 
-  left-asks : (held : List Held) (x : Checked Side) → GoodFields (characters e) held → Found (GoodSide (characters e)) x → Asks (left-read e s held x)
-  left-asks held (fault x at) h k = tt
-  left-asks held (read l next) h k = right-asks held l (marked-side e RI s next) h k (marked-good e RI s next)
+  module _ (e : Edition) (s : List ℕ) where
+    right-asks : (fs : Fields) (l : Side) (x : Checked Side)
+        → Goods e fs → GoodSide (characters e) l → Found (GoodSide (characters e)) x → Asks (right-read last e s fs l x)
+    right-asks fs l (fault x at) h g k = tt
+    right-asks fs l (read r next) h g k =
+        end-asks s next (fs .marks) (record { alphabet = alphabet-of e; left = l; right = r; held = fs .held })
+        (record { alphabet = ap alphabet-of (sym (known-edition e)); left = g; right = k; held = h })
 
-  sides-ask : (x : Records Fields) → Listed (Goods e) x → Asks (sides-read e s x)
-  sides-ask (faulty x at) h = tt
-  sides-ask (records fs at) h = left-asks (fs .held) (marked-side e LE s at) h (marked-good e LE s at)
+    left-asks : (fs : Fields) (x : Checked Side) → Goods e fs → Found (GoodSide (characters e)) x → Asks (left-read last e s fs x)
+    left-asks fs (fault x at) h k = tt
+    left-asks fs (read l next) h k = right-asks fs l (marked-side e RI s next) h k (marked-good e RI s next)
 
-edition-asks : (s : List ℕ) (x : Checked Edition) → Asks (edition-read s x)
-edition-asks s (fault x at) = tt
-edition-asks s (read e at) =
-    sides-ask e s (read-patterns e (suc (length s)) s at open-fields) (patterns-good e (suc (length s)) s at open-fields (opens-good (characters e)))
+    sides-ask : (x : Records Fields) → Listed (Goods e) x → Asks (sides-read last e s x)
+    sides-ask (faulty x at) h = tt
+    sides-ask (records fs at) h = left-asks fs (marked-side e LE s at) h (marked-good e LE s at)
+
+  edition-asks : (s : List ℕ) (x : Checked Edition) → Asks (edition-read last s x)
+  edition-asks s (fault x at) = tt
+  edition-asks s (read e at) =
+      sides-ask e s (read-patterns e (suc (length s)) s at open-fields) (patterns-good e (suc (length s)) s at open-fields (opens-good (characters e)))
+
+  pub good-by : (sheet : List ℕ) → AsksGood (read-by last sheet)
+  unfolding read-by
+  good-by sheet q e = subst Asks e (edition-asks sheet (edition-front sheet))
+
+-- by the rule before request K13, and since
+stray-asks : (marks : List ℕ) (q : Question) (fs : List ℕ) → GoodQuestion q → Asks (at-stray marks q fs)
+stray-asks marks q [] g = g
+stray-asks marks q (f ∷ fs) g = tt
+
+pub before-good : (sheet : List ℕ) → AsksGood (read-before sheet)
+before-good = good-by no-check (λ marks q g. g)
 
 pub sheet-good : (sheet : List ℕ) → AsksGood (read-sheet sheet)
 unfolding read-sheet
-sheet-good sheet q e = subst Asks e (edition-asks sheet (edition-front sheet))
+sheet-good = good-by stray-check (λ marks q g. stray-asks marks q (strays q) g)
 
 -- Every field that stands in the sides is one of the fields.
 standing-known : (n f : ℕ) (side : Side) → GoodSide n side → stands-in f side ≡ true → f < fields

@@ -114,7 +114,7 @@ module _ (q : Question) where
   length-own = length-map (upto fields) (held-by q) ∙ length-from 0 fields
 
   -- what a field may hold
-  held-own : (f : ℕ) → f < fields → held-by (hidden q) f ≡ held-by q f
+  pub held-own : (f : ℕ) → f < fields → held-by (hidden q) f ≡ held-by q f
   held-own f h =
       List·getD-append (map (held-by q) (upto fields)) (any-spaces space ∷ any-spaces space ∷ []) some-text f (rw length-own h)
       ∙ getD-map-upto (held-by q) some-text fields f h
@@ -178,7 +178,7 @@ module _ (q : Question) where
 
   module _ (g : GoodQuestion q) where
     -- A field of the searched question is one of the sheet's, or a hidden one.
-    by-standing : (P : ℕ → Type 0)
+    pub by-standing : (P : ℕ → Type 0)
         → ((f : ℕ) → stands-in f (q .left ++ q .right) ≡ true → f < fields → P f) → P hidden-left → P hidden-right
         → (f : ℕ) → stands-in f (hidden q .left ++ hidden q .right) ≡ true → P f
     by-standing P own l r f e =

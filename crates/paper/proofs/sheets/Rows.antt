@@ -13,7 +13,7 @@ use Rattle.paper.specs.Places.{PlaceSet}
 use Rattle.paper.specs.Search.{Entry, End, found, used-up, no-room, too-long}
 use Rattle.paper.specs.Situation.{Situation, Move}
 use Rattle.paper.specs.Question.{Question, hidden}
-use Rattle.paper.specs.Sheet.{Fault, cut-short, wrong-mark, wrong-field, wrong-length, not-one-pattern, too-many-leaves, wrong-token, wrong-edition}
+use Rattle.paper.specs.Sheet.{Fault, cut-short, wrong-mark, wrong-field, wrong-length, not-one-pattern, too-many-leaves, wrong-token, wrong-edition, stray-pattern}
 use Rattle.paper.specs.Sheet.{fault-number, Reading, refused, asked}
 use Rattle.paper.specs.Outcome.{Outcome, room-of, searched, value-record, records, clash, answered, count-of, outcome-of}
 use Rattle.paper.specs.Buffers.{sheet-numbers}
@@ -29,6 +29,7 @@ fault-numbered not-one-pattern = refl
 fault-numbered too-many-leaves = refl
 fault-numbered wrong-token = refl
 fault-numbered wrong-edition = refl
+fault-numbered stray-pattern = refl
 
 -- none is below 11
 pub fault-above : (x : Fault) → 11 ≤ fault-number x
@@ -40,6 +41,7 @@ fault-above not-one-pattern = omega arith
 fault-above too-many-leaves = omega arith
 fault-above wrong-token = omega arith
 fault-above wrong-edition = omega arith
+fault-above stray-pattern = omega arith
 
 -- the records of the texts that the way to an entry spells
 abbrev pub found-records : Question → Entry (Situation PlaceSet) Move → List ℕ

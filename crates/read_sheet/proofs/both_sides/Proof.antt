@@ -104,7 +104,7 @@ returns : tie.Need-returns
 returns c p e f d g =
     let told = c .before .before in
     let a = told .before .before .before .args in
-    fault-sides _ p _ _ _ (c .refuse .ensures) (front-fault _ _ _ (Front.front-fault (a .f) _ _ d (told .front-found .given .1)))
+    fault-sides _ _ p _ _ _ (c .refuse .ensures) (front-fault _ _ _ (Front.front-fault (a .f) _ _ d (told .front-found .given .1)))
 
 returns-2 : tie.Need-returns-2
 returns-2 c p e f d g =
@@ -112,7 +112,7 @@ returns-2 c p e f d g =
     let k = told .before .before in
     let a = k .before .before .before .args in
     let x = told .patterns .given .0 .0 in
-    fault-sides _ p _ x _ (c .refuse2 .ensures)
+    fault-sides _ _ p _ x _ (c .refuse2 .ensures)
     (patterns-fault _ _ _ (its-edition k d) _ _
     (subst (λ (k : Cursor). patterns-of (paper-edition (a .f .edition)) (now (a .s)) (a .f .at) ≡ faulty (fault-of x) (k .at)) f
     (fields-fault p _ _ x g (e ∙ told .patterns .given .1))))
@@ -121,7 +121,7 @@ returns-3 : tie.Need-returns-3
 returns-3 c p e f d g =
     let l = c .before .before .before .before .before in
     let t = l .before in
-    fault-sides _ p _ _ _ (c .refuse3 .ensures)
+    fault-sides _ _ p _ _ _ (c .refuse3 .ensures)
     (left-fault _ _ _ (its-edition (t .before .before) d) (patterns t p e g .fields) _ (behind-them t p e g f) _ _
     (side-fault (l .side .result) _ _ (l .side .ensures) (c .before .before .left-found .given .1)))
 
@@ -130,7 +130,7 @@ returns-4 c p e f d g =
     let r = c .before .before .before .before .before in
     let l = left-side (r .before) in
     let t = r .before .before .before .before .before in
-    fault-sides _ p _ _ _ (c .refuse4 .ensures)
+    fault-sides _ _ p _ _ _ (c .refuse4 .ensures)
     (right-fault _ _ _ (its-edition (t .before .before) d) (patterns t p e g .fields) _ (behind-them t p e g f) (l .side) _ (l .reads) _ _
     (side-fault (r .side2 .result) _ _ (r .side2 .ensures) (c .before .before .right-found .given .1)))
 
@@ -140,7 +140,7 @@ returns-5 c p e f d g =
     let r = right-side k in
     let l = left-side (k .before .before .before .before) in
     let t = k .before .before .before .before .before .before .before .before in
-    fault-sides _ p _ _ _ (c .refuse5 .ensures)
+    fault-sides _ _ p _ _ _ (c .refuse5 .ensures)
     (byte-left _ _ _ (its-edition (t .before .before) d) (patterns t p e g .fields) _ (behind-them t p e g f) (l .side) _ (l .reads) (r .side) _ (r .reads)
     (c .before .if1 .taken))
 

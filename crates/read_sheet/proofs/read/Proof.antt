@@ -1,12 +1,17 @@
--- `read` meets its contract: with a fault the fields are open, else they are those that were read (`SidesTold`). Assumes nothing.
+-- `read` meets its contract: behind the last check (`LastSides`), with a fault the fields are open, else they are those that were read (`SidesTold`). Assumes nothing.
 use borrow.Author.Needs.{needs}
-use mathlib.Core.Path.{refl, ap, _∙_}
+use mathlib.Core.Path.{refl, sym, ap, _∙_, subst}
 use mathlib.Core.Logic.{⊎-elim}
+use denote.Ref.{now}
 use lib.ListN.{replicate}
 use Rattle.paper.specs.Numbers.{fields}
+use Rattle.paper.specs.Sheet.{read-sheet}
 use Rattle.base_places.specs.declared.PlaceTables.{PlaceTables}
 use Rattle.read_fields.specs.declared.Fields.{Fields}
+use Rattle.read_sheet.specs.SidesRead.{Sides-told}
+use Rattle.read_sheet.specs.declared.Sides.{Sides}
 use Rattle.read_sheet.proofs.SidesTold.{told-fault, told-good}
+use Rattle.read_sheet.proofs.LastSides.{checked-told}
 use Rattle.read_sheet.proofs.read.Statement.{statement}
 use Rattle.read_sheet.proofs.read.Tie as tie
 
@@ -18,6 +23,9 @@ read-requires c κs = search needs
 
 both-sides-requires : tie.Need-both-sides-requires
 both-sides-requires c κs = search needs
+
+last-check-requires : tie.Need-last-check-requires
+last-check-requires c κs = search needs
 
 enum-told : tie.Need-enum-told
 enum-told c = search needs
@@ -38,16 +46,20 @@ returns : tie.Need-returns
 returns c =
     let k = c .before .before .before .before in
     let m = k .before in
-    let b = m .before in
+    let l = m .before in
+    let b = l .before .before in
     let p = b .before .before in
-    let d = b .both-sides .ensures (p .read .result) refl refl (p .before .edition-front .ensures) (p .read .ensures) in
+    let told = b .both-sides .ensures (p .read .result) refl refl (p .before .edition-front .ensures) (p .read .ensures) in
+    let s = now (p .before .before .before .args .s) in
+    let d =
+    subst (λ (r : Sides). Sides-told (read-sheet s) s (p .read .result) (r .found) r) (sym (l .last-check .ensures)) (checked-told s (p .read .result) (b .both-sides .result) told) in
     rw (k .alphabet-of .ensures)
     (⊎-elim
     (λ w.
-    told-fault _ (p .read .result) (b .both-sides .result) (w .1 .given .0 .0) (w .1 .given .1) (m .match .p)
+    told-fault _ _ (p .read .result) (l .last-check .result) (w .1 .given .0 .0) (w .1 .given .1) (m .match .p)
     (ap (λ (q : Fields). q .tables) (w .5) ∙ ap (λ (t : PlaceTables). replicate fields t) (w .2 .ensures))
     (ap (λ (q : Fields). q .bodies) (w .5) ∙ w .4 .ensures) d)
-    (λ w. told-good _ (p .read .result) (b .both-sides .result) (w .1 .given .1) (m .match .p) (w .2) d)
+    (λ w. told-good _ _ (p .read .result) (l .last-check .result) (w .1 .given .1) (m .match .p) (w .2) d)
     (m .match .came))
 
 pub read-spec : {M : Type 1} → statement M
@@ -57,6 +69,7 @@ read-spec =
     edition-front-requires
     read-requires
     both-sides-requires
+    last-check-requires
     enum-told
     open-tables-requires
     no-bodies-requires

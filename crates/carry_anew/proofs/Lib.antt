@@ -1,0 +1,2 @@
+pub mod AnewAnswered
+pub mod OneSpelling

@@ -1,0 +1,2 @@
+pub mod PutWhole
+pub mod RulesPut

@@ -1,0 +1,2 @@
+pub mod DropAnswered
+pub mod OneDropping
