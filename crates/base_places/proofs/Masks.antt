@@ -128,14 +128,22 @@ mask-of-empty : (t : ℕ → Bool) → eqb (mask-of t) 0 ≡ not (any t (upto pl
 unfolding mask-of
 mask-of-empty t = mask-empty (keep t (upto places)) ∙ empty-keep t (upto places)
 
+-- two masks have a place in common if some place passes both tests, or some place of the set the other's
+pub tests-meet : (t u : ℕ → Bool) → not (eqb (bitAnd (mask-of t) (mask-of u)) 0) ≡ any (λ (q : ℕ). t q && u q) (upto places)
+tests-meet t u =
+    ap (λ (x : ℕ). not (eqb x 0)) (mask-of-and t u)
+    ∙ ap not (mask-of-empty (λ (q : ℕ). t q && u q))
+    ∙ Bool·not-not (any (λ (q : ℕ). t q && u q) (upto places))
+
+pub mask-meets : (t : ℕ → Bool) (s : PlaceSet) → Masked s → not (eqb (bitAnd (mask s) (mask-of t)) 0) ≡ any t s
+mask-meets t s m =
+    ap (λ (x : ℕ). not (eqb (bitAnd x (mask-of t)) 0)) (mask-is s m)
+    ∙ tests-meet (λ (q : ℕ). member q s) t
+    ∙ any-member t places s (m .below)
+
 pub mask-may-end : (h : Held) (s : PlaceSet) → Masked s → not (eqb (bitAnd (mask s) (last-mask h)) 0) ≡ may-end h s
 unfolding last-mask may-end
-mask-may-end h s m =
-    ap (λ (x : ℕ). not (eqb x 0))
-    (ap (λ (x : ℕ). bitAnd x (last-mask h)) (mask-is s m) ∙ mask-of-and (λ (q : ℕ). member q s) (λ (i : ℕ). ends-at h i))
-    ∙ ap not (mask-of-empty (λ (q : ℕ). member q s && ends-at h q))
-    ∙ Bool·not-not (any (λ (q : ℕ). member q s && ends-at h q) (upto places))
-    ∙ any-member (λ (i : ℕ). ends-at h i) places s (m .below)
+mask-may-end h s m = mask-meets (λ (i : ℕ). ends-at h i) s m
 
 -- the followers of a set
 followers-is : (h : Held) (s : PlaceSet) → Masked s
@@ -159,7 +167,7 @@ one-for-all false [] = refl
 one-for-all false (i ∷ s) = one-for-all false s
 
 -- what stands in the set after a character
-member-after : (h : Held) (s : PlaceSet) (c q : ℕ) → any (λ (i : ℕ). comes-next h i q) s && takes-at h q c ≡ member q (set-after h s c)
+pub member-after : (h : Held) (s : PlaceSet) (c q : ℕ) → any (λ (i : ℕ). comes-next h i q) s && takes-at h q c ≡ member q (set-after h s c)
 unfolding set-after
 member-after some-text [] c q = refl
 member-after some-text (i ∷ s) c q = and-true (eqb q 1 || any (λ (j : ℕ). eqb q 1) s) ∙ one-for-all (eqb q 1) s ∙ sym (or-false (eqb q 1))

@@ -1,6 +1,6 @@
 -- Counting the tokens of a side, one after the other, and filling a list of counts.
---   count-end, count-more, count-none : the tokens from a byte on
---   count-append                      : those of two sides
+--   count-end, count-more, count-none : the tokens from a byte on; count-here, count-behind: the byte is the token, or another
+--   count-append                      : those of two sides; count-left, count-right: one of the first, or none
 --   Counted                           : the counts below f are there; none yet, one more, all
 -- Follows from the definitions of `tokens` and `keep`, and from the laws of `set`.
 use Prim.Native.Nat.{ℕ, suc, _+_, _≤_, _<_}
@@ -15,7 +15,7 @@ use lib.Seq.{drop-cons, ext-getD, getD-set-same, getD-set-other}
 use Rattle.paper.specs.Lists.{upto, only, keep}
 use Rattle.paper.proofs.base.Lists.{length-from}
 use Rattle.paper.proofs.base.Listed.{getD-map-upto}
-use Rattle.paper.proofs.base.Tests.{by-bool, eqb-true, eqb-false}
+use Rattle.paper.proofs.base.Tests.{by-bool, eqb-true, eqb-false, neq-eqb}
 use Rattle.base_codes.specs.Inner.{no-token, tokens}
 use Rattle.base_question.specs.Standings.{count}
 
@@ -29,6 +29,17 @@ module _ (code : ℕ) where
       let b = getD side i 0 in
       rw (add-one, drop-cons side i 0 h, e) (length-append (only (eqb code b) b) (keep (eqb code) (tokens (drop (suc i) side))))
 
+  -- the token itself, and another
+  pub count-here : (side : List ℕ) (i : ℕ) → i < length side → eqb (getD side i 0) no-token ≡ false → eqb code (getD side i 0) ≡ true
+      → eqb (count code (tokens (drop i side))) 0 ≡ false
+  count-here side i h e k =
+      let n = count code (tokens (drop i side)) in
+      neq-eqb n 0 (λ (z : n ≡ 0). omega (arith, rw k at (count-more side i h e)))
+
+  pub count-behind : (side : List ℕ) (i : ℕ) → i < length side → eqb (getD side i 0) no-token ≡ false → eqb code (getD side i 0) ≡ false
+      → count code (tokens (drop i side)) ≡ count code (tokens (drop (i + 1) side))
+  count-behind side i h e k = omega (arith, rw k at (count-more side i h e))
+
   pub count-none : (side : List ℕ) (i : ℕ) → length side ≤ i → count code (tokens (drop i side)) ≡ 0
   count-none side i h = rw (drop-of-length-le side h)
 
@@ -37,6 +48,14 @@ module _ (code : ℕ) where
   count-append (b ∷ l) m =
       let first = only (eqb code b) b in
       omega (arith, count-append l m, length-append first (keep (eqb code) (l ++ m)), length-append first (keep (eqb code) l))
+
+  -- one of the first side, or none
+  pub count-left : (l m : List ℕ) → eqb (count code l) 0 ≡ false → eqb (count code (l ++ m)) 0 ≡ false
+  count-left l m e =
+      neq-eqb (count code (l ++ m)) 0 (λ (z : count code (l ++ m) ≡ 0). eqb-false (count code l) 0 e (omega (arith, count-append l m)))
+
+  pub count-right : (l m : List ℕ) → eqb (count code l) 0 ≡ true → count code (l ++ m) ≡ count code m
+  count-right l m e = omega (arith, count-append l m, eqb-true (count code l) 0 e)
 
 -- the counts of the numbers below f are there
 module _ (h : ℕ → ℕ) (n : ℕ) where

@@ -29,6 +29,10 @@ use Rattle.base_question.specs.declared.Body.{Body}
 use Rattle.base_question.proofs.HowOften.{codes-times, stands-times}
 use Rattle.base_question.proofs.SidesBack.{sides-back, both-have-sets}
 
+pub not-twice : (b : Bool) → b ≡ not (not b)
+not-twice true = refl
+not-twice false = refl
+
 -- the fields from f on
 module _ (p : ℕ → Bool) (f n : ℕ) where
   pub first-here : p f ≡ true → first-of (keep p (from f (suc n))) ≡ f
@@ -73,10 +77,6 @@ module _ (n : ℕ) (most : n ≤ most-characters) (l r : Side) (g : GoodSide n l
       ∙ ap (λ (k : ℕ). eqb k 0) (codes-times f (l ++ r) (both-have-sets n most l r g h))
       ∙ not-twice (eqb (times f (l ++ r)) 0)
       ∙ ap not (stands-times f (l ++ r))
-    where
-      not-twice : (b : Bool) → b ≡ not (not b)
-      not-twice true = refl
-      not-twice false = refl
 
   pub strays-are : strays-coded bodies left right ≡ strays-of held (l ++ r)
   unfolding strays-coded strays-of

@@ -9,10 +9,10 @@ use base_editions::Alphabet;
 use base_editions::Edition;
 use base_places::PlaceTables;
 ghost use mathlib.Core.Path.{_≡_};
-ghost use mathlib.Core.Bool.{_&&_};
+ghost use mathlib.Core.Bool.{not};
 ghost use mathlib.Core.List.{_++_};
 ghost use Prim.Native.Nat.{_≤_};
-ghost use lib.Dec.{ltb, eqb};
+ghost use lib.Dec.{eqb};
 ghost use lib.ListN.{length};
 ghost use Rattle.paper.specs.Lists.{only};
 ghost use Rattle.paper.specs.Numbers.{longest-side};
@@ -101,23 +101,42 @@ pub fn first_stray(bodies: [Body; SHEET_FIELDS], left: CodedSide, right: CodedSi
     let mut f: usize = 0;
     while f < SHEET_FIELDS {
         let body = bodies[f];
-        let token = FIELD_CODE + f as u8;
-        if is_stray(body.length, left, right, token) {
-            return f;
+        if body.length > 0 {
+            if in_neither(left, right, FIELD_CODE + f as u8) {
+                return f;
+            }
         }
         f += 1;
     }
     f
 }
 
-// Does a pattern of this length stand for a token that stands in neither side?
-fn is_stray(length: usize, left: CodedSide, right: CodedSide, token: u8) -> bool
-    ensures { λ r. ⌜ r ≡ (ltb 0 length && eqb (count token (tokens left ++ tokens right)) 0) ⌝ }
+// Is no token of either side this one?
+fn in_neither(left: CodedSide, right: CodedSide, token: u8) -> bool
+    ensures { λ r. ⌜ r ≡ eqb (count token (tokens left ++ tokens right)) 0 ⌝ }
 {
-    if length == 0 {
+    if in_side(left, token) {
         return false;
     }
-    times(left, token) + times(right, token) == 0
+    !in_side(right, token)
+}
+
+// Is a token of the side this one? The first that is ends the walk.
+fn in_side(side: CodedSide, token: u8) -> bool
+    ensures { λ r. ⌜ r ≡ not (eqb (count token (tokens side)) 0) ⌝ }
+{
+    let mut i: usize = 0;
+    while i < LONGEST_SIDE {
+        let b = side[i];
+        if b == NO_TOKEN {
+            return false;
+        }
+        if token == b {
+            return true;
+        }
+        i += 1;
+    }
+    false
 }
 
 // How many tokens of a side are this one.

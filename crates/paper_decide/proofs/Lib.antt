@@ -1,7 +1,11 @@
 -- characters alike; each standing apart
 pub mod Alike
 pub mod Apart
+-- letters; one text for each field that stands twice
+pub mod LettersRight
+pub mod TextFits
 -- every decision is as promised
 pub mod Decided
 -- known questions and sheets: the checker computes them
 pub mod KnownDecisions
+pub mod KnownLetters

@@ -3,6 +3,9 @@
 pub mod Alike
 pub mod Few
 pub mod Apart
+-- of attempts that are not yet made: letters; one text for each field that stands twice
+pub mod Letters
+pub mod OneText
 -- the whole outcome, and what is promised of it
 pub mod Deciding
 pub mod DecidePromised

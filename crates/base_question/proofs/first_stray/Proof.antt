@@ -2,9 +2,18 @@
 use Prim.Native.Nat.{ℕ, suc, _+_, _-_, _≤_}
 use native.Mathlib.Omega.{arith}
 use mathlib.Core.Path.{_≡_, sym, ap, _∙_}
+use mathlib.Core.Logic.{⊎-elim}
+use mathlib.Core.Bool.{true, false}
+use mathlib.Core.List.{_++_}
+use lib.Dec.{ltb, eqb}
+use lib.ListN.{getD}
 use borrow.Author.Needs.{needs}
 use Rattle.paper.specs.Lists.{from, keep}
 use Rattle.paper.specs.Numbers.{fields}
+use Rattle.paper.proofs.base.Tests.{both-true, left-false, right-false, lt-ltb, le-ltb}
+use Rattle.base_codes.specs.Inner.{field-code, tokens}
+use Rattle.base_question.specs.Bodies.{nowhere}
+use Rattle.base_question.specs.Standings.{count}
 use Rattle.base_question.specs.StraysCoded.{stray-coded, strays-coded, first-of}
 use Rattle.base_question.proofs.Strays.{first-here, first-behind, strays-from}
 use Rattle.base_question.proofs.first_stray.Statement.{statement}
@@ -25,22 +34,24 @@ mul-body c = search needs
 array-copy-out-body : tie.Need-array-copy-out-body Inv-loop μ-loop
 array-copy-out-body c = search needs
 
-cast-token : tie.Need-cast-token Inv-loop μ-loop
-cast-token c = search needs
+cast-in-neither : tie.Need-cast-in-neither Inv-loop μ-loop
+cast-in-neither c = search needs
 
-add-token : tie.Need-add-token Inv-loop μ-loop
-add-token c = search needs
+add-in-neither : tie.Need-add-in-neither Inv-loop μ-loop
+add-in-neither c = search needs
 
-is-stray-requires : tie.Need-is-stray-requires Inv-loop μ-loop
-is-stray-requires c κs = search needs
+in-neither-requires : tie.Need-in-neither-requires Inv-loop μ-loop
+in-neither-requires c κs = search needs
 
 returns : tie.Need-returns Inv-loop μ-loop
 returns c =
-    let t = c .before .before .before in
-    let a = t .before .before .args in
-    let l = t .before .loop in
+    let k = c .before .before .before in
+    let l = k .before .before .before .loop in
+    let a = k .before .before .before .before .args in
     let p = stray-coded (a .t1) (a .left) (a .right) in
-    sym (ap first-of (l .inv .1 (suc (fields - (l .f + 1))) (omega arith)) ∙ first-here p (l .f) (fields - (l .f + 1)) (sym (c .before .is-stray .ensures) ∙ c .if1 .taken))
+    let n = getD (a .t1) (l .f) nowhere .length in
+    let stray : p (l .f) ≡ true = both-true (lt-ltb 0 n (c .before .before .if1 .taken)) (sym (c .before .in-neither .ensures) ∙ c .if2 .taken) in
+    sym (ap first-of (l .inv .1 (suc (fields - (l .f + 1))) (omega arith)) ∙ first-here p (l .f) (fields - (l .f + 1)) stray)
 
 add-f : tie.Need-add-f Inv-loop μ-loop
 add-f c = search needs
@@ -50,11 +61,15 @@ loop-less c = search needs
 
 loop-again : tie.Need-loop-again Inv-loop μ-loop
 loop-again c =
-    let t = c .before .before .before in
-    let a = t .before .before .args in
-    let l = t .before .loop in
+    let k = c .before in
+    let l = k .before .before .before .loop in
+    let a = k .before .before .before .before .args in
     let p = stray-coded (a .t1) (a .left) (a .right) in
-    (omega arith, λ n e. l .inv .1 (suc n) (omega arith) ∙ first-behind p (l .f) n (sym (c .before .is-stray .ensures) ∙ c .if1 .left))
+    let n = getD (a .t1) (l .f) nowhere .length in
+    let none = eqb (count (field-code + l .f) (tokens (a .left) ++ tokens (a .right))) 0 in
+    let other : p (l .f) ≡ false =
+    ⊎-elim (λ w. right-false (ltb 0 n) none (sym (w .1 .ensures) ∙ w .2 .left)) (λ w. left-false (ltb 0 n) none (le-ltb 0 n (w .left))) (c .if1 .came) in
+    (omega arith, λ m e. l .inv .1 (suc m) (omega arith) ∙ first-behind p (l .f) m other)
 
 returns-2 : tie.Need-returns-2 Inv-loop μ-loop
 returns-2 c =
@@ -71,9 +86,9 @@ first-stray-spec =
     loop-holds
     mul-body
     array-copy-out-body
-    cast-token
-    add-token
-    is-stray-requires
+    cast-in-neither
+    add-in-neither
+    in-neither-requires
     returns
     add-f
     loop-less

@@ -1,0 +1,63 @@
+// What a side weighs after cancelling: its fixed characters, and each field as often as it stands in it more often than in the other.
+use crate::weights::Weights;
+use crate::weights::between;
+use crate::weights::endless;
+use crate::weights::least;
+use crate::weights::most;
+ghost use mathlib.Core.Path.{_≡_};
+ghost use Prim.Native.Nat.{_^_, _≤_, _<_};
+ghost use Rattle.paper.specs.Numbers.{longest-side};
+ghost use Rattle.decide_letters.specs.PatternStack.{unpacked};
+ghost use Rattle.decide_letters.specs.LettersCoded.{with-field, lighter, uneven-totals};
+
+// The least and the most that a side weighs, and whether there is no most.
+pub struct Total {
+    pub least: u64,
+    pub most: u64,
+    pub endless: bool,
+}
+
+// Both sides, and the common divisor of what their fields go by.
+pub struct Totals {
+    pub left: Total,
+    pub right: Total,
+    pub steps: u64,
+}
+
+// With a field that stands so often more.
+pub fn with_field(t: Total, n: u64, w: Weights) -> Total
+    requires { ⌜ (n ≤ longest-side) × (t .least < 2 ^ 32) × (t .most < 2 ^ 32) ⌝ }
+    ensures { λ r. ⌜ r ≡ with-field n (unpacked w) t ⌝ }
+{
+    Total {
+        least: t.least + n * least(w),
+        most: t.most + n * most(w),
+        endless: (0 < n) & endless(w) | t.endless,
+    }
+}
+
+// It is lighter than so much, whatever its texts are.
+fn lighter(t: Total, than: u64) -> bool
+    ensures { λ r. ⌜ r ≡ lighter t than ⌝ }
+{
+    !t.endless & (t.most < than)
+}
+
+// "no choice of such weights makes both sides equal"
+pub fn uneven(t: Totals) -> bool
+    ensures { λ r. ⌜ r ≡ uneven-totals t ⌝ }
+{
+    let left = t.left;
+    let right = t.right;
+    if lighter(left, right.least) {
+        return true;
+    }
+    if lighter(right, left.least) {
+        return true;
+    }
+    let apart = between(left.least, right.least);
+    if t.steps == 0 {
+        return apart != 0;
+    }
+    apart % t.steps != 0
+}
