@@ -1,6 +1,5 @@
 -- characters alike; each standing apart
 pub mod Alike
-pub mod Apart
 -- letters; one text for each field that stands twice
 pub mod LettersRight
 pub mod TextFits
