@@ -8,7 +8,7 @@ use mathlib.Core.Path.{_≡_, refl, sym, ap, _∙_, subst}
 use mathlib.Core.Bool.{Bool, true, false, cond}
 use mathlib.Core.List.{List, [], _∷_, _++_, map, List·Memᴰ, List·Memᴰ·head, List·Memᴰ·tail}
 use lib.Dec.{leb, ltb}
-use lib.ListN.{length, getD}
+use lib.ListN.{getD}
 use Rattle.paper.specs.Lists.{upto, any, keep}
 use Rattle.paper.specs.Numbers.{fields}
 use Rattle.paper.specs.Pattern.{char, Pattern, leaf, empty, then, Fits, one, nothing, both, Held, some-text, pattern, Holds}
@@ -16,7 +16,7 @@ use Rattle.paper.specs.Places.{PlaceSet, first-set, set-after, may-end, set-alo
 use Rattle.paper.specs.Equation.{Texts, stands-in}
 use Rattle.paper.specs.Question.{Question, held-by, hidden, Equated}
 use Rattle.paper_decide.specs.Letters.{times}
-use Rattle.paper_decide.specs.OneText.{can-end, least-text, lengths-below, one-from, spelt-out, longest-tried, text-held, with-texts}
+use Rattle.paper_decide.specs.OneText.{can-end, least-text, lengths-below, one-from, spelt-out, lengths-tried, text-held, with-texts}
 use Rattle.paper.proofs.base.Tests.{by-bool, cond-by, true-false, eqb-true, ltb-true}
 use Rattle.paper.proofs.base.Lists.{any-true, keep-mem, mem-keep, cons-eq}
 use Rattle.paper.proofs.base.Listed.{getD-map-upto}
@@ -40,11 +40,12 @@ module _ (h : Held) (cs : List ℕ) where
   least-holds : (n : ℕ) → can-end h cs n first-set ≡ true → Holds h (least-text h cs n first-set)
   least-holds n e = only-held h (least-text h cs n first-set) (least-ends n first-set e)
 
-one-in : (l : List ℕ) (n : ℕ) → 0 < length l → List·Memᴰ (one-from l n) l
-one-in [] n h = absurd (omega arith)
-one-in (k ∷ []) n h = List·Memᴰ·head refl
-one-in (k ∷ j ∷ ks) n h =
-    cond-by (λ (x : ℕ). List·Memᴰ x (k ∷ j ∷ ks)) (leb n k) (λ _. List·Memᴰ·head refl) (λ _. List·Memᴰ·tail (one-in (j ∷ ks) n (omega arith)))
+-- what holds of every length, and of what is given for none, holds of the one that is taken
+one-by : (P : ℕ → Type 0) (x : ℕ) (l : List ℕ) (n : ℕ) → P x → ((k : ℕ) → List·Memᴰ k l → P k) → P (one-from x l n)
+one-by P x [] n h all = h
+one-by P x (k ∷ ks) n h all =
+    let its = all k (List·Memᴰ·head refl) in
+    cond-by P (leb n k) (λ _. its) (λ _. one-by P k ks n its (λ j d. all j (List·Memᴰ·tail d)))
 
 -- the pattern of one text takes no other
 one-alone : (c : ℕ) (v : List ℕ) → Fits (leaf (char c)) v → v ≡ c ∷ []
@@ -56,14 +57,16 @@ spelt-alone (c ∷ []) v f = one-alone c v f
 spelt-alone (c ∷ d ∷ w) v (both {u = u} {v = t} e f g) =
     e ∙ ap (λ (x : List ℕ). x ++ t) (one-alone c u f) ∙ cons-eq refl (spelt-alone (d ∷ w) t g)
 
-pub text-held-holds : (cs : List ℕ) (m : ℕ) (h : Held) (w : List ℕ) → Holds (text-held cs m h) w → Holds h w
-text-held-holds cs m h w =
-    cond-by (λ (x : Held). Holds x w → Holds h w) (ltb 0 (length (lengths-below h cs (suc longest-tried))))
+pub text-held-holds : (cs : List ℕ) (n : ℕ) (h : Held) (w : List ℕ) → Holds (text-held cs n h) w → Holds h w
+text-held-holds cs n h w =
+    let can : ℕ → Bool = λ (k : ℕ). can-end h cs k first-set in
+    let k = one-from lengths-tried (lengths-below h cs lengths-tried) n in
+    let its : k < lengths-tried → can k ≡ true =
+    one-by (λ (k : ℕ). k < lengths-tried → can k ≡ true) lengths-tried (lengths-below h cs lengths-tried) n (λ z. absurd (omega arith))
+    (λ j d _. mem-keep can (upto lengths-tried) d .1) in
+    cond-by (λ (x : Held). Holds x w → Holds h w) (ltb k lengths-tried)
     (λ some fits.
-    let ls = lengths-below h cs (suc longest-tried) in
-    let n = one-from ls m in
-    let can = mem-keep (λ (k : ℕ). can-end h cs k first-set) (upto (suc longest-tried)) (one-in ls m (ltb-true 0 (length ls) some)) .1 in
-    subst (Holds h) (sym (spelt-alone (least-text h cs n first-set) w fits)) (least-holds h cs n can))
+    subst (Holds h) (sym (spelt-alone (least-text h cs k first-set) w fits)) (least-holds h cs k (its (ltb-true k lengths-tried some))))
     (λ _ fits. fits)
 
 module _ (n : ℕ) (q : Question) (g : GoodQuestion q) where

@@ -4,7 +4,7 @@ use Prim.Native.Nat.{ℕ, zero, suc}
 use mathlib.Core.Bool.{Bool, cond}
 use mathlib.Core.List.{List, [], _∷_, _++_, map}
 use lib.Dec.{leb, ltb}
-use lib.ListN.{length, getD}
+use lib.ListN.{getD}
 use Rattle.paper.specs.Lists.{upto, any, keep}
 use Rattle.paper.specs.Numbers.{fields}
 use Rattle.paper.specs.Pattern.{char, Pattern, leaf, empty, then, Held, some-text, pattern}
@@ -31,11 +31,10 @@ module _ (h : Held) (cs : List ℕ) where
   abbrev pub lengths-below : ℕ → List ℕ
   lengths-below n = keep (λ (k : ℕ). can-end k first-set) (upto n)
 
--- the first one of n or more, or the last
-abbrev pub one-from : List ℕ → ℕ → ℕ
-one-from [] n = 0
-one-from (k ∷ []) n = k
-one-from (k ∷ j ∷ ks) n = cond (leb n k) k (one-from (j ∷ ks) n)
+-- the first of them that is n or more, or the last; where there is none, what is given for it
+abbrev pub one-from : ℕ → List ℕ → ℕ → ℕ
+one-from x [] n = x
+one-from x (k ∷ ks) n = cond (leb n k) k (one-from k ks n)
 
 -- the pattern of one text
 abbrev pub spelt-out : List ℕ → Pattern
@@ -47,12 +46,16 @@ spelt-out (c ∷ d ∷ w) = then (leaf (char c)) (spelt-out (d ∷ w))
 abbrev pub longest-tried : ℕ
 longest-tried = 24
 
--- what a field holds then, if it has a text of at most 24 characters: the least text of the shortest length of n or more, or where there is none of the
--- greatest one below
+-- how many numbers of characters are tried: 0 to 24
+abbrev pub lengths-tried : ℕ
+lengths-tried = suc longest-tried
+
+-- what a field holds then: the least text of the least possible length of n or more, or where there is none of the greatest below; what it held, where it
+-- has no text of at most 24 characters
 abbrev pub text-held : List ℕ → ℕ → Held → Held
 text-held cs n h =
-    let ls = lengths-below h cs (suc longest-tried) in
-    cond (ltb 0 (length ls)) (pattern (spelt-out (least-text h cs (one-from ls n) first-set))) h
+    let k = one-from lengths-tried (lengths-below h cs lengths-tried) n in
+    cond (ltb k lengths-tried) (pattern (spelt-out (least-text h cs k first-set))) h
 
 -- the question whose fields hold such texts, where they stand twice; of all its characters
 unfoldable pub with-texts : ℕ → Question → Question
