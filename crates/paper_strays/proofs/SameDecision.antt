@@ -28,7 +28,7 @@ use Rattle.paper_decide.specs.Alike.{leaves-of, leaf-takes-it, alike-in, fixed,
 use Rattle.paper_decide.specs.Few.{leaf-choice, chosen-for, chosen-in, chosen-by, some-chosen, few, is-few}
 use Rattle.paper_decide.specs.Letters.{Weights, divisor, between, held-weights, side-weight, times, sum-of, divisor-of, surplus, at-least, no-end, at-most, uneven, this-one, all-but, chars-of, letters-differ}
 use Rattle.paper_decide.specs.OneText.{text-held, with-texts}
-use Rattle.paper_decide.specs.Deciding.{Attempt, searching, text-search, longer, attempts, end-decides, tried, Conclusion, concluded-from, concluded, decision-of}
+use Rattle.paper_decide.specs.Deciding.{Attempt, searching, letters-test, apart-test, text-search, longer, attempts, end-decides, tried, Conclusion, concluded-from, concluded, decision-of}
 use Rattle.paper.proofs.base.Tests.{by-bool, true-false, left-true, right-true, or-left-false, or-right-false, eqb-same}
 use Rattle.paper.proofs.base.Lists.{mem-keep, any-append}
 use Rattle.paper.proofs.base.Listed.{getD-map-upto}
@@ -239,14 +239,33 @@ module _ (q : Question) (g : GoodQuestion q) (held : List Held)
       ap (λ (st : State (Situation PlaceSet) Move). record { decides = end-decides true false (how-of st); count = count-of st; end = how-of st })
       (texts-searched n room)
 
+  letters-tried : (room : ℕ) → tried (letters-test other) room ≡ tried (letters-test q) room
+  letters-tried room = ap (λ (b : Bool). record { decides = b; count = 0; end = used-up }) (letters-same q held agree)
+
+  apart-tried : (room : ℕ) → tried (apart-test other) room ≡ tried (apart-test q) room
+  apart-tried room =
+      ap (λ (b : Bool). record { decides = b; count = 0; end = used-up })
+      (ap₂ (λ (n : ℕ) (c : Bool). leb n (8 * (situation-bytes * room)) && not c) (bits-same q g held agree) (clashes-same q g held agree))
+
   all-same : (room : ℕ) → AllLikewise room (attempts other) (attempts q)
   all-same room =
-      let alike = searching-same (is-least (hidden other)) (is-least (hidden q)) true true room (least-same (hidden q) (hidden other .held) its-agree) in
-      let few = searching-same (is-few (hidden other)) (is-few (hidden q)) true false room (few-same (hidden q) (hidden other .held) its-agree) in
-      let letters = ap (λ (b : Bool). record { decides = b; count = 0; end = used-up }) (letters-same q held agree) in
-      let apart = ap (λ (b : Bool). record { decides = b; count = 0; end = used-up })
-      (ap₂ (λ (n : ℕ) (c : Bool). leb n (8 * (situation-bytes * room)) && not c) (bits-same q g held agree) (clashes-same q g held agree)) in
-      (searching-same every every true true room refl, (letters, (apart, (text-same room 0, (text-same room longer, (alike, (few, tt)))))))
+      let least = least-same (hidden q) (hidden other .held) its-agree in
+      let few = few-same (hidden q) (hidden other .held) its-agree in (
+        searching-same every every true true room refl, (
+          letters-tried room, (
+            apart-tried room, (
+              text-same room 0, (
+                text-same room longer, (
+                  searching-same (is-least (hidden other)) (is-least (hidden q)) true true room least, (
+                    searching-same (is-few (hidden other)) (is-few (hidden q)) true false room few,
+                    tt,
+                  ),
+                ),
+              ),
+            ),
+          ),
+        ),
+      )
 
   pub conclusion-same : (room : ℕ) → concluded other room ≡ concluded q room
   unfolding concluded
