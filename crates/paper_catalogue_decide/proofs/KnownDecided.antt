@@ -51,7 +51,6 @@ pub decided-known :
 unfolding set-after may-end judge enter offer take-next search trimmed strike put-before open-moves child-by children question search-from acceptor marked pattern-record side-record marked-side next-is code room-of searched count-of how-of rule-front read-rule-before read-rule foreign-field pair acceptor-over searched-over alike-in fixed fields-standing alike is-least least-ones leaf-choice chosen-for few is-few divisor uneven letters-differ next-pairs pairs-searched bits-of clashes-apart with-texts concluded form-by strays-of pair-decided adding-decided
 decided-known = refl
 
-
 pub listed-clash :
     rechecking-decided kept-rules (replicate 1104 90) (replicate 7 165)
     ≡ record { number = 0; pairs = 1; written = 7; list = 0 ∷ 1 ∷ 0 ∷ 6 ∷ 0 ∷ 0 ∷ 1 ∷ []; work = replicate 1104 0 }

@@ -251,12 +251,18 @@ module _ (q : Question) (g : GoodQuestion q) (held : List Held)
   all-same room =
       let least = least-same (hidden q) (hidden other .held) its-agree in
       let few = few-same (hidden q) (hidden other .held) its-agree in (
-        searching-same every every true true room refl, (
-          letters-tried room, (
-            apart-tried room, (
-              text-same room 0, (
-                text-same room longer, (
-                  searching-same (is-least (hidden other)) (is-least (hidden q)) true true room least, (
+        searching-same every every true true room refl,
+        (
+          letters-tried room,
+          (
+            apart-tried room,
+            (
+              text-same room 0,
+              (
+                text-same room longer,
+                (
+                  searching-same (is-least (hidden other)) (is-least (hidden q)) true true room least,
+                  (
                     searching-same (is-few (hidden other)) (is-few (hidden q)) true false room few,
                     tt,
                   ),
