@@ -67,14 +67,14 @@ unfolding divisor uneven letters-differ
 known-letters = refl
 
 -- The texts of two or three digits, of 3 and 5 alone: the least of two; the lengths. Of an open field the lengths below 4. The least length of 3 or more, of
--- 0 or more, of 9 or more; what is given for none.
+-- 4 or more, of 0 or more, of 9 or more; what is given for none.
 known-texts :
     least-text (pattern (then digit (then digit (either empty digit)))) (3 ∷ 5 ∷ []) 2 first-set
     ∷ lengths-below (pattern (then digit (then digit (either empty digit)))) (3 ∷ 5 ∷ []) 6
     ∷ lengths-below some-text (3 ∷ []) 4
-    ∷ (one-from 25 (2 ∷ 4 ∷ 6 ∷ []) 3 ∷ one-from 25 (2 ∷ 4 ∷ 6 ∷ []) 0 ∷ one-from 25 (2 ∷ 4 ∷ 6 ∷ []) 9 ∷ one-from 25 [] 3 ∷ [])
+    ∷ (one-from 25 (2 ∷ 4 ∷ 6 ∷ []) 3 ∷ one-from 25 (2 ∷ 4 ∷ 6 ∷ []) 4 ∷ one-from 25 (2 ∷ 4 ∷ 6 ∷ []) 0 ∷ one-from 25 (2 ∷ 4 ∷ 6 ∷ []) 9 ∷ one-from 25 [] 3 ∷ [])
     ∷ []
-    ≡ (3 ∷ 3 ∷ []) ∷ (2 ∷ 3 ∷ []) ∷ (1 ∷ 2 ∷ 3 ∷ []) ∷ (4 ∷ 2 ∷ 6 ∷ 25 ∷ []) ∷ []
+    ≡ (3 ∷ 3 ∷ []) ∷ (2 ∷ 3 ∷ []) ∷ (1 ∷ 2 ∷ 3 ∷ []) ∷ (4 ∷ 4 ∷ 2 ∷ 6 ∷ 25 ∷ []) ∷ []
 unfolding set-after may-end
 known-texts = refl
 
