@@ -19,10 +19,10 @@ unmapped : (X Y : Type 0) (g : X → Y) (l : List X) (n : ℕ) → length (map g
 unmapped X Y g l n h = sym (length-map l g) ∙ h
 
 abbrev Inv-loop : tie.InvT-loop
-Inv-loop i question₀ tried n counts f₀ question f = (f ≤ fields) × Changing question₀ tried i question f
+Inv-loop asked question₀ n counts f₀ question f = (f ≤ fields) × Changing question₀ asked question f
 
 abbrev μ-loop : tie.MeasureT-loop
-μ-loop i question₀ tried n counts f₀ question f = fields - f
+μ-loop asked question₀ n counts f₀ question f = fields - f
 
 within-requires : tie.Need-within-requires Inv-loop μ-loop
 within-requires c κs = search needs
@@ -34,7 +34,7 @@ loop-holds : tie.Need-loop-holds Inv-loop μ-loop
 loop-holds c =
     let a = c .before .before .before .before .before .args in
     let long : length (a .t1 .fields) ≡ fields = search (needs, unmapped) in
-    (omega arith, changing-none (a .t1) (a .t2) (a .i) long)
+    (omega arith, changing-none (a .t1) (a .asked) long)
 
 mul-if1 : tie.Need-mul-if1 Inv-loop μ-loop
 mul-if1 c = search needs
@@ -49,7 +49,7 @@ element-copy-out-own : tie.Need-element-copy-out-own Inv-loop μ-loop
 element-copy-out-own c = search needs
 
 with-text-requires : tie.Need-with-text-requires Inv-loop μ-loop
-with-text-requires c κs = c .before .before .before .before .before .before .before .before .within .ensures .1
+with-text-requires c κs = c .before .before .before .before .before .before .before .within .ensures .1
 
 mul-its : tie.Need-mul-its Inv-loop μ-loop
 mul-its c = search needs
@@ -75,14 +75,14 @@ loop-again c =
       omega arith,
       ⊎-elim
           (λ g.
-          rw (g .4)
-          (changing-more (a .t1) (a .t2) (a .i) q f x (omega (arith, c .before .loop-test .taken)) (g .3 .result)
-          (g .3 .ensures
-          ∙ stands-twice (a .t1) (a .t2) (a .i) q f x (counts .standings .result) (counts .standings .ensures) (n .within .result) (n .within .ensures .0) (g .0 .taken))))
+          rw (g .3)
+          (changing-more (a .t1) (a .asked) q f x (omega (arith, c .before .loop-test .taken)) (g .2 .result)
+          (g .2 .ensures
+          ∙ stands-twice (a .t1) (a .asked) q f x (counts .standings .result) (counts .standings .ensures) (n .within .result) (n .within .ensures .0) (g .0 .taken))))
           (λ g.
           rw (g .1)
-          (changing-not (a .t1) (a .t2) (a .i) q f x
-          (stands-once (a .t1) (a .t2) (a .i) q f x (counts .standings .result) (counts .standings .ensures) (g .0 .left))))
+          (changing-not (a .t1) (a .asked) q f x
+          (stands-once (a .t1) (a .asked) q f x (counts .standings .result) (counts .standings .ensures) (g .0 .left))))
           (c .if1 .came),
     )
 
@@ -90,7 +90,7 @@ returns : tie.Need-returns Inv-loop μ-loop
 returns c =
     let l = c .before .loop in
     let a = c .before .before .before .before .before .before .before .args in
-    changing-all (a .t1) (a .t2) (a .i) (l .question) (l .f) (l .inv .1) (omega arith)
+    changing-all (a .t1) (a .asked) (l .question) (l .f) (l .inv .1) (omega arith)
 
 pub with-texts-spec : {M : Type 1} → statement M
 with-texts-spec =
