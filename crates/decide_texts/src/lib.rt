@@ -136,14 +136,14 @@ fn endings(follow: &[PlaceSet; PLACES], taken: PlaceSet, last: PlaceSet, asked: 
         if meets(START, here) {
             length = k;
             if asked <= k {
-                return Ends { length: length, ends: ends };
+                return Ends { length, ends };
             }
         }
         ends[k] = here;
         here = leading_to(follow, taken & here);
         k += 1;
     }
-    Ends { length: length, ends: ends }
+    Ends { length, ends }
 }
 
 // The first character that leads from what may come next to a place of `ends`; 0, where none does.
