@@ -2,24 +2,24 @@
 --   texts-read : texts-coded s asked ≡ question-of (with-texts asked q) bodies
 -- and the patterns stand where they stood. Follows from `text-read`, field by field, and from how often each
 -- field stands.
-use Prim.Native.Nat.{ℕ, _+_, _≤_, _<_}
+use Prim.Native.Nat.{ℕ, _+_, _<_}
 use native.Mathlib.Omega.{arith}
 use mathlib.Core.Path.{_≡_, refl, sym, ap, ap₂, _∙_}
 use mathlib.Core.Bool.{Bool, true, false, cond}
 use mathlib.Core.List.{List, [], _∷_, _++_, map, List·Memᴰ, List·Memᴰ·head, List·Memᴰ·tail, List·Memᴰ·append-cases}
 use mathlib.Core.Logic.{⊎-elim}
 use lib.Dec.{ltb}
-use lib.ListN.{length, getD, length-append}
+use lib.ListN.{length, getD}
 use Rattle.paper.specs.Lists.{upto, only, keep}
-use Rattle.paper.specs.Numbers.{most-characters, fields, set-fields}
+use Rattle.paper.specs.Numbers.{most-characters, fields}
 use Rattle.paper.specs.Pattern.{Held, some-text, pattern}
-use Rattle.paper.specs.Equation.{Token, chr, fld, Side, is-field}
+use Rattle.paper.specs.Equation.{Token, Side, is-field}
 use Rattle.paper.specs.Question.{Question, held-by}
-use Rattle.paper.proofs.base.Tests.{by-bool, le-leb}
+use Rattle.paper.proofs.base.Tests.{le-leb}
 use Rattle.paper.proofs.base.Lists.{cons-eq, map-append, mem-upto}
 use Rattle.paper.proofs.base.Listed.{getD-map-upto}
 use Rattle.paper.proofs.sheets.Asked.{GoodHeld, GoodQuestion, good-most}
-use Rattle.paper.proofs.sheets.Hidden.{HasSet, in-range-has-set}
+use Rattle.paper.proofs.sheets.Hidden.{in-range-has-set}
 use Rattle.paper_decide.specs.Letters.{one-if, times}
 use Rattle.paper_decide.specs.OneText.{text-held, with-texts}
 use Rattle.base_places.specs.Masks.{within}
@@ -27,7 +27,7 @@ use Rattle.base_places.specs.WorkedOut.{worked-out}
 use Rattle.base_places.specs.declared.PlaceTables.{PlaceTables}
 use Rattle.base_places.proofs.Masks.{Few}
 use Rattle.base_codes.specs.Inner.{token-code, side-code, tokens, padded}
-use Rattle.base_question.specs.Asked.{field-tables, question-of}
+use Rattle.base_question.specs.Asked.{question-of}
 use Rattle.base_question.specs.Standings as Standings
 use Rattle.base_question.specs.declared.Body.{Body}
 use Rattle.base_question.specs.declared.Question as Code

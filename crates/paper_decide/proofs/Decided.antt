@@ -3,14 +3,14 @@
 --   decided       : AsksGood r → Decided r work answer (decision-of r work answer)
 --   sheet-decided : Decided (read-sheet sheet) work answer (decision sheet work answer)
 -- Each of the attempts is right: where its clash decides, the texts found solve the question; where its no clash does, there are none. One
--- induction over the attempts follows the conclusion. Follows from the laws of the search over some characters, of characters alike and of each
--- standing apart.
+-- induction over the attempts follows the conclusion. Follows from the laws of the search over some characters, of letters, of each standing apart, of
+-- the texts that are tried and of characters alike.
 use Prim.Native.Nat.{ℕ, suc, _+_, _*_, _≤_, _<_}
-use native.Mathlib.Nat.{zero-add, suc-mul, mul-le-mul-right}
+use native.Mathlib.Nat.{zero-add, suc-mul}
 use native.Mathlib.Omega.{arith}
 use mathlib.Core.Path.{_≡_, refl, sym, ap, _∙_, subst}
 use mathlib.Core.Bool.{Bool, true, false, not}
-use mathlib.Core.List.{List, [], _∷_, _++_, map, List·Memᴰ, List·Memᴰ·head, List·Memᴰ·tail}
+use mathlib.Core.List.{List, [], _∷_, _++_, List·Memᴰ, List·Memᴰ·head, List·Memᴰ·tail}
 use lib.Dec.{leb, eqb}
 use lib.ListN.{length, drop, length-append, length-drop}
 use lib.Seq.{take-append-seam, drop-append-seam}
@@ -36,7 +36,6 @@ use Rattle.paper_chosen.proofs.Likewise.{same-texts}
 use Rattle.paper_chosen.proofs.Over.{searched-every, found-over, used-up-over, count-over, short-over}
 use Rattle.paper_plain.specs.Engine.{bits-of, clashes-apart}
 use Rattle.paper_plain.proofs.Solved.{solvable-clashes}
-use Rattle.paper_decide.specs.Alike.{is-least}
 use Rattle.paper_decide.specs.OneText.{with-texts}
 use Rattle.paper_decide.specs.Deciding.{Attempt, searching, testing, own-search, letters-test, apart-test, alike-search, few-search, text-search, short-search, longer, longer-search, most-attempts, end-decides, tried, Conclusion, concluded-from, concluded, Decision, decision-of, decision}
 use Rattle.paper_decide.specs.DecidePromised.{ClashTold, TextsDontFit, Decided}

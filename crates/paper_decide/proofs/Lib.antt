@@ -1,4 +1,4 @@
--- characters alike; each standing apart
+-- characters alike
 pub mod Alike
 -- letters; one text for each field that stands twice
 pub mod LettersRight

@@ -5,19 +5,19 @@
 use Prim.Native.Nat.{ℕ, zero, suc, _<_}
 use native.Mathlib.Omega.{arith}
 use mathlib.Core.Path.{_≡_, refl, sym, ap, _∙_, subst}
-use mathlib.Core.Bool.{Bool, true, false, cond}
-use mathlib.Core.List.{List, [], _∷_, _++_, map, List·Memᴰ, List·Memᴰ·head, List·Memᴰ·tail}
+use mathlib.Core.Bool.{Bool, true, cond}
+use mathlib.Core.List.{List, [], _∷_, _++_, List·Memᴰ, List·Memᴰ·head, List·Memᴰ·tail}
 use lib.Dec.{leb, ltb}
 use lib.ListN.{getD}
-use Rattle.paper.specs.Lists.{upto, any, keep}
+use Rattle.paper.specs.Lists.{upto, keep}
 use Rattle.paper.specs.Numbers.{fields}
-use Rattle.paper.specs.Pattern.{char, Pattern, leaf, empty, then, Fits, one, nothing, both, Held, some-text, pattern, Holds}
+use Rattle.paper.specs.Pattern.{char, leaf, Fits, one, nothing, both, Held, some-text, Holds}
 use Rattle.paper.specs.Places.{PlaceSet, first-set, set-after, may-end, set-along}
 use Rattle.paper.specs.Equation.{Texts, stands-in}
 use Rattle.paper.specs.Question.{Question, held-by, hidden, Equated}
 use Rattle.paper_decide.specs.Letters.{times}
 use Rattle.paper_decide.specs.OneText.{can-end, least-text, lengths-below, one-from, spelt-out, lengths-tried, text-held, with-texts}
-use Rattle.paper.proofs.base.Tests.{by-bool, cond-by, true-false, eqb-true, ltb-true}
+use Rattle.paper.proofs.base.Tests.{cond-by, eqb-true, ltb-true}
 use Rattle.paper.proofs.base.Lists.{any-true, keep-mem, mem-keep, cons-eq}
 use Rattle.paper.proofs.base.Listed.{getD-map-upto}
 use Rattle.paper.proofs.places.PlacesDecide.{only-held}

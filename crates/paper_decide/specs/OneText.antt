@@ -7,9 +7,8 @@ use lib.Dec.{leb, ltb}
 use lib.ListN.{getD}
 use Rattle.paper.specs.Lists.{upto, any, keep}
 use Rattle.paper.specs.Numbers.{fields}
-use Rattle.paper.specs.Pattern.{char, Pattern, leaf, empty, then, Held, some-text, pattern}
+use Rattle.paper.specs.Pattern.{char, Pattern, leaf, empty, then, Held, pattern}
 use Rattle.paper.specs.Places.{PlaceSet, first-set, set-after, may-end}
-use Rattle.paper.specs.Equation.{Side}
 use Rattle.paper.specs.Question.{Question, held-by}
 use Rattle.paper_decide.specs.Letters.{times}
 

@@ -13,23 +13,23 @@ use mathlib.Core.List.{List, [], _∷_, _++_, List·Memᴰ, List·Memᴰ·head, 
 use lib.Dec.{leb, ltb, eqb}
 use lib.ListN.{getD, take}
 use Rattle.paper.specs.Lists.{upto, any, all, keep, member}
-use Rattle.paper.specs.Numbers.{fields, set-fields, longest-side, situation-bytes}
+use Rattle.paper.specs.Numbers.{fields, set-fields, situation-bytes}
 use Rattle.paper.specs.Pattern.{Held, some-text}
 use Rattle.paper.specs.Places.{PlaceSet}
 use Rattle.paper.specs.Places as Places
 use Rattle.paper.specs.Search.{End, used-up, State}
 use Rattle.paper.specs.Situation.{Situation, Move}
-use Rattle.paper.specs.Equation.{Token, chr, fld, Side, is-field, stands-in}
+use Rattle.paper.specs.Equation.{chr, fld, Side, is-field, stands-in}
 use Rattle.paper.specs.Question.{Question, held-by, hidden}
 use Rattle.paper.specs.Sheet.{asked}
 use Rattle.paper.specs.Outcome.{room-of, searched, answered, count-of, how-of}
 use Rattle.paper_chosen.specs.Chosen.{every, acceptor-over, searched-over}
 use Rattle.paper_decide.specs.Alike.{leaves-of, leaf-takes-it, alike-in, fixed, fields-standing, alike, is-least, least-ones}
 use Rattle.paper_decide.specs.Few.{leaf-choice, chosen-for, chosen-in, chosen-by, some-chosen, few, is-few}
-use Rattle.paper_decide.specs.Letters.{Weights, divisor, between, held-weights, side-weight, times, sum-of, divisor-of, surplus, at-least, no-end, at-most, uneven, this-one, all-but, chars-of, letters-differ}
+use Rattle.paper_decide.specs.Letters.{Weights, divisor, between, held-weights, side-weight, times, divisor-of, surplus, at-least, no-end, at-most, uneven, this-one, all-but, chars-of, letters-differ}
 use Rattle.paper_decide.specs.OneText.{text-held, with-texts}
 use Rattle.paper_decide.specs.Deciding.{Attempt, searching, letters-test, apart-test, text-search, longer, attempts, end-decides, tried, Conclusion, concluded-from, concluded, decision-of}
-use Rattle.paper.proofs.base.Tests.{by-bool, true-false, left-true, right-true, or-left-false, or-right-false, eqb-same}
+use Rattle.paper.proofs.base.Tests.{by-bool, true-false, left-true, or-left-false, or-right-false}
 use Rattle.paper.proofs.base.Lists.{mem-keep, any-append}
 use Rattle.paper.proofs.base.Listed.{getD-map-upto}
 use Rattle.paper.proofs.sheets.Asked.{GoodQuestion, fields-known}

@@ -11,7 +11,7 @@ use lib.ListN.{length, getD, length-set}
 use borrow.Author.Needs.{needs}
 use Rattle.paper.specs.Lists.{from, keep}
 use Rattle.paper_decide.specs.OneText.{one-from, lengths-tried}
-use Rattle.decide_texts.specs.TextsCoded.{meets, start, leading-to, ending, length-coded, Endings-of}
+use Rattle.decide_texts.specs.TextsCoded.{meets, start, leading-to, ending, length-coded}
 use Rattle.decide_texts.proofs.TextTurns.{ending-more, ends-more, one-here, one-behind, one-not}
 use Rattle.decide_texts.proofs.endings.Statement.{statement}
 use Rattle.decide_texts.proofs.endings.Tie as tie

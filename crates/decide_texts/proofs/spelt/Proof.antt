@@ -1,16 +1,12 @@
 -- `spelt` meets its contract. The loop's invariant: the tables are those of the characters gone through, and `left` of them are still to come
 -- (`Spelling`).
-use Prim.Native.Nat.{ℕ, suc, _+_, _-_, _≤_, _<_}
+use Prim.Native.Nat.{ℕ, _+_, _-_}
 use native.Mathlib.Omega.{arith}
-use mathlib.Core.Path.{_≡_, refl, ap, _∙_}
+use mathlib.Core.Path.{_≡_}
 use mathlib.Core.List.{List}
-use lib.Bits.{bitAnd}
 use lib.ListN.{length, getD}
 use borrow.Author.Needs.{needs}
-use Rattle.paper.specs.Numbers.{most-characters}
-use Rattle.paper_decide.specs.OneText.{longest-tried}
-use Rattle.base_places.specs.Masks.{places}
-use Rattle.decide_texts.specs.TextsCoded.{start, text-from, spelt-tables}
+use Rattle.decide_texts.specs.TextsCoded.{start, text-from}
 use Rattle.decide_texts.proofs.TextTurns.{text-more, text-none}
 use Rattle.decide_texts.proofs.SpeltTables.{Spelling, spelling-none, spelling-more, spelling-all}
 use Rattle.decide_texts.proofs.spelt.Statement.{statement}

@@ -1,8 +1,7 @@
 -- `taken` meets its contract. The loop's invariant: the places that take a character below c are gathered.
-use Prim.Native.Nat.{ℕ, _-_, _≤_}
+use Prim.Native.Nat.{_-_, _≤_}
 use native.Mathlib.Omega.{arith}
-use mathlib.Core.Path.{_≡_, ap, _∙_}
-use lib.Bits.{bitOr}
+use mathlib.Core.Path.{_≡_}
 use borrow.Author.Needs.{needs}
 use Rattle.decide_texts.specs.TextsCoded.{taken-by}
 use Rattle.decide_texts.proofs.TextTurns.{taken-none, taken-more}

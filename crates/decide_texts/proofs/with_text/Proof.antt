@@ -1,9 +1,6 @@
 -- `with_text` meets its contract, by what its parts ensure.
-use Prim.Native.Nat.{_≤_}
-use native.Mathlib.Omega.{arith}
 use mathlib.Core.Path.{_∙_}
 use borrow.Author.Needs.{needs}
-use Rattle.paper_decide.specs.OneText.{longest-tried}
 use Rattle.decide_texts.proofs.TextTurns.{one-text, no-one-text}
 use Rattle.decide_texts.proofs.with_text.Statement.{statement}
 use Rattle.decide_texts.proofs.with_text.Tie as tie

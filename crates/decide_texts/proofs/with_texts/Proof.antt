@@ -1,16 +1,13 @@
 -- `with_texts` meets its contract. The loop's invariant: the fields below f are changed (`Changing`).
-use Prim.Native.Nat.{ℕ, _-_, _≤_, _<_}
+use Prim.Native.Nat.{ℕ, _-_, _≤_}
 use native.Mathlib.Omega.{arith}
-use mathlib.Core.Path.{_≡_, refl, sym, ap, _∙_}
+use mathlib.Core.Path.{_≡_, sym, _∙_}
 use mathlib.Core.Logic.{⊎-elim}
 use mathlib.Core.List.{List, map}
-use lib.ListN.{length, getD, length-map}
+use lib.ListN.{length, length-map}
 use borrow.Author.Needs.{needs}
 use Rattle.paper.specs.Numbers.{fields}
-use Rattle.paper.proofs.base.Tests.{cond-true, cond-false, lt-ltb, le-ltb}
 use Rattle.base_places.specs.Masks.{within}
-use Rattle.base_question.specs.Standings.{standing-times}
-use Rattle.decide_texts.specs.TextsCoded.{tables-at, tables-then, text-tables, texts-coded}
 use Rattle.decide_texts.proofs.FieldsChanged.{Changing, changing-none, changing-not, changing-more, changing-all, stands-twice, stands-once}
 use Rattle.decide_texts.proofs.with_texts.Statement.{statement}
 use Rattle.decide_texts.proofs.with_texts.Tie as tie
