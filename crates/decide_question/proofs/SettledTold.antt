@@ -2,7 +2,7 @@
 --   settled-told : of the struct of a good question, whose patterns stand where its bodies say in the bytes that are their own (`Written`), and any buffers
 -- A sheet that is read asks a good question (`sheet-good`), and so does a pair of good rules (`pair-asks`). Follows from `search-told` and
 -- `search-told-all`, the ties of letters, standings, texts and characters, and the laws of `Concluding`.
-use Prim.Native.Nat.{ℕ, suc, _+_, _*_, _<_}
+use Prim.Native.Nat.{ℕ, suc, _+_, _*_, _≤_, _<_}
 use native.Mathlib.Nat.{zero-add}
 use mathlib.Core.Path.{_≡_, refl, sym, ap, _∙_, subst}
 use mathlib.Core.Bool.{Bool, true, false, not, _&&_}
@@ -11,7 +11,7 @@ use lib.Dec.{leb}
 use lib.ListN.{length, getD}
 use Rattle.paper.specs.Alphabet.{edition-of}
 use Rattle.paper.specs.Lists.{from, each}
-use Rattle.paper.specs.Numbers.{fields, situation-bytes}
+use Rattle.paper.specs.Numbers.{fields, rule-fields, situation-bytes}
 use Rattle.paper.specs.Places.{PlaceSet}
 use Rattle.paper.specs.Search.{Entry, found, used-up, no-room, too-long}
 use Rattle.paper.specs.Situation.{Situation, Move}
@@ -45,7 +45,7 @@ use Rattle.search_question.specs.Over.{ended-over, buffer-over, ended-all, buff
 use Rattle.search_question.proofs.Searched.{search-told, search-told-all}
 use Rattle.decide_alike.specs.AlikeCoded.{characters-coded, least-coded}
 use Rattle.decide_alike.proofs.AlikeTies.{least-read, few-read}
-use Rattle.decide_letters.proofs.LettersTold.{own-bytes, letters-told}
+use Rattle.decide_letters.proofs.LettersTold.{letters-told}
 use Rattle.decide_letters.proofs.PatternRead.{Says}
 use Rattle.decide_texts.specs.TextsCoded.{texts-coded}
 use Rattle.decide_texts.proofs.TextsTies.{texts-read}
@@ -55,9 +55,9 @@ use Rattle.decide_question.proofs.AnyQuestion.{own-unchanged}
 use Rattle.decide_question.proofs.Concluding.{Ends, conclusion-told, Made, made-search, made-test, undecided-here, decided-here, nothing-left}
 
 -- The patterns of a question, where its bodies say: those of the fields 0 to 3 in the first bytes, those of the others in the second.
-abbrev pub Written : Question → List Body → List ℕ → List ℕ → Type 0
-Written q bodies first second =
-    (f : ℕ) → f < fields → Says (edition-of (q .alphabet)) (own-bytes first second f) (getD bodies f nowhere) (held-by q f)
+pub record Written (q : Question) (bodies : List Body) (first second : List ℕ) : Type 0 where
+  pub firsts : (f : ℕ) → f < rule-fields → Says (edition-of (q .alphabet)) first (getD bodies f nowhere) (held-by q f)
+  pub seconds : (f : ℕ) → rule-fields ≤ f → f < fields → Says (edition-of (q .alphabet)) second (getD bodies f nowhere) (held-by q f)
 
 module _ (q : Question) (good : GoodQuestion q) (bodies : List Body) (first second : List ℕ) (written : Written q bodies first second)
     (s : Code.Question) (is : s ≡ question-of q bodies) (work answer : List ℕ) where
@@ -69,7 +69,7 @@ module _ (q : Question) (good : GoodQuestion q) (bodies : List Body) (first seco
   unfolding letters-asked
   letters-same =
       made-test q (λ (room : ℕ). letters-differ q) work answer (letters-asked s first second)
-      (ap (λ (x : Code.Question). letters-asked x first second) is ∙ letters-told q good (edition-of (q .alphabet)) bodies first second written)
+      (ap (λ (x : Code.Question). letters-asked x first second) is ∙ letters-told q good (edition-of (q .alphabet)) bodies first second (written .firsts) (written .seconds))
 
   apart-same : Gives (by-test s (length work) answer (apart-asked s (clashes-apart q) (length work))) (apart-test q)
   unfolding apart-asked room-of

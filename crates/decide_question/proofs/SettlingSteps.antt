@@ -66,7 +66,7 @@ made-by s first second k work answer h e n w = (λ m y. e ∙ n m, (subst (Harml
 abbrev pub Promised : Code.Question → List ℕ → List ℕ → Ended → ℕ → List ℕ → List ℕ → Settled → List ℕ → List ℕ → Type 0
 Promised s first second own entered work answer r after worked =
     ((m : Bool) → Says m (Meets s)
-        → record { settled = r; buffer = after } ≡ settled-from (attempt-coded s (length work) answer m first second) own answer entered later)
+    → record { settled = r; buffer = after } ≡ settled-from (attempt-coded s (length work) answer m first second) own answer entered later)
     × (worked ≡ work)
 
 -- Where the attempt k is to be made, after n situations: what is settled from here on is what was to be settled from the second on.

@@ -153,15 +153,7 @@ fn letters(question: Question, first: &[u8], second: &[u8]) -> bool
     let right = question.right;
     let bodies = question.bodies;
     let edition = edition_of(alphabet);
-    decide_letters::letters_differ(
-        left,
-        right,
-        alphabet.space,
-        edition,
-        bodies,
-        first,
-        second,
-    )
+    decide_letters::letters_differ(left, right, alphabet.space, edition, bodies, first, second)
 }
 
 // The edition whose alphabet it is.
