@@ -96,10 +96,10 @@ pub asked-told : (how : Asking) {catalogue bytes : List ℕ} {kept : Kept} {side
     → (present : Code.Rule) → present ≡ rule-there (drop (begin-in kept i) catalogue)
     → (work lent : List ℕ) → length work ≡ length lent → (pair : Pair)
     → ((m : Bool)
-        → Says m (Meets (pair-question (present .side) side (present .fields) fields (pair-bodies (present .bodies) bodies)))
-        → pair
-        ≡ pair-by how (pair-question (present .side) side (present .fields) fields (pair-bodies (present .bodies) bodies)) m (drop (begin-in kept i) catalogue)
-            bytes (length work))
+    → Says m (Meets (pair-question (present .side) side (present .fields) fields (pair-bodies (present .bodies) bodies)))
+    → pair
+    ≡ pair-by how (pair-question (present .side) side (present .fields) fields (pair-bodies (present .bodies) bodies)) m (drop (begin-in kept i) catalogue)
+    bytes (length work))
     → told-pair pair ≡ asking-coded how .asks (rule-at (x .standing .rules-present) i) (x .rule) (room-of lent)
 asked-told how {catalogue} {bytes} {kept} x i h present p work lent same pair a =
     let s = x .standing in

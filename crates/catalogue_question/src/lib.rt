@@ -59,10 +59,7 @@ pub fn asked(
 }
 
 // Where the patterns of both rules stand, by the fields' numbers in the pair: the first rule's, then the second's, each in its own rule's bytes.
-pub fn bodies(
-    first: [Body; SHEET_FIELDS],
-    second: [Body; SHEET_FIELDS],
-) -> [Body; SHEET_FIELDS]
+pub fn bodies(first: [Body; SHEET_FIELDS], second: [Body; SHEET_FIELDS]) -> [Body; SHEET_FIELDS]
     ensures { λ r. ⌜ r ≡ pair-bodies first second ⌝ }
 {
     let mut both = base_question::no_bodies();

@@ -36,8 +36,7 @@ same-length-2 c = search needs
 returns-2 : tie.Need-returns-2
 returns-2 c =
     let s = c .before .before in
-    let t = s .before .before in
-    (
+    let t = s .before .before in (
       λ m y.
           rw (t .enum-told2 .given .1, ← t .before .before .asked .ensures)
           (s .decide .ensures .0 m (subst (λ (x : Question). Says m (Meets x)) (sym (t .before .before .asked .ensures)) y)),
