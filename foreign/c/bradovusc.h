@@ -4,11 +4,13 @@
  * A rule is fixed Code 39 characters with fields between them; a field may have a pattern. Two rules clash when one label can be
  * read by both. Spaces at the end of a label are dropped before it is read, so LT4 and LT4 with a space are the same label. The two
  * rules stand on a question sheet; the answer is a number, and after a clash a text for each field. One search answers it, or up to
- * four, which decide more. The one search can write the way to its clash too, step by step, and any such way can be played again.
+ * seven attempts, which decide more. The one search can write the way to its clash too, step by step, and any such way can be played
+ * again.
  * Where no field stands twice, a small engine says clash or no clash in at most 9,731 bytes. The sheet is written from the two sides
  * and the patterns; where one of them is wrong, its place is told.
  * A catalogue has up to 32 rules in one buffer. A rule is added only if it clashes with none that is there; it can be withdrawn. One
- * that was kept can be checked again, pair by pair. A pair is asked by one search, or by up to four, which enter more rules.
+ * that was kept can be checked again, pair by pair. A pair is asked by one search, or by up to seven attempts, which enter more
+ * rules.
  * A sheet can be written out as a script for string solvers, in SMT-LIB 2.6.
  * A text of Full ASCII, 128 characters, can be spelt in the 43 of Code 39, and read back. A sheet may be one of Full ASCII: then
  * its rules have these 128 characters, and the texts of a clash can be spelt.
@@ -25,10 +27,10 @@
  * bradovusc_recheck, bradovusc_recheck_decided, bradovusc_spell_open, bradovusc_spell_open_rule, bradovusc_spell_open_catalogue,
  * bradovusc_drop_strays, bradovusc_drop_strays_rule and bradovusc_drop_strays_catalogue.
  * They keep nothing from one call to the next, ask for no memory, and touch nothing but what they are lent, so calls in several
- * threads don't meet. bradovusc_add_decided takes at most about 240 KiB of stack, bradovusc_recheck_decided about 225,
- * bradovusc_decide about 190, bradovusc_spell_open_catalogue, bradovusc_drop_strays_catalogue and bradovusc_recheck about 120, the
- * others about 105; 233, 218, 184, 111, 111, 108 and 98 were measured. So a thread with 128 KiB is enough for all but the first three,
- * and one with 256 KiB for these.
+ * threads don't meet. bradovusc_recheck_decided, bradovusc_add_decided and bradovusc_recheck take at most about 140 KiB of stack,
+ * bradovusc_spell_open_catalogue and bradovusc_drop_strays_catalogue about 120, the others about 105; 135, 132, 127, 112, 112 and 99
+ * were measured, 82 of bradovusc_decide. So a thread with 128 KiB is enough for all but the first three, and one with 256 KiB for
+ * these.
  * All else is in this header:
  * bradovusc_ask, bradovusc_settle, bradovusc_find_steps, bradovusc_play_steps, bradovusc_ask_plain, bradovusc_measure_plain,
  * bradovusc_write_sheet, bradovusc_write_sheet_edition, bradovusc_spell_text, bradovusc_read_back, bradovusc_write_script,
@@ -442,22 +444,30 @@ static inline struct bradovusc_answer bradovusc_ask(const uint8_t *sheet, size_t
 
 /*
  * Deciding. bradovusc_clash makes one search and gives up, with 18 or 19, where that has no room or a side grows too long.
- * bradovusc_decide then goes on, in the same working buffer: over characters that are alike taken as one, over a few characters, and
- * with each standing of a field apart. What it answers is proved as what bradovusc_clash answers is: after 0 the texts solve the
- * question, and with 1 there are none, of any length. Where bradovusc_clash with the same buffers does not give 18 or 19, it gives
- * the same number, count, place and bytes.
+ * bradovusc_decide then goes on, in the same working buffer, with up to six more attempts:
  *
- * What is told has the indices of bradovusc_told, and one more. The count is that of all the searches made.
+ *   2   letters: can each character but the space stand as often on both sides? No search; no clash, or nothing
+ *   3   each standing of a field apart, by the engine of bradovusc_plain. No search; no clash, or nothing
+ *   4   the search with the shortest text in each field that stands twice; a clash, or nothing
+ *   5   the same with texts of three characters or more; a clash, or nothing
+ *   6   the search over characters that are alike taken as one; a clash or no clash
+ *   7   the search over a few characters; a clash, or nothing
+ *
+ * What it answers is proved as what bradovusc_clash answers is: after 0 the texts solve the question, and with 1 there are none, of
+ * any length. Where bradovusc_clash with the same buffers does not give 18 or 19, it gives the same number, count, place and bytes.
+ *
+ * What is told has the indices of bradovusc_told, and one more. The count is that of all the searches made: up to five, each in the
+ * whole room. 2 and 3 count nothing.
  */
 enum bradovusc_told_decided {
-    /* the search that decided, 1 to 4; 0 where none did, and after 11 to 17 */
+    /* the attempt that decided, 1 to 7; 0 where none did, and after 11 to 17, 22 and 44 */
     BRADOVUSC_DECIDED_SEARCH = 3,
     BRADOVUSC_DECIDED_TOLD = 4
 };
 
 /*
  * Decides the sheet. Afterwards the buffers are as bradovusc_clash leaves them with that number. 18 and 19 are neither yes nor no:
- * they are what the first search gave, and no other decided.
+ * they are what the first attempt gave, and no other decided.
  *
  * Any bytes and any lengths are taken, 0 included. Each pointer must be that of so many elements, and not null, also where the
  * length is 0; the four must not overlap.
@@ -896,7 +906,7 @@ enum bradovusc_told_added {
     BRADOVUSC_ADDED_PAIR = 3,
     /* so many by bradovusc_add */
     BRADOVUSC_ADDED_TOLD = 4,
-    /* by bradovusc_add_decided, after 30, the search that found the clash, 1 to 3 (the fourth finds none); 0 where none decided the
+    /* by bradovusc_add_decided, after 30, the attempt that found the clash, 1 or 4 to 7 (2 and 3 find none); 0 where none decided the
      * pair */
     BRADOVUSC_ADDED_SEARCH = 4,
     BRADOVUSC_ADDED_DECIDED_TOLD = 5
@@ -919,8 +929,8 @@ uint32_t bradovusc_add(uint8_t *catalogue, size_t catalogue_length, const uint8_
                        size_t work_length, uint64_t *told, size_t told_length);
 
 /*
- * The same, but each pair is asked as bradovusc_decide asks: by up to four searches in the same working buffer, until one decides. So
- * it enters each rule that bradovusc_add enters, with the same bytes, and more. A pair that no search decides has the answer of the
+ * The same, but each pair is asked as bradovusc_decide asks: by up to seven attempts in the same working buffer, until one decides. So
+ * it enters each rule that bradovusc_add enters, with the same bytes, and more. A pair that no attempt decides has the answer of the
  * first one, 18 or 19. What is at fault, what comes before what, and what the buffers hold afterwards are as for bradovusc_add.
  */
 uint32_t bradovusc_add_decided(uint8_t *catalogue, size_t catalogue_length, const uint8_t *rule, size_t rule_length, uint8_t *work,
@@ -944,11 +954,11 @@ uint32_t bradovusc_withdraw(uint8_t *catalogue, size_t catalogue_length, size_t 
 #define BRADOVUSC_LIST_BYTES(rules) (BRADOVUSC_PAIR_BYTES * ((size_t)(rules) * ((size_t)(rules) - 1) / 2))
 
 /*
- * Where pairs are decided, there are seven bytes for each, since up to four searches count:
+ * Where pairs are decided, there are seven bytes for each, since up to five searches count:
  *
- *   the lower number of the two rules, the higher one, the answer of the pair, its count in three bytes (low first), the search
+ *   the lower number of the two rules, the higher one, the answer of the pair, its count in three bytes (low first), the attempt
  *
- * The search is the one that found the clash, 1 to 3 (the fourth finds none), or 0 where none decided the pair. So many bytes are
+ * The attempt is the one that found the clash, 1 or 4 to 7 (2 and 3 find none), or 0 where none decided the pair. So many bytes are
  * always enough for this number of rules; for 32 rules that is 3,472.
  */
 #define BRADOVUSC_DECIDED_PAIR_BYTES 7
@@ -990,7 +1000,7 @@ uint32_t bradovusc_recheck(const uint8_t *catalogue, size_t catalogue_length, ui
 uint32_t bradovusc_recheck_decided(const uint8_t *catalogue, size_t catalogue_length, uint8_t *work, size_t work_length,
                                    uint8_t *list, size_t list_length, uint64_t *told, size_t told_length);
 
-/* An addition's answer: the number, and what is told beside it. bradovusc_enter has no search to tell: it is 0. */
+/* An addition's answer: the number, and what is told beside it. bradovusc_enter has no attempt to tell: search is 0. */
 struct bradovusc_added {
     uint32_t number;
     uint64_t count, place, rule;
@@ -1090,7 +1100,7 @@ struct bradovusc_pairs {
     uint64_t lower, higher;
     uint32_t answer;
     uint64_t count;
-    /* the search that found a clash; 0 where none decided, and where pairs have five bytes, which don't tell it */
+    /* the attempt that found a clash; 0 where none decided, and where pairs have five bytes, which don't tell it */
     uint64_t search;
     /* what is still to be walked, and the bytes of a pair */
     const uint8_t *rest;

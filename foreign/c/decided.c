@@ -1,7 +1,7 @@
 /*
  * Decides a stream of cases on standard input, as the program `second --decide` does.
  *
- * The line of a case is that of many.c, and behind it the search that decided.
+ * The line of a case is that of many.c, and behind it the attempt that decided.
  */
 #include "streams.h"
 

@@ -15,7 +15,7 @@
  * carried over. Of the finish codes there is a line for each pattern, with its bytes, what writing its sheet answered, and the place
  * of a fault; of a sheet that was written a line with its length and its answer, the texts, and a line of the small engine: the
  * bytes that it needs, its number, and the number in words. Of the last sheet there is a line for each function, number, count and
- * the number in words, and of deciding the search. The lines of the last catalogue say the search too.
+ * the number in words, and of deciding the attempt. The lines of the last catalogue say the attempt too.
  */
 #include <inttypes.h>
 #include <stdio.h>
@@ -280,7 +280,7 @@ static void decide(void) {
     struct bradovusc_decision decided = bradovusc_settle(twice, sizeof twice, work, sizeof work, answer, sizeof answer);
     printf("one search: %" PRIu32 " %" PRIu64 ", %s\n", given.number, given.count, bradovusc_text(given.number));
     ask_plain(twice, sizeof twice);
-    printf("decided: %" PRIu32 " %" PRIu64 ", %s, by search %" PRIu64 "\n", decided.number, decided.count,
+    printf("decided: %" PRIu32 " %" PRIu64 ", %s, by attempt %" PRIu64 "\n", decided.number, decided.count,
            bradovusc_text(decided.number), decided.search);
     print_texts(decided.written);
 }
@@ -290,7 +290,7 @@ static void add_decided(const char *name, const uint8_t *rule, size_t rule_lengt
         bradovusc_enter_decided(serial_catalogue, sizeof serial_catalogue, rule, rule_length, work, sizeof work);
     printf("add the %s, decided: %" PRIu32 ", %s", name, added.number, bradovusc_catalogue_text(added.number));
     if (added.number == BRADOVUSC_NOT_APART) {
-        printf(": rule %" PRIu64 ", %s, by search %" PRIu64, added.rule, bradovusc_text(added.pair), added.search);
+        printf(": rule %" PRIu64 ", %s, by attempt %" PRIu64, added.rule, bradovusc_text(added.pair), added.search);
     }
     putchar('\n');
 }
@@ -302,7 +302,7 @@ static void check_again_decided(void) {
     printf("check again, decided: %" PRIu32 ", %s: %" PRIu64 " listed\n", rechecked.number,
            bradovusc_catalogue_text(rechecked.number), rechecked.pairs);
     while (bradovusc_next_pair(&pairs)) {
-        printf("rule %" PRIu64 " and rule %" PRIu64 ": %s, by search %" PRIu64 "\n", pairs.lower, pairs.higher,
+        printf("rule %" PRIu64 " and rule %" PRIu64 ": %s, by attempt %" PRIu64 "\n", pairs.lower, pairs.higher,
                bradovusc_text(pairs.answer), pairs.search);
     }
 }

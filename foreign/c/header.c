@@ -434,7 +434,7 @@ static int pairs_in(const uint8_t *bytes, size_t written, int decided) {
     while (bradovusc_next_pair(&pairs)) {
         found++;
         check(pairs.rest_length == written - (decided ? 7 : 5) * (size_t)found, "the walk goes on behind the pair", (long)written);
-        check(decided || pairs.search == 0, "five bytes tell no search", (long)written);
+        check(decided || pairs.search == 0, "five bytes tell no attempt", (long)written);
     }
     check(!bradovusc_next_pair(&pairs), "a walk that is over stays so", (long)written);
     free(exact);
@@ -461,14 +461,14 @@ static void try_pairs(void) {
 }
 
 static void try_decided_pairs(void) {
-    static const uint8_t bytes[] = {0, 1, 0, 157, 1, 0, 2, 2, 31, 18, 253, 255, 2, 0, 30, 31, 19, 255, 255, 255, 0};
+    static const uint8_t bytes[] = {0, 1, 0, 109, 1, 0, 4, 2, 31, 18, 251, 255, 4, 0, 30, 31, 19, 255, 255, 255, 0};
     struct bradovusc_pairs pairs = bradovusc_decided_pairs_in(bytes, sizeof bytes);
     size_t written;
 
     check(bradovusc_next_pair(&pairs) && pairs.lower == 0 && pairs.higher == 1, "the first pair", 0);
-    check(pairs.answer == BRADOVUSC_CLASH && pairs.count == 413 && pairs.search == 2, "its answer", 0);
+    check(pairs.answer == BRADOVUSC_CLASH && pairs.count == 365 && pairs.search == 4, "its answer", 0);
     check(bradovusc_next_pair(&pairs) && pairs.lower == 2 && pairs.higher == 31, "the second pair", 1);
-    check(pairs.answer == BRADOVUSC_NO_ROOM && pairs.count == 196605 && pairs.search == 0, "its answer", 1);
+    check(pairs.answer == BRADOVUSC_NO_ROOM && pairs.count == 327675 && pairs.search == 0, "its answer", 1);
     check(bradovusc_next_pair(&pairs) && pairs.lower == 30 && pairs.higher == 31, "the third pair", 2);
     check(pairs.answer == BRADOVUSC_SIDE_TOO_LONG && pairs.count == 16777215 && pairs.search == 0, "its answer", 2);
     check(!bradovusc_next_pair(&pairs), "the end", 0);
@@ -515,37 +515,58 @@ static int is_decided(struct bradovusc_decision d, uint32_t number, uint64_t cou
     return d.number == number && d.count == count && d.place == place && d.written == written && d.search == search;
 }
 
-/* Known decisions of the rules: one for each search, one that none decides, faults, null pointers, and what is told. */
-static void try_decide(void) {
+/* one of 0 to 6 or one of 0 to 2, twice on both sides */
+static const uint8_t shortest[] = {'P', 'A', 0, 7, 67, 65, 0, 6, 65, 0, 2, 'L', 'E', 2, 64, 64, 'R', 'I', 2, 64, 64};
+
+/* Known decisions of the rules, one for each attempt. */
+static void try_attempts(void) {
     static const uint8_t apart[] = {'L', 'E', 1, 10, 'R', 'I', 1, 11}; /* A and B */
-    /* field 0 is one of A to G: with 4 behind it and twice; with A behind it and twice */
-    static const uint8_t alike[] = {'P', 'A', 0, 3, 65, 10, 16, 'L', 'E', 2, 64, 4, 'R', 'I', 2, 64, 64};
-    static const uint8_t found[] = {'P', 'A', 0, 3, 65, 10, 16, 'L', 'E', 2, 64, 10, 'R', 'I', 2, 64, 64};
-    /* one of 0 to 6 or one of 0 to 2, twice on both sides */
-    static const uint8_t few[] = {'P', 'A', 0, 7, 67, 65, 0, 6, 65, 0, 2, 'L', 'E', 2, 64, 64, 'R', 'I', 2, 64, 64};
-    static const uint8_t own[] = {'L', 'E', 1, 10, 'R', 'I', 3, 64, 4, 64}; /* A, and field 0, 4, field 0 */
-    static const uint8_t open[] = {'L', 'E', 2, 10, 10, 'R', 'I', 1, 64};   /* AA and field 0 */
+    /* field 0, one of A to G, with 4 behind it, and twice */
+    static const uint8_t letters[] = {'P', 'A', 0, 3, 65, 10, 16, 'L', 'E', 2, 64, 4, 'R', 'I', 2, 64, 64};
+    /* field 0, a digit, then AB; field 1, a digit, then BA */
+    static const uint8_t own[] = {'P', 'A', 0,   3, 65, 0,  9,  'P', 'A', 1, 3,  65, 0,
+                                  9,   'L', 'E', 3, 64, 10, 11, 'R', 'I', 3, 65, 11, 10};
+    static const uint8_t longer[] = {'L', 'E', 2, 64, 64, 'R', 'I', 6, 0, 0, 0, 0, 0, 0}; /* field 0 twice, and 000000 */
+    /* field 0, one of A to G or 000, with B behind it, and twice */
+    static const uint8_t alike[] = {'P', 'A', 0, 9, 67, 65, 10, 16, 66, 0, 66, 0, 0, 'L', 'E', 2, 64, 11, 'R', 'I', 2, 64, 64};
+    /* field 0, any number of 0 to 6, then 0; and 0 */
+    static const uint8_t few[] = {'P', 'A', 0, 4, 68, 65, 0, 6, 'L', 'E', 2, 64, 0, 'R', 'I', 1, 0};
+    static const uint8_t zero[] = {'V', 'A', 0, 1, 0, 0}, zeros[] = {'V', 'A', 0, 3, 0, 0, 0, 0};
+    static const uint8_t b[] = {'V', 'A', 0, 1, 0, 11}, no_text[] = {'V', 'A', 0, 0, 0};
+
+    check(is_decided(bradovusc_settle(apart, sizeof apart, work, 184, answer, 8), 1, 1, 0, 0, 1), "no clash by 1", 1);
+    check(is_decided(bradovusc_settle(letters, sizeof letters, work, 368, answer, 8), 1, 2, 0, 0, 2), "no clash by 2", 2);
+    check(is_decided(bradovusc_settle(own, sizeof own, work, 184, NULL, 0), 1, 1, 0, 0, 3), "no clash by 3", 3);
+    check(is_decided(bradovusc_settle(shortest, sizeof shortest, work, 1288, answer, 8), 0, 14, 0, 6, 4), "clash by 4", 4);
+    check(memcmp(answer, zero, sizeof zero) == 0, "its text", 4);
+    check(is_decided(bradovusc_settle(longer, sizeof longer, work, 1656, answer, 8), 0, 21, 0, 8, 5), "clash by 5", 5);
+    check(memcmp(answer, zeros, sizeof zeros) == 0, "its text", 5);
+    check(is_decided(bradovusc_settle(alike, sizeof alike, work, 2024, answer, 8), 0, 28, 0, 6, 6), "clash by 6", 6);
+    check(memcmp(answer, b, sizeof b) == 0, "its text", 6);
+    check(is_decided(bradovusc_settle(few, sizeof few, work, 1472, answer, 8), 0, 38, 0, 5, 7), "clash by 7", 7);
+    check(memcmp(answer, no_text, sizeof no_text) == 0, "its text", 7);
+}
+
+/* One that none decides, an answer buffer that is too short, faults, null pointers, and what is told. */
+static void try_decide(void) {
+    static const uint8_t open[] = {'L', 'E', 2, 10, 10, 'R', 'I', 1, 64}; /* AA and field 0 */
     static const uint8_t one_more[] = {'L', 'E', 0, 'R', 'I', 0, 0};
-    static const uint8_t record[] = {'V', 'A', 0, 1, 0, 10};
     size_t told_length, i;
 
-    check(is_decided(bradovusc_settle(apart, sizeof apart, work, 184, answer, 8), 1, 1, 0, 0, 1), "decided by 1", 1);
-    check(is_decided(bradovusc_settle(alike, sizeof alike, work, 368, answer, 8), 1, 4, 0, 0, 2), "no clash by 2", 2);
     memset(answer, 7, 8);
-    check(is_decided(bradovusc_settle(found, sizeof found, work, 1472, answer, 5), 20, 16, 0, 0, 2), "too short", 20);
+    check(is_decided(bradovusc_settle(shortest, sizeof shortest, work, 1288, answer, 5), 20, 14, 0, 0, 4), "too short", 20);
     check(answer[0] == 7 && answer[4] == 7, "no byte changed", 20);
-    check(is_decided(bradovusc_settle(found, sizeof found, work, 1472, answer, 8), 0, 16, 0, 6, 2), "clash by 2", 2);
-    check(memcmp(answer, record, sizeof record) == 0 && answer[6] == 7, "the record, and no more", 2);
-    check(is_decided(bradovusc_settle(few, sizeof few, work, 1288, answer, 8), 0, 21, 0, 6, 3), "clash by 3", 3);
-    check(is_decided(bradovusc_settle(own, sizeof own, work, 1104, NULL, 0), 1, 19, 0, 0, 4), "no clash by 4", 4);
-    check(is_decided(bradovusc_settle(open, sizeof open, work, 552, answer, 8), 18, 10, 0, 0, 0), "not decided", 18);
+    check(is_decided(bradovusc_settle(shortest, sizeof shortest, work, 1288, answer, 8), 0, 14, 0, 6, 4), "long enough", 0);
+    check(answer[0] == 'V' && answer[6] == 7, "the record, and no more", 0);
+    check(is_decided(bradovusc_settle(open, sizeof open, work, 552, answer, 8), 18, 13, 0, 0, 0), "not decided", 18);
     check(is_decided(bradovusc_settle(open, sizeof open, NULL, 0, NULL, 0), 18, 0, 0, 0, 0), "no buffers", 18);
     check(is_decided(bradovusc_settle(one_more, sizeof one_more, NULL, 0, NULL, 0), 12, 0, 6, 0, 0), "a fault", 12);
     check(is_decided(bradovusc_settle(NULL, 0, NULL, 0, NULL, 0), 11, 0, 0, 0, 0), "nothing at all", 11);
     for (told_length = 0; told_length <= 5; told_length++) {
         uint64_t told[] = {7, 7, 7, 7, 7};
-        const uint64_t all_told[] = {16, 0, 6, 2, 7};
-        check(bradovusc_decide(found, sizeof found, work, 1472, answer, 8, told, told_length) == 0, "decided", (long)told_length);
+        const uint64_t all_told[] = {14, 0, 6, 4, 7};
+        check(bradovusc_decide(shortest, sizeof shortest, work, 1288, answer, 8, told, told_length) == 0, "decided",
+              (long)told_length);
         for (i = 0; i < 5; i++) {
             check(told[i] == (i < told_length ? all_told[i] : 7), "an element of what is told", (long)i);
         }
@@ -967,14 +988,14 @@ static void try_add_decided(void) {
     check(all_zero(much, sizeof much), "the working buffer is all zero", 1);
     memset(much, 7, sizeof much);
     added = bradovusc_enter_decided(catalogue, length, ends_in_0, sizeof ends_in_0, much, sizeof much);
-    check(is_told(added, 30, 0, 0, 0, 2) && added.count > 356, "a clash, by search 2", (long)added.count);
+    check(is_told(added, 30, 0, 0, 0, 4) && added.count > 356, "a clash, by attempt 4", (long)added.count);
     check(all_zero(much, sizeof much), "the working buffer is all zero", 30);
     check(all_zero(catalogue + sizeof dashed + sizeof slashed, sizeof ends_in_0 + 1), "no byte changed", 30);
     added = bradovusc_enter_decided(catalogue, length, rule_x, 6, much, BRADOVUSC_WORK_BYTES(1));
     check(is_told(added, 30, 0, 0, 18, 0), "room for one", 18);
     check(is_told(bradovusc_enter_decided(catalogue, length, one_more, 7, NULL, 0), 12, 6, 0, 0, 0), "a byte too many", 12);
     check(is_told(bradovusc_enter_decided(catalogue, length, field_4, 6, NULL, 0), 31, 0, 0, 0, 0), "field 4", 31);
-    check(is_told(bradovusc_enter_decided(catalogue, length, rule_a, 6, NULL, 0), 30, 0, 0, 18, 0), "no working buffer", 18);
+    check(is_told(bradovusc_enter_decided(catalogue, length, rule_x, 6, NULL, 0), 30, 0, 0, 18, 0), "no working buffer", 18);
     check(is_told(bradovusc_enter_decided(NULL, 0, rule_a, 6, NULL, 0), 32, 0, 0, 0, 0), "no catalogue's byte", 32);
     check(is_told(bradovusc_enter_decided(NULL, 0, NULL, 0, NULL, 0), 11, 0, 0, 0, 0), "nothing at all", 11);
     catalogue[length - 1] = 1;
@@ -1016,7 +1037,8 @@ static void try_recheck_decided(void) {
     check(memcmp(list, clashes, sizeof clashes) == 0 && list[14] == 7, "their bytes, and no more", 0);
     check(all_zero(work, sizeof work), "the working buffer is all zero", 0);
     check(is_rechecked(bradovusc_check_again_decided(kept, 12, work, sizeof work, NULL, 0), 0, 0, 0), "A and B, no list", 0);
-    check(is_rechecked(bradovusc_check_again_decided(kept, 12, NULL, 0, list, 15), 0, 1, 7), "A and B, no working buffer", 18);
+    check(is_rechecked(bradovusc_check_again_decided(kept, 12, NULL, 0, list, 15), 0, 0, 0), "the letters need no working buffer", 1);
+    check(is_rechecked(bradovusc_check_again_decided(kept + 6, 13, NULL, 0, list, 15), 0, 1, 7), "B twice, no working buffer", 18);
     check(list[1] == 1 && list[2] == 18 && list[3] == 0 && list[6] == 0, "not decided", 18);
     check(is_rechecked(bradovusc_check_again_decided(NULL, 0, NULL, 0, NULL, 0), 0, 0, 0), "nothing at all", 0);
     for (length = 0; length <= 3; length++) {
@@ -1029,7 +1051,7 @@ static void try_recheck_decided(void) {
     }
 }
 
-/* what one search does not decide is decided, or told with the search that found the clash */
+/* what one search does not decide is decided, or told with the attempt that found the clash */
 static void try_recheck_serials(void) {
     static uint8_t catalogue[sizeof dashed + sizeof slashed + sizeof ends_in_0];
     uint8_t list[BRADOVUSC_LIST_BYTES(3)], decided[BRADOVUSC_DECIDED_LIST_BYTES(3)];
@@ -1044,7 +1066,7 @@ static void try_recheck_serials(void) {
     check(is_rechecked(rechecked, 0, 1, 7), "all decide each", 1);
     pairs = bradovusc_decided_pairs_in(decided, (size_t)rechecked.written);
     check(bradovusc_next_pair(&pairs) && pairs.lower == 0 && pairs.higher == 2, "the two that clash", 2);
-    check(pairs.answer == BRADOVUSC_CLASH && pairs.search == 2 && pairs.count > 356, "by search 2", (long)pairs.count);
+    check(pairs.answer == BRADOVUSC_CLASH && pairs.search == 4 && pairs.count > 356, "by attempt 4", (long)pairs.count);
 }
 
 /* every pair of 32 rules listed, in just enough bytes */
@@ -1840,6 +1862,7 @@ int main(void) {
     try_pairs();
     try_decided_pairs();
     try_null();
+    try_attempts();
     try_decide();
     try_places();
     try_full_ascii();

@@ -8,7 +8,7 @@ ghost use Rattle.c_catalogue.specs.Catalogued.{telling-rechecked};
 ghost use Rattle.c_catalogue_decide.specs.CatalogueDecided.{telling-added-by};
 
 // Enters a rule behind the last one, if its pair with every rule present is decided 1: the number; count, place, the rule's number, the pair's answer
-// and the search that gave it go into the first five elements of `told`, as many as there is room for.
+// and the attempt that gave it go into the first five elements of `told`, as many as there is room for.
 pub fn add_decided(catalogue: &mut [u8], rule: &[u8], work: &mut [u8], told: &mut [u64]) -> u32
     ensures number { λ r. ⌜ r ≡ adding-decided (now (catalogue .entry)) (now (rule .entry)) (now (work .entry)) .added .number ⌝ }
     ensures told { λ _. ⌜ now (told .exit) ≡ telling-added-by (now (told .entry)) (adding-decided (now (catalogue .entry)) (now (rule .entry)) (now (work .entry))) ⌝ }

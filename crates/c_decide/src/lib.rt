@@ -5,7 +5,7 @@ ghost use mathlib.Core.Path.{_≡_};
 ghost use Rattle.paper_decide.specs.Deciding.{decision};
 ghost use Rattle.c_decide.specs.Decided.{telling-decided};
 
-// Can the two rules of the sheet make the same label? The number; count, place, written length and the number of the search that decided go into
+// Can the two rules of the sheet make the same label? The number; count, place, written length and the number of the attempt that decided go into
 // the first four elements of `told`, as many as there is room for.
 pub fn sheet(sheet: &[u8], work: &mut [u8], answer: &mut [u8], told: &mut [u64]) -> u32
     ensures number { λ r. ⌜ r ≡ decision (now (sheet .entry)) (now (work .entry)) (now (answer .entry)) .outcome .number ⌝ }

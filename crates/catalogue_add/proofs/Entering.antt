@@ -52,7 +52,7 @@ module _ (a : PairAsking) (c bytes work : List ℕ) where
 
 module _ {c bytes : List ℕ} {kept : Kept} {new : Code.Rule} (x : Ready c bytes kept new) (a : PairAsking) (work after : List ℕ) where
   is-read : read-rule bytes ≡ records (x .asks .rule) (x .asks .its-bytes)
-  is-read = rw (← x .same-bytes) (x .asks .is-read)
+  is-read = x .asks .is-read
 
   pub adds-rule : Pairs-asked a (x .asks .standing .rules-present) (x .asks .rule) work after Apart → (catalogue : List ℕ) → catalogue ≡ put-at (kept .used) bytes c
       → Told.told-added-by Added.Entered catalogue after ≡ adding-by a c bytes work

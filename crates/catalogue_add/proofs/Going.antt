@@ -3,23 +3,30 @@
 use Prim.Native.Nat.{ℕ, suc, _+_, _≤_, _<_}
 use native.Mathlib.Numerals.{add-one}
 use native.Mathlib.Omega.{arith}
-use mathlib.Core.Path.{_≡_, refl, sym, ap, _∙_}
+use mathlib.Core.Path.{_≡_, refl, sym, ap, _∙_, subst}
+use mathlib.Core.Bool.{Bool}
 use mathlib.Core.List.{List, [], _∷_}
 use lib.ListN.{length, take, drop, replicate, length-replicate, drop-of-length-le}
 use lib.Seq.{take-all}
+use Rattle.paper.specs.Alphabet.{edition-1}
 use Rattle.paper.specs.Rule.{Rule}
 use Rattle.paper.specs.Outcome.{room-of, cleared}
 use Rattle.paper_catalogue.specs.PairAsking.{PairAsking}
 use Rattle.paper_catalogue.specs.Catalogue.{Present, pairs-by, work-behind}
 use Rattle.paper_catalogue.specs.Calls.{rule-at}
 use Rattle.paper.proofs.base.Tests.{eq-eqb, neq-eqb}
+use Rattle.paper_catalogue.proofs.Local.{rule-whole, rule-before}
 use Rattle.paper_catalogue.proofs.GoodRule.{new-good}
 use Rattle.base_places.specs.declared.PlaceTables.{PlaceTables}
+use Rattle.base_question.specs.declared.Body.{Body}
+use Rattle.plain_question.specs.Reached.{Meets, Says}
+use Rattle.read_fields.proofs.PatternsStanding.{AllStand}
 use Rattle.read_rule.specs.declared.Rule as Code
+use Rattle.read_rule.proofs.RulePatterns.{front-stands}
 use Rattle.catalogue_form.specs.Kept.{rule-there}
 use Rattle.catalogue_form.specs.declared.Kept.{Kept}
-use Rattle.catalogue_form.proofs.RulesStanding.{in-front, begin-in, standing-good, standing-side, standing-fields}
-use Rattle.catalogue_question.specs.PairCoded.{pair-question}
+use Rattle.catalogue_form.proofs.RulesStanding.{in-front, begin-in, standing-good, standing-side, standing-fields, standing-bodies}
+use Rattle.catalogue_question.specs.PairCoded.{pair-bodies, pair-question}
 use Rattle.catalogue_question.specs.AskedBy.{asking-coded, told-pair}
 use Rattle.catalogue_question.specs.declared.Asking.{Asking}
 use Rattle.catalogue_question.specs.declared.Pair.{Pair}
@@ -84,14 +91,22 @@ module _ {a : PairAsking} {l : List Present} {new : Rule} where
           }
 
 -- What asking the pair of a rule that stands with the new one tells.
-pub asked-told : (how : Asking) {catalogue : List ℕ} {kept : Kept} {side : List ℕ} {fields : List PlaceTables} (x : Ready-to-ask catalogue kept side fields)
-    (i : ℕ) → i < length (x .standing .rules-present) → (present : Code.Rule) → present ≡ rule-there (drop (begin-in kept i) catalogue)
-    → (work lent : List ℕ) → length work ≡ length lent
-    → (pair : Pair) → pair ≡ pair-by how (pair-question (present .side) side (present .fields) fields) (length work)
+pub asked-told : (how : Asking) {catalogue bytes : List ℕ} {kept : Kept} {side : List ℕ} {fields : List PlaceTables} {bodies : List Body}
+    (x : Ready-to-ask catalogue bytes kept side fields bodies) (i : ℕ) → i < length (x .standing .rules-present)
+    → (present : Code.Rule) → present ≡ rule-there (drop (begin-in kept i) catalogue)
+    → (work lent : List ℕ) → length work ≡ length lent → (pair : Pair)
+    → ((m : Bool)
+    → Says m (Meets (pair-question (present .side) side (present .fields) fields (pair-bodies (present .bodies) bodies)))
+    → pair
+    ≡ pair-by how (pair-question (present .side) side (present .fields) fields (pair-bodies (present .bodies) bodies)) m (drop (begin-in kept i) catalogue)
+    bytes (length work))
     → told-pair pair ≡ asking-coded how .asks (rule-at (x .standing .rules-present) i) (x .rule) (room-of lent)
-asked-told how x i h present p work lent same pair a =
+asked-told how {catalogue} {bytes} {kept} x i h present p work lent same pair a =
     let s = x .standing in
-    told-in-room how
+    let whole = rule-whole bytes (rule-before bytes (x .is-read)) .0 in
+    told-in-room
     (record { good = standing-good s i h; side-is = standing-side s i h present p; fields-are = standing-fields s i h present p })
-    (record { good = new-good (x .bytes) (x .is-read) (x .own); side-is = x .side-is; fields-are = x .fields-are })
-    work lent same pair a
+    (record { good = new-good bytes (x .is-read) (x .own); side-is = x .side-is; fields-are = x .fields-are })
+    (drop (begin-in kept i) catalogue) bytes (present .bodies) _ (standing-bodies s i h present p)
+    (subst (λ (b : List Body). AllStand edition-1 bytes b (x .rule .fields .held)) (sym (x .bodies-are)) (front-stands bytes whole))
+    how work pair a lent same

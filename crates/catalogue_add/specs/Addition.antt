@@ -15,6 +15,8 @@ use Rattle.base_codes.specs.Inner.{side-code, padded}
 use Rattle.base_places.specs.WorkedOut.{worked-out}
 use Rattle.base_places.specs.declared.PlaceTables.{PlaceTables}
 use Rattle.base_answers.specs.Faults.{fault-of}
+use Rattle.base_question.specs.declared.Body.{Body}
+use Rattle.read_rule.specs.RuleRead.{rule-bodies}
 use Rattle.read_rule.specs.declared.Rule as Code
 use Rattle.catalogue_form.specs.Kept.{Of-form}
 use Rattle.catalogue_form.specs.declared.Kept.{Kept}
@@ -64,16 +66,16 @@ told-withdrawn Withdrawn-as.NoCatalogue catalogue = record { number = 34; catalo
 abbrev pub full-of : Kept → ℕ → ℕ → Bool
 full-of k bytes room = leb catalogue-rules (k .rules) || ltb room (k .used + bytes)
 
--- what is known where the pairs are asked: the catalogue is of its form, and the side and the fields are those of a rule by itself
-pub record Ready-to-ask (catalogue : List ℕ) (kept : Kept) (side : List ℕ) (fields : List PlaceTables) : Type 0 where
+-- what is known where the pairs are asked: the catalogue is of its form, and the side, the fields and their bodies are those of a rule by itself
+pub record Ready-to-ask (catalogue bytes : List ℕ) (kept : Kept) (side : List ℕ) (fields : List PlaceTables) (bodies : List Body) : Type 0 where
   pub standing : Of-form catalogue kept
-  pub bytes : List ℕ
   pub rule : Rule
   pub its-bytes : ℕ
   pub is-read : read-rule bytes ≡ records rule its-bytes
   pub own : foreign-field rule ≡ false
   pub side-is : side ≡ padded (side-code (rule .side))
   pub fields-are : fields ≡ map worked-out (rule .fields .held)
+  pub bodies-are : bodies ≡ rule-bodies bytes
 
 -- what asking them gives
 abbrev pub pairs-of : Asked → Pairs
@@ -86,6 +88,5 @@ pub record Pairs-asked (a : PairAsking) (rules-present : List Present) (rule : R
 
 -- what is known where a rule is entered or not
 pub record Ready (catalogue bytes : List ℕ) (kept : Kept) (new : Code.Rule) : Type 0 where
-  pub asks : Ready-to-ask catalogue kept (new .side) (new .fields)
-  pub same-bytes : asks .bytes ≡ bytes
+  pub asks : Ready-to-ask catalogue bytes kept (new .side) (new .fields) (new .bodies)
   pub room : is-full (asks .standing .rules-present) bytes catalogue ≡ false

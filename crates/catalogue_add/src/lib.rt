@@ -103,7 +103,7 @@ fn enter(
     requires { ⌜ Ready (now catalogue) (now bytes) kept new ⌝ }
     ensures { λ r. ⌜ told-added-by r (now (catalogue .exit)) (now (work .exit)) ≡ adding-by (asking-coded how) (now (catalogue .entry)) (now (bytes .entry)) (now (work .entry)) ⌝ }
 {
-    let asked = ask_all(how, catalogue, kept, new, work);
+    let asked = ask_all(how, catalogue, kept, bytes, new, work);
     match asked {
         Asked::NotApart { rule, pair } => Added::NotApart { rule, pair },
         Asked::Apart => {
@@ -120,19 +120,39 @@ pub enum Asked {
 }
 
 // Asks the pairs of the rules present with a new one, by rising number, up to the first that is not answered 1.
-fn ask_all(how: Asking, catalogue: &[u8], kept: Kept, new: Rule, work: &mut [u8]) -> Asked
-    requires { ⌜ Ready-to-ask (now catalogue) kept (new .side) (new .fields) ⌝ }
-    ensures { λ r. ⌜ ((x : Ready-to-ask (now (catalogue .entry)) kept (new .side) (new .fields)) → Pairs-asked (asking-coded how) (x .standing .rules-present) (x .rule) (now (work .entry)) (now (work .exit)) r) ⌝ }
+fn ask_all(
+    how: Asking,
+    catalogue: &[u8],
+    kept: Kept,
+    bytes: &[u8],
+    new: Rule,
+    work: &mut [u8],
+) -> Asked
+    requires { ⌜ Ready-to-ask (now catalogue) (now bytes) kept (new .side) (new .fields) (new .bodies) ⌝ }
+    ensures { λ r. ⌜ ((x : Ready-to-ask (now (catalogue .entry)) (now (bytes .entry)) kept (new .side) (new .fields) (new .bodies)) → Pairs-asked (asking-coded how) (x .standing .rules-present) (x .rule) (now (work .entry)) (now (work .exit)) r) ⌝ }
 {
     let right = new.side;
     let second = new.fields;
+    let standing = new.bodies;
     let mut i = 0;
     while i < kept.rules {
         let at = kept.begins[i];
         let present = catalogue_form::rule_at(catalogue, at);
         let left = present.side;
         let first = present.fields;
-        let pair = catalogue_pair::ask(how, left, right, first, second, work);
+        let own = present.bodies;
+        let bodies = catalogue_question::bodies(own, standing);
+        let pair = catalogue_pair::ask(
+            how,
+            left,
+            right,
+            first,
+            second,
+            bodies,
+            &catalogue[at..],
+            bytes,
+            work,
+        );
         if pair.answer != 1 {
             return Asked::NotApart { rule: i, pair };
         }

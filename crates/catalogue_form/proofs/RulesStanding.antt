@@ -3,7 +3,7 @@
 --   standing-reads, standing-fit   : there its record stands, and it is not unfit, whichever rules are
 --   standing-good, good-before     : it is a good rule, by the form of today and by that before request K13
 --   standing-side, -fields, -bytes : reading there gives its side, what is worked out of its fields and how many bytes it has
---   standing-bodies                : and where its patterns stand
+--   standing-bodies, -bodies-are   : and where its patterns stand
 --   next-begin, record-within      : its record ends where the next one begins, within the catalogue
 -- Follows from where the rules of a catalogue stand (`at-offset`).
 use Prim.Native.Nat.{ℕ, zero, suc, _+_, _≤_, _<_}
@@ -84,9 +84,12 @@ module _ {unfit : Rule → Bool} {catalogue : List ℕ} {kept : Kept} (x : Of-fo
       pub standing-bytes : present .bytes ≡ present-at l i .bytes
       standing-bytes = ap (λ (r : Code.Rule). r .bytes) standing-is
 
+      pub standing-bodies-are : present .bodies ≡ rule-bodies (drop its-begin catalogue)
+      standing-bodies-are = ap (λ (r : Code.Rule). r .bodies) standing-is
+
       pub standing-bodies : AllStand edition-1 (drop its-begin catalogue) (present .bodies) (rule-at l i .fields .held)
       standing-bodies =
-          subst (λ (b : List Body). AllStand edition-1 (drop its-begin catalogue) b (rule-at l i .fields .held)) (sym (ap (λ (r : Code.Rule). r .bodies) standing-is))
+          subst (λ (b : List Body). AllStand edition-1 (drop its-begin catalogue) b (rule-at l i .fields .held)) (sym standing-bodies-are)
           (front-stands (drop its-begin catalogue) standing-reads)
 
     -- where the next one begins

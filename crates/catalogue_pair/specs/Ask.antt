@@ -1,6 +1,7 @@
 -- What a pair's question is answered, for all questions and lengths of a working buffer, with no room for an answer.
 use Prim.Native.Nat.{ℕ}
-use mathlib.Core.List.{[]}
+use mathlib.Core.Bool.{Bool}
+use mathlib.Core.List.{List, []}
 use Rattle.paper.specs.Numbers.{most-characters}
 use Rattle.paper_chosen.specs.Chosen.{every}
 use Rattle.base_question.specs.declared.Question.{Question}
@@ -18,12 +19,12 @@ searched-pair q bytes =
     let e = ended-over (listed-by every most-characters) q bytes [] in
     record { answer = number-in-pair (e .how); count = e .count; search = 1 }
 
--- by up to four searches
-unfoldable pub decided-pair : Question → ℕ → Pair
-decided-pair q bytes =
-    let s = settled-coded q bytes [] in
+-- by up to seven attempts; `meets` says whether some label is read by both sides, each standing apart, and the patterns stand in these bytes
+unfoldable pub decided-pair : Question → Bool → List ℕ → List ℕ → ℕ → Pair
+decided-pair q meets present new bytes =
+    let s = settled-coded q meets present new bytes [] .settled in
     record { answer = number-in-pair (s .ended .how); count = s .ended .count; search = s .search }
 
-abbrev pub pair-by : Asking → Question → ℕ → Pair
-pair-by Search q bytes = searched-pair q bytes
-pair-by Decide q bytes = decided-pair q bytes
+abbrev pub pair-by : Asking → Question → Bool → List ℕ → List ℕ → ℕ → Pair
+pair-by Search q meets present new bytes = searched-pair q bytes
+pair-by Decide q meets present new bytes = decided-pair q meets present new bytes

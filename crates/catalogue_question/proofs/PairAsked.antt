@@ -18,7 +18,7 @@ use Rattle.base_places.proofs.ByNumber.{by-number}
 use Rattle.base_codes.specs.Inner.{field-code, no-token, token-code, side-code, padded}
 use Rattle.base_editions.specs.Editions.{alphabet-code}
 use Rattle.base_question.specs.Asked.{question-of}
-use Rattle.base_question.specs.Bodies.{no-bodies}
+use Rattle.base_question.specs.declared.Body.{Body}
 use Rattle.catalogue_question.specs.PairCoded.{moved-code, joined, pair-question}
 
 -- the code of a rule's own token moves up as the token does
@@ -66,13 +66,14 @@ module _ (r s : Rule) (g : GoodRule r) (h : GoodRule s) where
       ap₂ _++_ (take-map worked-out rule-fields (r .fields .held)) (take-map worked-out rule-fields (s .fields .held))
       ∙ sym (map-append worked-out (take rule-fields (r .fields .held)) (take rule-fields (s .fields .held)))
 
-  asked-is : pair-question (padded (side-code (r .side))) (padded (side-code (s .side))) (map worked-out (r .fields .held)) (map worked-out (s .fields .held))
-      ≡ question-of (pair r s) no-bodies
+  asked-is : (bodies : List Body)
+      → pair-question (padded (side-code (r .side))) (padded (side-code (s .side))) (map worked-out (r .fields .held)) (map worked-out (s .fields .held)) bodies
+      ≡ question-of (pair r s) bodies
   unfolding pair pair-question
-  asked-is =
+  asked-is bodies =
       let fields = joins ∙ by-number (pair r s .held) (pair-good .held .each-field) in
-      λ i. record { alphabet = alphabet-code code-39; left = padded (side-code (r .side)); right = moved-padded (s .side) (h .tokens) i; fields = fields i; bodies = no-bodies }
+      λ i. record { alphabet = alphabet-code code-39; left = padded (side-code (r .side)); right = moved-padded (s .side) (h .tokens) i; fields = fields i; bodies = bodies }
 
 pub pair-is : {r s : Rule} {left right : List ℕ} {first second : List PlaceTables} → Code-of r left first → Code-of s right second
-    → pair-question left right first second ≡ question-of (pair r s) no-bodies
-pair-is {r} {s} a b = rw (a .side-is, b .side-is, a .fields-are, b .fields-are) (asked-is r s (a .good) (b .good))
+    → (bodies : List Body) → pair-question left right first second bodies ≡ question-of (pair r s) bodies
+pair-is {r} {s} a b bodies = rw (a .side-is, b .side-is, a .fields-are, b .fields-are) (asked-is r s (a .good) (b .good) bodies)

@@ -7,22 +7,25 @@ use base_codes::LONGEST_SIDE;
 use base_codes::SHEET_FIELDS;
 use base_editions::Edition;
 use base_places::PlaceTables;
+use base_question::Body;
 use base_question::Question;
 use read_rule::RULE_FIELDS;
 ghost use mathlib.Core.Path.{_≡_};
 ghost use mathlib.Core.List.{map};
+ghost use Prim.Native.Nat.{_<_};
+ghost use Rattle.paper.specs.Numbers.{fields};
 ghost use Rattle.base_answers.specs.AnswerNumbers.{number-in-pair};
-ghost use Rattle.catalogue_question.specs.PairCoded.{moved-code, joined, pair-question};
+ghost use Rattle.catalogue_question.specs.PairCoded.{moved-code, joined, body-of, pair-bodies, pair-question};
 
 // How a pair is asked.
 pub enum Asking {
     // by 01's search
     Search,
-    // by up to four searches, as `decide` asks
+    // by up to seven attempts, as `decide` asks
     Decide,
 }
 
-// What a pair is answered, the situations entered, and the search that gave it.
+// What a pair is answered, the situations entered, and the attempt that gave it.
 pub struct Pair {
     pub answer: usize,
     pub count: usize,
@@ -32,19 +35,19 @@ pub struct Pair {
 // The codes from that of field 0 on whose field can be moved up.
 const MOVABLE: u8 = 251;
 
-// What the pair asks: the two rules' sides by inner codes, and what is worked out of their fields' patterns, which stand in no one sheet. A rule is of
-// the first edition, so a pair is in Code 39.
+// What the pair asks: the two rules' sides by inner codes, what is worked out of their fields' patterns, and where these stand. A rule is of the first
+// edition, so a pair is in Code 39.
 pub fn asked(
     left: CodedSide,
     right: CodedSide,
     first: [PlaceTables; SHEET_FIELDS],
     second: [PlaceTables; SHEET_FIELDS],
+    bodies: [Body; SHEET_FIELDS],
 ) -> Question
-    ensures { λ r. ⌜ r ≡ pair-question left right first second ⌝ }
+    ensures { λ r. ⌜ r ≡ pair-question left right first second bodies ⌝ }
 {
     let moved = moved_up(right);
     let fields = joined(first, second);
-    let bodies = base_question::no_bodies();
     let alphabet = base_editions::alphabet_of(Edition::First);
     Question {
         alphabet,
@@ -53,6 +56,31 @@ pub fn asked(
         fields,
         bodies,
     }
+}
+
+// Where the patterns of both rules stand, by the fields' numbers in the pair: the first rule's, then the second's, each in its own rule's bytes.
+pub fn bodies(first: [Body; SHEET_FIELDS], second: [Body; SHEET_FIELDS]) -> [Body; SHEET_FIELDS]
+    ensures { λ r. ⌜ r ≡ pair-bodies first second ⌝ }
+{
+    let mut both = base_question::no_bodies();
+    let mut f: usize = 0;
+    while f < SHEET_FIELDS {
+        let its = body_of(first, second, f);
+        both[f] = its;
+        f += 1;
+    }
+    both
+}
+
+// That of the pair's field f.
+fn body_of(first: [Body; SHEET_FIELDS], second: [Body; SHEET_FIELDS], f: usize) -> Body
+    requires { ⌜ f < fields ⌝ }
+    ensures { λ r. ⌜ r ≡ body-of first second f ⌝ }
+{
+    if f < RULE_FIELDS {
+        return first[f];
+    }
+    second[f - RULE_FIELDS]
 }
 
 // "a pair's texts are not written, so it can't give 20"

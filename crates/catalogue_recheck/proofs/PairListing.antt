@@ -6,9 +6,11 @@ use Prim.Native.Nat.{ℕ, suc, _+_, _≤_, _<_}
 use native.Mathlib.Numerals.{add-one}
 use native.Mathlib.Omega.{arith}
 use mathlib.Core.Path.{_≡_, refl, sym, ap, _∙_, subst}
+use mathlib.Core.Bool.{Bool}
 use mathlib.Core.List.{List, [], _∷_, _++_, append-assoc, append-nil}
 use lib.ListN.{length, drop, replicate, length-append, length-replicate, drop-of-length-le}
 use Rattle.paper.specs.Outcome.{room-of, cleared}
+use Rattle.paper.specs.Alphabet.{edition-1}
 use Rattle.paper.specs.Rule as Paper
 use Rattle.paper_catalogue.specs.PairAsking.{PairAsking, PairAnswered}
 use Rattle.paper_catalogue.specs.Catalogue.{Present, work-behind}
@@ -19,13 +21,18 @@ use Rattle.paper_catalogue.proofs.GoodRule.{GoodRule}
 use Rattle.paper_catalogue.proofs.Rechecked.{count-in-bytes}
 use Rattle.paper_catalogue_decide.proofs.PairDecided.{decided-count}
 use Rattle.base_places.specs.declared.PlaceTables.{PlaceTables}
+use Rattle.base_question.specs.declared.Body.{Body}
+use Rattle.plain_question.specs.Reached.{Meets, Says}
+use Rattle.read_fields.proofs.PatternsStanding.{AllStand}
 use Rattle.read_rule.specs.declared.Rule.{Rule}
-use Rattle.catalogue_form.proofs.RulesStanding.{in-front, begin-in, standing-good, standing-side, standing-fields}
-use Rattle.catalogue_question.specs.PairCoded.{pair-question}
+use Rattle.read_rule.proofs.RulePatterns.{front-stands}
+use Rattle.catalogue_form.proofs.RulesStanding.{in-front, begin-in, standing-reads, standing-good, standing-side, standing-fields, standing-bodies, standing-bodies-are}
+use Rattle.catalogue_question.specs.PairCoded.{pair-bodies, pair-question}
 use Rattle.catalogue_question.specs.AskedBy.{asking-coded, told-pair}
 use Rattle.catalogue_question.specs.declared.Asking.{Asking}
 use Rattle.catalogue_question.specs.declared.Asking.the-variants.{Search, Decide}
 use Rattle.catalogue_question.specs.declared.Pair.{Pair}
+use Rattle.catalogue_question.proofs.PairAsked.{Code-of}
 use Rattle.catalogue_pair.specs.Ask.{pair-by}
 use Rattle.catalogue_pair.proofs.InRoom.{same-room, told-in-room, answer-byte}
 use Rattle.print_lines.specs.Writing.{Puts}
@@ -103,17 +110,32 @@ count-below Search r s g h work = omega (arith, count-in-bytes r s work)
 count-below Decide r s g h work = omega (arith, decided-count r s g h work [])
 
 -- What asking the pair of the rule with another behind it tells.
-module _ (how : Asking) {catalogue : List ℕ} {kept : Kept} {lower : ℕ} {side : List ℕ} {fields : List PlaceTables} {lent before : List ℕ} {n : ℕ}
-    (x : Ready-to-list (asking-coded how) catalogue kept lower side fields lent before n) (j : ℕ) (h : j < length (x .standing .rules-present))
-    (other : Rule) (p : other ≡ rule-there (drop (begin-in kept j) catalogue)) (work : List ℕ) (same : length work ≡ length lent)
-    (pair : Pair) (e : pair ≡ pair-by how (pair-question side (other .side) fields (other .fields)) (length work)) where
+module _ (how : Asking) {catalogue : List ℕ} {kept : Kept} {lower : ℕ} {side : List ℕ} {fields : List PlaceTables} {bodies : List Body} {lent before : List ℕ}
+    {n : ℕ} (x : Ready-to-list (asking-coded how) catalogue kept lower side fields bodies lent before n) (j : ℕ) (h : j < length (x .standing .rules-present))
+    (other : Rule) (p : other ≡ rule-there (drop (begin-in kept j) catalogue)) (work : List ℕ) (same : length work ≡ length lent) (pair : Pair)
+    (e : (m : Bool)
+    → Says m (Meets (pair-question side (other .side) fields (other .fields) (pair-bodies bodies (other .bodies))))
+    → pair
+    ≡ pair-by how (pair-question side (other .side) fields (other .fields) (pair-bodies bodies (other .bodies))) m (drop (begin-in kept lower) catalogue)
+    (drop (begin-in kept j) catalogue) (length work)) where
+  abbrev s : Of-form catalogue kept
+  s = x .standing
+
+  abbrev lower-code : Code-of (rule-at (s .rules-present) lower) side fields
+  lower-code = record { good = standing-good s lower (x .there); side-is = x .side-is; fields-are = x .fields-are }
+
+  abbrev other-code : Code-of (rule-at (s .rules-present) j) (other .side) (other .fields)
+  other-code = record { good = standing-good s j h; side-is = standing-side s j h other p; fields-are = standing-fields s j h other p }
+
+  lower-stands : AllStand edition-1 (drop (begin-in kept lower) catalogue) bodies (rule-at (s .rules-present) lower .fields .held)
+  lower-stands =
+      subst (λ (b : List Body). AllStand edition-1 (drop (begin-in kept lower) catalogue) b (rule-at (s .rules-present) lower .fields .held)) (sym (x .bodies-are))
+      (front-stands (drop (begin-in kept lower) catalogue) (standing-reads s lower (x .there)))
+
   pub asked-told : told-pair pair ≡ asking-coded how .asks (rule-at (x .standing .rules-present) lower) (rule-at (x .standing .rules-present) j) (room-of lent)
   asked-told =
-      let s = x .standing in
-      told-in-room how
-      (record { good = standing-good s lower (x .there); side-is = x .side-is; fields-are = x .fields-are })
-      (record { good = standing-good s j h; side-is = standing-side s j h other p; fields-are = standing-fields s j h other p })
-      work lent same pair e
+      told-in-room lower-code other-code (drop (begin-in kept lower) catalogue) (drop (begin-in kept j) catalogue) bodies (other .bodies) lower-stands
+      (standing-bodies s j h other p) how work pair e lent same
 
   -- its numbers fit their bytes
   pub asked-fits : (bytes : List ℕ) (end : ℕ) → end + length (pair-bytes-of (asking-coded how) lower j pair) ≤ length bytes
@@ -124,7 +146,9 @@ module _ (how : Asking) {catalogue : List ℕ} {kept : Kept} {lower : ℕ} {side
       record {
         lower-byte = omega (arith, x .there, few);
         higher-byte = omega (arith, h, few);
-        answer-byte = subst (λ (p : Pair). p .answer < 256) (sym e) (answer-byte how _ (length work));
+        answer-byte =
+            answer-byte lower-code other-code (drop (begin-in kept lower) catalogue) (drop (begin-in kept j) catalogue) bodies (other .bodies) lower-stands
+            (standing-bodies s j h other p) how work pair e;
         count-bytes =
             subst (λ (p : PairAnswered). p .count < above-count how) (sym asked-told) (count-below how (rule-at l lower) (rule-at l j) (standing-good (x .standing) lower (x .there)) (standing-good (x .standing) j h) lent);
         room = room;
@@ -179,6 +203,13 @@ module _ {a : PairAsking} {l : List Present} where
 -- What is known where the pairs of a rule that stands are asked.
 abbrev pub ready-with : (a : PairAsking) {catalogue : List ℕ} {kept : Kept} (x : Of-form catalogue kept) (i : ℕ) → i < length (x .rules-present)
     → (rule : Rule) → rule ≡ rule-there (drop (begin-in kept i) catalogue) → (work bytes : List ℕ) (end : ℕ)
-    → end + length (list-with a (x .rules-present) i work) ≤ length bytes → Ready-to-list a catalogue kept i (rule .side) (rule .fields) work bytes end
+    → end + length (list-with a (x .rules-present) i work) ≤ length bytes → Ready-to-list a catalogue kept i (rule .side) (rule .fields) (rule .bodies) work bytes end
 ready-with a x i h rule p work bytes end room =
-    record { standing = x; there = h; side-is = standing-side x i h rule p; fields-are = standing-fields x i h rule p; room = room }
+    record {
+      standing = x;
+      there = h;
+      side-is = standing-side x i h rule p;
+      fields-are = standing-fields x i h rule p;
+      bodies-are = standing-bodies-are x i h rule p;
+      room = room;
+    }

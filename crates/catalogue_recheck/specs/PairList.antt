@@ -4,7 +4,7 @@ use mathlib.Core.Path.{_≡_}
 use mathlib.Core.Bool.{cond}
 use mathlib.Core.List.{List, [], map}
 use lib.Dec.{eqb}
-use lib.ListN.{length, drop}
+use lib.ListN.{length, getD, drop}
 use Rattle.paper.specs.Outcome.{room-of}
 use Rattle.paper_catalogue.specs.PairAsking.{PairAsking, record-by}
 use Rattle.paper_catalogue.specs.Catalogue.{Present, work-behind}
@@ -16,6 +16,8 @@ use Rattle.catalogue_form.specs.declared.Kept.{Kept}
 use Rattle.base_codes.specs.Inner.{side-code, padded}
 use Rattle.base_places.specs.WorkedOut.{worked-out}
 use Rattle.base_places.specs.declared.PlaceTables.{PlaceTables}
+use Rattle.base_question.specs.declared.Body.{Body}
+use Rattle.read_rule.specs.RuleRead.{rule-bodies}
 use Rattle.catalogue_question.specs.AskedBy.{asking-coded, told-pair}
 use Rattle.catalogue_question.specs.declared.Asking.{Asking}
 use Rattle.catalogue_question.specs.declared.Asking.the-variants.{Search, Decide}
@@ -51,13 +53,14 @@ pub record Pair-fits (how : Asking) (bytes : List ℕ) (n lower higher : ℕ) (p
 abbrev pub list-with : PairAsking → List Present → ℕ → List ℕ → List ℕ
 list-with a l lower work = listed-with-by a lower (rule-at l lower) (suc lower) (drop (suc lower) l) (room-of work)
 
--- what is known where they are asked: side and fields are those of the rule with the lower number, and the list fits behind the first n bytes
-pub record Ready-to-list (a : PairAsking) (catalogue : List ℕ) (kept : Kept) (lower : ℕ) (side : List ℕ) (fields : List PlaceTables) (work bytes : List ℕ)
-    (n : ℕ) : Type 0 where
+-- what is known where they are asked: side, fields and bodies are those of the rule with the lower number, and the list fits behind the first n bytes
+pub record Ready-to-list (a : PairAsking) (catalogue : List ℕ) (kept : Kept) (lower : ℕ) (side : List ℕ) (fields : List PlaceTables) (bodies : List Body)
+    (work bytes : List ℕ) (n : ℕ) : Type 0 where
   pub standing : Of-form catalogue kept
   pub there : lower < length (standing .rules-present)
   pub side-is : side ≡ padded (side-code (rule-at (standing .rules-present) lower .side))
   pub fields-are : fields ≡ map worked-out (rule-at (standing .rules-present) lower .fields .held)
+  pub bodies-are : bodies ≡ rule-bodies (drop (getD (kept .begins) lower 0) catalogue)
   pub room : n + length (list-with a (standing .rules-present) lower work) ≤ length bytes
 
 -- what asking them gives

@@ -108,11 +108,13 @@ fn list_with(
     bytes: &mut [u8],
     n: usize,
 ) -> usize
-    requires { ⌜ Ready-to-list (asking-coded how) (now catalogue) kept lower (rule .side) (rule .fields) (now work) (now bytes) n ⌝ }
-    ensures { λ r. ⌜ ((x : Ready-to-list (asking-coded how) (now (catalogue .entry)) kept lower (rule .side) (rule .fields) (now (work .entry)) (now (bytes .entry)) n) → With-listed (asking-coded how) (x .standing .rules-present) lower (now (work .entry)) (now (work .exit)) (now (bytes .entry)) (now (bytes .exit)) n r) ⌝ }
+    requires { ⌜ Ready-to-list (asking-coded how) (now catalogue) kept lower (rule .side) (rule .fields) (rule .bodies) (now work) (now bytes) n ⌝ }
+    ensures { λ r. ⌜ ((x : Ready-to-list (asking-coded how) (now (catalogue .entry)) kept lower (rule .side) (rule .fields) (rule .bodies) (now (work .entry)) (now (bytes .entry)) n) → With-listed (asking-coded how) (x .standing .rules-present) lower (now (work .entry)) (now (work .exit)) (now (bytes .entry)) (now (bytes .exit)) n r) ⌝ }
 {
     let left = rule.side;
     let first = rule.fields;
+    let standing = rule.bodies;
+    let from = kept.begins[lower];
     let mut j = lower + 1;
     let mut end = n;
     while j < kept.rules {
@@ -120,7 +122,19 @@ fn list_with(
         let other = catalogue_form::rule_at(catalogue, at);
         let right = other.side;
         let second = other.fields;
-        let pair = catalogue_pair::ask(how, left, right, first, second, work);
+        let own = other.bodies;
+        let bodies = catalogue_question::bodies(standing, own);
+        let pair = catalogue_pair::ask(
+            how,
+            left,
+            right,
+            first,
+            second,
+            bodies,
+            &catalogue[from..],
+            &catalogue[at..],
+            work,
+        );
         end = put_pair(how, bytes, end, lower, j, pair);
         j += 1;
     }

@@ -72,12 +72,15 @@ taking-in s = map taking-of (with-hidden s .fields)
 abbrev pub many-in : Question → ℕ
 many-in s = within (s .alphabet .characters)
 
--- for every character, is it the least one alike?
+-- for every character, is it the least one alike? Of the codes of both sides, and what each field's places take
+abbrev pub ones-from : ℕ → List ℕ → List (List ℕ) → LeastOnes
+ones-from n codes taking =
+    let fixed = fixed-coded n codes in
+    let standing = standing-coded codes in
+    record { fixed = fixed; standing = standing; least = least-from n fixed standing taking }
+
 unfoldable pub least-coded : Question → LeastOnes
-least-coded s =
-    let fixed = fixed-coded (many-in s) (codes-in s) in
-    let standing = standing-coded (codes-in s) in
-    record { fixed = fixed; standing = standing; least = least-from (many-in s) fixed standing (taking-in s) }
+least-coded s = ones-from (many-in s) (codes-in s) (taking-in s)
 
 -- the character c is among these, and the place p takes it
 abbrev pub taken-coded : List Bool → List ℕ → ℕ → ℕ → Bool
@@ -121,7 +124,13 @@ unfoldable pub some-coded : ℕ → List Bool → List Bool
 some-coded n chosen = cond (any (λ (c : ℕ). getD chosen c false) (upto n)) chosen (set chosen 0 true)
 
 -- for every character, is it one of the few?
+abbrev pub few-from : ℕ → List (List ℕ) → LeastOnes → List Bool
+few-from n taking ones =
+    some-coded n (chosen-coded n (free-coded n (ones .fixed) (ones .least)) (ones .least) (ones .standing) taking)
+
 unfoldable pub few-coded : Question → LeastOnes → List Bool
-few-coded s ones =
-    let n = many-in s in
-    some-coded n (chosen-coded n (free-coded n (ones .fixed) (ones .least)) (ones .least) (ones .standing) (taking-in s))
+few-coded s ones = few-from (many-in s) (taking-in s) ones
+
+-- the marks of the least ones, or of the few
+unfoldable pub characters-coded : Question → Bool → List Bool
+characters-coded s fewer = cond fewer (few-coded s (least-coded s)) (least-coded s .least)

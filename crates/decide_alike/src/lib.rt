@@ -3,6 +3,8 @@
 use base_codes::CodedSide;
 use base_codes::FIELD_CODE;
 use base_codes::FIELDS;
+use base_codes::HIDDEN_LEFT;
+use base_codes::HIDDEN_RIGHT;
 use base_codes::LONGEST_SIDE;
 use base_codes::NO_TOKEN;
 use base_places::CHARACTERS;
@@ -20,8 +22,8 @@ ghost use Rattle.paper.specs.Lists.{member};
 ghost use Rattle.paper.specs.Numbers.{most-characters};
 ghost use Rattle.base_places.specs.Masks.{in-mask};
 ghost use Rattle.base_codes.specs.Inner.{tokens};
-ghost use Rattle.decide_alike.specs.AlikeCoded.{fixed-coded, standing-coded, same-places, alike-coded, is-least-coded, least-from, least-coded};
-ghost use Rattle.decide_alike.specs.AlikeCoded.{first-taken, free-coded, choice-coded, chosen-at, chosen-within, chosen-coded, some-coded, few-coded};
+ghost use Rattle.decide_alike.specs.AlikeCoded.{fixed-coded, standing-coded, same-places, alike-coded, is-least-coded, least-from, ones-from};
+ghost use Rattle.decide_alike.specs.AlikeCoded.{first-taken, free-coded, choice-coded, chosen-at, chosen-within, chosen-coded, some-coded, few-from, characters-coded};
 
 // Does the token stand in the side?
 fn stands(side: CodedSide, token: u8) -> bool
@@ -163,27 +165,28 @@ fn least_from(
     least
 }
 
-// The least ones of those alike in a question with its hidden fields, and what tells them.
-pub struct LeastOnes {
+// The least ones of those alike, and what tells them.
+struct LeastOnes {
     // the characters that stand fixed in a side
-    pub fixed: [bool; CHARACTERS],
+    fixed: [bool; CHARACTERS],
     // the fields that stand
-    pub standing: [bool; FIELDS],
-    pub least: [bool; CHARACTERS],
+    standing: [bool; FIELDS],
+    least: [bool; CHARACTERS],
 }
 
-pub fn least_ones(question: Question) -> LeastOnes
-    ensures { λ r. ⌜ r ≡ least-coded question ⌝ }
+// Of two sides, by what the places of each field take of n characters.
+fn least_ones(
+    left: CodedSide,
+    right: CodedSide,
+    taking: &[[PlaceSet; CHARACTERS]; FIELDS],
+    n: usize,
+) -> LeastOnes
+    requires { ⌜ n ≤ most-characters ⌝ }
+    ensures { λ r. ⌜ r ≡ ones-from n (tokens left ++ tokens right) (now (taking .entry)) ⌝ }
 {
-    let whole = search_hidden::question(question);
-    let left = whole.left;
-    let right = whole.right;
-    let fields = whole.fields;
-    let n = within(whole.characters);
-    let taking = search_tables::taking_sets(fields);
     let fixed = fixed_ones(left, right, n);
     let standing = standing_fields(left, right);
-    let least = least_from(fixed, standing, &taking, n);
+    let least = least_from(fixed, standing, taking, n);
     LeastOnes {
         fixed,
         standing,
@@ -354,18 +357,35 @@ fn some(mut chosen: [bool; CHARACTERS], n: usize) -> [bool; CHARACTERS]
     chosen
 }
 
-// A few of the least ones of the question, one at least for each leaf of a standing field.
-pub fn few(question: Question, ones: LeastOnes) -> [bool; CHARACTERS]
-    ensures { λ r. ⌜ r ≡ few-coded question ones ⌝ }
+// A few of the least ones, one at least for each leaf of a standing field.
+fn few(taking: &[[PlaceSet; CHARACTERS]; FIELDS], n: usize, ones: LeastOnes) -> [bool; CHARACTERS]
+    requires { ⌜ n ≤ most-characters ⌝ }
+    ensures { λ r. ⌜ r ≡ few-from n (now (taking .entry)) ones ⌝ }
 {
-    let whole = search_hidden::question(question);
-    let fields = whole.fields;
-    let n = within(whole.characters);
-    let taking = search_tables::taking_sets(fields);
     let fixed = ones.fixed;
     let standing = ones.standing;
     let least = ones.least;
     let free = free_ones(fixed, least, n);
-    let chosen = chosen_ones(free, least, standing, &taking, n);
+    let chosen = chosen_ones(free, least, standing, taking, n);
     some(chosen, n)
+}
+
+// The characters of a question, with its hidden fields, that are searched: the least ones, or a few of them.
+pub fn characters(question: Question, fewer: bool) -> [bool; CHARACTERS]
+    ensures { λ r. ⌜ r ≡ characters-coded question fewer ⌝ }
+{
+    let alphabet = question.alphabet;
+    let own_left = question.left;
+    let own_right = question.right;
+    let own = question.fields;
+    let n = within(alphabet.characters);
+    let left = search_hidden::side(own_left, HIDDEN_LEFT);
+    let right = search_hidden::side(own_right, HIDDEN_RIGHT);
+    let hidden = search_hidden::spaces(alphabet.space);
+    let taking = search_tables::taking_behind(own, hidden);
+    let ones = least_ones(left, right, &taking, n);
+    if fewer {
+        return few(&taking, n, ones);
+    }
+    ones.least
 }

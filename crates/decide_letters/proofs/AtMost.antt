@@ -2,7 +2,7 @@
 --   Least      : r is the lesser of n and the limit
 --   part-there : the part that is lent is what `bytes-at` says
 -- Follows from the laws of `take` and `drop`.
-use Prim.Native.Nat.{ℕ, _+_, _-_, _≤_, _<_}
+use Prim.Native.Nat.{ℕ, _+_, _-_}
 use native.Mathlib.Omega.{arith}
 use mathlib.Core.Path.{_≡_, sym, ap, _∙_}
 use mathlib.Core.Bool.{true, false}

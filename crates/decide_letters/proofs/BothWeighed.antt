@@ -1,12 +1,11 @@
 -- Both sides' weights, field by field, and when they can't be the same.
---   Weighing : the fields from f on are weighed; none yet, one more, one that stands as often in both, all (`weighing-..`)
---   total-small : no sum is large
+--   Weighing : the fields from f on are weighed; none yet, one that stands as often in both, one more, all; there is room for one more (`weighing-..`)
 --   left-lighter, right-lighter, no-steps, by-steps : `uneven-totals` test by test
 -- Follows from the definitions; a field that stands as often in both has a surplus of 0.
 use Prim.Native.Nat.{ℕ, suc, _+_, _-_, _*_, _%_, _≤_, _<_}
 use native.Mathlib.Nat.{mod-zero, zero-mul, zero-add, add-zero, mul-le-mul}
 use native.Mathlib.Omega.{arith}
-use mathlib.Core.Path.{_≡_, refl, sym, ap, ap₂, _∙_}
+use mathlib.Core.Path.{_≡_, sym, ap, _∙_}
 use mathlib.Core.Bool.{Bool, true, false, not, _&&_, _||_}
 use mathlib.Core.List.{List, [], _∷_}
 use lib.Dec.{ltb, eqb}
@@ -14,9 +13,10 @@ use lib.ListN.{length}
 use Rattle.paper.specs.Lists.{from, upto}
 use Rattle.paper.specs.Numbers.{fields, longest-side}
 use Rattle.paper.proofs.base.Tests.{left-true, right-true}
-use Rattle.paper_decide.specs.Letters.{divisor, between, Weights, sum-of, divisor-of}
+use Rattle.paper.proofs.base.Lists.{length-from}
+use Rattle.paper_decide.specs.Letters.{divisor, between, Weights, sum-of}
 use Rattle.decide_letters.specs.PatternStack.{part}
-use Rattle.decide_letters.specs.LettersCoded.{total-over, with-field, totals-over, lighter, uneven-totals}
+use Rattle.decide_letters.specs.LettersCoded.{total-over, totals-over, side-with, with-field, Has-room, lighter, uneven-totals}
 use Rattle.decide_letters.specs.declared.totals.Total.{Total}
 use Rattle.decide_letters.specs.declared.totals.Totals.{Totals}
 use Rattle.decide_letters.proofs.Packing.{Small}
@@ -25,7 +25,7 @@ use Rattle.decide_letters.proofs.Divisors.{divisor-zero}
 -- One side.
 module _ (mine others : ℕ → ℕ) (fixed : ℕ) (weights : ℕ → Weights) where
   one-more : (f : ℕ) (fs : List ℕ)
-      → with-field (mine f - others f) (weights f) (total-over mine others fixed weights fs) ≡ total-over mine others fixed weights (f ∷ fs)
+      → side-with (mine f - others f) (weights f) (total-over mine others fixed weights fs) ≡ total-over mine others fixed weights (f ∷ fs)
   one-more f fs i =
       record {
         least = behind (sum-of (λ (g : ℕ). (mine g - others g) * weights g .least) fs) ((mine f - others f) * weights f .least) i;
@@ -54,7 +54,7 @@ module _ (mine others : ℕ → ℕ) (fixed : ℕ) (weights : ℕ → Weights) w
     term-small f w h =
         mul-le-mul {n₁ = mine f - others f} {m₁ = w} (let k : mine f - others f ≤ longest-side = omega (arith, few f) in k) (let k : w ≤ part = omega arith in k)
 
-    pub total-small : (fs : List ℕ)
+    total-small : (fs : List ℕ)
         → (total-over mine others fixed weights fs .least ≤ fixed + length fs * (longest-side * part))
         × (total-over mine others fixed weights fs .most ≤ fixed + length fs * (longest-side * part))
     total-small [] = (omega arith, omega arith)
@@ -73,56 +73,68 @@ from-before f h k =
 
 -- Both sides.
 module _ (lefts rights : ℕ → ℕ) (a b : ℕ) (weights : ℕ → Weights) where
-  pub record Weighing (left right : Total) (steps f : ℕ) : Type 0 where
+  pub record Weighing (t : Totals) (f : ℕ) : Type 0 where
     pub within : f ≤ fields
-    pub left-is : left ≡ total-over lefts rights a weights (from f (fields - f))
-    pub right-is : right ≡ total-over rights lefts b weights (from f (fields - f))
-    pub steps-is : steps ≡ divisor-of (λ (g : ℕ). between (lefts g) (rights g) * weights g .step) (from f (fields - f))
+    pub is : t ≡ totals-over lefts rights a b weights (from f (fields - f))
 
   fixed-alone : (x : ℕ) → _≡_ {A = Total} (record { least = x; most = x; endless = false }) (record { least = x + 0; most = x + 0; endless = false })
   fixed-alone x i = record { least = sym (add-zero x) i; most = sym (add-zero x) i; endless = false }
 
-  pub weighing-none : Weighing (record { least = a; most = a; endless = false }) (record { least = b; most = b; endless = false }) 0 fields
-  weighing-none = record { within = omega arith; left-is = fixed-alone a; right-is = fixed-alone b; steps-is = refl }
+  pub weighing-none : Weighing (record { left = record { least = a; most = a; endless = false }; right = record { least = b; most = b; endless = false }; steps = 0 }) fields
+  weighing-none = record { within = omega arith; is = λ i. record { left = fixed-alone a i; right = fixed-alone b i; steps = 0 } }
 
-  module _ (left right : Total) (steps f : ℕ) (x : Weighing left right steps f) (h : 0 < f) where
-    abbrev g : ℕ
-    g = f - 1
+  both-more : (f : ℕ) (fs : List ℕ)
+      → with-field (lefts f) (rights f) (weights f) (totals-over lefts rights a b weights fs) ≡ totals-over lefts rights a b weights (f ∷ fs)
+  both-more f fs i =
+      record {
+        left = one-more lefts rights a weights f fs i;
+        right = one-more rights lefts b weights f fs i;
+        steps = totals-over lefts rights a b weights (f ∷ fs) .steps;
+      }
 
-    before : from g (fields - g) ≡ g ∷ from f (fields - f)
-    before = from-before f h (x .within)
-
-    pub weighing-alike : lefts g ≡ rights g → Weighing left right steps g
-    weighing-alike e =
-        let none : between (lefts g) (rights g) ≡ 0 = omega arith in
-        let rest = divisor-of (λ (k : ℕ). between (lefts k) (rights k) * weights k .step) (from f (fields - f)) in
-        record {
-          within = omega (arith, x .within);
-          left-is = rw before (x .left-is ∙ one-alike lefts rights a weights g (from f (fields - f)) e);
-          right-is = rw before (x .right-is ∙ one-alike rights lefts b weights g (from f (fields - f)) (sym e));
-          steps-is = rw before (x .steps-is ∙ sym (divisor-zero rest) ∙ ap (λ (n : ℕ). divisor n rest) (sym (ap (λ (n : ℕ). n * weights g .step) none ∙ zero-mul (weights g .step))));
-        }
-
-    pub weighing-more : (w : Weights) (n m d : ℕ) → w ≡ weights g → n ≡ lefts g - rights g → m ≡ rights g - lefts g → d ≡ between (lefts g) (rights g)
-        → (l r : Total) (s : ℕ) → l ≡ with-field n w left → r ≡ with-field m w right → s ≡ divisor (d * w .step) steps → Weighing l r s g
-    weighing-more w n m d is-w is-n is-m is-d l r s is-l is-r is-s =
-        record {
-          within = omega (arith, x .within);
-          left-is = rw before (is-l ∙ (λ i. with-field (is-n i) (is-w i) (x .left-is i)) ∙ one-more lefts rights a weights g (from f (fields - f)));
-          right-is = rw before (is-r ∙ (λ i. with-field (is-m i) (is-w i) (x .right-is i)) ∙ one-more rights lefts b weights g (from f (fields - f)));
-          steps-is = rw before (is-s ∙ (λ i. divisor (is-d i * is-w i .step) (x .steps-is i)));
-        }
-
-  pub weighing-all : (left right : Total) (steps f : ℕ) → Weighing left right steps f → f ≡ 0
-      → _≡_ {A = Totals} (record { left = left; right = right; steps = steps }) (totals-over lefts rights a b weights (upto fields))
-  weighing-all left right steps f x none =
-      let all : from f (fields - f) ≡ upto fields = ap (λ (n : ℕ). from n (fields - n)) none in
+  both-alike : (f : ℕ) (fs : List ℕ) → lefts f ≡ rights f → totals-over lefts rights a b weights fs ≡ totals-over lefts rights a b weights (f ∷ fs)
+  both-alike f fs e =
+      let rest = totals-over lefts rights a b weights fs .steps in
+      let none : between (lefts f) (rights f) ≡ 0 = omega arith in
       (λ i.
       record {
-        left = (x .left-is ∙ ap (total-over lefts rights a weights) all) i;
-        right = (x .right-is ∙ ap (total-over rights lefts b weights) all) i;
-        steps = (x .steps-is ∙ ap (divisor-of (λ (k : ℕ). between (lefts k) (rights k) * weights k .step)) all) i;
+        left = one-alike lefts rights a weights f fs e i;
+        right = one-alike rights lefts b weights f fs (sym e) i;
+        steps = (sym (divisor-zero rest) ∙ ap (λ (n : ℕ). divisor n rest) (sym (ap (λ (n : ℕ). n * weights f .step) none ∙ zero-mul (weights f .step)))) i;
       })
+
+  module _ (t : Totals) (f : ℕ) (x : Weighing t f) (h : 0 < f) where
+    before : from (f - 1) (fields - (f - 1)) ≡ (f - 1) ∷ from f (fields - f)
+    before = from-before f h (x .within)
+
+    pub weighing-alike : lefts (f - 1) ≡ rights (f - 1) → Weighing t (f - 1)
+    weighing-alike e = record { within = omega (arith, x .within); is = rw before (x .is ∙ both-alike (f - 1) (from f (fields - f)) e) }
+
+    pub weighing-more : (w : Weights) → w ≡ weights (f - 1) → (u : Totals) → u ≡ with-field (lefts (f - 1)) (rights (f - 1)) w t → Weighing u (f - 1)
+    weighing-more w is-w u is-u =
+        record {
+          within = omega (arith, x .within);
+          is = rw before (is-u ∙ (λ i. with-field (lefts (f - 1)) (rights (f - 1)) (is-w i) (x .is i)) ∙ both-more (f - 1) (from f (fields - f)));
+        }
+
+  pub weighing-all : (t : Totals) (f : ℕ) → Weighing t f → f ≡ 0 → t ≡ totals-over lefts rights a b weights (upto fields)
+  weighing-all t f x none = x .is ∙ ap (λ (n : ℕ). totals-over lefts rights a b weights (from n (fields - n))) none
+
+  -- no sum is large
+  module _ (small : (f : ℕ) → Small (weights f)) (few-lefts : (f : ℕ) → lefts f ≤ longest-side) (few-rights : (f : ℕ) → rights f ≤ longest-side)
+      (light-a : a ≤ longest-side) (light-b : b ≤ longest-side) where
+    pub weighing-room : (t : Totals) (f : ℕ) → Weighing t f → Has-room t
+    weighing-room t f x =
+        let fs = from f (fields - f) in
+        let many = length-from f (fields - f) in
+        let left = total-small lefts rights a weights small few-lefts fs in
+        let right = total-small rights lefts b weights small few-rights fs in
+        record {
+          left-least = omega (arith, ap (λ (u : Totals). u .left .least) (x .is), left .0, many);
+          left-most = omega (arith, ap (λ (u : Totals). u .left .most) (x .is), left .1, many);
+          right-least = omega (arith, ap (λ (u : Totals). u .right .least) (x .is), right .0, many);
+          right-most = omega (arith, ap (λ (u : Totals). u .right .most) (x .is), right .1, many);
+        }
 
 module _ (t : Totals) where
   abbrev left-tested : Bool

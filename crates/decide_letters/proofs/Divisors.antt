@@ -9,7 +9,7 @@ use native.Mathlib.Omega.{arith}
 use mathlib.Core.Path.{_≡_, refl, sym, ap, _∙_}
 use mathlib.Core.Bool.{true, false}
 use lib.Dec.{eqb}
-use Rattle.paper.proofs.base.Tests.{cond-by, cond-false, cond-true, by-bool, eqb-true, eqb-false, neq-eqb}
+use Rattle.paper.proofs.base.Tests.{cond-by, cond-false, by-bool, eqb-true, eqb-false, neq-eqb}
 use Rattle.paper_decide.specs.Letters.{divisor-within, divisor}
 
 within-le : (n a b : ℕ) → b < n → divisor-within n a b ≤ a + b

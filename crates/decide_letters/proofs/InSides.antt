@@ -3,11 +3,11 @@
 --   times-le, listed-at                      : how often a field stands
 --   Timing                                   : how often each stands before a byte was counted; none yet, one token more, all
 -- Follows from the definition of `tokens`, and from the laws of `set`.
-use Prim.Native.Nat.{ℕ, suc, _+_, _-_, _≤_, _<_}
+use Prim.Native.Nat.{ℕ, suc, _+_, _≤_, _<_}
 use native.Mathlib.Nat.{add-zero}
 use native.Mathlib.Numerals.{add-one}
 use native.Mathlib.Omega.{arith}
-use mathlib.Core.Path.{_≡_, refl, sym, ap, _∙_}
+use mathlib.Core.Path.{_≡_, sym, ap, _∙_}
 use mathlib.Core.Bool.{true, false}
 use mathlib.Core.List.{List, [], _∷_, map}
 use lib.Dec.{eqb}
@@ -18,8 +18,7 @@ use Rattle.paper.specs.Numbers.{fields, longest-side}
 use Rattle.paper.proofs.base.Lists.{length-from}
 use Rattle.paper.proofs.base.Listed.{getD-map-upto}
 use Rattle.paper.proofs.base.Tests.{by-bool, cond-by, eqb-true, eqb-false, eq-eqb, neq-eqb}
-use Rattle.paper_decide.specs.Letters.{one-if}
-use Rattle.base_codes.specs.Inner.{field-code, no-token, field-of, tokens}
+use Rattle.base_codes.specs.Inner.{field-code, no-token, tokens}
 use Rattle.base_codes.proofs.Tokens.{tokens-length}
 use Rattle.decide_letters.specs.LettersCoded.{times-coded, times-listed}
 

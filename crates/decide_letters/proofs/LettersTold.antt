@@ -1,32 +1,32 @@
 -- Letters by inner codes are those of the question.
 --   letters-told : letters-coded e left right space bodies first second ≡ letters-differ q
--- where left and right are the codes of a good question's sides, and each field's body says what the field may hold, in the bytes that are its own.
+-- where left and right are the codes of a good question's sides, and each field's body says what the field may hold (`PatternRead.Says`): those of the
+-- fields 0 to 3 in the first bytes, those of 4 to 7 in the second. A sheet hands its bytes over twice, a pair of rules those of its rules.
 -- Follows token by token and field by field.
 use Prim.Native.Nat.{ℕ, _+_, _-_, _*_, _≤_, _<_}
 use native.Mathlib.Omega.{arith}
 use mathlib.Core.Path.{_≡_, refl, sym, ap, ap₂, _∙_}
 use mathlib.Core.Logic.{⊎-elim}
-use mathlib.Core.Bool.{Bool, true, false, cond, _&&_, _||_}
+use mathlib.Core.Bool.{Bool, true, false, _&&_, _||_}
 use mathlib.Core.List.{List, [], _∷_, _++_, List·Memᴰ, List·Memᴰ·head, List·Memᴰ·tail, List·Memᴰ·append-cases}
 use lib.Dec.{ltb, eqb}
 use lib.ListN.{getD}
 use Rattle.paper.specs.Lists.{upto, any, only, keep}
 use Rattle.paper.specs.Numbers.{most-characters, fields, rule-fields}
 use Rattle.paper.specs.Alphabet.{Edition}
-use Rattle.paper.specs.Pattern.{Held}
 use Rattle.paper.specs.Equation.{Token, chr, fld, Side, is-field}
 use Rattle.paper.specs.Question.{Question, held-by}
-use Rattle.paper.proofs.base.Tests.{by-bool, eqb-true, eqb-false, eq-eqb, neq-eqb, lt-ltb, le-ltb}
+use Rattle.paper.proofs.base.Tests.{by-bool, cond-by, eqb-true, eqb-false, eq-eqb, neq-eqb, ltb-true, ltb-false, lt-ltb, le-ltb}
 use Rattle.paper.proofs.base.Lists.{mem-upto, map-append}
 use Rattle.paper.proofs.base.Listed.{any-same}
 use Rattle.paper.proofs.sheets.Asked.{GoodSide, GoodQuestion, good-most}
 use Rattle.paper.proofs.sheets.Hidden.{HasSet, in-range-has-set}
 use Rattle.paper_decide.specs.Letters.{one-if, divisor, between, Weights, held-weights, side-weight, times, sum-of, divisor-of, uneven, this-one, all-but, chars-of, letters-differ}
-use Rattle.base_codes.specs.Inner.{field-code, is-char, token-code, side-code, tokens, padded}
+use Rattle.base_codes.specs.Inner.{field-code, token-code, side-code, tokens, padded}
 use Rattle.base_question.specs.Bodies.{nowhere}
 use Rattle.base_question.specs.declared.Body.{Body}
 use Rattle.base_question.proofs.SidesBack.{side-back}
-use Rattle.decide_letters.specs.LettersCoded.{times-coded, weight-coded, field-weights, total-over, totals-over, uneven-totals, uneven-coded, uneven-by-one, letters-coded}
+use Rattle.decide_letters.specs.LettersCoded.{times-coded, weight-coded, body-weights, field-weights, total-over, totals-over, uneven-totals, uneven-coded, uneven-by-one, letters-coded}
 use Rattle.decide_letters.proofs.PatternRead.{Says, body-read}
 
 -- A token, by its code.
@@ -108,20 +108,25 @@ module _ (u v : (ℕ → Bool) → Bool) (same : (counts : ℕ → Bool) → u c
   chars-told (fld f ∷ side) h =
       rw (le-ltb (field-code + f) field-code (omega arith)) (chars-told side (λ t d. h t (List·Memᴰ·tail d)))
 
--- the bytes in which a field's pattern stands
-abbrev pub own-bytes : List ℕ → List ℕ → ℕ → List ℕ
-own-bytes first second f = cond (ltb f rule-fields) first second
-
 module _ (q : Question) (g : GoodQuestion q) (e : Edition) (bodies : List Body) (first second : List ℕ)
-    (says : (f : ℕ) → f < fields → Says e (own-bytes first second f) (getD bodies f nowhere) (held-by q f)) where
+    (firsts : (f : ℕ) → f < rule-fields → Says e first (getD bodies f nowhere) (held-by q f))
+    (seconds : (f : ℕ) → rule-fields ≤ f → f < fields → Says e second (getD bodies f nowhere) (held-by q f)) where
   abbrev many : ℕ
   many = q .alphabet .characters
 
   have-sets : (side : Side) → GoodSide many side → Have-sets side
   have-sets side s t d = in-range-has-set many (good-most g) t (s .tokens t d)
 
+  field-told : (counts : ℕ → Bool) (f : ℕ) → f < fields → field-weights counts e bodies first second f ≡ held-weights counts (held-by q f)
+  unfolding field-weights
+  field-told counts f h =
+      let b = getD bodies f nowhere in
+      cond-by (λ (s : List ℕ). body-weights counts e s b ≡ held-weights counts (held-by q f)) (ltb f rule-fields)
+      (λ k. body-read counts many (good-most g) e first b (held-by q f) (g .held .good f) (firsts f (ltb-true f rule-fields k)))
+      (λ k. body-read counts many (good-most g) e second b (held-by q f) (g .held .good f) (seconds f (ltb-false f rule-fields k) h))
+
   uneven-told : (counts : ℕ → Bool) → uneven-coded e (side-code (q .left)) (side-code (q .right)) bodies first second counts ≡ uneven counts q
-  unfolding uneven-coded uneven field-weights
+  unfolding uneven-coded uneven
   uneven-told counts =
       let l = have-sets (q .left) (g .left) in
       let r = have-sets (q .right) (g .right) in
@@ -133,9 +138,7 @@ module _ (q : Question) (g : GoodQuestion q) (e : Edition) (bodies : List Body) 
       ∙ ap uneven-totals
       (totals-same (λ (f : ℕ). times f (q .left)) (λ (f : ℕ). times f (q .right)) (side-weight counts (q .left)) (side-weight counts (q .right)) w
       (λ (f : ℕ). held-weights counts (held-by q f)) (upto fields)
-      (λ f d.
-      let k = mem-upto fields d in
-      body-read counts many (good-most g) e (own-bytes first second f) (getD bodies f nowhere) (held-by q f) (g .held .good f) (says f k)))
+      (λ f d. field-told counts f (mem-upto fields d)))
 
   pub letters-told : letters-coded e (padded (side-code (q .left))) (padded (side-code (q .right))) (q .alphabet .space) bodies first second ≡ letters-differ q
   unfolding letters-coded letters-differ

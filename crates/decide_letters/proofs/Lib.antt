@@ -17,3 +17,5 @@ pub mod AtMost
 pub mod PatternRead
 -- letters, by inner codes
 pub mod LettersTold
+-- a pattern that was read
+pub mod Standing

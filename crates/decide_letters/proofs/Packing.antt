@@ -2,7 +2,7 @@
 --   packed-again : unpacked (packed w) ≡ w, where each number is below 65,536
 --   same-packed  : of equal parts
 -- Follows from the digits of a number.
-use Prim.Native.Nat.{ℕ, _+_, _*_, _/_, _%_, _≤_, _<_}
+use Prim.Native.Nat.{ℕ, _+_, _*_, _/_, _%_, _<_}
 use native.Mathlib.Nat.{mod-eq-of-lt}
 use native.Mathlib.Omega.{arith}
 use mathlib.Core.Path.{_≡_, refl, ap, _∙_}
@@ -20,10 +20,6 @@ pub record Small (w : Weights) : Type 0 where
 flag-again : (b : Bool) → eqb (one-if b % 2) 1 ≡ b
 flag-again true = refl
 flag-again false = refl
-
-flag-below : (b : Bool) → one-if b ≤ 1
-flag-below true = omega arith
-flag-below false = omega arith
 
 -- the four parts of a number
 module _ (a b c d : ℕ) (ha : a < part) (hb : b < part) (hc : c < part) where

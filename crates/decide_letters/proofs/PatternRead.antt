@@ -3,7 +3,7 @@
 --   stack-reads : stack-of counts (pattern-code p ++ rest) ≡ pattern-weights counts p ∷ stack-of counts rest, if the leaves take characters
 --   body-read   : where a body has the codes of what a field may hold, its weights are the field's
 -- Follows by induction on the pattern.
-use Prim.Native.Nat.{ℕ, _-_, _≤_, _<_}
+use Prim.Native.Nat.{ℕ, _≤_, _<_}
 use native.Mathlib.Omega.{arith}
 use mathlib.Core.Path.{_≡_, refl, sym, ap, _∙_}
 use mathlib.Core.Bool.{Bool}

@@ -3,7 +3,7 @@
 --   all-none, all-more, all-alone    : all (this-one a) (from lo (suc hi - lo))
 --   all-but-all, all-but-any         : of all but one, by one alone
 -- Follows from what `from` counts.
-use Prim.Native.Nat.{ℕ, suc, _+_, _-_, _≤_, _<_}
+use Prim.Native.Nat.{ℕ, suc, _-_, _≤_, _<_}
 use native.Mathlib.Omega.{arith}
 use mathlib.Core.Path.{_≡_, refl, sym, ap, _∙_}
 use mathlib.Core.Bool.{Bool, true, false, not, _&&_, _||_}

@@ -3,7 +3,7 @@
 --   stack-small : so each of it has room (`Packing.Small`), and so has what a field may hold (`field-small`)
 --   stack-depth : there is at most one on it for each code
 -- Follows by induction on the codes: an operator makes no more of what it uses.
-use Prim.Native.Nat.{ℕ, zero, suc, _+_, _-_, _*_, _≤_, _<_}
+use Prim.Native.Nat.{ℕ, zero, suc, _+_, _-_, _*_, _≤_}
 use native.Mathlib.Omega.{arith}
 use mathlib.Core.Path.{_≡_, refl}
 use mathlib.Core.Bool.{Bool, true, false, cond}
@@ -14,10 +14,10 @@ use Rattle.paper.specs.Lists.{from, any, all}
 use Rattle.paper.specs.Numbers.{empty-code, range-code, then-code, or-code, many-code, rule-fields, pattern-bytes}
 use Rattle.paper.specs.Alphabet.{Edition, code, codes}
 use Rattle.paper.proofs.base.Tests.{by-bool, cond-by, ltb-true, ltb-false}
-use Rattle.paper_decide.specs.Letters.{one-if, divisor, between, Weights, fixed-weight, weights-then, weights-either, weights-many, weights-range}
+use Rattle.paper_decide.specs.Letters.{one-if, divisor, between, Weights, weights-then, weights-either, weights-many}
 use Rattle.base_question.specs.Bodies.{nowhere}
 use Rattle.base_question.specs.declared.Body.{Body}
-use Rattle.decide_letters.specs.PatternStack.{weightless, spread, uses, made, stack-of, part}
+use Rattle.decide_letters.specs.PatternStack.{weightless, spread, uses, made, stack-of}
 use Rattle.decide_letters.specs.LettersCoded.{bytes-at, body-weights, field-weights}
 use Rattle.decide_letters.proofs.Packing.{Small}
 use Rattle.decide_letters.proofs.Divisors.{divisor-le}

@@ -5,12 +5,12 @@
 use Prim.Native.Nat.{ℕ, zero, suc, _+_, _-_, _≤_, _<_}
 use native.Mathlib.Nat.{add-zero}
 use native.Mathlib.Omega.{arith}
-use mathlib.Core.Path.{_≡_, refl, sym, ap, ap₂, _∙_}
+use mathlib.Core.Path.{_≡_, refl, sym, ap, _∙_}
 use mathlib.Core.Bool.{Bool, true, false}
 use mathlib.Core.List.{List, [], _∷_, map}
 use lib.Dec.{leb, eqb}
 use lib.ListN.{length, getD, set, drop, length-drop, length-set, length-map, drop-of-length-le, List·getD-map}
-use lib.Seq.{drop-cons, drop-drop, drop-length, drop-set-lt, getD-drop, getD-set-same}
+use lib.Seq.{drop-cons, drop-drop, drop-set-lt, getD-drop, getD-set-same}
 use Rattle.paper.specs.Numbers.{range-code, then-code, or-code, many-code, pattern-bytes}
 use Rattle.paper.proofs.base.Lists.{cons-eq}
 use Rattle.paper.proofs.base.Tests.{by-bool, cond-by, leb-true, leb-false}

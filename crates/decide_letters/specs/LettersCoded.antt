@@ -1,6 +1,6 @@
 -- Letters by inner codes, for all sides, bodies and bytes. Of what a question asks, its sides coded and its patterns where the bodies say, they are
 -- `letters-differ` (`LettersTold` of the proofs).
-use Prim.Native.Nat.{ℕ, _+_, _-_, _*_, _%_, _≤_}
+use Prim.Native.Nat.{ℕ, _+_, _-_, _*_, _%_, _^_, _≤_, _<_}
 use mathlib.Core.Path.{_≡_}
 use mathlib.Core.Bool.{Bool, true, false, cond, not, _&&_, _||_}
 use mathlib.Core.List.{List, [], _∷_, _++_, map}
@@ -10,7 +10,7 @@ use Rattle.paper.specs.Lists.{upto, any}
 use Rattle.paper.specs.Numbers.{fields, rule-fields, pattern-bytes}
 use Rattle.paper.specs.Alphabet.{Edition, codes}
 use Rattle.paper.specs.Pattern.{some-text}
-use Rattle.paper_decide.specs.Letters.{one-if, between, Weights, held-weights, sum-of, divisor-of, this-one, all-but}
+use Rattle.paper_decide.specs.Letters.{one-if, divisor, between, Weights, held-weights, sum-of, divisor-of, this-one, all-but}
 use Rattle.base_codes.specs.Inner.{field-code, is-char, tokens}
 use Rattle.base_editions.specs.Editions.{paper-edition}
 use Rattle.base_question.specs.Bodies.{nowhere}
@@ -32,15 +32,15 @@ weight-coded counts (b ∷ side) = one-if (is-char b && counts b) + weight-coded
 unfoldable pub times-listed : List ℕ → List ℕ
 times-listed side = map (λ (f : ℕ). times-coded f side) (upto fields)
 
--- The weights of what a field may hold: where its body has a length they are those of the bytes there, no more than a pattern may have.
-abbrev pub bytes-at : Body → List ℕ → List ℕ
-bytes-at b s = take pattern-bytes (take (b .length) (drop (b .start) s))
-
 -- r is the lesser of n and a limit
 pub record Least (n limit r : ℕ) : Type 0 where
   pub below : r ≤ n
   pub within : r ≤ limit
   pub one-of : r + (n - limit) ≡ n
+
+-- The weights of what a field may hold: where its body has a length they are those of the bytes there, no more than a pattern may have.
+abbrev pub bytes-at : Body → List ℕ → List ℕ
+bytes-at b s = take pattern-bytes (take (b .length) (drop (b .start) s))
 
 unfoldable pub body-weights : (ℕ → Bool) → Edition → List ℕ → Body → Weights
 body-weights counts e s b =
@@ -60,15 +60,6 @@ module _ (mine others : ℕ → ℕ) (fixed : ℕ) (weights : ℕ → Weights) w
         endless = any (λ (f : ℕ). ltb 0 (mine f - others f) && weights f .endless) fs;
       }
 
--- with one field more, which stands so often more than in the other
-abbrev pub with-field : ℕ → Weights → Total → Total
-with-field n w t =
-    record {
-      least = t .least + n * w .least;
-      most = t .most + n * w .most;
-      endless = (ltb 0 n && w .endless) || t .endless;
-    }
-
 -- both sides, and the common divisor of what the fields go by
 module _ (lefts rights : ℕ → ℕ) (left-fixed right-fixed : ℕ) (weights : ℕ → Weights) where
   abbrev pub totals-over : List ℕ → Totals
@@ -78,6 +69,30 @@ module _ (lefts rights : ℕ → ℕ) (left-fixed right-fixed : ℕ) (weights : 
         right = total-over rights lefts right-fixed weights fs;
         steps = divisor-of (λ (f : ℕ). between (lefts f) (rights f) * weights f .step) fs;
       }
+
+-- with one field more, which stands so often in the left side and so often in the right
+abbrev pub side-with : ℕ → Weights → Total → Total
+side-with n w t =
+    record {
+      least = t .least + n * w .least;
+      most = t .most + n * w .most;
+      endless = (ltb 0 n && w .endless) || t .endless;
+    }
+
+abbrev pub with-field : ℕ → ℕ → Weights → Totals → Totals
+with-field l r w t =
+    record {
+      left = side-with (l - r) w (t .left);
+      right = side-with (r - l) w (t .right);
+      steps = divisor (between l r * w .step) (t .steps);
+    }
+
+-- there is room for it
+pub record Has-room (t : Totals) : Type 0 where
+  pub left-least : t .left .least < 2 ^ 32
+  pub left-most : t .left .most < 2 ^ 32
+  pub right-least : t .right .least < 2 ^ 32
+  pub right-most : t .right .most < 2 ^ 32
 
 -- "no choice of such weights makes both sides equal"
 abbrev pub lighter : Total → ℕ → Bool

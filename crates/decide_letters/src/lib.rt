@@ -13,7 +13,6 @@ use base_codes::SHEET_FIELDS;
 use base_editions::Edition;
 use base_question::Body;
 use read_codes::PATTERN_BYTES;
-use totals::Total;
 use totals::Totals;
 use weights::Counting;
 use weights::Weights;
@@ -24,7 +23,7 @@ ghost use lib.Dec.{ltb};
 ghost use lib.ListN.{length, getD};
 ghost use Rattle.paper.specs.Lists.{upto, any};
 ghost use Rattle.paper.specs.Numbers.{fields, rule-fields, longest-side, pattern-bytes};
-ghost use Rattle.base_codes.specs.Inner.{field-code, tokens};
+ghost use Rattle.base_codes.specs.Inner.{tokens};
 ghost use Rattle.base_editions.specs.Editions.{paper-edition};
 ghost use Rattle.decide_letters.specs.PatternStack.{counted, packed};
 ghost use Rattle.decide_letters.specs.LettersCoded.{body-weights, field-weights, totals-over, uneven-asked, uneven-by-one, letters-coded, Counted-in, Seen};
@@ -177,17 +176,7 @@ fn both_sides(
     let right_times = asked.right_times;
     let bodies = asked.bodies;
     let edition = asked.edition;
-    let mut left = Total {
-        least: left_fixed,
-        most: left_fixed,
-        endless: false,
-    };
-    let mut right = Total {
-        least: right_fixed,
-        most: right_fixed,
-        endless: false,
-    };
-    let mut steps = 0;
+    let mut t = totals::fixed(left_fixed, right_fixed);
     let mut f = SHEET_FIELDS;
     while 0 < f {
         f -= 1;
@@ -196,12 +185,10 @@ fn both_sides(
         if l != r {
             let body = bodies[f];
             let w = field_weights(counting, edition, f, body, first, second, stack);
-            left = totals::with_field(left, weights::surplus(l, r), w);
-            right = totals::with_field(right, weights::surplus(r, l), w);
-            steps = weights::divisor(weights::between(l, r) * weights::step(w), steps);
+            t = totals::with_field(t, l, r, w);
         }
     }
-    Totals { left, right, steps }
+    t
 }
 
 // What a field may hold, by its own bytes.

@@ -1,14 +1,18 @@
 // What a side weighs after cancelling: its fixed characters, and each field as often as it stands in it more often than in the other.
 use crate::weights::Weights;
 use crate::weights::between;
+use crate::weights::divisor;
 use crate::weights::endless;
 use crate::weights::least;
 use crate::weights::most;
+use crate::weights::step;
+use crate::weights::surplus;
 ghost use mathlib.Core.Path.{_≡_};
+ghost use mathlib.Core.Bool.{false};
 ghost use Prim.Native.Nat.{_^_, _≤_, _<_};
 ghost use Rattle.paper.specs.Numbers.{longest-side};
 ghost use Rattle.decide_letters.specs.PatternStack.{unpacked};
-ghost use Rattle.decide_letters.specs.LettersCoded.{with-field, lighter, uneven-totals};
+ghost use Rattle.decide_letters.specs.LettersCoded.{side-with, with-field, Has-room, lighter, uneven-totals};
 
 // The least and the most that a side weighs, and whether there is no most.
 pub struct Total {
@@ -24,10 +28,44 @@ pub struct Totals {
     pub steps: u64,
 }
 
-// With a field that stands so often more.
-pub fn with_field(t: Total, n: u64, w: Weights) -> Total
+// The sides without their fields.
+pub fn fixed(left: u64, right: u64) -> Totals
+    ensures { λ r. ⌜ r ≡ record { left = record { least = left; most = left; endless = false }; right = record { least = right; most = right; endless = false }; steps = 0 } ⌝ }
+{
+    let left = Total {
+        least: left,
+        most: left,
+        endless: false,
+    };
+    let right = Total {
+        least: right,
+        most: right,
+        endless: false,
+    };
+    Totals {
+        left,
+        right,
+        steps: 0,
+    }
+}
+
+// With a field that stands so often in the left side, and so often in the right.
+pub fn with_field(t: Totals, l: u64, r: u64, w: Weights) -> Totals
+    requires { ⌜ (l ≤ longest-side) × (r ≤ longest-side) × (Has-room t) ⌝ }
+    ensures { λ e. ⌜ e ≡ with-field l r (unpacked w) t ⌝ }
+{
+    let one = t.left;
+    let other = t.right;
+    let left = side_with(one, surplus(l, r), w);
+    let right = side_with(other, surplus(r, l), w);
+    let steps = divisor(between(l, r) * step(w), t.steps);
+    Totals { left, right, steps }
+}
+
+// A side in which a field stands so often more.
+fn side_with(t: Total, n: u64, w: Weights) -> Total
     requires { ⌜ (n ≤ longest-side) × (t .least < 2 ^ 32) × (t .most < 2 ^ 32) ⌝ }
-    ensures { λ r. ⌜ r ≡ with-field n (unpacked w) t ⌝ }
+    ensures { λ r. ⌜ r ≡ side-with n (unpacked w) t ⌝ }
 {
     Total {
         least: t.least + n * least(w),

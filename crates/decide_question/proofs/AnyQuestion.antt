@@ -1,11 +1,11 @@
--- Of any question, characters and buffers:
---   made-at-most   : a search enters at most `most-room` situations
---   made-unchanged : one that does not decide leaves the answer buffer as it is
+-- Of any question, bytes of patterns, number and buffers:
+--   own-at-most, own-unchanged : the first search enters at most `most-room` situations; where it does not decide, it leaves the answer buffer as it is
+--   test-harmless, text-harmless, characters-harmless : the same of each kind of attempt
 -- Follows from the definition of the search over slots, which enters only where there is room, and of how it ends.
 use Prim.Native.Nat.{ℕ, zero, suc, _-_, _≤_}
 use native.Mathlib.Omega.{arith}
 use mathlib.Core.Path.{_≡_, refl}
-use mathlib.Core.Bool.{Bool, true, false, cond}
+use mathlib.Core.Bool.{Bool, true, false, not}
 use mathlib.Core.List.{List, [], _∷_}
 use lib.Dec.{leb, ltb}
 use lib.ListN.{length, length-append}
@@ -26,10 +26,10 @@ use Rattle.search_run.specs.Way.{text-at}
 use Rattle.search_run.specs.Ended.{room-for, clash-how, how-by, buffer-by, run-concluded, concluded-buffer, ended-with, buffer-with}
 use Rattle.search_run.specs.declared.search.Status.{Status}
 use Rattle.search_run.specs.declared.search.Status.the-variants as Status-as
-use Rattle.search_question.specs.Over.{tables-among, first-of, ended-over, buffer-over}
-use Rattle.decide_question.specs.Attempt.{made-coded, buffer-made, decides-number, decides-coded}
-use Rattle.decide_question.specs.Settling.{attempt-decides}
-use Rattle.decide_question.specs.declared.Attempt.{Attempt}
+use Rattle.search_question.specs.Over.{tables-among, first-of, ended-over, buffer-over, tables-all, ended-all, buffer-all}
+use Rattle.decide_alike.specs.AlikeCoded.{characters-coded}
+use Rattle.decide_texts.specs.TextsCoded.{texts-coded}
+use Rattle.decide_question.specs.Attempt.{decides-number, decides-coded, Harmless, by-test, by-text, by-characters}
 
 -- The search over slots stays within its room.
 module _ (room : ℕ) where
@@ -76,19 +76,13 @@ module _ (room : ℕ) where
 room-most : (bytes : ℕ) → room-for bytes ≤ most-room
 room-most bytes = omega arith
 
-pub made-at-most : (t : Attempt) (bytes : ℕ) (answer : List ℕ) → made-coded t bytes answer .count ≤ most-room
-unfolding made-coded ended-over ended-with
-made-at-most t bytes answer =
-    let s = t .question in
-    omega (arith, search-in (room-for bytes) (tables-among (t .among) s) (first-of s), room-most bytes)
-
--- A clash that decides is the only end with bytes.
-found-decides : (g : Given) (no-clash : Bool) → decides-number true no-clash (number-in-pair (clash-how g)) ≡ true
+-- A clash, which decides, is the only end with bytes.
+found-decides : (g : Given) (no-clash : Bool) → decides-number no-clash (number-in-pair (clash-how g)) ≡ true
 found-decides Given-as.TooShort no-clash = refl
 found-decides (Given-as.Bytes bytes) no-clash = refl
 
 status-unchanged : (x : Status) (ss : List Slot) (sets buffer : List ℕ) (no-clash : Bool)
-    → decides-number true no-clash (number-in-pair (how-by x ss sets buffer)) ≡ false → buffer-by x ss sets buffer ≡ buffer
+    → decides-number no-clash (number-in-pair (how-by x ss sets buffer)) ≡ false → buffer-by x ss sets buffer ≡ buffer
 status-unchanged Status-as.Found ss sets buffer no-clash d =
     absurd (true-false (found-decides (answer-given sets (text-at ss (length ss - 1)) buffer) no-clash) d)
 status-unchanged Status-as.UsedUp ss sets buffer no-clash d = refl
@@ -96,19 +90,52 @@ status-unchanged Status-as.NoRoom ss sets buffer no-clash d = refl
 status-unchanged Status-as.TooLong ss sets buffer no-clash d = refl
 status-unchanged Status-as.Going ss sets buffer no-clash d = refl
 
-over-unchanged : (among : List Bool) (s : Code.Question) (bytes : ℕ) (answer : List ℕ) (no-clash : Bool)
-    → decides-coded true no-clash (ended-over among s bytes answer) ≡ false → buffer-over among s bytes answer ≡ answer
-unfolding ended-over buffer-over ended-with buffer-with run-concluded concluded-buffer
-over-unchanged among s bytes answer no-clash d =
-    let R = slot-search (tables-among among s) (room-for bytes) (first-of s) in
-    status-unchanged (R .status) (R .slots) (first-of s .sets) answer no-clash d
+-- Any search.
+module _ (T : Tables) (k : Coded) (bytes : ℕ) (answer : List ℕ) where
+  with-at-most : ended-with T (room-for bytes) k answer .count ≤ most-room
+  unfolding ended-with
+  with-at-most = omega (arith, search-in (room-for bytes) T k, room-most bytes)
 
-unchanged-by : (clash no-clash : Bool) (among : List Bool) (s : Code.Question) (bytes : ℕ) (answer : List ℕ)
-    → decides-coded clash no-clash (ended-over among s bytes (cond clash answer [])) ≡ false
-    → cond clash (buffer-over among s bytes answer) answer ≡ answer
-unchanged-by true no-clash among s bytes answer d = over-unchanged among s bytes answer no-clash d
-unchanged-by false no-clash among s bytes answer d = refl
+  with-unchanged : (no-clash : Bool) → decides-coded no-clash (ended-with T (room-for bytes) k answer) ≡ false
+      → buffer-with T (room-for bytes) k answer ≡ answer
+  unfolding ended-with buffer-with run-concluded concluded-buffer
+  with-unchanged no-clash d =
+      let R = slot-search T (room-for bytes) k in
+      status-unchanged (R .status) (R .slots) (k .sets) answer no-clash d
 
-pub made-unchanged : (t : Attempt) (bytes : ℕ) (answer : List ℕ) → attempt-decides t bytes answer ≡ false → buffer-made t bytes answer ≡ answer
-unfolding made-coded buffer-made
-made-unchanged t bytes answer d = unchanged-by (t .clash) (t .«no_clash») (t .among) (t .question) bytes answer d
+module _ (s : Code.Question) (bytes : ℕ) (answer : List ℕ) where
+  pub own-at-most : ended-all s bytes answer .count ≤ most-room
+  unfolding ended-all
+  own-at-most = with-at-most (tables-all s) (first-of s) bytes answer
+
+  pub own-unchanged : (no-clash : Bool) → decides-coded no-clash (ended-all s bytes answer) ≡ false → buffer-all s bytes answer ≡ answer
+  unfolding ended-all buffer-all
+  own-unchanged = with-unchanged (tables-all s) (first-of s) bytes answer
+
+  over-at-most : (among : List Bool) → ended-over among s bytes answer .count ≤ most-room
+  unfolding ended-over
+  over-at-most among = with-at-most (tables-among among s) (first-of s) bytes answer
+
+  over-unchanged : (among : List Bool) (no-clash : Bool) → decides-coded no-clash (ended-over among s bytes answer) ≡ false
+      → buffer-over among s bytes answer ≡ answer
+  unfolding ended-over buffer-over
+  over-unchanged among = with-unchanged (tables-among among s) (first-of s) bytes answer
+
+-- Each kind of attempt.
+module _ (s : Code.Question) (bytes : ℕ) (answer : List ℕ) where
+  pub test-harmless : (no-clash : Bool) → Harmless answer (by-test s bytes answer no-clash)
+  test-harmless no-clash = record { at-most = omega arith; unchanged = λ d. refl }
+
+  pub text-harmless : (n : ℕ) → Harmless answer (by-text s bytes answer n)
+  text-harmless n =
+      record {
+        at-most = own-at-most (texts-coded s n) bytes answer;
+        unchanged = own-unchanged (texts-coded s n) bytes answer false;
+      }
+
+  pub characters-harmless : (fewer : Bool) → Harmless answer (by-characters s bytes answer fewer)
+  characters-harmless fewer =
+      record {
+        at-most = over-at-most s bytes answer (characters-coded s fewer);
+        unchanged = over-unchanged s bytes answer (characters-coded s fewer) (not fewer);
+      }

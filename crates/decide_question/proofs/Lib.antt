@@ -1,4 +1,5 @@
 pub mod AnyQuestion
+pub mod Numbered
 pub mod SettlingSteps
 pub mod Concluding
 pub mod SettledTold

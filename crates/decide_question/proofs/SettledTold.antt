@@ -1,178 +1,179 @@
 -- What is settled tells the decision of the paper:
---   settled-told : of the struct of a good question, wherever its patterns stand, and any buffers
--- A sheet that is read asks a good question (`sheet-good`), and so does a pair of good rules (`pair-asks`). Follows from `search-told`, the ties of the
--- characters and of each standing apart, and the laws of `Concluding`.
-use Prim.Native.Nat.{ℕ, suc, _+_, _<_}
-use native.Mathlib.Omega.{arith}
-use mathlib.Core.Path.{_≡_, refl, sym, ap, ap₂, _∙_}
-use mathlib.Core.Bool.{Bool, true, false}
+--   settled-told : of the struct of a good question, whose patterns stand where its bodies say in the bytes that are their own (`Written`), and any buffers
+-- A sheet that is read asks a good question (`sheet-good`), and so does a pair of good rules (`pair-asks`). Follows from `search-told` and
+-- `search-told-all`, the ties of letters, standings, texts and characters, and the laws of `Concluding`.
+use Prim.Native.Nat.{ℕ, suc, _+_, _*_, _≤_, _<_}
+use native.Mathlib.Nat.{zero-add}
+use mathlib.Core.Path.{_≡_, refl, sym, ap, _∙_, subst}
+use mathlib.Core.Bool.{Bool, true, false, not, _&&_}
 use mathlib.Core.List.{List, [], _∷_}
-use lib.ListN.{length, getD, drop}
-use Rattle.paper.specs.Lists.{only}
-use Rattle.paper.specs.Numbers.{most-characters}
-use Rattle.paper.specs.Question.{Question, hidden}
+use lib.Dec.{leb}
+use lib.ListN.{length, getD}
+use Rattle.paper.specs.Alphabet.{edition-of}
+use Rattle.paper.specs.Lists.{from, each}
+use Rattle.paper.specs.Numbers.{fields, rule-fields, situation-bytes}
+use Rattle.paper.specs.Places.{PlaceSet}
+use Rattle.paper.specs.Search.{Entry, found, used-up, no-room, too-long}
+use Rattle.paper.specs.Situation.{Situation, Move}
+use Rattle.paper.specs.Equation.{Texts}
+use Rattle.paper.specs.Question.{Question, held-by, hidden, acceptor}
 use Rattle.paper.specs.Sheet.{asked}
-use Rattle.paper.specs.Outcome.{room-of, searched, cleared, answered, count-of, how-of}
+use Rattle.paper.specs.Outcome.{room-of, searched, standing, value-record, records, cleared, clash, answered, count-of, how-of}
 use Rattle.paper.proofs.base.Tests.{by-bool}
-use Rattle.paper.proofs.sheets.Asked.{GoodQuestion, good-most}
+use Rattle.paper.proofs.sheets.Asked.{GoodQuestion}
 use Rattle.paper.proofs.sheets.Hidden.{hidden-searchable}
 use Rattle.paper_chosen.specs.Chosen.{every}
+use Rattle.paper_chosen.proofs.Over.{searched-every}
+use Rattle.paper_chosen.proofs.Likewise.{same-texts}
+use Rattle.paper_plain.specs.Engine.{bits-of, clashes-apart}
 use Rattle.paper_decide.specs.Alike.{is-least}
-use Rattle.paper_decide.specs.Apart.{apart, few-standings}
 use Rattle.paper_decide.specs.Few.{is-few}
-use Rattle.paper_decide.specs.Deciding.{own-search, alike-search, few-search, apart-search, attempts, Conclusion, concluded-from, concluded, decision-of}
+use Rattle.paper_decide.specs.Letters.{letters-differ}
+use Rattle.paper_decide.specs.OneText.{with-texts}
 use Rattle.paper_decide.specs.Deciding as Paper
-use Rattle.paper_decide.proofs.Apart.{apart-good, apart-searchable}
+use Rattle.paper_decide.specs.Deciding.{own-search, letters-test, apart-test, text-search, longer, alike-search, few-search, attempts, Conclusion, concluded-from, concluded, decision-of}
+use Rattle.paper_decide.proofs.TextsGood.{texts-good}
 use Rattle.base_answers.specs.declared.Ended.{Ended}
 use Rattle.base_question.specs.Asked.{question-of}
-use Rattle.base_question.specs.Bodies.{no-bodies}
+use Rattle.base_question.specs.Bodies.{nowhere}
 use Rattle.base_question.specs.declared.Body.{Body}
 use Rattle.base_question.specs.declared.Question as Code
-use Rattle.search_tables.specs.Cut.{listed-by}
-use Rattle.search_tables.proofs.Listed.{getD-listed}
+use Rattle.plain_count.proofs.BitsTold.{bits-told}
+use Rattle.plain_question.specs.Reached.{Meets}
 use Rattle.search_run.specs.Ended.{told-end}
-use Rattle.search_question.specs.Over.{ended-over, buffer-over}
-use Rattle.search_question.proofs.Searched.{search-told, search-told-every}
-use Rattle.decide_alike.specs.AlikeCoded.{least-coded, few-coded}
+use Rattle.search_question.specs.Over.{ended-over, buffer-over, ended-all, buffer-all}
+use Rattle.search_question.proofs.Searched.{search-told, search-told-all}
+use Rattle.decide_alike.specs.AlikeCoded.{characters-coded, least-coded}
 use Rattle.decide_alike.proofs.AlikeTies.{least-read, few-read}
-use Rattle.decide_apart.specs.ApartCoded.{apart-coded}
-use Rattle.decide_apart.specs.declared.Apart.{Apart}
-use Rattle.decide_apart.proofs.ApartTies as Apart-ties
-use Rattle.decide_question.specs.Attempt.{own-attempt, alike-attempt, few-attempt, apart-attempt, attempts-coded, made-coded, buffer-made, decides-coded}
-use Rattle.decide_question.specs.Settling.{attempt-decides, settled-from, buffer-from, settled-coded, settled-buffer, told-settled}
-use Rattle.decide_question.specs.declared.Attempt.{Attempt}
-use Rattle.decide_question.proofs.AnyQuestion.{made-unchanged}
-use Rattle.decide_question.proofs.Concluding.{Ends, conclusion-told, Made, made-with-texts, made-without, undecided-here, decided-here, nothing-left}
+use Rattle.decide_letters.proofs.LettersTold.{letters-told}
+use Rattle.decide_letters.proofs.PatternRead.{Says}
+use Rattle.decide_texts.specs.TextsCoded.{texts-coded}
+use Rattle.decide_texts.proofs.TextsTies.{texts-read}
+use Rattle.decide_question.specs.Attempt.{decides-coded, Attempted, letters-asked, apart-asked, by-test, by-text, by-characters, attempt-coded}
+use Rattle.decide_question.specs.Settling.{later, settled-from, settled-coded, told-settled}
+use Rattle.decide_question.proofs.AnyQuestion.{own-unchanged}
+use Rattle.decide_question.proofs.Concluding.{Ends, conclusion-told, Made, made-search, made-test, undecided-here, decided-here, nothing-left}
 
-module _ (q : Question) (good : GoodQuestion q) (bodies : List Body) (s : Code.Question) (is : s ≡ question-of q bodies) (work answer : List ℕ) where
-  -- A search of the code is the paper's.
-  record Same (t : Attempt) (p : Paper.Attempt) : Type 0 where
-    clash : t .clash ≡ p .clash-decides
-    no-clash : t .«no_clash» ≡ p .no-clash-decides
-    made : Made q p work answer (buffer-made t (length work) answer) (made-coded t (length work) answer)
+-- The patterns of a question, where its bodies say: those of the fields 0 to 3 in the first bytes, those of the others in the second.
+pub record Written (q : Question) (bodies : List Body) (first second : List ℕ) : Type 0 where
+  pub firsts : (f : ℕ) → f < rule-fields → Says (edition-of (q .alphabet)) first (getD bodies f nowhere) (held-by q f)
+  pub seconds : (f : ℕ) → rule-fields ≤ f → f < fields → Says (edition-of (q .alphabet)) second (getD bodies f nowhere) (held-by q f)
 
-  -- So are those of a list, one by one.
-  data AllSame : List Attempt → List Paper.Attempt → Type 0 where
-    none-same : AllSame [] []
-    one-same : {t : Attempt} {p : Paper.Attempt} {ts : List Attempt} {ps : List Paper.Attempt} → Same t p → AllSame ts ps → AllSame (t ∷ ts) (p ∷ ps)
+module _ (q : Question) (good : GoodQuestion q) (bodies : List Body) (first second : List ℕ) (written : Written q bodies first second)
+    (s : Code.Question) (is : s ≡ question-of q bodies) (work answer : List ℕ) where
+  -- the attempt of the code gives what the paper's does
+  abbrev Gives : Attempted → Paper.Attempt → Type 0
+  Gives x p = Made q p work answer x
 
-  says : {t : Attempt} {p : Paper.Attempt} {b : Bool} → Same t p → attempt-decides t (length work) answer ≡ b
-      → decides-coded (p .clash-decides) (p .no-clash-decides) (made-coded t (length work) answer) ≡ b
-  says {t} h d = sym (ap₂ (λ (x y : Bool). decides-coded x y (made-coded t (length work) answer)) (h .clash) (h .no-clash)) ∙ d
+  letters-same : Gives (by-test s (length work) answer (letters-asked s first second)) (letters-test q)
+  unfolding letters-asked
+  letters-same =
+      made-test q (λ (room : ℕ). letters-differ q) work answer (letters-asked s first second)
+      (ap (λ (x : Code.Question). letters-asked x first second) is ∙ letters-told q good (edition-of (q .alphabet)) bodies first second (written .firsts) (written .seconds))
 
-  -- what is settled by attempts tells what the paper concludes by them
-  abbrev Tells : Ended → Ends → ℕ → ℕ → List Attempt → List Paper.Attempt → Type 0
-  Tells first end k n ts ps =
-      told-settled (settled-from first (length work) answer k n ts) (buffer-from (length work) answer ts) (cleared work)
-      ≡ conclusion-told q (concluded-from end (room-of work) k n ps) work answer
+  apart-same : Gives (by-test s (length work) answer (apart-asked s (clashes-apart q) (length work))) (apart-test q)
+  unfolding apart-asked room-of
+  apart-same =
+      made-test q (λ (room : ℕ). leb (bits-of q) (8 * (situation-bytes * room)) && not (clashes-apart q)) work answer
+      (apart-asked s (clashes-apart q) (length work))
+      (ap (λ (x : Code.Question). apart-asked x (clashes-apart q) (length work)) is
+      ∙ ap (λ (n : ℕ). leb n (8 * (situation-bytes * room-of work)) && not (clashes-apart q)) (bits-told q good bodies))
 
-  decided : (first : Ended) (end : Ends) (k n : ℕ) (t : Attempt) (p : Paper.Attempt) (ts : List Attempt) (ps : List Paper.Attempt) → Same t p
-      → attempt-decides t (length work) answer ≡ true → Tells first end k n (t ∷ ts) (p ∷ ps)
-  decided first end k n t p ts ps h d = rw d (decided-here (h .made) end k n ps (says h d))
+  -- a search of the question with one text for each field that stands twice answers as one of the question: the way alone spells the texts
+  records-same : (n : ℕ) (e : Entry (Situation PlaceSet) Move) → records (hidden (with-texts n q)) e ≡ records (hidden q) e
+  unfolding with-texts records standing
+  records-same n e =
+      ap (λ (texts : Texts). each (λ (f : ℕ). value-record f (texts f)) (standing (hidden q)))
+      (λ j f. same-texts (acceptor (hidden (with-texts n q))) (acceptor (hidden q)) (hidden q .left) (hidden q .right) e f j)
 
-  undecided : (first : Ended) (end : Ends) (k n : ℕ) (t : Attempt) (p : Paper.Attempt) (ts : List Attempt) (ps : List Paper.Attempt) → Same t p
-      → attempt-decides t (length work) answer ≡ false
-      → Tells first end (suc k) (n + made-coded t (length work) answer .count) ts ps → Tells first end k n (t ∷ ts) (p ∷ ps)
-  undecided first end k n t p ts ps h d e =
-      rw d (e ∙ ap (λ (c : Conclusion). conclusion-told q c work answer) (undecided-here (h .made) end k n ps (says h d)))
+  answered-same : (n m : ℕ) (x : Ends) → answered (hidden (with-texts n q)) m x work answer ≡ answered (hidden q) m x work answer
+  unfolding clash
+  answered-same n m (found e) = rw (records-same n e)
+  answered-same n m used-up = refl
+  answered-same n m no-room = refl
+  answered-same n m too-long = refl
 
-  -- the first search's end is told where none decides
-  from-there : (m : ℕ) (first : Ended) (end : Ends) → told-end first answer (cleared work) ≡ answered (hidden q) m end work answer
-      → (k n : ℕ) {ts : List Attempt} {ps : List Paper.Attempt} → AllSame ts ps → Tells first end k n ts ps
-  from-there m first end h k n none-same = nothing-left q m n k (room-of work) end first work answer h
-  from-there m first end h k n (one-same {t = t} {p = p} {ts = ts} {ps = ps} x xs) =
-      let on = from-there m first end h (suc k) (n + made-coded t (length work) answer .count) xs in
-      by-bool (attempt-decides t (length work) answer) (λ d. decided first end k n t p ts ps x d) (λ d. undecided first end k n t p ts ps x d on)
+  text-same : (n : ℕ) → Gives (by-text s (length work) answer n) (text-search n q)
+  unfolding with-texts
+  text-same n =
+      let its = texts-good n q good in
+      let t = texts-coded s n in
+      made-search q (hidden (with-texts n q)) every false work answer (buffer-all t (length work) answer) (ended-all t (length work) answer)
+      (rw (searched-every (hidden (with-texts n q)) (room-of work))
+      (search-told-all (with-texts n q) (its .left) (its .right) (hidden-searchable (with-texts n q) its) bodies t (texts-read q good bodies n s is) work answer
+      (buffer-all t (length work) answer) (cleared work) (ended-all t (length work) answer) (refl, (refl, refl))))
+      (answered-same n)
 
-  -- a search of the question over the characters that pass a test
   over : (test : ℕ → Bool) (no-clash : Bool) (among : List Bool) → ((c : ℕ) → c < q .alphabet .characters → getD among c false ≡ test c)
-      → Same (record { question = s; among = among; clash = true; «no_clash» = no-clash })
-      (record { asks = hidden q; among = test; clash-decides = true; no-clash-decides = no-clash })
-  unfolding made-coded buffer-made
+      → Made q (Paper.searching (hidden q) test true no-clash) work answer
+      (record { tried = record { decides = decides-coded no-clash (ended-over among s (length work) answer); ended = ended-over among s (length work) answer }; buffer = buffer-over among s (length work) answer })
   over test no-clash among marks =
-      let e = ended-over among s (length work) answer in
-      let after = buffer-over among s (length work) answer in
-      record {
-        clash = refl;
-        no-clash = refl;
-        made =
-            made-with-texts (record { asks = hidden q; among = test; clash-decides = true; no-clash-decides = no-clash }) work answer after e
-            (search-told q (good .left) (good .right) (hidden-searchable q good) bodies s is work answer after (cleared work) e test among marks (refl, (refl, refl)))
-            q refl;
-      }
+      made-search q (hidden q) test no-clash work answer (buffer-over among s (length work) answer) (ended-over among s (length work) answer)
+      (search-told q (good .left) (good .right) (hidden-searchable q good) bodies s is work answer (buffer-over among s (length work) answer) (cleared work)
+      (ended-over among s (length work) answer) test among marks (refl, (refl, refl)))
+      (λ m x. refl)
 
-  own-same : Same (own-attempt s) (own-search q)
-  own-same =
-      over every true (listed-by every most-characters)
-      (λ c h. getD-listed every most-characters false c (omega (arith, good-most good)))
-
-  alike-same : Same (alike-attempt s (least-coded s)) (alike-search q)
+  alike-same : Gives (by-characters s (length work) answer false) (alike-search q)
+  unfolding characters-coded
   alike-same =
-      over (is-least (hidden q)) true (least-coded s .least)
+      over (is-least (hidden q)) true (characters-coded s false)
       (least-read q (good .left) (good .right) (hidden-searchable q good) bodies s is (least-coded s) refl)
 
-  few-same : Same (few-attempt s (least-coded s)) (few-search q)
+  few-same : Gives (by-characters s (length work) answer true) (few-search q)
+  unfolding characters-coded
   few-same =
-      over (is-few (hidden q)) false (few-coded s (least-coded s))
+      over (is-few (hidden q)) false (characters-coded s true)
       (few-read q (good .left) (good .right) (hidden-searchable q good) bodies s is (least-coded s) refl)
 
-  -- each standing apart: no text is written
-  apart-same : few-standings q ≡ true → Same (apart-attempt (apart-coded s .question)) (apart-search q)
-  unfolding made-coded buffer-made
-  apart-same f =
-      let its = apart-good q good f in
-      let able = apart-searchable q good f in
-      let own = apart-coded s .question in
-      let among = least-coded own .least in
-      let own-is = ap (λ (z : Apart). z .question) (ap apart-coded is ∙ Apart-ties.apart-read q good bodies f) in
-      let marks = least-read (apart q) (its .left) (its .right) able no-bodies own own-is (least-coded own) refl in
-      let e = ended-over among own (length work) [] in
-      let none = buffer-over among own (length work) [] in
-      record {
-        clash = refl;
-        no-clash = refl;
-        made =
-            made-without (apart-search q) work [] none e
-            (search-told (apart q) (its .left) (its .right) able no-bodies own own-is work [] none (cleared work) e (is-least (hidden (apart q))) among marks (refl, (refl, refl)))
-            q refl refl answer;
-      }
+  -- The attempts from number k on.
+  data AllGive (gives : ℕ → Attempted) : ℕ → List Paper.Attempt → Type 0 where
+    none-left : (k : ℕ) → AllGive gives k []
+    one-more : {k : ℕ} {p : Paper.Attempt} {ps : List Paper.Attempt} → Gives (gives k) p → AllGive gives (suc k) ps → AllGive gives k (p ∷ ps)
 
-  fourth-same : (b : Bool) → few-standings q ≡ b → AllSame (only b (apart-attempt (apart-coded s .question))) (only b (apart-search q))
-  fourth-same true f = one-same (apart-same f) none-same
-  fourth-same false f = none-same
+  -- the first search's end is told where none decides
+  from-there : (gives : ℕ → Attempted) (m : ℕ) (own : Ended) (end : Ends) → told-end own answer (cleared work) ≡ answered (hidden q) m end work answer
+      → (n : ℕ) {k : ℕ} {ps : List Paper.Attempt} → AllGive gives k ps
+      → told-settled (settled-from gives own answer n (from k (length ps))) (cleared work)
+      ≡ conclusion-told q (concluded-from end (room-of work) k n ps) work answer
+  from-there gives m own end h n (none-left k) = nothing-left q m n k (room-of work) end own work answer h
+  from-there gives m own end h n (one-more {k = k} {p = p} {ps = ps} x xs) =
+      let on = from-there gives m own end h (n + gives k .tried .ended .count) xs in
+      by-bool (gives k .tried .decides) (λ d. rw d (decided-here x end k n ps d))
+      (λ d. rw d (on ∙ ap (λ (c : Conclusion). conclusion-told q c work answer) (undecided-here x end k n ps d)))
 
-  few-is : apart-coded s .few ≡ few-standings q
-  few-is = ap (λ (z : Apart). z .few) (ap apart-coded is) ∙ Apart-ties.few-read q good bodies
+  abbrev gives-here : ℕ → Attempted
+  gives-here = attempt-coded s (length work) answer (clashes-apart q) first second
 
-  fourth : AllSame (only (apart-coded s .few) (apart-attempt (apart-coded s .question))) (only (few-standings q) (apart-search q))
-  fourth = rw few-is (fourth-same (few-standings q) refl)
+  -- the attempts behind the first
+  abbrev behind : List Paper.Attempt
+  behind = letters-test q ∷ apart-test q ∷ text-search 0 q ∷ text-search longer q ∷ alike-search q ∷ few-search q ∷ []
 
-  further-same : AllSame (drop 1 (attempts-coded s)) (drop 1 (attempts q))
-  unfolding attempts-coded
-  further-same = one-same alike-same (one-same few-same fourth)
+  later-give : AllGive gives-here 2 behind
+  unfolding attempt-coded
+  later-give =
+      one-more letters-same
+      (one-more apart-same (one-more (text-same 0) (one-more (text-same longer) (one-more alike-same (one-more few-same (none-left 8))))))
 
-  own-first : attempts-coded s ≡ own-attempt s ∷ drop 1 (attempts-coded s)
-  unfolding attempts-coded
-  own-first = refl
-
-  own-end : told-end (made-coded (own-attempt s) (length work) answer) (buffer-made (own-attempt s) (length work) answer) (cleared work)
+  own-told : told-end (ended-all s (length work) answer) (buffer-all s (length work) answer) (cleared work)
       ≡ answered (hidden q) (count-of (searched (hidden q) (room-of work))) (how-of (searched (hidden q) (room-of work))) work answer
-  unfolding made-coded buffer-made
-  own-end =
-      let all = listed-by every most-characters in
-      search-told-every q (good .left) (good .right) (hidden-searchable q good) bodies s is work answer
-      (buffer-over all s (length work) answer) (cleared work) (ended-over all s (length work) answer) all refl (refl, (refl, refl))
+  own-told =
+      search-told-all q (good .left) (good .right) (hidden-searchable q good) bodies s is work answer
+      (buffer-all s (length work) answer) (cleared work) (ended-all s (length work) answer) (refl, (refl, refl))
 
-  pub settled-told : told-settled (settled-coded s (length work) answer) (settled-buffer s (length work) answer) (cleared work) ≡ decision-of (asked q) work answer
-  unfolding settled-coded settled-buffer concluded
+  own-same : Gives
+      (record { tried = record { decides = decides-coded true (ended-all s (length work) answer); ended = ended-all s (length work) answer }; buffer = buffer-all s (length work) answer })
+      (own-search q)
+  own-same =
+      made-search q (hidden q) every true work answer (buffer-all s (length work) answer) (ended-all s (length work) answer)
+      (rw (searched-every (hidden q) (room-of work)) own-told) (λ m x. refl)
+
+  pub settled-told : told-settled (settled-coded s (clashes-apart q) first second (length work) answer) (cleared work) ≡ decision-of (asked q) work answer
+  unfolding settled-coded concluded
   settled-told =
-      let first = made-coded (own-attempt s) (length work) answer in
+      let own = ended-all s (length work) answer in
       let st = searched (hidden q) (room-of work) in
-      let t = own-attempt s in
-      let ts = drop 1 (attempts-coded s) in
-      rw own-first
-      (by-bool (attempt-decides t (length work) answer) (λ d. decided first (how-of st) 1 0 t (own-search q) ts (drop 1 (attempts q)) own-same d)
+      by-bool (decides-coded true own) (λ d. rw d (rw (zero-add (own .count)) at (decided-here own-same (how-of st) 1 0 behind d)))
       (λ d.
-      let as-first = rw (made-unchanged t (length work) answer d) at own-end in
-      undecided first (how-of st) 1 0 t (own-search q) ts (drop 1 (attempts q)) own-same d
-      (from-there (count-of st) first (how-of st) as-first 2 (0 + first .count) further-same)))
+      rw d
+      (from-there gives-here (count-of st) own (how-of st) (rw (own-unchanged s (length work) answer true d) at own-told) (own .count) later-give
+      ∙ ap (λ (c : Conclusion). conclusion-told q c work answer) (rw (zero-add (own .count)) at (undecided-here own-same (how-of st) 1 0 behind d))))

@@ -1,4 +1,4 @@
--- one of the searches, and what it ends with
+-- one of the attempts behind the first, and what it gives
 pub mod Attempt
--- the searches one after the other
+-- the attempts one after the other
 pub mod Settling

@@ -1,5 +1,5 @@
-// Deciding more with the search that is there: "four searches one after the other in the same working buffer". A question sheet and two lent
-// buffers in; an answer, and which search gave it, out.
+// Deciding more than the search alone: attempts one after the other in the same working buffer. A question sheet and two lent buffers in; an answer,
+// and which attempt gave it, out.
 use base_answers::Answer;
 use base_answers::Fault;
 use base_answers::Found;
@@ -11,7 +11,7 @@ ghost use Rattle.paper_decide.specs.Deciding.{decision};
 ghost use Rattle.paper_decide.specs.DecidePromised.{Decided};
 ghost use Rattle.decide_sheet.specs.Decision.{told-decision};
 
-// An answer, and the search that decided: 1 to 4; 0 where none did.
+// An answer, and the attempt that decided: 1 to 7; 0 where none did.
 pub struct Decision {
     pub answer: Answer,
     pub search: u8,
@@ -28,7 +28,7 @@ pub fn decide(sheet: &[u8], work: &mut [u8], answer: &mut [u8]) -> Decision
         Found::Refused(fault) => refused(fault, read.place),
         Found::NoFault => {
             let question = read.question;
-            let settled = decide_question::decide(question, work, answer);
+            let settled = decide_question::decide(question, sheet, sheet, work, answer);
             told(settled)
         }
     }

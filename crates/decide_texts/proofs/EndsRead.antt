@@ -1,20 +1,20 @@
 -- From which places a text may end, by masks, is what the definition says of a place set:
---   can-read : can-end h cs k s ≡ meets (mask s) (ending .. k), where cs are the characters that are tried
+--   can-read : can-end h cs k s ≡ meets (mask s) (ending .. k), where cs are all characters
 -- A text of k characters may end from a set exactly if it may from some place of it (`can-is`): "some character leads to some place" and "some place
 -- that comes next takes some character" are one `any` within another, either way round.
 use Prim.Native.Nat.{ℕ, zero, suc, _≤_, _<_}
 use native.Mathlib.Omega.{arith}
 use mathlib.Core.Path.{_≡_, refl, sym, ap, ap₂, _∙_}
-use mathlib.Core.Bool.{Bool, true, false, _&&_, or-false}
-use mathlib.Core.List.{List, [], _∷_, _++_}
+use mathlib.Core.Bool.{Bool, true, _&&_}
+use mathlib.Core.List.{List}
 use lib.Bits.{bitAnd}
 use lib.ListN.{getD}
-use Rattle.paper.specs.Lists.{upto, any, only, keep, member}
+use Rattle.paper.specs.Lists.{upto, any, member}
 use Rattle.paper.specs.Numbers.{most-characters}
 use Rattle.paper.specs.Pattern.{Held}
 use Rattle.paper.specs.Places.{PlaceSet, ends-at, set-after, may-end}
 use Rattle.paper.proofs.base.Tests.{same-tests, and-left, and-right, both-true}
-use Rattle.paper.proofs.base.Lists.{any-true, mem-any, any-append, mem-upto, upto-mem, member-true, mem-member}
+use Rattle.paper.proofs.base.Lists.{any-true, mem-any, mem-upto, upto-mem, member-true, mem-member}
 use Rattle.paper.proofs.base.Listed.{any-same}
 use Rattle.paper_decide.specs.OneText.{can-end}
 use Rattle.base_places.specs.Masks.{places, mask, mask-of, in-mask, comes-next, takes-at, follow-masks, taking-mask, taking-masks, last-mask}
@@ -23,37 +23,26 @@ use Rattle.base_places.proofs.Filling.{getD-table}
 use Rattle.base_places.proofs.Masks.{Masked, Few, masked-after, tests-meet, mask-meets, member-after, taking-at}
 use Rattle.decide_texts.specs.TextsCoded.{meets, taken-by, leading-to, ending}
 
--- some of those kept passes
-any-only : (t : ℕ → Bool) (b : Bool) (x : ℕ) → any t (only b x) ≡ b && t x
-any-only t true x = or-false (t x)
-any-only t false x = refl
-
-any-keep : (t s : ℕ → Bool) (l : List ℕ) → any t (keep s l) ≡ any (λ (x : ℕ). s x && t x) l
-any-keep t s [] = refl
-any-keep t s (x ∷ l) = any-append t (only (s x) x) (keep s l) ∙ rw (any-only t (s x) x, any-keep t s l)
-
--- what a field may hold, and the characters that are tried, by their marks
-module _ (h : Held) (few : Few h) (n : ℕ) (most : n ≤ most-characters) (is-tried : ℕ → Bool) (tried : List Bool)
-    (marks : (c : ℕ) → c < n → getD tried c false ≡ is-tried c) where
+-- what a field may hold
+module _ (h : Held) (few : Few h) (n : ℕ) (most : n ≤ most-characters) where
   abbrev cs : List ℕ
-  cs = keep is-tried (upto n)
+  cs = upto n
 
-  -- some character that is tried is taken at the place q
+  -- some character is taken at the place q
   some-taken : ℕ → Bool
   some-taken q = any (λ (c : ℕ). takes-at h q c) cs
 
-  taken-is : taken-by n tried (taking-masks h) ≡ mask-of some-taken
+  taken-is : taken-by n (taking-masks h) ≡ mask-of some-taken
   unfolding taken-by taking-mask some-taken
   taken-is =
-      mask-of-same (λ (p : ℕ). any (λ (c : ℕ). getD tried c false && in-mask (getD (taking-masks h) c 0) p) (upto n)) some-taken
+      mask-of-same (λ (p : ℕ). any (λ (c : ℕ). in-mask (getD (taking-masks h) c 0) p) (upto n)) some-taken
       (λ p l.
-      any-same (λ (c : ℕ). getD tried c false && in-mask (getD (taking-masks h) c 0) p) (λ (c : ℕ). is-tried c && takes-at h p c) (upto n)
+      any-same (λ (c : ℕ). in-mask (getD (taking-masks h) c 0) p) (λ (c : ℕ). takes-at h p c) (upto n)
       (λ c d.
       let k : c < n = mem-upto n d in
-      ap₂ _&&_ (marks c k) (ap (λ (m : ℕ). in-mask m p) (taking-at h c (omega arith)) ∙ in-mask-of (λ (q : ℕ). takes-at h q c) p l))
-      ∙ sym (any-keep (λ (c : ℕ). takes-at h p c) is-tried (upto n)))
+      ap (λ (m : ℕ). in-mask m p) (taking-at h c (omega arith)) ∙ in-mask-of (λ (q : ℕ). takes-at h q c) p l))
 
-  -- a text of k such characters may end from the place i
+  -- a text of k characters may end from the place i
   from-place : ℕ → ℕ → Bool
   from-place zero i = ends-at h i
   from-place (suc k) i = any (λ (q : ℕ). comes-next h i q && (some-taken q && from-place k q)) (upto places)
@@ -68,7 +57,7 @@ module _ (h : Held) (few : Few h) (n : ℕ) (most : n ≤ most-characters) (is-t
       ∙ tests-meet (λ (q : ℕ). comes-next h i q) t)
 
   abbrev pub ends : ℕ → ℕ
-  ends = ending (follow-masks h) (taken-by n tried (taking-masks h)) (last-mask h)
+  ends = ending (follow-masks h) (taken-by n (taking-masks h)) (last-mask h)
 
   ends-are : (k : ℕ) → ends k ≡ mask-of (from-place k)
   unfolding ending last-mask from-place

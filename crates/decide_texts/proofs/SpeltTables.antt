@@ -13,8 +13,8 @@ use lib.Bits.{bitOr}
 use lib.Dec.{leb, ltb, eqb, eqb·zero-suc, eqb·suc-zero}
 use lib.ListN.{length, getD, set, length-append, length-set}
 use lib.Seq.{ext-getD, getD-set-same, getD-set-other}
-use Rattle.paper.specs.Numbers.{most-leaves, most-characters}
-use Rattle.paper.specs.Pattern.{Pattern, pattern}
+use Rattle.paper.specs.Numbers.{most-characters}
+use Rattle.paper.specs.Pattern.{pattern}
 use Rattle.paper.specs.Places.{takes-empty, may-be-first, may-be-last, may-follow, leaf-takes, follows, ends-at}
 use Rattle.paper.proofs.base.Tests.{by-bool, same-tests, le-leb, lt-leb, leb-true, lt-ltb, le-ltb, eqb-true, eqb-false, eqb-same, neq-eqb}
 use Rattle.paper_decide.specs.OneText.{spelt-out}

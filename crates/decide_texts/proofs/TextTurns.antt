@@ -1,5 +1,5 @@
--- One turn of each loop: the places that take one more character, the places that lead to a set, the first character that passes, the length with
--- a number. Follows from the definitions, by cases on their tests.
+-- One turn of each loop: the places that take one more character, the places that lead to a set, the first character that passes, the length that is
+-- asked for. Follows from the definitions, by cases on their tests.
 use Prim.Native.Nat.{ℕ, zero, suc, _+_, _^_, _≤_, _<_}
 use native.Mathlib.Numerals.{add-one}
 use native.Mathlib.Omega.{arith}
@@ -7,16 +7,18 @@ use mathlib.Core.Path.{_≡_, refl, sym, ap, _∙_}
 use mathlib.Core.Bool.{Bool, true, false, cond, _&&_, _||_, or-false, and-true, and-false}
 use mathlib.Core.List.{List, [], _∷_}
 use lib.Bits.{bitAnd, bitOr}
-use lib.Dec.{ltb, eqb}
-use lib.ListN.{getD}
+use lib.Dec.{leb, ltb, eqb}
+use lib.ListN.{length, getD, set}
+use lib.Seq.{getD-set-same, getD-set-other}
 use Rattle.paper.specs.Lists.{from, upto, any, keep}
-use Rattle.paper.proofs.base.Tests.{by-bool, cond-true, cond-false, same-tests, lt-ltb, le-ltb, ltb-true, eqb-true, eqb-false}
-use Rattle.paper.proofs.base.Lists.{any-append}
+use Rattle.paper.proofs.base.Tests.{by-bool, cond-true, cond-false, same-tests, le-leb, lt-leb, lt-ltb, le-ltb, ltb-true, eqb-true, eqb-false}
+use Rattle.paper.proofs.base.Lists.{cons-eq, any-append}
 use Rattle.paper.proofs.base.Listed.{upto-snoc}
+use Rattle.paper_decide.specs.OneText.{one-from, lengths-tried}
 use Rattle.base_places.specs.Masks.{places, mask-of, in-mask, followers-of}
 use Rattle.base_places.specs.declared.PlaceTables.{PlaceTables}
 use Rattle.base_places.proofs.MaskOf.{mask-of-same, mask-of-or, mask-of-cond, mask-of-none, mask-of-digits}
-use Rattle.decide_texts.specs.TextsCoded.{meets, start, taken-by, leading-to, ending, lengths-tried, endings-coded, lengths-coded, one-or, first-to, text-from, spelt-tables, text-tables}
+use Rattle.decide_texts.specs.TextsCoded.{meets, start, taken-by, leading-to, ending, Endings-of, first-to, text-from, spelt-tables, text-tables}
 
 -- below one more, of a number that is not that one
 pub ltb-other : (j n : ℕ) → (j ≡ n → ⊥) → ltb j (n + 1) ≡ ltb j n
@@ -33,20 +35,18 @@ any-more t n =
     ∙ any-append t (upto n) (n ∷ [])
     ∙ ap (λ (b : Bool). any t (upto n) || b) (or-false (t n)))
 
--- the places that take a character that is tried
-module _ (tried : List Bool) (taking : List ℕ) where
-  pub taken-none : 0 ≡ taken-by 0 tried taking
+-- the places that take a character
+module _ (taking : List ℕ) where
+  pub taken-none : 0 ≡ taken-by 0 taking
   unfolding taken-by
   taken-none = sym mask-of-none
 
-  pub taken-more : (c : ℕ) → getD taking c 0 < 2 ^ places
-      → bitOr (taken-by c tried taking) (cond (getD tried c false) (getD taking c 0) 0) ≡ taken-by (c + 1) tried taking
+  pub taken-more : (c : ℕ) → getD taking c 0 < 2 ^ places → bitOr (taken-by c taking) (getD taking c 0) ≡ taken-by (c + 1) taking
   unfolding taken-by
   taken-more c h =
       let m = getD taking c 0 in
-      let b = getD tried c false in
-      let takes : ℕ → ℕ → Bool = λ (p x : ℕ). getD tried x false && in-mask (getD taking x 0) p in
-      ap (bitOr (taken-by c tried taking)) (ap (λ (x : ℕ). cond b x 0) (sym (mask-of-digits m h)) ∙ mask-of-cond (λ (p : ℕ). in-mask m p) b)
+      let takes : ℕ → ℕ → Bool = λ (p x : ℕ). in-mask (getD taking x 0) p in
+      ap (bitOr (taken-by c taking)) (sym (mask-of-digits m h))
       ∙ mask-of-or (λ (p : ℕ). any (takes p) (upto c)) (λ (p : ℕ). takes p c)
       ∙ mask-of-same (λ (p : ℕ). any (takes p) (upto c) || takes p c) (λ (p : ℕ). any (takes p) (upto (c + 1))) (λ p l. any-more (takes p) c)
 
@@ -102,38 +102,63 @@ module _ (t : ℕ → Bool) (a : ℕ) where
   pub first-behind : (m : ℕ) → t a ≡ false → getD (keep t (from a (suc m))) 0 0 ≡ getD (keep t (from (a + 1) m)) 0 0
   first-behind m e = rw (e, add-one a)
 
-  -- the one with the number i among those that pass
-  module _ (x : ℕ) where
-    pub one-here : (m : ℕ) → 0 < m → t a ≡ true → one-or x (keep t (from a m)) 0 ≡ a
-    one-here zero h e = absurd (omega arith)
-    one-here (suc m) h e = rw e
+  -- the first of n or more among those that pass, or the last
+  module _ (x n : ℕ) where
+    pub one-here : (m : ℕ) → 0 < m → t a ≡ true → n ≤ a → one-from x (keep t (from a m)) n ≡ a
+    one-here zero h e l = absurd (omega arith)
+    one-here (suc m) h e l = rw e (cond-true (leb n a) a (one-from a (keep t (from (suc a) m)) n) (le-leb n a l))
 
-    pub one-behind : (m i : ℕ) → t a ≡ true → one-or x (keep t (from a (suc m))) (suc i) ≡ one-or a (keep t (from (a + 1) m)) i
-    one-behind m i e = rw (e, add-one a)
+    pub one-behind : (m : ℕ) → t a ≡ true → a < n → one-from x (keep t (from a (suc m))) n ≡ one-from a (keep t (from (a + 1) m)) n
+    one-behind m e l = rw (e, add-one a) (cond-false (leb n a) a (one-from a (keep t (from (suc a) m)) n) (lt-leb n a l))
 
-    pub one-not : (m i : ℕ) → t a ≡ false → one-or x (keep t (from a (suc m))) i ≡ one-or x (keep t (from (a + 1) m)) i
-    one-not m i e = rw (e, add-one a)
+    pub one-not : (m : ℕ) → t a ≡ false → one-from x (keep t (from a (suc m))) n ≡ one-from x (keep t (from (a + 1) m)) n
+    one-not m e = rw (e, add-one a)
+
+-- one more stored behind those that are there
+pub ends-more : (f : ℕ → ℕ) (d : List ℕ) (k x : ℕ) → k < length d → x ≡ f k → ((j : ℕ) → j < k → getD d j 0 ≡ f j)
+    → (j : ℕ) → j < k + 1 → getD (set d k x) j 0 ≡ f j
+ends-more f d k x l e h j m =
+    by-bool (eqb j k)
+    (λ (y : eqb j k ≡ true). let same : j ≡ k = eqb-true j k y in rw same (getD-set-same d k x 0 l ∙ e))
+    (λ (y : eqb j k ≡ false).
+    let other : j ≡ k → ⊥ = eqb-false j k y in
+    getD-set-other d k j x 0 other ∙ h j (omega arith))
 
 -- the text from a set on: its next character, and the text behind it
-module _ (n : ℕ) (tried : List Bool) (follow taking ends : List ℕ) where
-  pub text-more : (left k set next c : ℕ) → left ≡ suc k → next ≡ followers-of follow set → c ≡ first-to n tried taking next (getD ends k 0)
-      → text-from n tried follow taking ends left set ≡ c ∷ text-from n tried follow taking ends k (bitAnd next (getD taking c 0))
+module _ (n : ℕ) (follow taking : List ℕ) where
+  pub text-more : (ends : ℕ → ℕ) (left k set next c : ℕ) → left ≡ suc k → next ≡ followers-of follow set → c ≡ first-to n taking next (ends k)
+      → text-from n follow taking ends left set ≡ c ∷ text-from n follow taking ends k (bitAnd next (getD taking c 0))
   unfolding text-from
-  text-more left k set next c e f g = rw (e, g, f)
+  text-more ends left k set next c e f g = rw (e, g, f)
 
-  pub text-none : (left set : ℕ) → left ≡ 0 → text-from n tried follow taking ends left set ≡ []
+  pub text-none : (ends : ℕ → ℕ) (left set : ℕ) → left ≡ 0 → text-from n follow taking ends left set ≡ []
   unfolding text-from
-  text-none left set e = rw e
+  text-none ends left set e = rw e
+
+  -- it looks at what is below its length alone
+  pub text-same : (e f : ℕ → ℕ) (k set : ℕ) → ((j : ℕ) → j < k → e j ≡ f j) → text-from n follow taking e k set ≡ text-from n follow taking f k set
+  unfolding text-from
+  text-same e f zero set h = refl
+  text-same e f (suc k) set h =
+      let next = followers-of follow set in
+      let c = first-to n taking next (f k) in
+      rw (h k (omega arith)) (cons-eq refl (text-same e f k (bitAnd next (getD taking c 0)) (λ j l. h j (omega arith))))
 
 -- what is worked out of a field, whose text has k characters, or which has none
-module _ (n : ℕ) (tried : List Bool) (i : ℕ) (t : PlaceTables) (taken : ℕ) (ends : List ℕ) (k : ℕ) (u : taken ≡ taken-by n tried (t .taking))
-    (e : ends ≡ endings-coded (t .follow) taken (t .last)) (f : k ≡ one-or lengths-tried (lengths-coded ends) i) where
-  text-by : text-tables n tried i t ≡ cond (ltb k lengths-tried) (spelt-tables (text-from n tried (t .follow) (t .taking) ends k start)) t
+module _ (n asked : ℕ) (t : PlaceTables) (taken k : ℕ) (all : List ℕ) (u : taken ≡ taken-by n (t .taking))
+    (x : Endings-of (ending (t .follow) taken (t .last)) asked k all) where
+  abbrev ends : ℕ → ℕ
+  ends = ending (t .follow) taken (t .last)
+
+  text-by : text-tables n asked t ≡ cond (ltb k lengths-tried) (spelt-tables (text-from n (t .follow) (t .taking) ends k start)) t
   unfolding text-tables
-  text-by = rw (f, e, u)
+  text-by = rw (x .its-length, u)
 
-  pub one-text : k < lengths-tried → spelt-tables (text-from n tried (t .follow) (t .taking) ends k start) ≡ text-tables n tried i t
-  one-text h = sym (text-by ∙ cond-true (ltb k lengths-tried) (spelt-tables (text-from n tried (t .follow) (t .taking) ends k start)) t (lt-ltb k lengths-tried h))
+  pub one-text : k < lengths-tried → spelt-tables (text-from n (t .follow) (t .taking) (λ (j : ℕ). getD all j 0) k start) ≡ text-tables n asked t
+  one-text h =
+      ap spelt-tables (text-same n (t .follow) (t .taking) (λ (j : ℕ). getD all j 0) ends k start (x .shorter))
+      ∙ sym (text-by ∙ cond-true (ltb k lengths-tried) (spelt-tables (text-from n (t .follow) (t .taking) ends k start)) t (lt-ltb k lengths-tried h))
 
-  pub no-one-text : lengths-tried ≤ k → t ≡ text-tables n tried i t
-  no-one-text h = sym (text-by ∙ cond-false (ltb k lengths-tried) (spelt-tables (text-from n tried (t .follow) (t .taking) ends k start)) t (le-ltb k lengths-tried h))
+  pub no-one-text : lengths-tried ≤ k → t ≡ text-tables n asked t
+  no-one-text h =
+      sym (text-by ∙ cond-false (ltb k lengths-tried) (spelt-tables (text-from n (t .follow) (t .taking) ends k start)) t (le-ltb k lengths-tried h))

@@ -1,26 +1,25 @@
 -- What is made of the struct of a good question is the question in which each field that stands twice holds one text:
---   texts-read : texts-coded s (ones .least) i ≡ question-of (with-texts (least-ones (hidden q)) i q) bodies
--- where the least ones alike are tried, and the patterns stand where they stood. Follows from `text-read`, field by field, and from how often each
+--   texts-read : texts-coded s asked ≡ question-of (with-texts asked q) bodies
+-- and the patterns stand where they stood. Follows from `text-read`, field by field, and from how often each
 -- field stands.
-use Prim.Native.Nat.{ℕ, _+_, _≤_, _<_}
+use Prim.Native.Nat.{ℕ, _+_, _<_}
 use native.Mathlib.Omega.{arith}
 use mathlib.Core.Path.{_≡_, refl, sym, ap, ap₂, _∙_}
 use mathlib.Core.Bool.{Bool, true, false, cond}
 use mathlib.Core.List.{List, [], _∷_, _++_, map, List·Memᴰ, List·Memᴰ·head, List·Memᴰ·tail, List·Memᴰ·append-cases}
 use mathlib.Core.Logic.{⊎-elim}
 use lib.Dec.{ltb}
-use lib.ListN.{length, getD, length-append}
+use lib.ListN.{length, getD}
 use Rattle.paper.specs.Lists.{upto, only, keep}
-use Rattle.paper.specs.Numbers.{most-characters, fields, set-fields}
+use Rattle.paper.specs.Numbers.{most-characters, fields}
 use Rattle.paper.specs.Pattern.{Held, some-text, pattern}
-use Rattle.paper.specs.Equation.{Token, chr, fld, Side, is-field}
-use Rattle.paper.specs.Question.{Question, held-by, hidden}
-use Rattle.paper.proofs.base.Tests.{by-bool, le-leb}
+use Rattle.paper.specs.Equation.{Token, Side, is-field}
+use Rattle.paper.specs.Question.{Question, held-by}
+use Rattle.paper.proofs.base.Tests.{le-leb}
 use Rattle.paper.proofs.base.Lists.{cons-eq, map-append, mem-upto}
 use Rattle.paper.proofs.base.Listed.{getD-map-upto}
 use Rattle.paper.proofs.sheets.Asked.{GoodHeld, GoodQuestion, good-most}
-use Rattle.paper.proofs.sheets.Hidden.{HasSet, in-range-has-set, hidden-searchable}
-use Rattle.paper_decide.specs.Alike.{is-least, least-ones}
+use Rattle.paper.proofs.sheets.Hidden.{in-range-has-set}
 use Rattle.paper_decide.specs.Letters.{one-if, times}
 use Rattle.paper_decide.specs.OneText.{text-held, with-texts}
 use Rattle.base_places.specs.Masks.{within}
@@ -28,18 +27,15 @@ use Rattle.base_places.specs.WorkedOut.{worked-out}
 use Rattle.base_places.specs.declared.PlaceTables.{PlaceTables}
 use Rattle.base_places.proofs.Masks.{Few}
 use Rattle.base_codes.specs.Inner.{token-code, side-code, tokens, padded}
-use Rattle.base_question.specs.Asked.{field-tables, question-of}
+use Rattle.base_question.specs.Asked.{question-of}
 use Rattle.base_question.specs.Standings as Standings
 use Rattle.base_question.specs.declared.Body.{Body}
 use Rattle.base_question.specs.declared.Question as Code
 use Rattle.base_question.proofs.HowOften.{standings-are}
 use Rattle.base_question.proofs.SidesBack.{side-back}
-use Rattle.decide_alike.specs.AlikeCoded.{least-coded}
-use Rattle.decide_alike.specs.declared.LeastOnes.{LeastOnes}
-use Rattle.decide_alike.proofs.AlikeTies.{least-read}
 use Rattle.decide_texts.specs.TextsCoded.{no-tables, tables-at, text-tables, tables-then, texts-coded}
 use Rattle.decide_texts.proofs.FieldsChanged.{with-fields}
-use Rattle.decide_texts.proofs.TextRead.{text-read}
+use Rattle.decide_texts.proofs.TextRead.{through, text-read}
 
 few-leaves : (n : ℕ) (h : Held) → GoodHeld n h → Few h
 few-leaves n some-text g = g
@@ -58,7 +54,7 @@ times-same : (f : ℕ) (side : Side) → Standings.times f side ≡ times f side
 times-same f [] = refl
 times-same f (t ∷ side) = one-counted (is-field f t) t (keep (is-field f) side) ∙ ap (λ (m : ℕ). one-if (is-field f t) + m) (times-same f side)
 
-module _ (q : Question) (g : GoodQuestion q) (bodies : List Body) (i : ℕ) where
+module _ (q : Question) (g : GoodQuestion q) (bodies : List Body) (asked : ℕ) where
   abbrev many : ℕ
   many = q .alphabet .characters
 
@@ -77,40 +73,28 @@ module _ (q : Question) (g : GoodQuestion q) (bodies : List Body) (i : ℕ) wher
       f (omega arith)
       ∙ times-same f sides
 
-  module _ (tried : List Bool) (marks : (c : ℕ) → c < many → getD tried c false ≡ is-least (hidden q) c) where
-    its-text : (f : ℕ) → worked-out (text-held (least-ones (hidden q)) i (held-by q f)) ≡ text-tables (within many) tried i (worked-out (held-by q f))
-    unfolding least-ones within
-    its-text f =
-        rw (le-leb many most-characters (good-most g))
-        (text-read (held-by q f) (few-leaves many (held-by q f) (g .held .good f)) many (good-most g) (is-least (hidden q)) tried marks i)
+  its-text : (f : ℕ) → worked-out (text-held (upto many) asked (held-by q f)) ≡ text-tables (within many) asked (worked-out (held-by q f))
+  unfolding within
+  its-text f =
+      rw (le-leb many most-characters (good-most g)) (text-read (held-by q f) (few-leaves many (held-by q f) (g .held .good f)) many (good-most g) asked)
 
-    -- what the field f holds then
-    field-then : (f : ℕ) → f < fields → tables-then (question-of q bodies) tried i f ≡ worked-out (held-by (with-texts (least-ones (hidden q)) i q) f)
-    unfolding with-texts
-    field-then f k =
-        let its : tables-at (question-of q bodies) f ≡ worked-out (held-by q f) = getD-map-upto (λ (f : ℕ). worked-out (held-by q f)) no-tables fields f k in
-        let twice = ltb 1 (times f sides) in
-        let one = text-held (least-ones (hidden q)) i (held-by q f) in
-        rw (standings-read f k, its, sym (its-text f))
-        (through twice one (held-by q f)
-        ∙ ap worked-out
-        (sym
-        (getD-map-upto (λ (f : ℕ). cond (ltb 1 (times f sides)) (text-held (least-ones (hidden q)) i (held-by q f)) (held-by q f)) some-text fields f k)))
-      where
-        through : (b : Bool) (x y : Held) → cond b (worked-out x) (worked-out y) ≡ worked-out (cond b x y)
-        through true x y = refl
-        through false x y = refl
+  -- what the field f holds then
+  field-then : (f : ℕ) → f < fields → tables-then (question-of q bodies) asked f ≡ worked-out (held-by (with-texts asked q) f)
+  unfolding with-texts
+  field-then f k =
+      let its : tables-at (question-of q bodies) f ≡ worked-out (held-by q f) = getD-map-upto (λ (f : ℕ). worked-out (held-by q f)) no-tables fields f k in
+      let twice = ltb 1 (times f sides) in
+      let one = text-held (upto many) asked (held-by q f) in
+      rw (standings-read f k, its, sym (its-text f))
+      (sym (through twice one (held-by q f))
+      ∙ ap worked-out
+      (sym (getD-map-upto (λ (f : ℕ). cond (ltb 1 (times f sides)) (text-held (upto many) asked (held-by q f)) (held-by q f)) some-text fields f k)))
 
-    pub texts-marked : texts-coded (question-of q bodies) tried i ≡ question-of (with-texts (least-ones (hidden q)) i q) bodies
-    unfolding texts-coded with-texts
-    texts-marked =
-        let others = with-texts (least-ones (hidden q)) i q in
-        ap (with-fields (question-of q bodies))
-        (map-same (tables-then (question-of q bodies) tried i) (λ (f : ℕ). worked-out (held-by others f)) (upto fields)
-        (λ f d. field-then f (mem-upto fields d)))
-
-  pub texts-read : (s : Code.Question) → s ≡ question-of q bodies → (ones : LeastOnes) → ones ≡ least-coded s
-      → texts-coded s (ones .least) i ≡ question-of (with-texts (least-ones (hidden q)) i q) bodies
-  texts-read s is ones o =
-      ap (λ (x : Code.Question). texts-coded x (ones .least) i) is
-      ∙ texts-marked (ones .least) (least-read q (g .left) (g .right) (hidden-searchable q g) bodies s is ones o)
+  pub texts-read : (s : Code.Question) → s ≡ question-of q bodies → texts-coded s asked ≡ question-of (with-texts asked q) bodies
+  unfolding texts-coded with-texts
+  texts-read s is =
+      let others = with-texts asked q in
+      ap (λ (x : Code.Question). texts-coded x asked) is
+      ∙ ap (with-fields (question-of q bodies))
+      (map-same (tables-then (question-of q bodies) asked) (λ (f : ℕ). worked-out (held-by others f)) (upto fields)
+      (λ f d. field-then f (mem-upto fields d)))

@@ -1,5 +1,4 @@
-// "A text for each field that stands twice": such a field holds one text alone. For a number of characters it is the least text of so many, by value,
-// made of some of the characters alone, those that are tried.
+// "A text for each field that stands twice": such a field holds one text alone. For a number of characters it is the least text of so many, by value.
 use base_codes::SHEET_FIELDS;
 use base_places::CHARACTERS;
 use base_places::PLACES;
@@ -10,16 +9,16 @@ use base_places::place;
 use base_places::within;
 use base_question::Question;
 use base_question::standings;
-ghost use mathlib.Core.Bool.{cond, _&&_};
+ghost use mathlib.Core.Bool.{cond};
 ghost use mathlib.Core.List.{[]};
 ghost use mathlib.Core.Path.{_≡_};
 ghost use Prim.Native.Nat.{ℕ, _^_, _≤_, _<_};
-ghost use lib.Bits.{bitAnd};
 ghost use lib.Dec.{eqb};
+ghost use lib.ListN.{getD};
 ghost use Rattle.paper.specs.Numbers.{most-characters};
 ghost use Rattle.paper_decide.specs.OneText.{longest-tried};
 ghost use Rattle.base_places.specs.Masks.{places, mask-of};
-ghost use Rattle.decide_texts.specs.TextsCoded.{meets, start, taken-by, leading-to, endings-coded, lengths-tried, lengths-coded, one-or};
+ghost use Rattle.decide_texts.specs.TextsCoded.{meets, start, taken-by, leading-to, ending, length-coded, Endings-of};
 ghost use Rattle.decide_texts.specs.TextsCoded.{first-to, text-from, spelt-tables, text-tables, texts-coded};
 
 // No text that is tried has more characters.
@@ -31,9 +30,17 @@ const LENGTHS: usize = LONGEST_TRIED + 1;
 // The set that holds the start alone.
 const START: PlaceSet = 1;
 
-// The question in which each field that stands twice holds one text: that with the number i of those tried, or the last one.
-pub fn with_texts(mut question: Question, tried: [bool; CHARACTERS], i: usize) -> Question
-    ensures { λ r. ⌜ r ≡ texts-coded question tried i ⌝ }
+// How many characters the text has, the number behind the last one that is tried where there is none; and for each smaller number the places from
+// which a text of so many may end.
+struct Ends {
+    length: usize,
+    ends: [PlaceSet; LENGTHS],
+}
+
+// The question in which each field that stands twice holds one text: the least one of the least possible length of so many characters or more, or where
+// there is none of the greatest below.
+pub fn with_texts(mut question: Question, asked: usize) -> Question
+    ensures { λ r. ⌜ r ≡ texts-coded question asked ⌝ }
 {
     let alphabet = question.alphabet;
     let n = within(alphabet.characters);
@@ -44,7 +51,7 @@ pub fn with_texts(mut question: Question, tried: [bool; CHARACTERS], i: usize) -
     while f < SHEET_FIELDS {
         if 1 < counts[f] {
             let own = question.fields[f];
-            let its = with_text(own, &tried, n, i);
+            let its = with_text(own, n, asked);
             question.fields[f] = its;
         }
         f += 1;
@@ -53,37 +60,38 @@ pub fn with_texts(mut question: Question, tried: [bool; CHARACTERS], i: usize) -
 }
 
 // What is worked out of a field that holds one text; as it was, where it has none of at most 24 characters.
-fn with_text(own: PlaceTables, tried: &[bool; CHARACTERS], n: usize, i: usize) -> PlaceTables
+fn with_text(own: PlaceTables, n: usize, asked: usize) -> PlaceTables
     requires { ⌜ n ≤ most-characters ⌝ }
-    ensures { λ r. ⌜ r ≡ text-tables n (now (tried .entry)) i own ⌝ }
+    ensures { λ r. ⌜ r ≡ text-tables n asked own ⌝ }
 {
     let follow = own.follow;
     let taking = own.taking;
     let last = own.last;
-    let ends = endings(&follow, taken(&taking, tried, n), last);
-    let length = length_of(ends, i);
+    let its = endings(&follow, taken(&taking, n), last, asked);
+    let length = its.length;
     if length < LENGTHS {
-        return spelt(&follow, &taking, tried, n, ends, length);
+        let ends = its.ends;
+        return spelt(&follow, &taking, n, ends, length);
     }
     own
 }
 
-// What takes a character, if it is tried. (Of a set in a lent table only a function that it is handed to knows that it has 64 bits.)
-fn if_tried(tried: bool, takes: PlaceSet) -> PlaceSet
-    ensures { λ r. ⌜ (r ≡ cond tried takes 0) × (takes < 2 ^ places) ⌝ }
+// A set of a lent table. (Only a function that it is handed to knows that it has 64 bits.)
+fn known(set: PlaceSet) -> PlaceSet
+    ensures { λ r. ⌜ (r ≡ set) × (set < 2 ^ places) ⌝ }
 {
-    if tried { takes } else { 0 }
+    set
 }
 
-// The places that take some character that is tried.
-fn taken(taking: &[PlaceSet; CHARACTERS], tried: &[bool; CHARACTERS], n: usize) -> PlaceSet
+// The places that take some character.
+fn taken(taking: &[PlaceSet; CHARACTERS], n: usize) -> PlaceSet
     requires { ⌜ n ≤ most-characters ⌝ }
-    ensures { λ r. ⌜ r ≡ taken-by n (now (tried .entry)) (now (taking .entry)) ⌝ }
+    ensures { λ r. ⌜ r ≡ taken-by n (now (taking .entry)) ⌝ }
 {
     let mut r = 0;
     let mut c: usize = 0;
     while c < n {
-        r = r | if_tried(tried[c], taking[c]);
+        r = r | known(taking[c]);
         c += 1;
     }
     r
@@ -116,66 +124,36 @@ fn leading_to(follow: &[PlaceSet; PLACES], set: PlaceSet) -> PlaceSet
     r
 }
 
-// For each number of characters the places from which a text of so many may end.
-fn endings(follow: &[PlaceSet; PLACES], taken: PlaceSet, last: PlaceSet) -> [PlaceSet; LENGTHS]
-    ensures { λ r. ⌜ r ≡ endings-coded (now (follow .entry)) taken last ⌝ }
+// The length of the text, and the places from which texts shorter than that may end: the lengths rise, up to the first of so many characters or more.
+fn endings(follow: &[PlaceSet; PLACES], taken: PlaceSet, last: PlaceSet, asked: usize) -> Ends
+    ensures { λ r. ⌜ Endings-of (ending (now (follow .entry)) taken last) asked (r .length) (r .ends) ⌝ }
 {
-    let mut all = [0; LENGTHS];
-    let mut ends = last;
-    let mut k: usize = 0;
-    while k < LENGTHS {
-        all[k] = ends;
-        ends = leading_to(follow, taken & ends);
-        k += 1;
-    }
-    all
-}
-
-// How many characters the text with the number i has, or the last one; behind the last number that is tried, where there is none.
-fn length_of(ends: [PlaceSet; LENGTHS], i: usize) -> usize
-    ensures { λ r. ⌜ r ≡ one-or lengths-tried (lengths-coded ends) i ⌝ }
-{
+    let mut ends = [0; LENGTHS];
     let mut length = LENGTHS;
-    let mut left = i;
+    let mut here = last;
     let mut k: usize = 0;
     while k < LENGTHS {
-        if meets(START, ends[k]) {
-            if left == 0 {
-                return k;
-            }
-            left -= 1;
+        if meets(START, here) {
             length = k;
+            if asked <= k {
+                return Ends { length, ends };
+            }
         }
+        ends[k] = here;
+        here = leading_to(follow, taken & here);
         k += 1;
     }
-    length
+    Ends { length, ends }
 }
 
-// Is the character tried, and does it lead from what may come next to a place of `ends`?
-fn leads(tried: bool, next: PlaceSet, takes: PlaceSet, ends: PlaceSet) -> bool
-    ensures { λ r. ⌜ r ≡ (tried && meets (bitAnd next takes) ends) ⌝ }
-{
-    if tried {
-        meets(next & takes, ends)
-    } else {
-        false
-    }
-}
-
-// The first character that does; 0, where none does.
-fn first_to(
-    taking: &[PlaceSet; CHARACTERS],
-    tried: &[bool; CHARACTERS],
-    n: usize,
-    next: PlaceSet,
-    ends: PlaceSet,
-) -> usize
+// The first character that leads from what may come next to a place of `ends`; 0, where none does.
+fn first_to(taking: &[PlaceSet; CHARACTERS], n: usize, next: PlaceSet, ends: PlaceSet) -> usize
     requires { ⌜ n ≤ most-characters ⌝ }
-    ensures { λ r. ⌜ (r < most-characters) × (r ≡ first-to n (now (tried .entry)) (now (taking .entry)) next ends) ⌝ }
+    ensures { λ r. ⌜ (r < most-characters) × (r ≡ first-to n (now (taking .entry)) next ends) ⌝ }
 {
     let mut c: usize = 0;
     while c < n {
-        if leads(tried[c], next, taking[c], ends) {
+        if meets(next & taking[c], ends) {
             return c;
         }
         c += 1;
@@ -198,13 +176,12 @@ fn no_text() -> PlaceTables
 fn spelt(
     follow: &[PlaceSet; PLACES],
     taking: &[PlaceSet; CHARACTERS],
-    tried: &[bool; CHARACTERS],
     n: usize,
     ends: [PlaceSet; LENGTHS],
     length: usize,
 ) -> PlaceTables
     requires { ⌜ (n ≤ most-characters) × (length ≤ longest-tried) ⌝ }
-    ensures { λ r. ⌜ r ≡ spelt-tables (text-from n (now (tried .entry)) (now (follow .entry)) (now (taking .entry)) ends length start) ⌝ }
+    ensures { λ r. ⌜ r ≡ spelt-tables (text-from n (now (follow .entry)) (now (taking .entry)) (λ (k : ℕ). getD ends k 0) length start) ⌝ }
 {
     let mut tables = no_text();
     let mut set = START;
@@ -213,7 +190,7 @@ fn spelt(
     while 0 < left {
         left -= 1;
         let next = followers(follow, set);
-        let c = first_to(taking, tried, n, next, ends[left]);
+        let c = first_to(taking, n, next, ends[left]);
         set = next & taking[c];
         let its = place(at + 1);
         tables.follow[at] = its;

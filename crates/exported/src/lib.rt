@@ -78,8 +78,8 @@ pub extern "C" fn bradovusc_play(
     c_play::sheet(sheet, steps, answer, told)
 }
 
-// As `bradovusc_clash`, with up to four searches where that leaves the question open. Returns its number; count, place, written length and the
-// search that decided (1 to 4; 0 where none did) go into the first four elements of `told`, as many as there is room for.
+// As `bradovusc_clash`, with up to six more attempts where that leaves the question open. Returns its number; count, place, written length and the
+// attempt that decided (1 to 7; 0 where none did) go into the first four elements of `told`, as many as there is room for.
 #[no_mangle]
 pub extern "C" fn bradovusc_decide(
     sheet: &[u8],
@@ -139,7 +139,7 @@ pub extern "C" fn bradovusc_recheck(
     c_catalogue::recheck(catalogue, work, list, told)
 }
 
-// As `bradovusc_add`, but a pair is asked as `bradovusc_decide` asks. The search that gave the pair's answer goes into the fifth element of `told`.
+// As `bradovusc_add`, but a pair is asked as `bradovusc_decide` asks. The attempt that gave the pair's answer goes into the fifth element of `told`.
 #[no_mangle]
 pub extern "C" fn bradovusc_add_decided(
     catalogue: &mut [u8],
@@ -156,7 +156,7 @@ pub extern "C" fn bradovusc_add_decided(
 }
 
 // As `bradovusc_recheck`, but a pair is asked as `bradovusc_decide` asks, and has seven bytes: lower, higher, answer, count in three bytes (low byte
-// first), and the search that gave the answer.
+// first), and the attempt that gave the answer.
 #[no_mangle]
 pub extern "C" fn bradovusc_recheck_decided(
     catalogue: &[u8],

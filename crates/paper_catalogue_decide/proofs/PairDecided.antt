@@ -28,7 +28,7 @@ use Rattle.paper.specs.Outcome.{Outcome, room-of, searched, records, clash, ans
 use Rattle.paper.proofs.base.Tests.{cond-by, eqb-true}
 use Rattle.paper.proofs.saying.Saying.{reads-back}
 use Rattle.paper_chosen.proofs.Over.{searched-every}
-use Rattle.paper_decide.specs.Deciding.{own-search, decides, concluded, Decision, decision-of, decision}
+use Rattle.paper_decide.specs.Deciding.{most-attempts, end-decides, concluded, Decision, decision-of, decision}
 use Rattle.paper_decide.specs.DecidePromised.{Decided}
 use Rattle.paper_decide.proofs.Decided.{decided}
 use Rattle.paper_catalogue.specs.PairAsking.{pair-number, pair-answer, pair-count, by-search}
@@ -130,11 +130,11 @@ module _ (r s : Rule) (good-r : GoodRule r) (good-s : GoodRule s) (work answer :
   decided-together e = together-by (its-decision .outcome .number) refl (sym its-number ∙ e)
 
   -- "the count in three bytes .. since four searches can enter more than two bytes say"
-  pub decided-count : pair-decided r s (room-of work) .count ≤ 4 * most-room
+  pub decided-count : pair-decided r s (room-of work) .count ≤ most-attempts * most-room
   unfolding room-of
   decided-count = omega (arith, promised .count-within, its-count)
 
-  pub decided-search : pair-decided r s (room-of work) .search ≤ 4
+  pub decided-search : pair-decided r s (room-of work) .search ≤ most-attempts
   decided-search = omega (arith, promised .search-number, its-search)
 
 decided-not-1 : (r s : Rule) (room : ℕ) → (pair-decided r s room .answer ≡ 1 → ⊥) → member (pair-decided r s room .answer) (0 ∷ 18 ∷ 19 ∷ []) ≡ true
@@ -151,12 +151,12 @@ deciding-right =
     }
 
 -- Where 01's search decides, deciding gives the same: its answer, its count, and 1 is the search.
-pub as-searched : (r s : Rule) (room : ℕ) → decides (own-search (pair r s)) (how-of (searched (hidden (pair r s)) room)) ≡ true
+pub as-searched : (r s : Rule) (room : ℕ) → end-decides true true (how-of (searched (hidden (pair r s)) room)) ≡ true
     → pair-decided r s room ≡ by-search .asks r s room
 unfolding pair-decided concluded pair-answer pair-count
 as-searched r s room d = rw (searched-every (hidden (pair r s)) room, d, zero-add (count-of (searched (hidden (pair r s)) room)))
 
-answer-decides : (q : Question) (x : End (Situation PlaceSet) Move) → pair-number x ≡ 1 → decides (own-search q) x ≡ true
+answer-decides : (q : Question) (x : End (Situation PlaceSet) Move) → pair-number x ≡ 1 → end-decides true true x ≡ true
 answer-decides q (found e) h = refl
 answer-decides q used-up h = refl
 answer-decides q no-room h = absurd (omega (arith, h))

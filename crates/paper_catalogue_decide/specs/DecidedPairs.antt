@@ -13,8 +13,8 @@ use Rattle.paper_catalogue.specs.Catalogue.{AddedBy, adding-by}
 use Rattle.paper_catalogue.specs.Recheck.{Rechecked, rechecking-by}
 use Rattle.paper_catalogue.specs.Calls.{without-20}
 
--- The pair of a present rule and a new one, by up to four searches in a room. A pair's texts are not written, so it can't give 20. Not decided, it
--- is answered 18 or 19, as the first search said it, and no search gave it: 0.
+-- The pair of a present rule and a new one, by up to seven attempts in a room. A pair's texts are not written, so it can't give 20. Not decided, it
+-- is answered 18 or 19, as the first search said it, and no attempt gave it: 0.
 unfoldable pub pair-decided : Rule → Rule → ℕ → PairAnswered
 pair-decided present new room =
     let c = concluded (pair present new) room in

@@ -2,11 +2,11 @@
 -- instance: from bytes to bytes.
 --   decided       : AsksGood r → Decided r work answer (decision-of r work answer)
 --   sheet-decided : Decided (read-sheet sheet) work answer (decision sheet work answer)
--- Each of the four attempts is right: where its clash decides, the texts found solve the question; where its no clash does, there are none. One
--- induction over the attempts follows the conclusion. Follows from the laws of the search over some characters, of characters alike and of each
--- standing apart.
+-- Each of the attempts is right: where its clash decides, the texts found solve the question; where its no clash does, there are none. One
+-- induction over the attempts follows the conclusion. Follows from the laws of the search over some characters, of letters, of each standing apart, of
+-- the texts that are tried and of characters alike.
 use Prim.Native.Nat.{ℕ, suc, _+_, _*_, _≤_, _<_}
-use native.Mathlib.Nat.{zero-add, suc-mul, mul-le-mul-right}
+use native.Mathlib.Nat.{zero-add, suc-mul}
 use native.Mathlib.Omega.{arith}
 use mathlib.Core.Path.{_≡_, refl, sym, ap, _∙_, subst}
 use mathlib.Core.Bool.{Bool, true, false, not}
@@ -14,30 +14,34 @@ use mathlib.Core.List.{List, [], _∷_, _++_, List·Memᴰ, List·Memᴰ·head, 
 use lib.Dec.{leb, eqb}
 use lib.ListN.{length, drop, length-append, length-drop}
 use lib.Seq.{take-append-seam, drop-append-seam}
-use Rattle.paper.specs.Lists.{upto, all, only, member}
-use Rattle.paper.specs.Numbers.{fields, most-room, longest-text}
+use Rattle.paper.specs.Lists.{upto, all, member}
+use Rattle.paper.specs.Numbers.{fields, situation-bytes, most-room, longest-text}
 use Rattle.paper.specs.Places.{PlaceSet}
 use Rattle.paper.specs.Search.{Entry, End, found, used-up, no-room, too-long, State}
 use Rattle.paper.specs.Equation.{Texts, stands-in}
 use Rattle.paper.specs.Situation.{Situation, Move}
-use Rattle.paper.specs.Question.{Question, Solution, hidden, Equated}
+use Rattle.paper.specs.Question.{Question, Solution, hidden, Equated, acceptor}
 use Rattle.paper.specs.Sheet.{Fault, cut-short, wrong-mark, wrong-field, wrong-length, not-one-pattern, too-many-leaves, wrong-token, wrong-edition, stray-pattern}
 use Rattle.paper.specs.Sheet.{fault-number, Reading, refused, asked, read-sheet}
 use Rattle.paper.specs.Outcome.{Outcome, room-of, searched, standing, cleared, without-bytes, clash, answered, count-of, how-of, outcome-of}
 use Rattle.paper.specs.Demands.{texts-spelt}
-use Rattle.paper.proofs.base.Tests.{cond-by, true-false, not-is-true, not-is-false, false-not, leb-true, leb-false, neq-eqb}
-use Rattle.paper.proofs.base.Lists.{length-only, mem-only, mem-cons-by, keep-mem, upto-mem}
+use Rattle.paper.proofs.base.Tests.{cond-by, true-false, and-right, not-is-true, not-is-false, false-not, leb-true, leb-false, neq-eqb}
+use Rattle.paper.proofs.base.Lists.{mem-length, mem-cons-by, keep-mem, upto-mem}
 use Rattle.paper.proofs.sheets.Asked.{GoodQuestion, AsksGood, sheet-good, fields-known}
 use Rattle.paper.proofs.sheets.Hidden.{hidden-known, own-solves, with-spaces, hidden-solves}
 use Rattle.paper.proofs.sheets.Rows.{fault-above, found-records, records-hidden}
 use Rattle.paper.proofs.demands.Demand1.{demand-1, answered-met}
 use Rattle.paper_chosen.specs.Chosen.{every, searched-over}
+use Rattle.paper_chosen.proofs.Likewise.{same-texts}
 use Rattle.paper_chosen.proofs.Over.{searched-every, found-over, used-up-over, count-over, short-over}
-use Rattle.paper_decide.specs.Apart.{few-standings}
-use Rattle.paper_decide.specs.Deciding.{Attempt, own-search, alike-search, few-search, apart-search, decides, Conclusion, concluded-from, concluded, Decision, decision-of, decision}
+use Rattle.paper_plain.specs.Engine.{bits-of, clashes-apart}
+use Rattle.paper_plain.proofs.Solved.{solvable-clashes}
+use Rattle.paper_decide.specs.OneText.{with-texts}
+use Rattle.paper_decide.specs.Deciding.{Attempt, searching, testing, own-search, letters-test, apart-test, alike-search, few-search, text-search, short-search, longer, longer-search, most-attempts, end-decides, tried, Conclusion, concluded-from, concluded, Decision, decision-of, decision}
 use Rattle.paper_decide.specs.DecidePromised.{ClashTold, TextsDontFit, Decided}
 use Rattle.paper_decide.proofs.Alike.{alike-unsolved}
-use Rattle.paper_decide.proofs.Apart.{apart-unsolved}
+use Rattle.paper_decide.proofs.LettersRight.{letters-unsolved}
+use Rattle.paper_decide.proofs.TextFits.{texts-equated}
 
 abbrev Ended : Type 0
 Ended = End (Situation PlaceSet) Move
@@ -50,14 +54,14 @@ record Solving (q : Question) (e : Entry (Situation PlaceSet) Move) : Type 0 whe
 abbrev Unsolved : Question → Type 0
 Unsolved q = (texts : Texts) → Solution q texts → ⊥
 
--- how the search of an attempt ends
-abbrev end-by : Attempt → ℕ → Ended
-end-by t room = how-of (searched-over (t .among) (t .asks) room)
-
 -- An attempt is right: where its ends decide, they say it of the question.
-record IsRight (q : Question) (room : ℕ) (t : Attempt) : Type 0 where
-  clash : t .clash-decides ≡ true → (e : Entry (Situation PlaceSet) Move) → end-by t room ≡ found e → Solving q e
-  no-clash : t .no-clash-decides ≡ true → end-by t room ≡ used-up → Unsolved q
+record SearchRight (q p : Question) (among : ℕ → Bool) (clash-decides no-clash-decides : Bool) (room : ℕ) : Type 0 where
+  clash : clash-decides ≡ true → (e : Entry (Situation PlaceSet) Move) → how-of (searched-over among p room) ≡ found e → Solving q e
+  no-clash : no-clash-decides ≡ true → how-of (searched-over among p room) ≡ used-up → Unsolved q
+
+abbrev IsRight : Question → ℕ → Attempt → Type 0
+IsRight q room (searching p among clash no-clash) = SearchRight q p among clash no-clash room
+IsRight q room (testing says-no) = says-no room ≡ true → Unsolved q
 
 -- A search of the question itself, over any characters, finds texts that solve it.
 found-solving : (among : ℕ → Bool) (q : Question) (room : ℕ) → room ≤ most-room → (e : Entry (Situation PlaceSet) Move)
@@ -66,6 +70,18 @@ found-solving among q room h e k =
     record {
       solves = found-over among (hidden q) room e k;
       short = short-over among (hidden q) room h e k;
+    }
+
+-- and a search of the question with one text for each field that stands twice does
+text-solving : (n : ℕ) (q : Question) → GoodQuestion q → (e : Entry (Situation PlaceSet) Move) → Solving (with-texts n q) e → Solving q e
+unfolding with-texts
+text-solving n q good e x =
+    let p = with-texts n q in
+    let same : texts-spelt (hidden p) e ≡ texts-spelt (hidden q) e =
+    λ j f. same-texts (acceptor (hidden p)) (acceptor (hidden q)) (hidden q .left) (hidden q .right) e f j in
+    record {
+      solves = subst (Equated (hidden q)) same (texts-equated n q good (texts-spelt (hidden p) e) (x .solves));
+      short = λ f. subst (λ (t : Texts). length (t f) ≤ longest-text) same (x .short f);
     }
 
 every-passes : (w : List ℕ) → all every w ≡ true
@@ -82,6 +98,14 @@ module _ (q : Question) (good : GoodQuestion q) (room : ℕ) (at-most : room ≤
             (λ f _. every-passes (with-spaces q good texts x f));
       }
 
+  letters-right : IsRight q room (letters-test q)
+  letters-right e = letters-unsolved q good e
+
+  apart-right : IsRight q room (apart-test q)
+  apart-right e texts x =
+      let no = not-is-true (and-right (leb (bits-of q) (8 * (situation-bytes * room))) (not (clashes-apart q)) e) in
+      true-false (solvable-clashes q good (texts, x)) no
+
   alike-right : IsRight q room (alike-search q)
   alike-right =
       record {
@@ -93,8 +117,12 @@ module _ (q : Question) (good : GoodQuestion q) (room : ℕ) (at-most : room ≤
   few-right : IsRight q room (few-search q)
   few-right = record { clash = λ _. found-solving _ q room at-most; no-clash = λ e. absurd (true-false e refl) }
 
-  apart-right : few-standings q ≡ true → IsRight q room (apart-search q)
-  apart-right few = record { clash = λ e. absurd (true-false e refl); no-clash = λ _. apart-unsolved q good few room }
+  text-right : (n : ℕ) → IsRight q room (text-search n q)
+  text-right n =
+      record {
+        clash = λ _ e k. text-solving n q good e (found-solving every (with-texts n q) room at-most e k);
+        no-clash = λ e. absurd (true-false e refl);
+      }
 
   -- how the first search ends
   abbrev own-end : Ended
@@ -102,60 +130,74 @@ module _ (q : Question) (good : GoodQuestion q) (room : ℕ) (at-most : room ≤
 
   -- How deciding ends, as a relation without a test.
   data Concludes : Conclusion → Type 0 where
-    clashes : (k n : ℕ) (e : Entry (Situation PlaceSet) Move) → k < 4 → n ≤ 4 * room → Solving q e
+    clashes : (k n : ℕ) (e : Entry (Situation PlaceSet) Move) → k < most-attempts → n ≤ most-attempts * room → Solving q e
         → Concludes (record { search = suc k; count = n; end = found e })
-    clashes-not : (k n : ℕ) → k < 4 → n ≤ 4 * room → Unsolved q → Concludes (record { search = suc k; count = n; end = used-up })
-    no-room-undecided : (n : ℕ) → n ≤ 4 * room → own-end ≡ no-room → Concludes (record { search = 0; count = n; end = no-room })
-    too-long-undecided : (n : ℕ) → n ≤ 4 * room → own-end ≡ too-long → Concludes (record { search = 0; count = n; end = too-long })
+    clashes-not : (k n : ℕ) → k < most-attempts → n ≤ most-attempts * room → Unsolved q → Concludes (record { search = suc k; count = n; end = used-up })
+    no-room-undecided : (n : ℕ) → n ≤ most-attempts * room → own-end ≡ no-room → Concludes (record { search = 0; count = n; end = no-room })
+    too-long-undecided : (n : ℕ) → n ≤ most-attempts * room → own-end ≡ too-long → Concludes (record { search = 0; count = n; end = too-long })
 
-  decided-by : (t : Attempt) → IsRight q room t → (x : Ended) → end-by t room ≡ x → decides t x ≡ true → (k n : ℕ) → k < 4 → n ≤ 4 * room
-      → Concludes (record { search = suc k; count = n; end = x })
-  decided-by t r (found e) h d k n i j = clashes k n e i j (r .clash d e h)
-  decided-by t r used-up h d k n i j = clashes-not k n i j (r .no-clash d h)
-  decided-by t r no-room h d k n i j = absurd (true-false d refl)
-  decided-by t r too-long h d k n i j = absurd (true-false d refl)
+  decided-by : (t : Attempt) → IsRight q room t → tried t room .decides ≡ true → (k n : ℕ) → k < most-attempts → n ≤ most-attempts * room
+      → Concludes (record { search = suc k; count = n; end = tried t room .end })
+  decided-by (searching p among c d) r decides k n i j = by-end (how-of (searched-over among p room)) refl decides
+    where
+      by-end : (x : Ended) → how-of (searched-over among p room) ≡ x → end-decides c d x ≡ true → Concludes (record { search = suc k; count = n; end = x })
+      by-end (found e) h d-is = clashes k n e i j (r .clash d-is e h)
+      by-end used-up h d-is = clashes-not k n i j (r .no-clash d-is h)
+      by-end no-room h d-is = absurd (true-false d-is refl)
+      by-end too-long h d-is = absurd (true-false d-is refl)
+  decided-by (testing says-no) r decides k n i j = clashes-not k n i j (r decides)
+
+  -- no attempt enters more than the room
+  tried-within : (t : Attempt) → tried t room .count ≤ room
+  tried-within (searching p among c d) = count-over among p room
+  tried-within (testing says-no) = omega arith
 
   -- "Otherwise not decided: 18 or 19 as the first search said it."
-  left-open : (x : Ended) → own-end ≡ x → decides (own-search q) x ≡ false → (n : ℕ) → n ≤ 4 * room
+  left-open : (x : Ended) → own-end ≡ x → end-decides true true x ≡ false → (n : ℕ) → n ≤ most-attempts * room
       → Concludes (record { search = 0; count = n; end = x })
   left-open (found e) own d n j = absurd (true-false refl d)
   left-open used-up own d n j = absurd (true-false refl d)
   left-open no-room own d n j = no-room-undecided n j own
   left-open too-long own d n j = too-long-undecided n j own
 
-  module _ (undecided : decides (own-search q) own-end ≡ false) where
+  module _ (undecided : end-decides true true own-end ≡ false) where
     concludes-from : (k n : ℕ) (ts : List Attempt) → ((t : Attempt) → List·Memᴰ t ts → IsRight q room t)
-        → k + length ts ≤ 4 → n + length ts * room ≤ 4 * room → Concludes (concluded-from own-end room (suc k) n ts)
+        → k + length ts ≤ most-attempts → n + length ts * room ≤ most-attempts * room → Concludes (concluded-from own-end room (suc k) n ts)
     concludes-from k n [] right h i = left-open own-end refl undecided n (omega arith)
     concludes-from k n (t ∷ ts) right h i =
-        let st = searched-over (t .among) (t .asks) room in
-        let within = count-over (t .among) (t .asks) room in
+        let o = tried t room in
+        let within = tried-within t in
         let more = suc-mul (length ts) room in
-        cond-by Concludes (decides t (how-of st))
-        (λ d. decided-by t (right t (List·Memᴰ·head refl)) (how-of st) refl d k (n + count-of st) (omega arith) (omega arith))
-        (λ _. concludes-from (suc k) (n + count-of st) ts (λ u j. right u (List·Memᴰ·tail j)) (omega arith) (omega arith))
+        cond-by Concludes (o .decides)
+        (λ d. decided-by t (right t (List·Memᴰ·head refl)) d k (n + o .count) (omega arith) (omega arith))
+        (λ _. concludes-from (suc k) (n + o .count) ts (λ u j. right u (List·Memᴰ·tail j)) (omega arith) (omega arith))
+
+  -- the attempts behind the first
+  abbrev later : List Attempt
+  later = letters-test q ∷ apart-test q ∷ short-search q ∷ longer-search q ∷ alike-search q ∷ few-search q ∷ []
 
   concludes : Concludes (concluded q room)
   unfolding concluded
   concludes =
       let st = searched-over every (hidden q) room in
       let within = count-over every (hidden q) room in
-      let one-or-none = length-only (few-standings q) (apart-search q) in
-      let three : length (alike-search q ∷ few-search q ∷ only (few-standings q) (apart-search q)) ≤ 3 = omega arith in
-      cond-by Concludes (decides (own-search q) (how-of st))
-      (λ d. decided-by (own-search q) own-right (how-of st) refl d 0 (0 + count-of st) (omega arith) (omega arith))
+      cond-by Concludes (end-decides true true (how-of st))
+      (λ d. decided-by (own-search q) own-right d 0 (0 + count-of st) (omega arith) (omega arith))
       (λ d. concludes-from
-      (subst (λ (x : State (Situation PlaceSet) Move). decides (own-search q) (how-of x) ≡ false) (searched-every (hidden q) room) d)
-      1 (0 + count-of st) (alike-search q ∷ few-search q ∷ only (few-standings q) (apart-search q)) later-right (omega arith) (omega (arith, mul-le-mul-right room three)))
+      (subst (λ (x : State (Situation PlaceSet) Move). end-decides true true (how-of x) ≡ false) (searched-every (hidden q) room) d)
+      1 (0 + count-of st) later later-right (omega arith) (omega arith))
     where
-      later-right : (t : Attempt) → List·Memᴰ t (alike-search q ∷ few-search q ∷ only (few-standings q) (apart-search q)) → IsRight q room t
+      later-right : (t : Attempt) → List·Memᴰ t later → IsRight q room t
       later-right =
-          mem-cons-by (IsRight q room) alike-right
-          (mem-cons-by (IsRight q room) few-right
-          (λ t d. let (few, e) = mem-only (few-standings q) d in subst (IsRight q room) (sym e) (apart-right few)))
+          mem-cons-by (IsRight q room) letters-right
+          (mem-cons-by (IsRight q room) apart-right
+          (mem-cons-by (IsRight q room) (text-right 0)
+          (mem-cons-by (IsRight q room) (text-right longer)
+          (mem-cons-by (IsRight q room) alike-right
+          (mem-cons-by (IsRight q room) few-right (λ t d. let z = mem-length d in absurd (omega arith)))))))
 
 -- Where the first search decides, its end and its count are told.
-first-decides : (q : Question) (room : ℕ) → decides (own-search q) (how-of (searched (hidden q) room)) ≡ true
+first-decides : (q : Question) (room : ℕ) → end-decides true true (how-of (searched (hidden q) room)) ≡ true
     → concluded q room
     ≡ record { search = 1; count = count-of (searched (hidden q) room); end = how-of (searched (hidden q) room) }
 unfolding concluded
@@ -303,7 +345,7 @@ module _ (q : Question) (good : GoodQuestion q) (work answer : List ℕ) where
       }
 
   -- "If `clash` with the same buffers gives 0, 1, 20 .., `decide` gives the same in every number and byte"
-  number-decides : (n : ℕ) (x : Ended) → member (answered (hidden q) n x work answer .number) (18 ∷ 19 ∷ []) ≡ false → decides (own-search q) x ≡ true
+  number-decides : (n : ℕ) (x : Ended) → member (answered (hidden q) n x work answer .number) (18 ∷ 19 ∷ []) ≡ false → end-decides true true x ≡ true
   number-decides n (found e) h = refl
   number-decides n used-up h = refl
   number-decides n no-room h = absurd (true-false refl h)

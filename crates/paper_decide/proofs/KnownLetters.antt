@@ -9,7 +9,7 @@ use Rattle.paper.specs.Alphabet.{code-39}
 use Rattle.paper.specs.Equation.{chr, fld, Side}
 use Rattle.paper.specs.Question.{Question}
 use Rattle.paper_decide.specs.Letters.{divisor, Weights, pattern-weights, uneven, this-one, all-but, letters-differ}
-use Rattle.paper_decide.specs.OneText.{least-text, lengths-below, one-of, text-held, with-texts}
+use Rattle.paper_decide.specs.OneText.{least-text, lengths-below, one-from, text-held, with-texts}
 
 abbrev weights : ℕ → ℕ → Bool → ℕ → Weights
 weights least step endless most = record { least = least; step = step; endless = endless; most = most }
@@ -40,6 +40,9 @@ known-of-five = refl
 abbrev asks : Side → Side → List Held → Question
 asks l r held = record { alphabet = code-39; left = l; right = r; held = held }
 
+abbrev three-zeros : Held
+three-zeros = pattern (then (leaf (char 0)) (then (leaf (char 0)) (leaf (char 0))))
+
 abbrev any : Held
 any = pattern (many (leaf (range 0 42)))
 
@@ -63,25 +66,30 @@ known-letters :
 unfolding divisor uneven letters-differ
 known-letters = refl
 
--- The texts of one to three digits, of 3 and 5 alone: two of them; the lengths; the second length, and the last where there are fewer.
+-- The texts of two or three digits, of 3 and 5 alone: the least of two; the lengths. Of an open field the lengths below 4. The least length of 3 or more, of
+-- 4 or more, of 0 or more, of 9 or more; what is given for none.
 known-texts :
     least-text (pattern (then digit (then digit (either empty digit)))) (3 ∷ 5 ∷ []) 2 first-set
     ∷ lengths-below (pattern (then digit (then digit (either empty digit)))) (3 ∷ 5 ∷ []) 6
     ∷ lengths-below some-text (3 ∷ []) 4
-    ∷ (one-of (2 ∷ 3 ∷ []) 1 ∷ one-of (2 ∷ 3 ∷ []) 9 ∷ one-of [] 3 ∷ [])
+    ∷ (one-from 25 (2 ∷ 4 ∷ 6 ∷ []) 3 ∷ one-from 25 (2 ∷ 4 ∷ 6 ∷ []) 4 ∷ one-from 25 (2 ∷ 4 ∷ 6 ∷ []) 0 ∷ one-from 25 (2 ∷ 4 ∷ 6 ∷ []) 9 ∷ one-from 25 [] 3 ∷ [])
     ∷ []
-    ≡ (3 ∷ 3 ∷ []) ∷ (2 ∷ 3 ∷ []) ∷ (1 ∷ 2 ∷ 3 ∷ []) ∷ (3 ∷ 3 ∷ 0 ∷ []) ∷ []
+    ≡ (3 ∷ 3 ∷ []) ∷ (2 ∷ 3 ∷ []) ∷ (1 ∷ 2 ∷ 3 ∷ []) ∷ (4 ∷ 4 ∷ 2 ∷ 6 ∷ 25 ∷ []) ∷ []
 unfolding set-after may-end
 known-texts = refl
 
--- x stands twice and gets a text, y once and keeps its pattern; a field whose texts have none of these characters keeps it too.
+-- A field whose texts have none of these characters keeps its pattern; so does one whose texts are longer than 24.
+known-held :
+    map (text-held (5 ∷ []) 0) (pattern (then digit digit) ∷ pattern (leaf (char 7)) ∷ some-text ∷ [])
+    ≡ pattern (then (leaf (char 5)) (leaf (char 5))) ∷ pattern (leaf (char 7)) ∷ pattern (leaf (char 5)) ∷ []
+unfolding set-after may-end
+known-held = refl
+
+-- x stands twice and gets its shortest text, of the least characters; y once and keeps its pattern; z stands twice, and both lengths of it are there.
 known-with-texts :
-    map (with-texts (5 ∷ []) 0)
-    (asks (fld 0 ∷ fld 1 ∷ []) (fld 0 ∷ []) (pattern (then digit digit) ∷ pattern digit ∷ [])
-    ∷ asks (fld 0 ∷ []) (fld 0 ∷ []) (pattern (leaf (char 7)) ∷ []) ∷ [])
-    ≡ asks (fld 0 ∷ fld 1 ∷ []) (fld 0 ∷ [])
-    (pattern (then (leaf (char 5)) (leaf (char 5))) ∷ pattern digit ∷ some-text ∷ some-text ∷ some-text ∷ some-text ∷ some-text ∷ some-text ∷ [])
-    ∷ asks (fld 0 ∷ []) (fld 0 ∷ []) (pattern (leaf (char 7)) ∷ some-text ∷ some-text ∷ some-text ∷ some-text ∷ some-text ∷ some-text ∷ some-text ∷ [])
-    ∷ []
+    map (λ (n : ℕ). with-texts n (asks (fld 0 ∷ fld 1 ∷ fld 2 ∷ []) (fld 2 ∷ fld 0 ∷ []) (some-text ∷ pattern digit ∷ pattern (many digit) ∷ []))) (0 ∷ 3 ∷ [])
+    ≡ map
+    (λ (x : Held × Held). asks (fld 0 ∷ fld 1 ∷ fld 2 ∷ []) (fld 2 ∷ fld 0 ∷ []) (x .0 ∷ pattern digit ∷ x .1 ∷ some-text ∷ some-text ∷ some-text ∷ some-text ∷ some-text ∷ []))
+    ((pattern (leaf (char 0)), pattern empty) ∷ (three-zeros, three-zeros) ∷ [])
 unfolding set-after may-end with-texts
 known-with-texts = refl

@@ -4,21 +4,21 @@
 -- A solution's two labels weigh the same. Each field's text has one of the weights that its texts may have, so that weight is a sum within the
 -- bounds, and from the least on by steps.
 use Prim.Native.Nat.{ℕ, zero, suc, _+_, _-_, _*_, _/_, _%_, _≤_, _<_}
-use native.Mathlib.Nat.{mul-left-comm, mul-mod-left, mul-sub, add-assoc, zero-mul, add-zero, zero-add, mul-zero, add-mul, mul-add, mul-assoc, mul-comm, one-mul, mul-one, mod-zero, mod-lt, div-add-mod', mul-le-mul-left}
+use native.Mathlib.Nat.{mul-left-comm, mul-mod-left, mul-sub, add-assoc, zero-mul, add-zero, zero-add, add-mul, mul-add, mul-assoc, mul-comm, one-mul, mul-one, div-add-mod', mul-le-mul-left}
 use native.Mathlib.Omega.{arith}
 use mathlib.Core.Path.{_≡_, refl, sym, ap, ap₂, _∙_, subst}
 use mathlib.Core.Logic.{_⊎_, inl, inr, ⊎-elim}
-use mathlib.Core.Bool.{Bool, true, false, cond, not, _&&_, _||_}
+use mathlib.Core.Bool.{Bool, true, false, not, _&&_, _||_}
 use mathlib.Core.List.{List, [], _∷_, _++_, List·Memᴰ, List·Memᴰ·head, List·Memᴰ·tail}
 use lib.Dec.{ltb, eqb, leb}
 use Rattle.paper.specs.Lists.{from, upto, any, all, keep}
 use Rattle.paper.specs.Numbers.{fields}
 use Rattle.paper.specs.Pattern.{char, range, Pattern, leaf, empty, then, either, many, takes, Fits, one, nothing, both, first, second, none, more, Held, some-text, pattern, Holds}
-use Rattle.paper.specs.Equation.{Token, chr, fld, Side, is-field, stands-in, Texts, label, without-trailing, before-dropped, Same}
+use Rattle.paper.specs.Equation.{chr, fld, Side, is-field, stands-in, Texts, label, without-trailing, before-dropped, Same}
 use Rattle.paper.specs.Question.{Question, held-by, Solution}
 use Rattle.paper.proofs.sheets.Asked.{GoodQuestion, fields-known}
-use Rattle.paper_decide.specs.Letters.{one-if, weight, divisor-within, divisor, between, Weights, weights-then, weights-either, weights-many, weights-range, pattern-weights, held-weights, chr-weight, side-weight, times, sum-of, divisor-of, surplus, at-least, no-end, at-most, always-lighter, uneven, this-one, all-but, chars-of, letters-differ}
-use Rattle.paper.proofs.base.Tests.{by-bool, cond-by, true-false, eqb-true, eqb-false, eqb-same, neq-eqb, leb-true, ltb-true, ltb-false, le-ltb, lt-ltb, and-left, and-right, or-is-true, left-true, right-true, not-is-true}
+use Rattle.paper_decide.specs.Letters.{one-if, weight, divisor-within, divisor, between, Weights, weights-then, weights-either, weights-many, weights-range, pattern-weights, held-weights, side-weight, times, sum-of, divisor-of, surplus, at-least, no-end, at-most, always-lighter, uneven, this-one, all-but, chars-of, letters-differ}
+use Rattle.paper.proofs.base.Tests.{by-bool, cond-by, true-false, eqb-true, eqb-false, eqb-same, neq-eqb, leb-true, ltb-true, ltb-false, le-ltb, and-left, and-right, or-is-true, left-true, right-true}
 use Rattle.paper.proofs.base.Lists.{from-mem, mem-from, mem-any, mem-upto, mem-keep, any-true, any-false, any-append}
 
 -- x is some multiple of d

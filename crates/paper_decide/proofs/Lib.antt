@@ -1,9 +1,9 @@
--- characters alike; each standing apart
+-- characters alike
 pub mod Alike
-pub mod Apart
 -- letters; one text for each field that stands twice
 pub mod LettersRight
 pub mod TextFits
+pub mod TextsGood
 -- every decision is as promised
 pub mod Decided
 -- known questions and sheets: the checker computes them

@@ -1,23 +1,23 @@
 -- Texts that are tried fit their patterns, so what solves the question with them solves the question.
---   text-held-holds : Holds (text-held cs i h) w → Holds h w
---   texts-equated   : texts that solve the word equation of `with-texts cs i q` solve that of q
+--   text-held-holds : Holds (text-held cs n h) w → Holds h w
+--   texts-equated   : texts that solve the word equation of `with-texts n q` solve that of q
 -- The least text leads the first place set to one that may end; and the pattern of one text takes that text alone.
 use Prim.Native.Nat.{ℕ, zero, suc, _<_}
 use native.Mathlib.Omega.{arith}
 use mathlib.Core.Path.{_≡_, refl, sym, ap, _∙_, subst}
-use mathlib.Core.Bool.{Bool, true, false, cond}
-use mathlib.Core.List.{List, [], _∷_, _++_, map, List·Memᴰ, List·Memᴰ·head, List·Memᴰ·tail}
-use lib.Dec.{ltb}
-use lib.ListN.{length, getD}
-use Rattle.paper.specs.Lists.{upto, any, keep}
+use mathlib.Core.Bool.{Bool, true, cond}
+use mathlib.Core.List.{List, [], _∷_, _++_, List·Memᴰ, List·Memᴰ·head, List·Memᴰ·tail}
+use lib.Dec.{leb, ltb}
+use lib.ListN.{getD}
+use Rattle.paper.specs.Lists.{upto, keep}
 use Rattle.paper.specs.Numbers.{fields}
-use Rattle.paper.specs.Pattern.{char, Pattern, leaf, empty, then, Fits, one, nothing, both, Held, some-text, pattern, Holds}
+use Rattle.paper.specs.Pattern.{char, leaf, Fits, one, nothing, both, Held, some-text, Holds}
 use Rattle.paper.specs.Places.{PlaceSet, first-set, set-after, may-end, set-along}
 use Rattle.paper.specs.Equation.{Texts, stands-in}
 use Rattle.paper.specs.Question.{Question, held-by, hidden, Equated}
 use Rattle.paper_decide.specs.Letters.{times}
-use Rattle.paper_decide.specs.OneText.{can-end, least-text, lengths-below, one-of, spelt-out, longest-tried, text-held, with-texts}
-use Rattle.paper.proofs.base.Tests.{by-bool, cond-by, true-false, eqb-true, ltb-true}
+use Rattle.paper_decide.specs.OneText.{can-end, least-text, lengths-below, one-from, spelt-out, lengths-tried, text-held, with-texts}
+use Rattle.paper.proofs.base.Tests.{cond-by, eqb-true, ltb-true}
 use Rattle.paper.proofs.base.Lists.{any-true, keep-mem, mem-keep, cons-eq}
 use Rattle.paper.proofs.base.Listed.{getD-map-upto}
 use Rattle.paper.proofs.places.PlacesDecide.{only-held}
@@ -40,11 +40,12 @@ module _ (h : Held) (cs : List ℕ) where
   least-holds : (n : ℕ) → can-end h cs n first-set ≡ true → Holds h (least-text h cs n first-set)
   least-holds n e = only-held h (least-text h cs n first-set) (least-ends n first-set e)
 
-one-in : (l : List ℕ) (i : ℕ) → 0 < length l → List·Memᴰ (one-of l i) l
-one-in [] i h = absurd (omega arith)
-one-in (k ∷ []) i h = List·Memᴰ·head refl
-one-in (k ∷ j ∷ ks) zero h = List·Memᴰ·head refl
-one-in (k ∷ j ∷ ks) (suc i) h = List·Memᴰ·tail (one-in (j ∷ ks) i (omega arith))
+-- what holds of every length, and of what is given for none, holds of the one that is taken
+one-by : (P : ℕ → Type 0) (x : ℕ) (l : List ℕ) (n : ℕ) → P x → ((k : ℕ) → List·Memᴰ k l → P k) → P (one-from x l n)
+one-by P x [] n h all = h
+one-by P x (k ∷ ks) n h all =
+    let its = all k (List·Memᴰ·head refl) in
+    cond-by P (leb n k) (λ _. its) (λ _. one-by P k ks n its (λ j d. all j (List·Memᴰ·tail d)))
 
 -- the pattern of one text takes no other
 one-alone : (c : ℕ) (v : List ℕ) → Fits (leaf (char c)) v → v ≡ c ∷ []
@@ -56,34 +57,37 @@ spelt-alone (c ∷ []) v f = one-alone c v f
 spelt-alone (c ∷ d ∷ w) v (both {u = u} {v = t} e f g) =
     e ∙ ap (λ (x : List ℕ). x ++ t) (one-alone c u f) ∙ cons-eq refl (spelt-alone (d ∷ w) t g)
 
-pub text-held-holds : (cs : List ℕ) (i : ℕ) (h : Held) (w : List ℕ) → Holds (text-held cs i h) w → Holds h w
-text-held-holds cs i h w =
-    cond-by (λ (x : Held). Holds x w → Holds h w) (ltb 0 (length (lengths-below h cs (suc longest-tried))))
+pub text-held-holds : (cs : List ℕ) (n : ℕ) (h : Held) (w : List ℕ) → Holds (text-held cs n h) w → Holds h w
+text-held-holds cs n h w =
+    let can : ℕ → Bool = λ (k : ℕ). can-end h cs k first-set in
+    let k = one-from lengths-tried (lengths-below h cs lengths-tried) n in
+    let its : k < lengths-tried → can k ≡ true =
+    one-by (λ (k : ℕ). k < lengths-tried → can k ≡ true) lengths-tried (lengths-below h cs lengths-tried) n (λ z. absurd (omega arith))
+    (λ j d _. mem-keep can (upto lengths-tried) d .1) in
+    cond-by (λ (x : Held). Holds x w → Holds h w) (ltb k lengths-tried)
     (λ some fits.
-    let ls = lengths-below h cs (suc longest-tried) in
-    let n = one-of ls i in
-    let can = mem-keep (λ (k : ℕ). can-end h cs k first-set) (upto (suc longest-tried)) (one-in ls i (ltb-true 0 (length ls) some)) .1 in
-    subst (Holds h) (sym (spelt-alone (least-text h cs n first-set) w fits)) (least-holds h cs n can))
+    subst (Holds h) (sym (spelt-alone (least-text h cs k first-set) w fits)) (least-holds h cs k (its (ltb-true k lengths-tried some))))
     (λ _ fits. fits)
 
-module _ (cs : List ℕ) (i : ℕ) (q : Question) (g : GoodQuestion q) where
-  held-then : (f : ℕ) → f < fields → (w : List ℕ) → Holds (held-by (with-texts cs i q) f) w → Holds (held-by q f) w
+module _ (n : ℕ) (q : Question) (g : GoodQuestion q) where
+  held-then : (f : ℕ) → f < fields → (w : List ℕ) → Holds (held-by (with-texts n q) f) w → Holds (held-by q f) w
   unfolding with-texts
   held-then f k w =
+      let cs = upto (q .alphabet .characters) in
       let twice = ltb 1 (times f (q .left ++ q .right)) in
-      let its = getD-map-upto (λ (f : ℕ). cond (ltb 1 (times f (q .left ++ q .right))) (text-held cs i (held-by q f)) (held-by q f)) some-text fields f k in
-      rw its (cond-by (λ (x : Held). Holds x w → Holds (held-by q f) w) twice (λ _. text-held-holds cs i (held-by q f) w) (λ _ fits. fits))
+      let its = getD-map-upto (λ (f : ℕ). cond (ltb 1 (times f (q .left ++ q .right))) (text-held cs n (held-by q f)) (held-by q f)) some-text fields f k in
+      rw its (cond-by (λ (x : Held). Holds x w → Holds (held-by q f) w) twice (λ _. text-held-holds cs n (held-by q f) w) (λ _ fits. fits))
 
   -- with the hidden fields, which hold what they held
-  hidden-then : (texts : Texts) → ((f : ℕ) → stands-in f (hidden q .left ++ hidden q .right) ≡ true → Holds (held-by (hidden (with-texts cs i q)) f) (texts f))
+  hidden-then : (texts : Texts) → ((f : ℕ) → stands-in f (hidden q .left ++ hidden q .right) ≡ true → Holds (held-by (hidden (with-texts n q)) f) (texts f))
       → (f : ℕ) → stands-in f (hidden q .left ++ hidden q .right) ≡ true → Holds (held-by (hidden q) f) (texts f)
   unfolding with-texts
   hidden-then texts h f e =
-      by-standing q g (λ (f : ℕ). Holds (held-by (hidden (with-texts cs i q)) f) (texts f) → Holds (held-by (hidden q) f) (texts f))
-      (λ f _ k. subst (λ (x : Held). Holds (held-by (hidden (with-texts cs i q)) f) (texts f) → Holds x (texts f)) (sym (held-own q f k))
-      (subst (λ (x : Held). Holds x (texts f) → Holds (held-by q f) (texts f)) (sym (held-own (with-texts cs i q) f k)) (held-then f k (texts f))))
+      by-standing q g (λ (f : ℕ). Holds (held-by (hidden (with-texts n q)) f) (texts f) → Holds (held-by (hidden q) f) (texts f))
+      (λ f _ k. subst (λ (x : Held). Holds (held-by (hidden (with-texts n q)) f) (texts f) → Holds x (texts f)) (sym (held-own q f k))
+      (subst (λ (x : Held). Holds x (texts f) → Holds (held-by q f) (texts f)) (sym (held-own (with-texts n q) f k)) (held-then f k (texts f))))
       (λ fits. fits) (λ fits. fits) f e (h f e)
 
-  pub texts-equated : (texts : Texts) → Equated (hidden (with-texts cs i q)) texts → Equated (hidden q) texts
+  pub texts-equated : (texts : Texts) → Equated (hidden (with-texts n q)) texts → Equated (hidden q) texts
   unfolding with-texts
   texts-equated texts x = record { same-label = x .same-label; over = x .over; holds = hidden-then texts (x .holds) }

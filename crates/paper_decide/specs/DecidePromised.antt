@@ -14,7 +14,7 @@ use Rattle.paper.specs.Sheet.{Reading}
 use Rattle.paper.specs.Outcome.{Outcome, room-of, standing, outcome-of}
 use Rattle.paper.specs.Buffers.{Demand1}
 use Rattle.paper.specs.Demands.{Good, records-of, NoClash}
-use Rattle.paper_decide.specs.Deciding.{Decision}
+use Rattle.paper_decide.specs.Deciding.{most-attempts, Decision}
 
 -- "0: the texts solve the question": the first bytes of the answer buffer, as many as are written, are the records of texts that solve it, one for
 -- each field that stands; the rest of the buffer is unchanged
@@ -52,8 +52,8 @@ pub record Decided (r : Reading) (work answer : List ℕ) (d : Decision) : Type 
   pub as-clash : member (outcome-of r work answer .number) (18 ∷ 19 ∷ []) ≡ false → d .outcome ≡ outcome-of r work answer
   -- "Otherwise not decided: 18 or 19 as the first search said it"
   pub not-decided : member (d .outcome .number) (18 ∷ 19 ∷ []) ≡ true → d .outcome .number ≡ outcome-of r work answer .number
-  -- "Which search decided is told": 1 to 4, and 0 where none did
+  -- "Which search decided is told": the attempt's number, and 0 where none did
   pub search-told : member (d .outcome .number) (0 ∷ 1 ∷ 20 ∷ []) ≡ not (eqb (d .search) 0)
-  pub search-number : d .search ≤ 4
+  pub search-number : d .search ≤ most-attempts
   -- the situations of all the searches made, each within the room
-  pub count-within : d .outcome .count ≤ 4 * room-of work
+  pub count-within : d .outcome .count ≤ most-attempts * room-of work

@@ -1,9 +1,8 @@
--- Four searches one after the other, and what they decide.
--- characters alike; few characters; each standing apart
+-- Attempts one after the other, and what they decide.
+-- characters alike; few characters
 pub mod Alike
 pub mod Few
-pub mod Apart
--- of attempts that are not yet made: letters; one text for each field that stands twice
+-- letters; one text for each field that stands twice
 pub mod Letters
 pub mod OneText
 -- the whole outcome, and what is promised of it

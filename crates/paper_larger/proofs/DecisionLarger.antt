@@ -4,12 +4,14 @@
 --   same-room-decision : two working buffers of the same room decide the same
 -- An attempt that decides ends alike in the larger room (`SearchedLarger`), so it decides there, or one before it does. That it is a clash again, or a
 -- no clash, follows from what is promised of deciding (`Decided`): with 0 and 20 there are texts that solve the question, with 1 there are none.
-use Prim.Native.Nat.{ℕ, suc, _≤_, _<_}
+use Prim.Native.Nat.{ℕ, suc, _*_, _≤_, _<_}
 use native.Mathlib.Omega.{arith}
 use mathlib.Core.Path.{_≡_, refl, sym, _∙_, subst}
-use mathlib.Core.Bool.{true, false}
+use mathlib.Core.Bool.{true, false, not}
+use lib.Dec.{leb}
 use mathlib.Core.List.{List, [], _∷_, List·Memᴰ, List·Memᴰ·head, List·Memᴰ·tail, List·Memᴰ·not-nil}
 use Rattle.paper.specs.Lists.{member}
+use Rattle.paper.specs.Numbers.{situation-bytes}
 use Rattle.paper.specs.Places.{PlaceSet}
 use Rattle.paper.specs.Search.{End, no-room}
 use Rattle.paper.specs.Equation.{Texts}
@@ -18,11 +20,12 @@ use Rattle.paper.specs.Question.{Question, Solution, hidden}
 use Rattle.paper.specs.Sheet.{Reading, refused, asked, read-sheet}
 use Rattle.paper.specs.Outcome.{room-of, searched, how-of, outcome-of, outcome}
 use Rattle.paper.specs.Demands.{Good, NoClash}
-use Rattle.paper.proofs.base.Tests.{by-bool, true-false, not-is-true, false-not, eqb-false, neq-eqb}
-use Rattle.paper.proofs.base.Lists.{member-true}
+use Rattle.paper.proofs.base.Tests.{by-bool, true-false, both-true, and-left, and-right, leb-true, le-leb, not-is-true, false-not, eqb-false, neq-eqb}
+use Rattle.paper.proofs.base.Lists.{mem-cons-by, member-true}
 use Rattle.paper.proofs.sheets.Asked.{AsksGood, sheet-good}
 use Rattle.paper_chosen.specs.Chosen.{searched-over}
-use Rattle.paper_decide.specs.Deciding.{Attempt, attempts, decides, concluded-from, concluded, Decision, decision-of, decision}
+use Rattle.paper_decide.specs.Deciding.{Attempt, searching, testing, apart-test, attempts, end-decides, tried, concluded-from, concluded, Decision, decision-of, decision}
+use Rattle.paper_plain.specs.Engine.{bits-of, clashes-apart}
 use Rattle.paper_decide.specs.DecidePromised.{Decided}
 use Rattle.paper_decide.proofs.Decided.{decided}
 use Rattle.paper_larger.specs.Stands.{SameTold, is-decided, is-clash, DecisionStands}
@@ -32,44 +35,64 @@ use Rattle.paper_larger.proofs.OutcomeStands.{told-alike, reading-stand
 abbrev Ended : Type 0
 Ended = End (Situation PlaceSet) Move
 
--- how the search of an attempt ends
-abbrev end-by : Attempt → ℕ → Ended
-end-by t room = how-of (searched-over (t .among) (t .asks) room)
-
--- one search decided, and in the larger room the same one or an earlier one
+-- one attempt decided, and in the larger room the same one or an earlier one
 record Earlier (before after : ℕ) : Type 0 where
   some : 0 < after
   no-later : after ≤ before
 
 module _ (room larger : ℕ) (more : room ≤ larger) where
-  -- An attempt that decides has room, so it ends alike.
-  still-decides : (t : Attempt) → decides t (end-by t room) ≡ true → decides t (end-by t larger) ≡ true
-  still-decides t d =
-      let has-room : end-by t room ≡ no-room → ⊥ = λ e. true-false (subst (λ (x : Ended). decides t x ≡ true) e d) refl in
-      rw (searched-over-larger (t .among) (t .asks) room larger more has-room) d
+  -- a test that says no clash says it in the larger room
+  abbrev Lasts : Attempt → Type 0
+  Lasts (searching q among clash no-clash) = Unit {0}
+  Lasts (testing says-no) = says-no room ≡ true → says-no larger ≡ true
 
-  -- Searches are numbered by their order.
+  -- A search that decides has room, so it ends alike.
+  still-decides : (t : Attempt) → Lasts t → tried t room .decides ≡ true → tried t larger .decides ≡ true
+  still-decides (searching q among clash no-clash) l d =
+      let has-room : how-of (searched-over among q room) ≡ no-room → ⊥ = λ e. true-false (subst (λ (x : Ended). end-decides clash no-clash x ≡ true) e d) refl in
+      rw (searched-over-larger among q room larger more has-room) d
+  still-decides (testing says-no) l d = l d
+
+  -- Attempts are numbered by their order.
   number-from : (first : Ended) (k n : ℕ) (ts : List Attempt) → (concluded-from first room (suc k) n ts .search ≡ 0 → ⊥)
       → suc k ≤ concluded-from first room (suc k) n ts .search
   number-from first k n [] h = absurd (h refl)
   number-from first k n (t ∷ ts) h =
-      by-bool (decides t (end-by t room))
+      by-bool (tried t room .decides)
       (λ d. rw d (omega arith))
       (λ d. rw d (let later = number-from first (suc k) _ ts (rw d at h) in omega (arith, later)))
 
-  earlier : (first other : Ended) (k n m : ℕ) (ts : List Attempt) → (concluded-from first room (suc k) n ts .search ≡ 0 → ⊥)
+  earlier : (first other : Ended) (k n m : ℕ) (ts : List Attempt) → ((t : Attempt) → List·Memᴰ t ts → Lasts t)
+      → (concluded-from first room (suc k) n ts .search ≡ 0 → ⊥)
       → Earlier (concluded-from first room (suc k) n ts .search) (concluded-from other larger (suc k) m ts .search)
-  earlier first other k n m [] h = absurd (h refl)
-  earlier first other k n m (t ∷ ts) h =
-      by-bool (decides t (end-by t larger))
+  earlier first other k n m [] lasts h = absurd (h refl)
+  earlier first other k n m (t ∷ ts) lasts h =
+      by-bool (tried t larger .decides)
       (λ d. rw d (record { some = omega arith; no-later = number-from first k n (t ∷ ts) h }))
-      (λ d. by-bool (decides t (end-by t room))
-      (λ b. absurd (true-false (still-decides t b) d))
-      (λ b. rw (d, b) (earlier first other (suc k) _ _ ts (rw b at h))))
+      (λ d. by-bool (tried t room .decides)
+      (λ b. absurd (true-false (still-decides t (lasts t (List·Memᴰ·head refl)) b) d))
+      (λ b. rw (d, b) (earlier first other (suc k) _ _ ts (λ u i. lasts u (List·Memᴰ·tail i)) (rw b at h))))
+
+  -- the letters don't know of the room; and bits that fit fit in more
+  all-last : (q : Question) (t : Attempt) → List·Memᴰ t (attempts q) → Lasts t
+  all-last q =
+      mem-cons-by Lasts tt
+      (mem-cons-by Lasts (λ e. e)
+      (mem-cons-by Lasts bits-last
+      (mem-cons-by Lasts tt
+      (mem-cons-by Lasts tt
+      (mem-cons-by Lasts tt
+      (mem-cons-by Lasts tt (λ t d. absurd (List·Memᴰ·not-nil d))))))))
+    where
+      bits-last : Lasts (apart-test q)
+      bits-last e =
+          let fit = leb-true (bits-of q) (8 * (situation-bytes * room)) (and-left (leb (bits-of q) (8 * (situation-bytes * room))) (not (clashes-apart q)) e) in
+          let no = and-right (leb (bits-of q) (8 * (situation-bytes * room))) (not (clashes-apart q)) e in
+          both-true (le-leb (bits-of q) (8 * (situation-bytes * larger)) (omega arith)) no
 
   concluded-earlier : (q : Question) → (concluded q room .search ≡ 0 → ⊥) → Earlier (concluded q room .search) (concluded q larger .search)
   unfolding concluded
-  concluded-earlier q = earlier (how-of (searched (hidden q) room)) (how-of (searched (hidden q) larger)) 0 0 0 (attempts q)
+  concluded-earlier q = earlier (how-of (searched (hidden q) room)) (how-of (searched (hidden q) larger)) 0 0 0 (attempts q) (all-last q)
 
 -- the three numbers of what is decided
 decided-cases : {C : Type 0} (n : ℕ) → is-decided n ≡ true → (n ≡ 0 → C) → (n ≡ 1 → C) → (n ≡ 20 → C) → C

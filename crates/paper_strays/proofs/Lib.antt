@@ -1,5 +1,5 @@
-pub mod SameDecision
 pub mod SameEngine
+pub mod SameDecision
 pub mod Dropped
 pub mod DropPromised
 pub mod KnownDropped

@@ -80,14 +80,14 @@ module _ (q : Question) (g : GoodQuestion q) (held : List Held)
   back-agree : Alike (held-by (hidden other)) (held-by (hidden q)) (l ++ r)
   back-agree f e = sym (its-agree f e)
 
-  bits-same : bits-of other ≡ bits-of q
+  pub bits-same : bits-of other ≡ bits-of q
   unfolding bits-of
   bits-same =
       let a = held-by (hidden other) in
       let b = held-by (hidden q) in
       ap₂ _*_ (counted-same a b l (in-left a b l r back-agree)) (counted-same a b r (in-right a b l r back-agree))
 
-  clashes-same : clashes-apart other ≡ clashes-apart q
+  pub clashes-same : clashes-apart other ≡ clashes-apart q
   clashes-same =
       both-ways (clashes-apart other) (clashes-apart q)
       (λ e. alike-apart q (alike-same (held-by (hidden other)) (held-by (hidden q)) (q .alphabet .characters) l r back-agree (apart-alike other e)))

@@ -1,6 +1,6 @@
 -- The pairs that are reached are the pairs of standings that the first one leads to:
 --   meets-meeting, meeting-meets : the ends are reached exactly if two sides meet, each standing apart
---   said-is-clash                : so what says whether the question's ends are reached is `clashes-apart`
+--   said-is-clash, clash-said    : so what says whether the question's ends are reached is `clashes-apart`
 -- of every question of at most 128 characters whose sides and patterns are good, a good question among them, whether or not a field stands twice. A pair
 -- of standings is reached as the pair of their tokens' numbers and places, by induction on the way. The other way, by induction on the pairs reached: a
 -- character's token at the place behind its start is shown as the standing behind it, everything else as itself.
@@ -404,3 +404,13 @@ module _ (q : Question) (most : q .alphabet .characters ≤ most-characters) (l 
 -- a good question, as a sheet asks it
 pub said-of-good : (q : Question) → GoodQuestion q → (bodies : List Body) (b : Bool) → Says b (Meets (question-of q bodies)) → b ≡ clashes-apart q
 said-of-good q g bodies b s = said-is-clash q (good-most g) (g .left) (g .right) (hidden-searchable q g) bodies b s
+
+-- and the engine's answer says whether they are
+pub clash-said : (q : Question) → GoodQuestion q → (bodies : List Body) → Says (clashes-apart q) (Meets (question-of q bodies))
+clash-said q g bodies =
+    let n = good-most g in
+    let s = hidden-searchable q g in
+    record {
+      holds = λ e. meeting-meets q n (g .left) (g .right) s bodies (found-meeting q e);
+      told = λ m. meeting-found q (meets-meeting q n (g .left) (g .right) s bodies m);
+    }

@@ -85,7 +85,7 @@ pub fn run_steps(
 }
 
 // "Room is one situation for each whole 184 bytes of working buffer, and at most 65,535."
-fn room_for(bytes: usize) -> usize
+pub fn room_for(bytes: usize) -> usize
     ensures { λ r. ⌜ r ≡ room-for bytes ⌝ }
 {
     let whole = search_slots::slots_in(bytes);

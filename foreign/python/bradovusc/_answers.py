@@ -212,11 +212,11 @@ Answer = Union[Clash, NoClash, Refused, NoRoom, SideTooLong, AnswerTooShort]
 
 @dataclass(frozen=True)
 class Decision(Told):
-    """The answer to a sheet, and which search gave it."""
+    """The answer to a sheet, and which attempt gave it."""
 
     #: Its count is that of all the searches made.
     answer: Answer
-    #: The search that decided, 1 to 4; 0 where none did, or where the sheet is at fault.
+    #: The attempt that decided, 1 to 7; 0 where none did, or where the sheet is at fault.
     search: int
 
     @property
@@ -466,11 +466,11 @@ class Listed(Told):
 
 @dataclass(frozen=True)
 class AddedDecided(Told):
-    """The answer to a rule that is to be added, and which search gave it. As a string it is the answer's words."""
+    """The answer to a rule that is to be added, and which attempt gave it. As a string it is the answer's words."""
 
     #: As :func:`add` gives it; the count of a pair is that of all the searches made for it.
     added: Added
-    #: After :class:`NotApart` the search that found the clash, 1 to 3 (the fourth finds none), or 0 where none decided; otherwise 0.
+    #: After :class:`NotApart` the attempt that found the clash, 1 or 4 to 7 (2 and 3 find none), or 0 where none decided; otherwise 0.
     search: int
 
     @property
@@ -484,15 +484,15 @@ class AddedDecided(Told):
 
 @dataclass(frozen=True)
 class DecidedPair:
-    """Two rules of a catalogue that can make the same label, or of which no search decides that."""
+    """Two rules of a catalogue that can make the same label, or of which no attempt decides that."""
 
     #: The lower number of the two; this rule was the left side.
     lower: int
     higher: int
-    #: :class:`Clash`, of which no texts are told, or what the first search gave, :class:`NoRoom` or :class:`SideTooLong`. Its count is that
-    #: of all the searches made.
+    #: :class:`Clash`, of which no texts are told, or what the first attempt gave, :class:`NoRoom` or :class:`SideTooLong`. Its count is
+    #: that of all the searches made.
     answer: Answer
-    #: The search that found the clash, 1 to 3 (the fourth finds none), or 0 where none decided.
+    #: The attempt that found the clash, 1 or 4 to 7 (2 and 3 find none), or 0 where none decided.
     search: int
 
     def __str__(self) -> str:

@@ -89,9 +89,9 @@ def add(catalogue: Writable, rule: Readable, work: Optional[Writable] = None) ->
 
 def add_decided(catalogue: Writable, rule: Readable, work: Optional[Writable] = None) -> AddedDecided:
     """Adds a rule behind the last one, if it clashes with none that is there. As :func:`add`, but each pair is asked as :func:`decide`
-    asks: by up to four searches in the same working buffer, until one decides.
+    asks: by up to seven attempts in the same working buffer, until one decides.
 
-    So each rule that ``add`` enters is entered, with the same bytes, and some that it leaves open. A pair that no search decides is told
+    So each rule that ``add`` enters is entered, with the same bytes, and some that it leaves open. A pair that no attempt decides is told
     as the first one gave it, :class:`NoRoom` or :class:`SideTooLong`. All else is as for ``add``.
     """
     number, told = call("bradovusc_add_decided", Lent(catalogue), bytes(rule), lent_work(work), told=5)

@@ -92,15 +92,17 @@ def clash(sheet: Readable, work: Optional[Writable] = None, answer: Optional[Wri
 
 
 def decide(sheet: Readable, work: Optional[Writable] = None, answer: Optional[Writable] = None) -> Decision:
-    """Can the two rules of the sheet make the same label? As :func:`clash`, but by up to four searches, until one decides.
+    """Can the two rules of the sheet make the same label? As :func:`clash`, but by up to seven attempts, until one decides.
 
-    They are made one after the other in the same working buffer: (1) the search of ``clash``; (2) the search over one character of each
-    kind that the sheet tells apart; (3) the search over a few characters, whose clash is one, and whose end says nothing; (4) the search
-    with every standing of a field as a field of its own, whose "no clash" is one, and whose clash says nothing.
+    They are made one after the other in the same working buffer: (1) the search of ``clash``; (2) letters: where some character but the
+    space can't stand as often on both sides, there is no clash; (3) every standing of a field apart, by the engine of :func:`plain`, whose
+    "no clash" is one, and whose clash says nothing; (4) the search with the shortest text in each field that stands twice, whose clash is
+    one, and whose end says nothing; (5) the same with texts of three characters or more; (6) the search over one character of each kind
+    that the sheet tells apart; (7) the search over a few characters, whose clash is one, and whose end says nothing.
 
-    Where ``clash`` decides, or refuses the sheet, this gives the same in every number and byte. Where no search decides, the answer is
-    :class:`NoRoom` or :class:`SideTooLong`, as the first search had it: neither yes nor no. After :class:`AnswerTooShort` the search is
-    told that found the texts. The count is that of all the searches made.
+    Where ``clash`` decides, or refuses the sheet, this gives the same in every number and byte. Where no attempt decides, the answer is
+    :class:`NoRoom` or :class:`SideTooLong`, as the first one had it: neither yes nor no. After :class:`AnswerTooShort` the attempt is
+    told that found the texts. The count is that of all the searches made; (2) and (3) are none.
     """
     return Decision(*_asked("bradovusc_decide", 4, sheet, work, answer))
 

@@ -221,13 +221,13 @@ class DecidedCatalogues(unittest.TestCase):
         self.assertEqual(bradovusc.add(catalogue, slashed), NotApart(0, NoRoom(356)))
         self.assertEqual(bradovusc.add_decided(catalogue, slashed), AddedDecided(Done(), 0))
         refused = bradovusc.add_decided(catalogue, ends_in_0)
-        self.assertEqual(refused, AddedDecided(NotApart(0, Clash(413)), 2))
+        self.assertEqual(refused, AddedDecided(NotApart(0, Clash(365)), 4))
         self.assertEqual((refused.number, str(refused)), (30, "not apart from a rule of the catalogue: rule 0, clash"))
         with self.assertRaises(TypeError):
             bool(refused)
         self.assertEqual(bytes(catalogue).rstrip(b"\0"), dashed + slashed)
         kept = dashed + slashed + ends_in_0
-        pair = DecidedPair(0, 2, Clash(413), 2)
+        pair = DecidedPair(0, 2, Clash(365), 4)
         self.assertEqual(len(bradovusc.recheck(kept).pairs), 3)
         self.assertEqual(bradovusc.recheck_decided(kept), ListedDecided((pair,)))
         self.assertEqual(str(pair), "rule 0 and rule 2: clash")
@@ -246,11 +246,13 @@ class DecidedCatalogues(unittest.TestCase):
     def test_not_decided(self):
         catalogue = bytearray(rule("AA") + bytes(20))
         work = bytearray(work_bytes(3))
-        self.assertEqual(bradovusc.add_decided(catalogue, rule("{0}"), work), AddedDecided(NotApart(0, NoRoom(10)), 0))
-        undecided = ListedDecided((DecidedPair(0, 1, NoRoom(10), 0),))
+        self.assertEqual(bradovusc.add_decided(catalogue, rule("{0}"), work), AddedDecided(NotApart(0, NoRoom(13)), 0))
+        undecided = ListedDecided((DecidedPair(0, 1, NoRoom(13), 0),))
         self.assertEqual(bradovusc.recheck_decided(rule("AA") + rule("{0}"), work), undecided)
-        # three searches in room for 30,000 count more than two bytes hold
-        (pair,) = bradovusc.recheck_decided(rule("BX{0}{0}{0}{0}{0}L") + rule("BX{0}{0}{0}{0}R"), bytearray(work_bytes(30_000))).pairs
+        # two searches that fill room for 40,000 count more than two bytes hold
+        any_text = bradovusc.many(bradovusc.between("0", "Z"))
+        kept = rule("{0}/{1}-{1}", {0: any_text, 1: any_text}) + rule("{0}/{1}-{1}PK", {0: any_text, 1: any_text})
+        (pair,) = bradovusc.recheck_decided(kept, bytearray(work_bytes(40_000))).pairs
         self.assertIsInstance(pair.answer, NoRoom)
         self.assertGreater(pair.answer.count, 65_535)
 

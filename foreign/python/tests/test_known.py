@@ -10,7 +10,7 @@ FILL = 0xA5
 
 
 def printed(answer, search=""):
-    """The lines that the program `clash` prints, or `decide` with the search's number."""
+    """The lines that the program `clash` prints, or `decide` with the attempt's number."""
     count, place = getattr(answer, "count", 0), getattr(answer, "place", 0)
     texts = answer.texts if isinstance(answer, Clash) else ()
     return [f"{answer.number} {count} {place}{search}", *(f"{text.field} {text}" for text in texts)]
@@ -119,11 +119,11 @@ class Known(unittest.TestCase):
         for number, row in rows("Prints"):
             if len(row["Sheet"]) < 100:
                 sheet, work = in_bytes(row["Sheet"]), bytearray(184 * 60)
-                first, all_four = bradovusc.clash(sheet, work), bradovusc.decide(sheet, work)
+                first, decided = bradovusc.clash(sheet, work), bradovusc.decide(sheet, work)
                 if first.number not in (18, 19):
                     with self.subTest(line=number):
                         search = 0 if isinstance(first, Refused) else 1
-                        self.assertEqual(all_four, Decision(first, search))
+                        self.assertEqual(decided, Decision(first, search))
 
     def test_calls_of_a_catalogue(self):
         examples = list(rows("Tells"))

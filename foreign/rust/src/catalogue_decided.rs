@@ -1,4 +1,4 @@
-//! A catalogue whose pairs are decided, each by up to four searches.
+//! A catalogue whose pairs are decided, each by up to seven attempts.
 //!
 //! The answers stand beside those of one search, as [`Decision`](crate::Decision) stands beside
 //! [`Answer`], so that what matches on [`Added`] and [`Pair`](crate::Pair) stays as it is.
@@ -18,13 +18,13 @@ pub const fn decided_list_bytes(rules: usize) -> usize {
     DECIDED_PAIR_BYTES * (rules * rules.saturating_sub(1) / 2)
 }
 
-/// The answer to a rule that is to be added, and the search that gave it.
+/// The answer to a rule that is to be added, and the attempt that gave it.
 #[derive(Clone, Copy, Debug, PartialEq, Eq)]
 pub struct AddedDecided {
     /// As [`add`](crate::add) gives it; the count of a pair is that of all the searches made for it.
     pub added: Added,
-    /// After [`Added::NotApart`] the search that found the clash, 1 to 3 (the fourth finds none), or
-    /// 0 where none decided the pair; otherwise 0.
+    /// After [`Added::NotApart`] the attempt that found the clash, 1 or 4 to 7 (2 and 3 find none),
+    /// or 0 where none decided the pair; otherwise 0.
     pub search: u8,
 }
 
@@ -76,7 +76,7 @@ impl fmt::Display for RecheckedDecided<'_> {
     }
 }
 
-/// Two rules of a catalogue that can make the same label, or of which no search decides that.
+/// Two rules of a catalogue that can make the same label, or of which no attempt decides that.
 #[derive(Clone, Copy, Debug, PartialEq, Eq)]
 pub struct DecidedPair {
     /// The lower number of the two; this rule was the left side.
@@ -84,10 +84,10 @@ pub struct DecidedPair {
     /// The higher number.
     pub higher: usize,
     /// [`Answer::Clash`], of which no texts are written, or where none decided what the first
-    /// search gave, [`Answer::NoRoom`] or [`Answer::SideTooLong`]. The count is that of all the
+    /// attempt gave, [`Answer::NoRoom`] or [`Answer::SideTooLong`]. The count is that of all the
     /// searches made.
     pub answer: Answer,
-    /// The search that found the clash, 1 to 3 (the fourth finds none), or 0 where none decided.
+    /// The attempt that found the clash, 1 or 4 to 7 (2 and 3 find none), or 0 where none decided.
     pub search: u8,
 }
 
@@ -127,11 +127,11 @@ impl ExactSizeIterator for DecidedPairs<'_> {}
 impl FusedIterator for DecidedPairs<'_> {}
 
 /// Adds a rule behind the last one, if it clashes with none that is there. As [`add`](crate::add),
-/// but each pair is asked as [`decide`](crate::decide) asks: by up to four searches in the same
+/// but each pair is asked as [`decide`](crate::decide) asks: by up to seven attempts in the same
 /// working buffer, until one decides.
 ///
 /// So each rule that `add` enters is entered, with the same bytes, and some that it leaves open. A
-/// pair that no search decides is told as the first one gave it, [`Answer::NoRoom`] or
+/// pair that no attempt decides is told as the first one gave it, [`Answer::NoRoom`] or
 /// [`Answer::SideTooLong`]. All else is as for `add`.
 pub fn add_decided(catalogue: &mut [u8], rule: &[u8], work: &mut [u8]) -> AddedDecided {
     let mut told = [0; 5];
@@ -149,7 +149,7 @@ pub fn add_decided(catalogue: &mut [u8], rule: &[u8], work: &mut [u8]) -> AddedD
             told.len(),
         )
     };
-    // These are an offset in a slice, the number of situations that four searches entered, and small
+    // These are an offset in a slice, the number of situations that the searches entered, and small
     // numbers.
     let [count, place, rule, pair, search] = told.map(|number| number as usize);
     AddedDecided {

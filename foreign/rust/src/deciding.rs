@@ -1,15 +1,15 @@
-//! A sheet answered by four searches, one after the other.
+//! A sheet answered by up to seven attempts, one after the other.
 
 use std::fmt;
 
 use crate::Answer;
 
-/// The answer to a sheet, and which search gave it.
+/// The answer to a sheet, and which attempt gave it.
 #[derive(Clone, Copy, Debug, PartialEq, Eq)]
 pub struct Decision {
     /// As [`clash`](crate::clash) gives it; its count is that of all the searches made.
     pub answer: Answer,
-    /// The search that decided, 1 to 4; 0 where none did, or where the sheet is at fault.
+    /// The attempt that decided, 1 to 7; 0 where none did, or where the sheet is at fault.
     pub search: u8,
 }
 
@@ -27,18 +27,23 @@ impl fmt::Display for Decision {
     }
 }
 
-/// Can the two rules of the sheet make the same label? As [`clash`](crate::clash), but up to four
-/// searches are made in the same working buffer, one after the other, until one decides:
+/// Can the two rules of the sheet make the same label? As [`clash`](crate::clash), but up to seven
+/// attempts are made in the same working buffer, one after the other, until one decides:
 ///
 /// 1. the search of `clash`;
-/// 2. the search over one character of each kind that the sheet tells apart;
-/// 3. the search over a few characters, whose clash is one, and whose end says nothing;
-/// 4. the search with every standing of a field as a field of its own, whose "no clash" is one, and
-///    whose clash says nothing.
+/// 2. letters: where some character but the space can't stand as often on both sides, there is no
+///    clash; no search is made;
+/// 3. every standing of a field apart, by the engine of [`plain`](crate::plain), whose "no clash" is
+///    one, and whose clash says nothing; no search is made;
+/// 4. the search with the shortest text in each field that stands twice, whose clash is one, and
+///    whose end says nothing;
+/// 5. the same with texts of three characters or more;
+/// 6. the search over one character of each kind that the sheet tells apart;
+/// 7. the search over a few characters, whose clash is one, and whose end says nothing.
 ///
 /// Where `clash` decides, or refuses the sheet, this gives the same in every number and byte. Where
-/// no search decides, the answer is [`Answer::NoRoom`] or [`Answer::SideTooLong`], as the first
-/// search had it: neither yes nor no. After [`Answer::AnswerTooShort`] the search is told that found
+/// no attempt decides, the answer is [`Answer::NoRoom`] or [`Answer::SideTooLong`], as the first
+/// one had it: neither yes nor no. After [`Answer::AnswerTooShort`] the attempt is told that found
 /// the texts.
 ///
 /// The working buffer is all zero afterwards, but a sheet at fault leaves it unchanged. Only a clash
@@ -61,7 +66,7 @@ pub fn decide(sheet: &[u8], work: &mut [u8], answer: &mut [u8]) -> Decision {
         )
     };
     // These are lengths and offsets of slices, the number of situations that the searches entered,
-    // and a number up to 4.
+    // and a number up to 7.
     let [count, place, written, search] = told.map(|number| number as usize);
     Decision { answer: Answer::numbered(number, count, place, written), search: search as u8 }
 }

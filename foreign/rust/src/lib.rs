@@ -22,7 +22,7 @@
 //! assert_eq!(texts, ["4", "4"]);
 //! ```
 //!
-//! Where one search gives up, [`decide`] goes on with up to three others, in the same buffers.
+//! Where one search gives up, [`decide`] goes on with up to six more attempts, in the same buffers.
 //!
 //! ```
 //! use bradovusc::{answer_bytes, clash, decide, texts, SITUATION_BYTES};
@@ -35,7 +35,7 @@
 //! assert_eq!(clash(sheet, &mut work, &mut answer).clashes(), None);
 //! let decided = decide(sheet, &mut work, &mut answer);
 //! assert_eq!(decided.clashes(), Some(true));
-//! assert_eq!((decided.answer.count(), decided.search), (413, 2));
+//! assert_eq!((decided.answer.count(), decided.search), (365, 4));
 //! let texts: Vec<String> =
 //!     texts(&answer[..decided.answer.written()]).map(|text| text.to_string()).collect();
 //! assert_eq!(texts, ["0", "0"]);
@@ -189,8 +189,8 @@
 //! assert_eq!(pairs[0].to_string(), "rule 0 and rule 1: clash");
 //! ```
 //!
-//! [`add_decided`] and [`recheck_decided`] do the same with each pair decided, by up to four
-//! searches: they enter rules of which one search leaves it open whether they clash.
+//! [`add_decided`] and [`recheck_decided`] do the same with each pair decided, by up to seven
+//! attempts: they enter rules of which one search leaves it open whether they clash.
 //!
 //! ```
 //! use bradovusc::{add, add_decided, catalogue_bytes, Added, SITUATION_BYTES};
@@ -206,7 +206,7 @@
 //! assert_eq!(add_decided(&mut catalogue, slashed, &mut work).added, Added::Entered);
 //! let refused = add_decided(&mut catalogue, ends_in_0, &mut work);
 //! assert_eq!(refused.to_string(), "not apart from a rule of the catalogue: rule 0, clash");
-//! assert_eq!(refused.search, 2);
+//! assert_eq!(refused.search, 4);
 //! ```
 //!
 //! Up to version 0.5 a field without a pattern could be empty too. [`spell_open`] carries a sheet

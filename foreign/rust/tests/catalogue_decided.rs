@@ -1,4 +1,4 @@
-//! Calls of a catalogue that decides, known by hand: the answer, the search, and both buffers to the
+//! Calls of a catalogue that decides, known by hand: the answer, the attempt, and both buffers to the
 //! last byte.
 
 use bradovusc::{
@@ -66,7 +66,7 @@ fn added(present: &[Vec<u8>], new: &[u8], work: usize, searched: bool) -> AddedD
     added
 }
 
-/// The first of these rules that the new one is not apart from, their pair's answer and the search.
+/// The first of these rules that the new one is not apart from, their pair's answer and the attempt.
 fn not_apart(present: &[Vec<u8>], new: &[u8], work: usize) -> (usize, Answer, u8) {
     match added(present, new, work, true) {
         AddedDecided { added: Added::NotApart { rule, pair }, search } => (rule, pair, search),
@@ -87,16 +87,19 @@ fn entered() {
     assert_eq!(added(&[rule(&[A])], &rule(&[B]), SITUATION_BYTES, true), ENTERED);
     // One search has no room for this pair.
     assert_eq!(added(&[number(DASH)], &number(SLASH), ROOM, true), ENTERED);
-    // `A` and x4x: the fourth search alone decides.
-    assert_eq!(added(&[rule(&[A])], &rule(&[X, 4, X]), 6 * SITUATION_BYTES, true), ENTERED);
+    // `A` and x4x, xx and `A`: the letters differ, which needs no room.
+    for work in [0, 6 * SITUATION_BYTES] {
+        assert_eq!(added(&[rule(&[A])], &rule(&[X, 4, X]), work, true), ENTERED);
+        assert_eq!(added(&[rule(&[X, X])], &rule(&[A]), work, true), ENTERED);
+    }
 }
 
 #[test]
 fn a_clash() {
     assert_eq!(not_apart(&[rule(&[A]), rule(&[B])], &rule(&[B]), ROOM), (1, clash(5), 1));
-    assert_eq!(not_apart(&[number(DASH)], &ends_in_0(), ROOM), (0, clash(413), 2));
+    assert_eq!(not_apart(&[number(DASH)], &ends_in_0(), ROOM), (0, clash(365), 4));
     let both = [number(SLASH), number(DASH)];
-    assert_eq!(not_apart(&both, &ends_in_0(), ROOM), (1, clash(413), 2));
+    assert_eq!(not_apart(&both, &ends_in_0(), ROOM), (1, clash(365), 4));
 }
 
 #[test]
@@ -106,12 +109,14 @@ fn not_decided() {
         assert_eq!(not_apart(&[rule(&[X])], &rule(&[A]), work), (0, no_room(0), 0));
     }
     let three = 3 * SITUATION_BYTES;
-    assert_eq!(not_apart(&[rule(&[A, A])], &rule(&[X]), three), (0, no_room(10), 0));
-    let too_long = Answer::SideTooLong { count: 7 };
-    assert_eq!(not_apart(&[rule(&[X; 24])], &rule(&[A, A]), three), (0, too_long, 0));
-    // xx and `A` make no label that is the same, but x can take one space after the other.
-    let too_long = Answer::SideTooLong { count: 287 };
-    assert_eq!(not_apart(&[rule(&[X, X])], &rule(&[A]), ROOM), (0, too_long, 0));
+    assert_eq!(not_apart(&[rule(&[A, A])], &rule(&[X]), three), (0, no_room(13), 0));
+    let mut long = [X; 24];
+    long[23] = X + 1;
+    let too_long = Answer::SideTooLong { count: 9 };
+    assert_eq!(not_apart(&[rule(&long)], &rule(&[A, A]), three), (0, too_long, 0));
+    // xxy and `A` make no label that is the same, but x can take one space after the other.
+    let too_long = Answer::SideTooLong { count: 269 };
+    assert_eq!(not_apart(&[rule(&[X, X, X + 1])], &rule(&[A]), ROOM), (0, too_long, 0));
 }
 
 #[test]
@@ -176,7 +181,7 @@ fn rechecked(
 fn listed() {
     let kept = [number(DASH), rule(&[B]), ends_in_0(), rule(&[B, SPACE])].concat();
     let pairs = vec![
-        DecidedPair { lower: 0, higher: 2, answer: clash(413), search: 2 },
+        DecidedPair { lower: 0, higher: 2, answer: clash(365), search: 4 },
         DecidedPair { lower: 1, higher: 3, answer: clash(6), search: 1 },
     ];
     for list in [14, 15, decided_list_bytes(MOST_RULES)] {
@@ -186,7 +191,7 @@ fn listed() {
         assert_eq!(rechecked(&kept, ROOM, list, true), (35, vec![]));
     }
     let open = [rule(&[A, A]), rule(&[X])].concat();
-    let answer = Answer::NoRoom { count: 10 };
+    let answer = Answer::NoRoom { count: 13 };
     let pair = DecidedPair { lower: 0, higher: 1, answer, search: 0 };
     assert_eq!(rechecked(&open, 3 * SITUATION_BYTES, 7, true), (0, vec![pair]));
 }
@@ -210,13 +215,14 @@ fn every_pair_by_the_lower_number() {
     assert_eq!(rechecked(&rules, 5 * SITUATION_BYTES, length - 1, true), (35, vec![]));
 }
 
-/// Three searches that fill much room count more than two bytes hold.
+/// Two searches that fill much room count more than two bytes hold.
 #[test]
 fn a_count_of_three_bytes() {
-    // `BX`, a field five times, `L`; `BX`, a field four times, `R`
-    let sides = [&[11, 33, X, X, X, X, X, 21][..], &[11, 33, X, X, X, X, 27]];
-    let kept = sides.map(rule).concat();
-    let (number, pairs) = rechecked(&kept, 30_000 * SITUATION_BYTES, 7, true);
+    // x/y-y and x/y-yPK, x and y any number of letters and digits: no clash, which none finds out
+    let patterns = b"PA\x00\x04\x44\x41\x00\x23PA\x01\x04\x44\x41\x00\x23";
+    let side = [X, SLASH, X + 1, DASH, X + 1, 25, 20];
+    let kept = [with(patterns, &side[..5]), with(patterns, &side)].concat();
+    let (number, pairs) = rechecked(&kept, 40_000 * SITUATION_BYTES, 7, true);
     let [DecidedPair { answer: Answer::NoRoom { count }, search: 0, .. }] = pairs[..] else {
         panic!("{number}, {pairs:?}");
     };

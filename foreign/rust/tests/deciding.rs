@@ -23,7 +23,7 @@ fn generated_cases() {
         let search = decide(&case.sheet, &mut work, &mut answer).search;
         match first.outcome.number {
             18 | 19 => match all.outcome.number {
-                0 | 1 | 20 => assert!((2..=4).contains(&search), "{case:?}"),
+                0 | 1 | 20 => assert!((2..=7).contains(&search), "{case:?}"),
                 number => assert_eq!((number, search), (first.outcome.number, 0), "{case:?}"),
             },
             number => {

@@ -41,7 +41,7 @@ impl Room {
 pub struct Asked {
     /// In the last room that was tried.
     pub answer: Answer,
-    /// Which search decided, 1 to 4; 0 where none did.
+    /// Which of the library's attempts decided, 1 to 7; 0 where none did.
     pub search: u8,
     /// The last room that was tried, in situations.
     pub room: usize,

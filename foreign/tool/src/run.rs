@@ -39,7 +39,7 @@ pub struct Streams<'a> {
 
 type Outcome = Result<Status, Problem>;
 
-/// The search of the library that writes its steps.
+/// The one of the library's attempts, a search, that writes its steps.
 const FIRST_SEARCH: u8 = 1;
 
 /// A file of rules may have so many bytes.
@@ -437,7 +437,7 @@ fn way(left: &Side, right: &Side, asked: &Asked) -> Option<Vec<Row>> {
 /// That there is no way to show.
 fn no_way_words(search: u8) -> String {
     format!(
-        "There is no way to show: search {search} has found the clash, and only search \
+        "There is no way to show: attempt {search} has found the clash, and only attempt \
          {FIRST_SEARCH} writes its steps down.\n"
     )
 }

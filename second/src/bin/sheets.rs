@@ -29,6 +29,8 @@
 //!   as storerooms write them, or of those with a field that stands twice; with
 //!   room for so many situations, or for 356
 //! - `sheets --decide SEED NUMBER`: so many cases to decide, made from the seed
+//! - `sheets --equations ROOM`: the word equations that the source documents print,
+//!   with room for so many situations
 //! - `sheets --editions`: every damage of a record `ED`, and each code on both sides
 //!   of each limit in both editions
 //! - `sheets --editions --few`: those of them with a byte next to a limit
@@ -58,6 +60,7 @@ use std::process::ExitCode;
 
 use second::cases::Case;
 use second::edition::{Edition, FIRST, SECOND};
+use second::equations::PRINTED;
 use second::make::editions::Tried;
 use second::make::{
     ascii, case, decided, editions, kept, long, pairs, plainly, spelt, strays, ways, written, Dice,
@@ -69,7 +72,7 @@ fn main() -> ExitCode {
     let arguments: Vec<&str> = arguments.iter().map(String::as_str).collect();
     let (edition, arguments) = match &arguments[..] {
         // What is the same in both editions, or of the first one alone.
-        ["--edition", "2", "--long" | "--growing" | "--ascii" | "--editions", ..]
+        ["--edition", "2", "--long" | "--growing" | "--ascii" | "--editions" | "--equations", ..]
         | ["--edition", "2", "--pairs"] => return usage(),
         ["--edition", "2", rest @ ..] => (SECOND, rest),
         all => (FIRST, all),
@@ -77,7 +80,9 @@ fn main() -> ExitCode {
     let (keeps, arguments) = match arguments {
         // What has no stray patterns, or has them on purpose.
         ["--kept", "--long" | "--growing" | "--ascii" | "--editions", ..]
-        | ["--kept", "--pairs" | "--plain-pairs" | "--strays" | "--drop", ..] => return usage(),
+        | ["--kept", "--pairs" | "--plain-pairs" | "--strays" | "--drop" | "--equations", ..] => {
+            return usage()
+        }
         ["--kept", rest @ ..] => (true, rest),
         all => (false, all),
     };
@@ -164,6 +169,10 @@ fn main() -> ExitCode {
         ["--growing", number] => return put_one(&plainly::growing(), number),
         ["--decide", seed, number] => match made(edition, seed, number, decided::case) {
             Some(cases) => cases,
+            None => return usage(),
+        },
+        ["--equations", room] => match room.parse().ok().filter(|&room| room <= MOST_ROOM) {
+            Some(room) => PRINTED.iter().map(|equation| equation.case(room)).collect(),
             None => return usage(),
         },
         [seed, number] => match made(edition, seed, number, case) {
@@ -257,7 +266,8 @@ fn usage() -> ExitCode {
         "usage: sheets [--spelt | --write | --plain | --plain-pairs] SEED NUMBER | sheets --growing [N]"
     );
     eprintln!("       sheets --steps SEED NUMBER | sheets --play SEED NUMBER | sheets --play-each");
-    eprintln!("       sheets --long ROOM [N] | sheets --printed [N] | sheets --decide SEED NUMBER");
+    eprintln!("       sheets --long ROOM [N] | sheets --printed [N] | sheets --equations ROOM");
+    eprintln!("       sheets --decide SEED NUMBER");
     eprintln!("       sheets --pairs [SEED NUMBER [--twice] [--room ROOM]]");
     eprintln!("       sheets --ascii [SEED NUMBER] | sheets --editions [--few | --write]");
     eprintln!("       sheets --strays [SEED NUMBER | --write] | sheets --drop [SEED NUMBER]");

@@ -1,5 +1,5 @@
 -- `add_by` meets its contract, from what was read (`Entering`). Assumes nothing.
-use mathlib.Core.Path.{_≡_, refl, sym, _∙_}
+use mathlib.Core.Path.{_≡_, sym, _∙_}
 use denote.Ref.{now}
 use borrow.Author.Needs.{needs}
 use borrow.Author.Tests.{not-true, not-false}
@@ -103,15 +103,14 @@ enter-requires c κs =
     record {
       asks = record {
         standing = x;
-        bytes = _;
         rule = r .rule;
         its-bytes = _;
         is-read = r .reads;
         own = sym (r .foreign) ∙ f .before .if2 .left;
         side-is = r .side;
         fields-are = r .fields;
+        bodies-are = r .bodies-are;
       };
-      same-bytes = refl;
       room = full-here f ∙ d .if3 .left;
     }
 

@@ -1,13 +1,14 @@
 -- `ask_all` meets its contract. The loop's invariant: the pairs before number `i` are all answered 1 (`Going`). Assumes nothing.
-use Prim.Native.Nat.{_-_}
+use Prim.Native.Nat.{_-_, _≤_}
 use native.Mathlib.Omega.{arith}
 use mathlib.Core.Path.{_≡_, refl, ap, _∙_}
 use denote.Ref.{now}
 use borrow.Author.Needs.{needs}
+use borrow.Rule.Slice.PartAt.{part-to-end}
 use lib.ListN.{length, length-replicate}
 use Rattle.paper.specs.Outcome.{room-of}
 use Rattle.paper_catalogue.specs.Calls.{rule-at}
-use Rattle.catalogue_form.proofs.RulesStanding.{rules-few}
+use Rattle.catalogue_form.proofs.RulesStanding.{begin-in, rules-few, record-within}
 use Rattle.catalogue_question.specs.AskedBy.{asking-coded, told-pair}
 use Rattle.catalogue_add.specs.Addition.{Ready-to-ask}
 use Rattle.catalogue_add.proofs.Going.{Going, going-start, going-more, going-stops, going-ends, asked-told}
@@ -15,19 +16,19 @@ use Rattle.catalogue_add.proofs.ask_all.Statement.{statement}
 use Rattle.catalogue_add.proofs.ask_all.Tie as tie
 
 abbrev Inv-loop : tie.InvT-loop
-Inv-loop how catalogue work₀ kept right second i₀ work i =
+Inv-loop how catalogue bytes work₀ kept right second standing i₀ work i =
     (length work ≡ length work₀)
-    × ((x : Ready-to-ask catalogue kept right second) → Going (asking-coded how) (x .standing .rules-present) (x .rule) work₀ work i)
+    × ((x : Ready-to-ask catalogue bytes kept right second standing) → Going (asking-coded how) (x .standing .rules-present) (x .rule) work₀ work i)
 
 abbrev μ-loop : tie.MeasureT-loop
-μ-loop how catalogue work₀ kept right second i₀ work i = kept .rules - i
+μ-loop how catalogue bytes work₀ kept right second standing i₀ work i = kept .rules - i
 
 loop-holds : tie.Need-loop-holds Inv-loop μ-loop
 loop-holds c = (refl, λ x. going-start _)
 
 -- what is known of the catalogue and the new rule
 abbrev start : tie.At-loop Inv-loop μ-loop → tie.Start Inv-loop μ-loop
-start l = l .before .before .before .before .before
+start l = l .before .before .before .before .before .before .before
 
 mul-at : tie.Need-mul-at Inv-loop μ-loop
 mul-at c = omega (arith, c .loop-test .taken, rules-few (start (c .before) .pre .standing))
@@ -38,25 +39,49 @@ element-copy-out-at c = omega (arith, c .loop-test .taken, rules-few (start (c .
 rule-at-requires : tie.Need-rule-at-requires Inv-loop μ-loop
 rule-at-requires c κs = search needs
 
+bodies-requires : tie.Need-bodies-requires Inv-loop μ-loop
+bodies-requires c κs = search needs
+
+-- the rule stands within the catalogue
+within : (b : tie.After-bodies Inv-loop μ-loop) →
+    let i = b .before .before .before .before .before .before in
+    let a = start (i .before) .args in
+    begin-in (a .t3) (i .before .loop .i) ≤ length (now (a .catalogue))
+within b =
+    let i = b .before .before .before .before .before .before in
+    let x = start (i .before) .pre .standing in
+    omega (arith, record-within x (i .before .loop .i) (omega (arith, x .counted, i .loop-test .taken)))
+
+sub-ask : tie.Need-sub-ask Inv-loop μ-loop
+sub-ask c = within c
+
+part-ask-start : tie.Need-part-ask-start Inv-loop μ-loop
+part-ask-start c = within c
+
+part-ask-end : tie.Need-part-ask-end Inv-loop μ-loop
+part-ask-end c = search needs
+
 ask-requires : tie.Need-ask-requires Inv-loop μ-loop
 ask-requires c κs = search needs
 
 -- where the loop is, behind a pair that was asked
 abbrev in-loop : tie.After-ask Inv-loop μ-loop → tie.In-loop Inv-loop μ-loop
-in-loop k = k .before .before .before .before .before .before
+in-loop k = k .before .before .before .before .before .before .before .before .before
 
 -- what the pair tells
 told : (k : tie.After-ask Inv-loop μ-loop) →
     let l = in-loop k .before in
     let a = start l .args in
-    (x : Ready-to-ask (now (a .catalogue)) (a .t3) (a .new .side) (a .new .fields))
+    (x : Ready-to-ask (now (a .catalogue)) (now (a .bytes)) (a .t3) (a .new .side) (a .new .fields) (a .new .bodies))
     → told-pair (k .ask .result) ≡ asking-coded (a .how) .asks (rule-at (x .standing .rules-present) (l .loop .i)) (x .rule) (room-of (now (a .work)))
 told k =
     let l = in-loop k .before in
-    let f = k .before .before .before .before in
+    let b = k .before .before .before in
+    let f = b .before .before .before .before in
+    let a = start l .args in
     λ x.
-    asked-told (start l .args .how) x (l .loop .i) (omega (arith, x .standing .counted, in-loop k .loop-test .taken)) (f .rule-at .result) (f .rule-at .ensures) (l .loop .work) _ (l .loop .inv .0)
-    (k .ask .result) (k .ask .ensures .0)
+    asked-told (a .how) x (l .loop .i) (omega (arith, x .standing .counted, in-loop k .loop-test .taken)) (f .rule-at .result) (f .rule-at .ensures) (l .loop .work) _ (l .loop .inv .0)
+    (k .ask .result) (rw (b .bodies .ensures, part-to-end (now (a .catalogue)) (begin-in (a .t3) (l .loop .i))) at (k .ask .ensures .0))
 
 same-length : tie.Need-same-length Inv-loop μ-loop
 same-length c =
@@ -103,6 +128,10 @@ ask-all-spec =
     mul-at
     element-copy-out-at
     rule-at-requires
+    bodies-requires
+    sub-ask
+    part-ask-start
+    part-ask-end
     ask-requires
     same-length
     returns

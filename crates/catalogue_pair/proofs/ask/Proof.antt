@@ -1,5 +1,8 @@
 -- `ask` meets its contract: the pair's question is asked, one way or the other.
+use mathlib.Core.Path.{sym, subst}
 use borrow.Author.Needs.{needs}
+use Rattle.base_question.specs.declared.Question.{Question}
+use Rattle.plain_question.specs.Reached.{Meets, Says}
 use Rattle.catalogue_pair.proofs.ask.Statement.{statement}
 use Rattle.catalogue_pair.proofs.ask.Tie as tie
 
@@ -25,7 +28,7 @@ returns : tie.Need-returns
 returns c =
     let s = c .before .before in
     let t = s .before .before in
-    (rw (t .enum-told .given .1, ← t .before .before .asked .ensures) (s .search .ensures .0), s .search .ensures .1)
+    (λ m y. rw (t .enum-told .given .1, ← t .before .before .asked .ensures) (s .search .ensures .0), s .search .ensures .1)
 
 same-length-2 : tie.Need-same-length-2
 same-length-2 c = search needs
@@ -33,8 +36,12 @@ same-length-2 c = search needs
 returns-2 : tie.Need-returns-2
 returns-2 c =
     let s = c .before .before in
-    let t = s .before .before in
-    (rw (t .enum-told2 .given .1, ← t .before .before .asked .ensures) (s .decide .ensures .0), s .decide .ensures .1)
+    let t = s .before .before in (
+      λ m y.
+          rw (t .enum-told2 .given .1, ← t .before .before .asked .ensures)
+          (s .decide .ensures .0 m (subst (λ (x : Question). Says m (Meets x)) (sym (t .before .before .asked .ensures)) y)),
+      s .decide .ensures .1,
+    )
 
 pub ask-spec : {M : Type 1} → statement M
 ask-spec =

@@ -26,7 +26,7 @@ returns : tie.Need-returns
 unfolding decided-pair
 returns c =
     let s = c .before .before .before .before .before in
-    (rw (c .answered .ensures, s .decide .ensures .0), s .decide .ensures .1 .1)
+    (λ m y. rw (c .answered .ensures, ← s .decide .ensures .0 m y), s .decide .ensures .1)
 
 pub decide-spec : {M : Type 1} → statement M
 decide-spec =

@@ -10,15 +10,12 @@ moved-up-requires c κs = search needs
 joined-requires : tie.Need-joined-requires
 joined-requires c κs = search needs
 
-no-bodies-requires : tie.Need-no-bodies-requires
-no-bodies-requires c κs = search needs
-
 alphabet-of-requires : tie.Need-alphabet-of-requires
 alphabet-of-requires c κs = search needs
 
 returns : tie.Need-returns
 unfolding pair-question
-returns c = rw (c .before .before .before .moved-up .ensures, c .before .before .joined .ensures, c .before .no-bodies .ensures, c .alphabet-of .ensures)
+returns c = rw (c .before .before .moved-up .ensures, c .before .joined .ensures, c .alphabet-of .ensures)
 
 pub asked-spec : {M : Type 1} → statement M
-asked-spec = tie.close (tie.spec moved-up-requires joined-requires no-bodies-requires alphabet-of-requires returns)
+asked-spec = tie.close (tie.spec moved-up-requires joined-requires alphabet-of-requires returns)

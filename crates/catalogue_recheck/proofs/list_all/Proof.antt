@@ -50,7 +50,7 @@ abbrev ready : (f : tie.After-rule-at Inv-loop μ-loop) →
     let l = in-loop f .before in
     let a = start l .args in
     Of-form (now (a .catalogue)) (a .t3)
-    → Ready-to-list (asking-coded (a .how)) (now (a .catalogue)) (a .t3) (l .loop .i) (f .rule-at .result .side) (f .rule-at .result .fields) (l .loop .work) (l .loop .bytes) (l .loop .n)
+    → Ready-to-list (asking-coded (a .how)) (now (a .catalogue)) (a .t3) (l .loop .i) (f .rule-at .result .side) (f .rule-at .result .fields) (f .rule-at .result .bodies) (l .loop .work) (l .loop .bytes) (l .loop .n)
 ready f =
     let l = in-loop f .before in
     λ x.

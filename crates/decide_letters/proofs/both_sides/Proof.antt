@@ -1,40 +1,33 @@
 -- `both_sides` meets its contract. The loop's invariant: the fields from f on are weighed (`Weighing`).
-use Prim.Native.Nat.{ℕ, _+_, _-_, _*_, _^_, _≤_, _<_}
-use native.Mathlib.Nat.{mul-le-mul}
+use Prim.Native.Nat.{ℕ, _-_, _≤_}
 use native.Mathlib.Omega.{arith}
-use mathlib.Core.Path.{_≡_, sym, ap, _∙_}
+use mathlib.Core.Path.{_≡_, ap, _∙_}
 use lib.ListN.{length, getD}
-use Rattle.paper.specs.Lists.{from}
-use Rattle.paper.specs.Numbers.{fields, longest-side, pattern-bytes}
-use Rattle.paper.proofs.base.Lists.{length-from}
-use Rattle.paper_decide.specs.Letters.{divisor, Weights}
+use borrow.Author.Needs.{needs}
+use Rattle.paper.specs.Numbers.{longest-side, pattern-bytes}
+use Rattle.paper_decide.specs.Letters.{Weights}
 use Rattle.base_editions.specs.Editions.{paper-edition}
-use Rattle.decide_letters.specs.PatternStack.{counted, part, packed, unpacked}
+use Rattle.decide_letters.specs.PatternStack.{counted, unpacked}
 use Rattle.decide_letters.specs.LettersCoded.{field-weights}
-use Rattle.decide_letters.specs.declared.totals.Total.{Total}
 use Rattle.decide_letters.proofs.Packing.{Small, packed-again}
 use Rattle.decide_letters.proofs.Sizes.{field-small}
 use Rattle.decide_letters.proofs.Tried.{listed-small}
-use Rattle.decide_letters.proofs.BothWeighed.{total-small, Weighing, weighing-none, weighing-alike, weighing-more, weighing-all}
-use borrow.Author.Needs.{needs}
+use Rattle.decide_letters.proofs.BothWeighed.{Weighing, weighing-none, weighing-alike, weighing-more, weighing-all, weighing-room}
 use Rattle.decide_letters.proofs.both_sides.Statement.{statement}
 use Rattle.decide_letters.proofs.both_sides.Tie as tie
 
 abbrev Inv-loop : tie.InvT-loop
-Inv-loop counting left-fixed right-fixed first second stack₀ left-times right-times bodies edition left₀ right₀ steps₀ f₀ stack left right steps f =
+Inv-loop counting left-fixed right-fixed first second stack₀ left-times right-times bodies edition t₀ f₀ stack t f =
     (length stack ≡ pattern-bytes)
     × Weighing (λ (g : ℕ). getD left-times g 0) (λ (g : ℕ). getD right-times g 0) left-fixed right-fixed
-    (field-weights (counted counting) (paper-edition edition) bodies first second) left right steps f
+    (field-weights (counted counting) (paper-edition edition) bodies first second) t f
 
 abbrev μ-loop : tie.MeasureT-loop
-μ-loop counting left-fixed right-fixed first second stack₀ left-times right-times bodies edition left₀ right₀ steps₀ f₀ stack left right steps f = f
+μ-loop counting left-fixed right-fixed first second stack₀ left-times right-times bodies edition t₀ f₀ stack t f = f
 
 -- what is handed over
-abbrev start : tie.After-bodies Inv-loop μ-loop → tie.Start Inv-loop μ-loop
-start c = c .before .before .before .before .before
-
-abbrev turn-of : tie.After-divisor Inv-loop μ-loop → tie.In-loop Inv-loop μ-loop
-turn-of c = c .before .before .before .before .before .before .before .before .before .before .before
+abbrev start : tie.After-fixed Inv-loop μ-loop → tie.Start Inv-loop μ-loop
+start c = c .before .before .before .before .before .before
 
 module _ (s : tie.Start Inv-loop μ-loop) where
   abbrev lefts : ℕ → ℕ
@@ -60,28 +53,13 @@ module _ (s : tie.Start Inv-loop μ-loop) where
       let long : length (s .args .asked .right) ≡ longest-side = search needs in
       rw (s .pre .0 .rights) (listed-small (s .args .asked .right) long g)
 
-  -- there is room for one more
-  module _ (left right : Total) (steps f : ℕ)
-      (x : Weighing lefts rights (s .args .left-fixed) (s .args .right-fixed) weights left right steps f) (n : ℕ) (h : n ≤ longest-side) where
-    left-room : (n ≤ longest-side) × (left .least < 2 ^ 32) × (left .most < 2 ^ 32)
-    left-room =
-        let sums = total-small lefts rights (s .args .left-fixed) weights weights-small left-few (from f (fields - f)) in
-        let many = length-from f (fields - f) in
-        (h, omega (arith, ap (λ (t : Total). t .least) (x .left-is), sums .0, many, s .pre .1), omega (arith, ap (λ (t : Total). t .most) (x .left-is), sums .1, many, s .pre .1))
-
-    right-room : (n ≤ longest-side) × (right .least < 2 ^ 32) × (right .most < 2 ^ 32)
-    right-room =
-        let sums = total-small rights lefts (s .args .right-fixed) weights weights-small right-few (from f (fields - f)) in
-        let many = length-from f (fields - f) in
-        (h, omega (arith, ap (λ (t : Total). t .least) (x .right-is), sums .0, many, s .pre .2), omega (arith, ap (λ (t : Total). t .most) (x .right-is), sums .1, many, s .pre .2))
-
-small : (n w : ℕ) → n ≤ 2 * longest-side → w < part → n * w < 2 ^ 64
-small n w h k = let p = mul-le-mul {n₁ = n} {m₁ = w} h (let l : w ≤ part = omega arith in l) in omega arith
+fixed-requires : tie.Need-fixed-requires Inv-loop μ-loop
+fixed-requires c κs = search needs
 
 loop-holds : tie.Need-loop-holds Inv-loop μ-loop
 loop-holds c =
     let s = start c in
-    (s .pre .3, weighing-none (lefts s) (rights s) (s .args .left-fixed) (s .args .right-fixed) (weights s))
+    (s .pre .3, rw (c .fixed .ensures) (weighing-none (lefts s) (rights s) (s .args .left-fixed) (s .args .right-fixed) (weights s)))
 
 sub-f : tie.Need-sub-f Inv-loop μ-loop
 sub-f c = omega (arith, c .loop-test .taken)
@@ -107,68 +85,32 @@ array-copy-out-body c = omega (arith, c .before .before .loop .inv .1 .within, c
 field-weights-requires : tie.Need-field-weights-requires Inv-loop μ-loop
 field-weights-requires c κs = c .before .before .before .before .loop .inv .0
 
-surplus-requires : tie.Need-surplus-requires Inv-loop μ-loop
-surplus-requires c κs = search needs
-
 with-field-requires : tie.Need-with-field-requires Inv-loop μ-loop
 with-field-requires c κs =
-    let l = c .before .before .before .before .before .before in
+    let l = c .before .before .before .before .before in
     let s = start (l .before) in
-    left-room s (l .loop .left) (l .loop .right) (l .loop .steps) (l .loop .f) (l .loop .inv .1) (c .surplus .result)
-    (omega (arith, c .surplus .ensures, left-few s (l .loop .f - 1)))
-
-surplus-requires-2 : tie.Need-surplus-requires-2 Inv-loop μ-loop
-surplus-requires-2 c κs = search needs
-
-with-field-requires-2 : tie.Need-with-field-requires-2 Inv-loop μ-loop
-with-field-requires-2 c κs =
-    let l = c .before .before .before .before .before .before .before .before in
-    let s = start (l .before) in
-    right-room s (l .loop .left) (l .loop .right) (l .loop .steps) (l .loop .f) (l .loop .inv .1) (c .surplus2 .result)
-    (omega (arith, c .surplus2 .ensures, right-few s (l .loop .f - 1)))
-
-between-requires : tie.Need-between-requires Inv-loop μ-loop
-between-requires c κs = search needs
-
-step-requires : tie.Need-step-requires Inv-loop μ-loop
-step-requires c κs = search needs
-
-mul-divisor : tie.Need-mul-divisor Inv-loop μ-loop
-mul-divisor c =
-    let b = c .before in
-    let l = b .before .before .before .before .before .before .before .before .before .before in
-    let s = start (l .before) in
-    let g = l .loop .f - 1 in
-    record { fits = small (b .between .result) (c .step .result) (omega (arith, b .between .ensures, left-few s g, right-few s g)) (c .step .ensures .1) }
-
-divisor-requires : tie.Need-divisor-requires Inv-loop μ-loop
-divisor-requires c κs = search needs
+    let g = l .loop .f - 1 in (
+      left-few s g,
+      right-few s g,
+      weighing-room (lefts s) (rights s) (s .args .left-fixed) (s .args .right-fixed) (weights s) (weights-small s) (left-few s) (right-few s) (s .pre .1) (s .pre .2)
+          (l .loop .t) (l .loop .f) (l .loop .inv .1),
+    )
 
 loop-less : tie.Need-loop-less Inv-loop μ-loop
-loop-less c = omega (arith, turn-of c .loop-test .taken)
+loop-less c = omega (arith, c .before .before .before .before .before .loop-test .taken)
 
 loop-again : tie.Need-loop-again Inv-loop μ-loop
 unfolding field-weights
 loop-again c =
-    let stepped = c .before in
-    let apart = stepped .before in
-    let right-one = apart .before in
-    let right-more = right-one .before in
-    let left-one = right-more .before in
-    let left-more = left-one .before in
-    let weighed = left-more .before in
-    let turn = turn-of c in
+    let weighed = c .before in
+    let turn = weighed .before .before .before .before in
     let l = turn .before in
     let s = start (l .before) in
     let f = l .loop .f in
-    let w = weighed .field-weights .result in
     let is-w = ap unpacked (weighed .field-weights .ensures .0) ∙ packed-again (weights s (f - 1)) (weights-small s (f - 1)) in (
       weighed .field-weights .ensures .1,
-      weighing-more (lefts s) (rights s) (s .args .left-fixed) (s .args .right-fixed) (weights s) (l .loop .left) (l .loop .right) (l .loop .steps) f (l .loop .inv .1)
-          (turn .loop-test .taken) (unpacked w) (left-more .surplus .result) (right-more .surplus2 .result) (apart .between .result) is-w (left-more .surplus .ensures)
-          (right-more .surplus2 .ensures) (apart .between .ensures) (left-one .with-field .result) (right-one .with-field2 .result) (c .divisor .result)
-          (left-one .with-field .ensures) (right-one .with-field2 .ensures)
-          (c .divisor .ensures ∙ ap (λ (n : ℕ). divisor (apart .between .result * n) (l .loop .steps)) (stepped .step .ensures .0)),
+      weighing-more (lefts s) (rights s) (s .args .left-fixed) (s .args .right-fixed) (weights s) (l .loop .t) f (l .loop .inv .1) (turn .loop-test .taken)
+          (unpacked (weighed .field-weights .result)) is-w (c .with-field .result) (c .with-field .ensures),
     )
 
 loop-less-2 : tie.Need-loop-less-2 Inv-loop μ-loop
@@ -178,14 +120,18 @@ loop-again-2 : tie.Need-loop-again-2 Inv-loop μ-loop
 loop-again-2 c =
     let turn = c .before in
     let l = turn .before in
-    let s = start (l .before) in
-    (l .loop .inv .0, weighing-alike (lefts s) (rights s) (s .args .left-fixed) (s .args .right-fixed) (weights s) (l .loop .left) (l .loop .right) (l .loop .steps) (l .loop .f) (l .loop .inv .1) (turn .loop-test .taken) (c .if1 .left))
+    let s = start (l .before) in (
+      l .loop .inv .0,
+      weighing-alike (lefts s) (rights s) (s .args .left-fixed) (s .args .right-fixed) (weights s) (l .loop .t) (l .loop .f) (l .loop .inv .1) (turn .loop-test .taken) (c .if1 .left),
+    )
 
 returns : tie.Need-returns Inv-loop μ-loop
 returns c =
     let l = c .before in
-    let s = start (l .before) in
-    (weighing-all (lefts s) (rights s) (s .args .left-fixed) (s .args .right-fixed) (weights s) (l .loop .left) (l .loop .right) (l .loop .steps) (l .loop .f) (l .loop .inv .1) (omega (arith, c .loop-test .left)), l .loop .inv .0)
+    let s = start (l .before) in (
+      weighing-all (lefts s) (rights s) (s .args .left-fixed) (s .args .right-fixed) (weights s) (l .loop .t) (l .loop .f) (l .loop .inv .1) (omega (arith, c .loop-test .left)),
+      l .loop .inv .0,
+    )
 
 pub both-sides-spec : {M : Type 1} → statement M
 both-sides-spec =
@@ -193,6 +139,7 @@ both-sides-spec =
     (tie.spec
     Inv-loop
     μ-loop
+    fixed-requires
     loop-holds
     sub-f
     mul-l
@@ -202,14 +149,7 @@ both-sides-spec =
     mul-body
     array-copy-out-body
     field-weights-requires
-    surplus-requires
     with-field-requires
-    surplus-requires-2
-    with-field-requires-2
-    between-requires
-    step-requires
-    mul-divisor
-    divisor-requires
     loop-less
     loop-again
     loop-less-2

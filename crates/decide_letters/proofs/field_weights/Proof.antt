@@ -1,5 +1,4 @@
 -- `field_weights` meets its contract, by which bytes are the field's.
-use borrow.Author.Needs.{needs}
 use Rattle.paper.specs.Numbers.{rule-fields}
 use Rattle.paper.proofs.base.Tests.{lt-ltb, le-ltb}
 use Rattle.decide_letters.proofs.field_weights.Statement.{statement}

@@ -1,15 +1,11 @@
 -- `letters_differ` meets its contract, by what its parts promise.
 use Prim.Native.Nat.{ℕ}
-use mathlib.Core.Path.{_≡_, refl, sym, ap, _∙_}
-use mathlib.Core.Bool.{Bool, true, false, _||_}
-use mathlib.Core.List.{_++_}
+use mathlib.Core.Path.{refl, sym, _∙_}
+use mathlib.Core.Bool.{Bool}
 use borrow.Author.Needs.{needs}
-use Rattle.paper.specs.Lists.{any}
-use Rattle.paper.proofs.base.Tests.{left-true}
-use Rattle.paper.proofs.base.Lists.{any-append}
 use Rattle.base_codes.specs.Inner.{tokens}
 use Rattle.base_editions.specs.Editions.{paper-edition}
-use Rattle.decide_letters.specs.LettersCoded.{uneven-coded, uneven-by-one, letters-coded}
+use Rattle.decide_letters.specs.LettersCoded.{uneven-coded, letters-coded}
 use Rattle.decide_letters.proofs.Tried.{seen-none, by-all, by-left, by-right}
 use Rattle.decide_letters.proofs.letters_differ.Statement.{statement}
 use Rattle.decide_letters.proofs.letters_differ.Tie as tie

@@ -1,13 +1,10 @@
 -- `uneven_by_one` meets its contract, test by test.
 use Prim.Native.Nat.{ℕ}
 use native.Mathlib.Omega.{arith}
-use mathlib.Core.Path.{_≡_, refl, sym, ap, _∙_}
-use mathlib.Core.Bool.{Bool, true, false, not, _&&_}
-use lib.Dec.{ltb, eqb}
+use mathlib.Core.Path.{_≡_, sym, ap, _∙_}
+use mathlib.Core.Bool.{Bool}
 use borrow.Author.Needs.{needs}
-use Rattle.paper.proofs.base.Tests.{lt-ltb, le-ltb, eq-eqb, neq-eqb}
-use Rattle.paper_decide.specs.Letters.{this-one, all-but}
-use Rattle.base_codes.specs.Inner.{field-code}
+use Rattle.paper_decide.specs.Letters.{this-one}
 use Rattle.decide_letters.specs.LettersCoded.{uneven-asked}
 use Rattle.decide_letters.proofs.Tried.{no-character, is-space, was-seen, is-tried, seen-more}
 use Rattle.decide_letters.proofs.uneven_by_one.Statement.{statement}

@@ -1,8 +1,7 @@
 -- `uneven_by_some` meets its contract. The loop's invariant: by none of the characters before i the sides are uneven.
-use Prim.Native.Nat.{ℕ, _+_, _-_, _≤_}
+use Prim.Native.Nat.{_-_, _≤_}
 use native.Mathlib.Omega.{arith}
 use mathlib.Core.Path.{_≡_, sym, ap, _∙_, refl}
-use mathlib.Core.Bool.{true, false}
 use lib.ListN.{length, getD, drop}
 use Rattle.paper.specs.Lists.{any}
 use Rattle.paper.specs.Numbers.{longest-side, pattern-bytes}

@@ -1,4 +1,4 @@
--- `decide` meets its contract: what the search of the question says, or the next ones. Follows from `SettlingSteps`.
+-- `decide` meets its contract: what the search of the question says, or the attempts behind it. Follows from `SettlingSteps`.
 use mathlib.Core.Path.{sym, _∙_}
 use denote.Ref.{now}
 use Rattle.decide_question.proofs.SettlingSteps.{first-at-most, still-clear, first-told, first-undecided}
@@ -25,17 +25,18 @@ returns : tie.Need-returns
 returns c =
     let d = c .before .before in
     let s = d .before .before .before .before .before in
-    let start = s .before .before .before .before .before in
-    first-told _ (now (start .args .work)) (now (start .args .answer)) _ _ _ (s .search-all .ensures) (sym (d .decides .ensures) ∙ c .before .if1 .taken) _ (c .told .ensures)
+    let start = s .before .before .before .before .before .before .before in
+    let a = start .args in
+    first-told _ (now (a .first)) (now (a .second)) (now (a .work)) (now (a .answer)) _ _ _ (s .search-all .ensures) (sym (d .decides .ensures) ∙ c .before .if1 .taken) _ (c .told .ensures)
 
-further-searches-requires : tie.Need-further-searches-requires
-further-searches-requires c κs =
-    let e = c .before .before in
-    let d = e .before in
+further-requires : tie.Need-further-requires
+further-requires c κs =
+    let d = c .before .before .before in
     let s = d .before .before .before .before .before in
-    let start = s .before .before .before .before .before in (
-      still-clear _ (now (start .args .work)) (now (start .args .answer)) _ _ _ (s .search-all .ensures),
-      first-at-most _ (now (start .args .work)) (now (start .args .answer)) _ _ _ (s .search-all .ensures),
+    let start = s .before .before .before .before .before .before .before in
+    let a = start .args in (
+      still-clear _ (now (a .first)) (now (a .second)) (now (a .work)) (now (a .answer)) _ _ _ (s .search-all .ensures),
+      first-at-most _ (now (a .first)) (now (a .second)) (now (a .work)) (now (a .answer)) _ _ _ (s .search-all .ensures),
     )
 
 same-length-3 : tie.Need-same-length-3
@@ -50,9 +51,10 @@ returns-2 c =
     let e = x .before .before .before in
     let d = e .before in
     let s = d .before .before .before .before .before in
-    let start = s .before .before .before .before .before in
-    first-undecided _ (now (start .args .work)) (now (start .args .answer)) _ _ _ (s .search-all .ensures) (sym (d .decides .ensures) ∙ e .if1 .left)
-    _ _ _ (x .further-searches .ensures)
+    let start = s .before .before .before .before .before .before .before in
+    let a = start .args in
+    first-undecided _ (now (a .first)) (now (a .second)) (now (a .work)) (now (a .answer)) _ _ _ (s .search-all .ensures) (sym (d .decides .ensures) ∙ e .if1 .left)
+    _ _ _ (x .further .ensures)
 
 pub decide-spec : {M : Type 1} → statement M
 decide-spec =
@@ -64,7 +66,7 @@ decide-spec =
     same-length
     same-length-2
     returns
-    further-searches-requires
+    further-requires
     same-length-3
     same-length-4
     returns-2)

@@ -1,26 +1,27 @@
 -- `spelt` meets its contract. The loop's invariant: the tables are those of the characters gone through, and `left` of them are still to come
 -- (`Spelling`).
-use Prim.Native.Nat.{ℕ, suc, _+_, _-_, _≤_, _<_}
+use Prim.Native.Nat.{ℕ, _+_, _-_}
 use native.Mathlib.Omega.{arith}
-use mathlib.Core.Path.{_≡_, refl, ap, _∙_}
-use lib.Bits.{bitAnd}
+use mathlib.Core.Path.{_≡_}
+use mathlib.Core.List.{List}
 use lib.ListN.{length, getD}
 use borrow.Author.Needs.{needs}
-use Rattle.paper.specs.Numbers.{most-characters}
-use Rattle.paper_decide.specs.OneText.{longest-tried}
-use Rattle.base_places.specs.Masks.{places}
-use Rattle.decide_texts.specs.TextsCoded.{start, text-from, spelt-tables}
+use Rattle.decide_texts.specs.TextsCoded.{start, text-from}
 use Rattle.decide_texts.proofs.TextTurns.{text-more, text-none}
 use Rattle.decide_texts.proofs.SpeltTables.{Spelling, spelling-none, spelling-more, spelling-all}
 use Rattle.decide_texts.proofs.spelt.Statement.{statement}
 use Rattle.decide_texts.proofs.spelt.Tie as tie
 
+-- what stands at each place
+abbrev at-of : List ℕ → ℕ → ℕ
+at-of ends k = getD ends k 0
+
 abbrev Inv-loop : tie.InvT-loop
-Inv-loop follow taking tried n length ends tables₀ set₀ left₀ at₀ tables set left at =
-    (left + at ≡ length) × Spelling (text-from n tried follow taking ends length start) (text-from n tried follow taking ends left set) tables at
+Inv-loop follow taking n length ends tables₀ set₀ left₀ at₀ tables set left at =
+    (left + at ≡ length) × Spelling (text-from n follow taking (at-of ends) length start) (text-from n follow taking (at-of ends) left set) tables at
 
 abbrev μ-loop : tie.MeasureT-loop
-μ-loop follow taking tried n length ends tables₀ set₀ left₀ at₀ tables set left at = left
+μ-loop follow taking n length ends tables₀ set₀ left₀ at₀ tables set left at = left
 
 no-text-requires : tie.Need-no-text-requires Inv-loop μ-loop
 no-text-requires c κs = search needs
@@ -28,7 +29,7 @@ no-text-requires c κs = search needs
 loop-holds : tie.Need-loop-holds Inv-loop μ-loop
 loop-holds c =
     let a = c .before .args in
-    (omega arith, spelling-none (text-from (a .n) (a .tried .now) (a .follow .now) (a .taking .now) (a .t5) (a .length) start) (c .no-text .result) (c .no-text .ensures))
+    (omega arith, spelling-none (text-from (a .n) (a .follow .now) (a .taking .now) (at-of (a .t4)) (a .length) start) (c .no-text .result) (c .no-text .ensures))
 
 sub-left : tie.Need-sub-left Inv-loop μ-loop
 sub-left c = search needs
@@ -91,7 +92,7 @@ loop-again c =
     let left = l .loop .left in (
       omega (arith, l .loop .inv .0, next .before .loop-test .taken),
       spelling-more _ _ _ (l .loop .tables) (l .loop .at) (first .first-to .result) (its .place .result) (l .loop .inv .1)
-          (text-more (a .n) (a .tried .now) (a .follow .now) (a .taking .now) (a .t5) left (left - 1) (l .loop .set) (next .followers .result)
+          (text-more (a .n) (a .follow .now) (a .taking .now) (at-of (a .t4)) left (left - 1) (l .loop .set) (next .followers .result)
           (first .first-to .result) (omega (arith, next .before .loop-test .taken)) (next .followers .ensures) (first .first-to .ensures .1))
           (its .place .ensures) (omega (arith, l .loop .inv .0, l .before .before .pre)) (first .first-to .ensures .0),
     )
@@ -100,8 +101,8 @@ returns : tie.Need-returns Inv-loop μ-loop
 returns c =
     let l = c .before .loop in
     let a = c .before .before .before .args in
-    spelling-all (text-from (a .n) (a .tried .now) (a .follow .now) (a .taking .now) (a .t5) (a .length) start) _ (l .tables) (l .at) (l .inv .1)
-    (text-none (a .n) (a .tried .now) (a .follow .now) (a .taking .now) (a .t5) (l .left) (l .set) (omega arith))
+    spelling-all (text-from (a .n) (a .follow .now) (a .taking .now) (at-of (a .t4)) (a .length) start) _ (l .tables) (l .at) (l .inv .1)
+    (text-none (a .n) (a .follow .now) (a .taking .now) (at-of (a .t4)) (l .left) (l .set) (omega arith))
 
 pub spelt-spec : {M : Type 1} → statement M
 spelt-spec =

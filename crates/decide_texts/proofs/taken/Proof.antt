@@ -1,8 +1,7 @@
 -- `taken` meets its contract. The loop's invariant: the places that take a character below c are gathered.
-use Prim.Native.Nat.{ℕ, _-_, _≤_}
+use Prim.Native.Nat.{_-_, _≤_}
 use native.Mathlib.Omega.{arith}
-use mathlib.Core.Path.{_≡_, ap, _∙_}
-use lib.Bits.{bitOr}
+use mathlib.Core.Path.{_≡_}
 use borrow.Author.Needs.{needs}
 use Rattle.decide_texts.specs.TextsCoded.{taken-by}
 use Rattle.decide_texts.proofs.TextTurns.{taken-none, taken-more}
@@ -10,25 +9,22 @@ use Rattle.decide_texts.proofs.taken.Statement.{statement}
 use Rattle.decide_texts.proofs.taken.Tie as tie
 
 abbrev Inv-loop : tie.InvT-loop
-Inv-loop taking tried n r₀ c₀ r c = (c ≤ n) × (r ≡ taken-by c tried taking)
+Inv-loop taking n r₀ c₀ r c = (c ≤ n) × (r ≡ taken-by c taking)
 
 abbrev μ-loop : tie.MeasureT-loop
-μ-loop taking tried n r₀ c₀ r c = n - c
+μ-loop taking n r₀ c₀ r c = n - c
 
 loop-holds : tie.Need-loop-holds Inv-loop μ-loop
-loop-holds c = (omega arith, taken-none (c .args .tried .now) (c .args .taking .now))
+loop-holds c = (omega arith, taken-none (c .args .taking .now))
 
-element-copy-out-if-tried : tie.Need-element-copy-out-if-tried Inv-loop μ-loop
-element-copy-out-if-tried c = search needs
+mul-known : tie.Need-mul-known Inv-loop μ-loop
+mul-known c = search needs
 
-mul-if-tried : tie.Need-mul-if-tried Inv-loop μ-loop
-mul-if-tried c = search needs
+element-copy-out-known : tie.Need-element-copy-out-known Inv-loop μ-loop
+element-copy-out-known c = search needs
 
-element-copy-out-if-tried-2 : tie.Need-element-copy-out-if-tried-2 Inv-loop μ-loop
-element-copy-out-if-tried-2 c = search needs
-
-if-tried-requires : tie.Need-if-tried-requires Inv-loop μ-loop
-if-tried-requires c κs = search needs
+known-requires : tie.Need-known-requires Inv-loop μ-loop
+known-requires c κs = search needs
 
 add-c : tie.Need-add-c Inv-loop μ-loop
 add-c c = search needs
@@ -38,10 +34,10 @@ loop-less c = search needs
 
 loop-again : tie.Need-loop-again Inv-loop μ-loop
 loop-again c =
-    let l = c .before .before .before .before .loop in
-    let a = c .before .before .before .before .before .args in
-    let its = c .if-tried .ensures in
-    (omega arith, rw (l .inv .1, its .0) (taken-more (a .tried .now) (a .taking .now) (l .c) (its .1)))
+    let l = c .before .before .before .loop in
+    let a = c .before .before .before .before .args in
+    let its = c .known .ensures in
+    (omega arith, rw (l .inv .1, its .0) (taken-more (a .taking .now) (l .c) (its .1)))
 
 returns : tie.Need-returns Inv-loop μ-loop
 returns c =
@@ -57,10 +53,9 @@ taken-spec =
     Inv-loop
     μ-loop
     loop-holds
-    element-copy-out-if-tried
-    mul-if-tried
-    element-copy-out-if-tried-2
-    if-tried-requires
+    mul-known
+    element-copy-out-known
+    known-requires
     add-c
     loop-less
     loop-again

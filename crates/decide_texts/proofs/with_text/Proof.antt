@@ -1,9 +1,6 @@
 -- `with_text` meets its contract, by what its parts ensure.
-use Prim.Native.Nat.{_≤_}
-use native.Mathlib.Omega.{arith}
 use mathlib.Core.Path.{_∙_}
 use borrow.Author.Needs.{needs}
-use Rattle.paper_decide.specs.OneText.{longest-tried}
 use Rattle.decide_texts.proofs.TextTurns.{one-text, no-one-text}
 use Rattle.decide_texts.proofs.with_text.Statement.{statement}
 use Rattle.decide_texts.proofs.with_text.Tie as tie
@@ -14,31 +11,26 @@ taken-requires c κs = search needs
 endings-requires : tie.Need-endings-requires
 endings-requires c κs = search needs
 
-length-of-requires : tie.Need-length-of-requires
-length-of-requires c κs = search needs
-
 spelt-requires : tie.Need-spelt-requires
 spelt-requires c κs = search needs
 
 returns : tie.Need-returns
 returns c =
-    let test = c .before .before .before in
-    let length = test .before in
-    let ends = length .before in
+    let test = c .before .before .before .before in
+    let ends = test .before in
     let taken = ends .before in
     let a = taken .before .before .before .before .before .args in
     c .spelt .ensures
-    ∙ one-text (a .n) (a .tried .now) (a .i) (a .own) (taken .taken .result) (ends .endings .result) (length .length-of .result)
-    (taken .taken .ensures) (ends .endings .ensures) (length .length-of .ensures) (test .if1 .taken)
+    ∙ one-text (a .n) (a .asked) (a .own) (taken .taken .result) (ends .endings .result .length) (ends .endings .result .ends)
+    (taken .taken .ensures) (ends .endings .ensures) (test .if1 .taken)
 
 returns-2 : tie.Need-returns-2
 returns-2 c =
-    let length = c .before in
-    let ends = length .before in
+    let ends = c .before in
     let taken = ends .before in
     let a = taken .before .before .before .before .before .args in
-    no-one-text (a .n) (a .tried .now) (a .i) (a .own) (taken .taken .result) (ends .endings .result) (length .length-of .result)
-    (taken .taken .ensures) (ends .endings .ensures) (length .length-of .ensures) (c .if1 .left)
+    no-one-text (a .n) (a .asked) (a .own) (taken .taken .result) (ends .endings .result .length) (ends .endings .result .ends)
+    (taken .taken .ensures) (ends .endings .ensures) (c .if1 .left)
 
 pub with-text-spec : {M : Type 1} → statement M
 with-text-spec =
@@ -46,7 +38,6 @@ with-text-spec =
     (tie.spec
     taken-requires
     endings-requires
-    length-of-requires
     spelt-requires
     returns
     returns-2)

@@ -1,16 +1,13 @@
 -- `with_texts` meets its contract. The loop's invariant: the fields below f are changed (`Changing`).
-use Prim.Native.Nat.{ℕ, _-_, _≤_, _<_}
+use Prim.Native.Nat.{ℕ, _-_, _≤_}
 use native.Mathlib.Omega.{arith}
-use mathlib.Core.Path.{_≡_, refl, sym, ap, _∙_}
+use mathlib.Core.Path.{_≡_, sym, _∙_}
 use mathlib.Core.Logic.{⊎-elim}
 use mathlib.Core.List.{List, map}
-use lib.ListN.{length, getD, length-map}
+use lib.ListN.{length, length-map}
 use borrow.Author.Needs.{needs}
 use Rattle.paper.specs.Numbers.{fields}
-use Rattle.paper.proofs.base.Tests.{cond-true, cond-false, lt-ltb, le-ltb}
 use Rattle.base_places.specs.Masks.{within}
-use Rattle.base_question.specs.Standings.{standing-times}
-use Rattle.decide_texts.specs.TextsCoded.{tables-at, tables-then, text-tables, texts-coded}
 use Rattle.decide_texts.proofs.FieldsChanged.{Changing, changing-none, changing-not, changing-more, changing-all, stands-twice, stands-once}
 use Rattle.decide_texts.proofs.with_texts.Statement.{statement}
 use Rattle.decide_texts.proofs.with_texts.Tie as tie
@@ -19,10 +16,10 @@ unmapped : (X Y : Type 0) (g : X → Y) (l : List X) (n : ℕ) → length (map g
 unmapped X Y g l n h = sym (length-map l g) ∙ h
 
 abbrev Inv-loop : tie.InvT-loop
-Inv-loop i question₀ tried n counts f₀ question f = (f ≤ fields) × Changing question₀ tried i question f
+Inv-loop asked question₀ n counts f₀ question f = (f ≤ fields) × Changing question₀ asked question f
 
 abbrev μ-loop : tie.MeasureT-loop
-μ-loop i question₀ tried n counts f₀ question f = fields - f
+μ-loop asked question₀ n counts f₀ question f = fields - f
 
 within-requires : tie.Need-within-requires Inv-loop μ-loop
 within-requires c κs = search needs
@@ -34,7 +31,7 @@ loop-holds : tie.Need-loop-holds Inv-loop μ-loop
 loop-holds c =
     let a = c .before .before .before .before .before .args in
     let long : length (a .t1 .fields) ≡ fields = search (needs, unmapped) in
-    (omega arith, changing-none (a .t1) (a .t2) (a .i) long)
+    (omega arith, changing-none (a .t1) (a .asked) long)
 
 mul-if1 : tie.Need-mul-if1 Inv-loop μ-loop
 mul-if1 c = search needs
@@ -49,7 +46,7 @@ element-copy-out-own : tie.Need-element-copy-out-own Inv-loop μ-loop
 element-copy-out-own c = search needs
 
 with-text-requires : tie.Need-with-text-requires Inv-loop μ-loop
-with-text-requires c κs = c .before .before .before .before .before .before .before .before .within .ensures .1
+with-text-requires c κs = c .before .before .before .before .before .before .before .within .ensures .1
 
 mul-its : tie.Need-mul-its Inv-loop μ-loop
 mul-its c = search needs
@@ -75,14 +72,14 @@ loop-again c =
       omega arith,
       ⊎-elim
           (λ g.
-          rw (g .4)
-          (changing-more (a .t1) (a .t2) (a .i) q f x (omega (arith, c .before .loop-test .taken)) (g .3 .result)
-          (g .3 .ensures
-          ∙ stands-twice (a .t1) (a .t2) (a .i) q f x (counts .standings .result) (counts .standings .ensures) (n .within .result) (n .within .ensures .0) (g .0 .taken))))
+          rw (g .3)
+          (changing-more (a .t1) (a .asked) q f x (omega (arith, c .before .loop-test .taken)) (g .2 .result)
+          (g .2 .ensures
+          ∙ stands-twice (a .t1) (a .asked) q f x (counts .standings .result) (counts .standings .ensures) (n .within .result) (n .within .ensures .0) (g .0 .taken))))
           (λ g.
           rw (g .1)
-          (changing-not (a .t1) (a .t2) (a .i) q f x
-          (stands-once (a .t1) (a .t2) (a .i) q f x (counts .standings .result) (counts .standings .ensures) (g .0 .left))))
+          (changing-not (a .t1) (a .asked) q f x
+          (stands-once (a .t1) (a .asked) q f x (counts .standings .result) (counts .standings .ensures) (g .0 .left))))
           (c .if1 .came),
     )
 
@@ -90,7 +87,7 @@ returns : tie.Need-returns Inv-loop μ-loop
 returns c =
     let l = c .before .loop in
     let a = c .before .before .before .before .before .before .before .args in
-    changing-all (a .t1) (a .t2) (a .i) (l .question) (l .f) (l .inv .1) (omega arith)
+    changing-all (a .t1) (a .asked) (l .question) (l .f) (l .inv .1) (omega arith)
 
 pub with-texts-spec : {M : Type 1} → statement M
 with-texts-spec =

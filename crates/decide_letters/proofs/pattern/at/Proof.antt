@@ -1,7 +1,7 @@
 -- `at` meets its contract: behind the array's end is nothing.
 use native.Mathlib.Omega.{arith}
-use mathlib.Core.Path.{_≡_, sym}
-use lib.ListN.{length, List·getD-eq-default}
+use mathlib.Core.Path.{sym}
+use lib.ListN.{List·getD-eq-default}
 use borrow.Author.Needs.{needs}
 use Rattle.decide_letters.proofs.pattern.at.Statement.{statement}
 use Rattle.decide_letters.proofs.pattern.at.Tie as tie

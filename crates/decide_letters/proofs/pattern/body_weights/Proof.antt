@@ -1,9 +1,9 @@
 -- `body_weights` meets its contract: where there is a length, the part that is lent is what the body says (`AtMost`).
-use Prim.Native.Nat.{ℕ, _+_, _-_, _≤_}
+use Prim.Native.Nat.{ℕ, _+_, _-_}
 use native.Mathlib.Omega.{arith}
-use mathlib.Core.Path.{_≡_, ap, _∙_}
+use mathlib.Core.Path.{ap, _∙_}
 use mathlib.Core.List.{List}
-use lib.ListN.{length, getD, drop, length-take, length-drop}
+use lib.ListN.{length, getD, drop, length-take}
 use borrow.Author.Needs.{needs}
 use Rattle.paper.specs.Alphabet.{codes}
 use Rattle.paper.proofs.base.Tests.{eq-eqb, neq-eqb}

@@ -1,7 +1,7 @@
 -- `pattern_weights` meets its contract. The loop's invariant: the codes from i on are done, and what they make stands from `top` on (`Walked`).
 use Prim.Native.Nat.{ℕ, _+_, _-_, _≤_}
 use native.Mathlib.Omega.{arith}
-use mathlib.Core.Path.{_≡_, sym, _∙_, subst}
+use mathlib.Core.Path.{sym, _∙_, subst}
 use mathlib.Core.List.{List}
 use lib.ListN.{length, length-map, List·getD-map}
 use Rattle.paper.specs.Numbers.{pattern-bytes}

@@ -1,7 +1,7 @@
 -- `field_times` meets its contract. The loop's invariant: the fields of the tokens before i are counted (`Timing`).
 use Prim.Native.Nat.{ℕ, _+_, _-_, _<_}
 use native.Mathlib.Omega.{arith}
-use mathlib.Core.Path.{_≡_, refl, _∙_}
+use mathlib.Core.Path.{_≡_, refl}
 use lib.ListN.{length, getD}
 use borrow.Author.Needs.{needs}
 use Rattle.paper.specs.Numbers.{fields, longest-side}

@@ -1,65 +1,77 @@
--- `with_field` meets its contract, by what its parts promise; a product of two small numbers is small.
-use Prim.Native.Nat.{ℕ, _+_, _*_, _^_, _≤_, _<_}
+-- `with_field` meets its contract, by what its parts promise.
+use Prim.Native.Nat.{ℕ, _*_, _^_, _≤_, _<_}
 use native.Mathlib.Nat.{mul-le-mul}
 use native.Mathlib.Omega.{arith}
-use mathlib.Core.Path.{ap}
-use mathlib.Core.Bool.{Bool, _&&_, _||_}
-use lib.Dec.{ltb}
-use Rattle.paper.specs.Numbers.{longest-side}
-use Rattle.decide_letters.specs.PatternStack.{part}
+use mathlib.Core.Path.{ap, ap₂, _∙_}
 use borrow.Author.Needs.{needs}
+use Rattle.paper.specs.Numbers.{longest-side}
+use Rattle.paper_decide.specs.Letters.{divisor}
+use Rattle.decide_letters.specs.PatternStack.{part, unpacked}
+use Rattle.decide_letters.specs.LettersCoded.{side-with}
 use Rattle.decide_letters.proofs.totals.with_field.Statement.{statement}
 use Rattle.decide_letters.proofs.totals.with_field.Tie as tie
 
-small : (n w : ℕ) → n ≤ longest-side → w < part → n * w < 2 ^ 64
+small : (n w : ℕ) → n ≤ 2 * longest-side → w < part → n * w < 2 ^ 64
 small n w h k = let p = mul-le-mul {n₁ = n} {m₁ = w} h (let l : w ≤ part = omega arith in l) in omega arith
 
-small-sum : (t n w : ℕ) → n ≤ longest-side → w < part → t < 2 ^ 32 → t + n * w < 2 ^ 64
-small-sum t n w h k r = let p = mul-le-mul {n₁ = n} {m₁ = w} h (let l : w ≤ part = omega arith in l) in omega arith
+surplus-requires : tie.Need-surplus-requires
+surplus-requires c κs = search needs
 
-least-requires : tie.Need-least-requires
-least-requires c κs = search needs
-
-mul-t5 : tie.Need-mul-t5
-mul-t5 c = record { fits = small (c .before .args .n) (c .least .result) (c .before .pre .0) (c .least .ensures .1) }
-
-add-t6 : tie.Need-add-t6
-add-t6 c =
-    let k = c .before in
-    let s = k .before in
-    record { fits = small-sum (s .args .t .least) (s .args .n) (k .least .result) (s .pre .0) (k .least .ensures .1) (s .pre .1) }
-
-most-requires : tie.Need-most-requires
-most-requires c κs = search needs
-
-mul-t8 : tie.Need-mul-t8
-mul-t8 c =
+side-with-requires : tie.Need-side-with-requires
+side-with-requires c κs =
     let s = c .before .before .before in
-    record { fits = small (s .args .n) (c .most .result) (s .pre .0) (c .most .ensures .1) }
+    (omega (arith, c .surplus .ensures, s .pre .0), s .pre .2 .left-least, s .pre .2 .left-most)
 
-add-t9 : tie.Need-add-t9
-add-t9 c =
+surplus-requires-2 : tie.Need-surplus-requires-2
+surplus-requires-2 c κs = search needs
+
+side-with-requires-2 : tie.Need-side-with-requires-2
+side-with-requires-2 c κs =
+    let s = c .before .before .before .before .before in
+    (omega (arith, c .surplus2 .ensures, s .pre .1), s .pre .2 .right-least, s .pre .2 .right-most)
+
+between-requires : tie.Need-between-requires
+between-requires c κs = search needs
+
+step-requires : tie.Need-step-requires
+step-requires c κs = search needs
+
+mul-divisor : tie.Need-mul-divisor
+mul-divisor c =
     let k = c .before in
-    let s = k .before .before .before in
-    record { fits = small-sum (s .args .t .most) (s .args .n) (k .most .result) (s .pre .0) (k .most .ensures .1) (s .pre .2) }
+    let s = k .before .before .before .before .before .before .before in
+    record { fits = small (k .between .result) (c .step .result) (omega (arith, k .between .ensures, s .pre .0, s .pre .1)) (c .step .ensures .1) }
 
-endless-requires : tie.Need-endless-requires
-endless-requires c κs = search needs
+divisor-requires : tie.Need-divisor-requires
+divisor-requires c κs = search needs
 
 returns : tie.Need-returns
 returns c =
-    let e = c .before in
-    let m = e .before .before in
-    let l = m .before .before in
-    let a = l .before .args in
+    let stepped = c .before in
+    let apart = stepped .before in
+    let right = apart .before in
+    let more-right = right .before in
+    let left = more-right .before in
+    let more-left = left .before in
+    let a = more-left .before .before .before .args in
+    let w = unpacked (a .w) in
     λ i.
     record {
-      least = a .t .least + a .n * l .least .ensures .0 i;
-      most = a .t .most + a .n * m .most .ensures .0 i;
-      endless = (ltb 0 (a .n) && e .endless .ensures i) || a .t .endless;
+      left = (left .side-with .ensures ∙ ap (λ (n : ℕ). side-with n w (a .t .left)) (more-left .surplus .ensures)) i;
+      right = (right .side-with2 .ensures ∙ ap (λ (n : ℕ). side-with n w (a .t .right)) (more-right .surplus2 .ensures)) i;
+      steps = (c .divisor .ensures ∙ ap₂ (λ (n d : ℕ). divisor (n * d) (a .t .steps)) (apart .between .ensures) (stepped .step .ensures .0)) i;
     }
 
 pub with-field-spec : {M : Type 1} → statement M
 with-field-spec =
     tie.close
-    (tie.spec least-requires mul-t5 add-t6 most-requires mul-t8 add-t9 endless-requires returns)
+    (tie.spec
+    surplus-requires
+    side-with-requires
+    surplus-requires-2
+    side-with-requires-2
+    between-requires
+    step-requires
+    mul-divisor
+    divisor-requires
+    returns)

@@ -1,5 +1,4 @@
 -- `divisor` meets its contract. The loop's invariant: x and y still give the divisor (`Turning`). What is left, y, falls.
-use Prim.Native.Nat.{_<_}
 use native.Mathlib.Nat.{mod-lt}
 use native.Mathlib.Omega.{arith}
 use Rattle.decide_letters.proofs.Divisors.{Turning, turning-first, turning-on, turning-done}

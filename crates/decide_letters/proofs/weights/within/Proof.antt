@@ -1,7 +1,6 @@
 -- `within` meets its contract, by its tests.
 use native.Mathlib.Omega.{arith}
-use mathlib.Core.Path.{_≡_, sym, ap, _∙_}
-use mathlib.Core.Bool.{true, false}
+use mathlib.Core.Path.{sym, ap, _∙_}
 use lib.Dec.{leb}
 use borrow.Author.Needs.{needs}
 use Rattle.decide_letters.proofs.Ranges.{any-below, any-at-most}
