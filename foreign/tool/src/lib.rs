@@ -14,6 +14,7 @@ pub mod notation;
 pub mod parallel;
 pub mod plain;
 pub mod progress;
+pub mod replace;
 pub mod report;
 pub mod run;
 pub mod sides;
