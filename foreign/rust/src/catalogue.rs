@@ -188,10 +188,12 @@ impl Iterator for Pairs<'_> {
     type Item = Pair;
 
     fn next(&mut self) -> Option<Pair> {
-        let &[lower, higher, answer, low, high] = self.rest.next()? else {
-            unreachable!("a pair has five bytes");
+        let (lower, higher, answer, count) = match *self.rest.next()? {
+            [lower, higher, answer, low, high] => {
+                (lower, higher, answer, usize::from(u16::from_le_bytes([low, high])))
+            }
+            _ => unreachable!("a pair has five bytes"),
         };
-        let count = usize::from(u16::from_le_bytes([low, high]));
         let answer = Answer::numbered(u32::from(answer), count, 0, 0);
         Some(Pair { lower: usize::from(lower), higher: usize::from(higher), answer })
     }

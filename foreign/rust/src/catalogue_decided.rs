@@ -108,10 +108,12 @@ impl Iterator for DecidedPairs<'_> {
     type Item = DecidedPair;
 
     fn next(&mut self) -> Option<DecidedPair> {
-        let &[lower, higher, answer, low, middle, high, search] = self.rest.next()? else {
-            unreachable!("a decided pair has seven bytes");
+        let (lower, higher, answer, count, search) = match *self.rest.next()? {
+            [lower, higher, answer, low, middle, high, search] => {
+                (lower, higher, answer, u32::from_le_bytes([low, middle, high, 0]) as usize, search)
+            }
+            _ => unreachable!("a decided pair has seven bytes"),
         };
-        let count = u32::from_le_bytes([low, middle, high, 0]) as usize;
         let answer = Answer::numbered(u32::from(answer), count, 0, 0);
         let (lower, higher) = (usize::from(lower), usize::from(higher));
         Some(DecidedPair { lower, higher, answer, search })

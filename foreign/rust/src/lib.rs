@@ -597,10 +597,11 @@ impl<'a> Iterator for Texts<'a> {
     type Item = Text<'a>;
 
     fn next(&mut self) -> Option<Text<'a>> {
-        let &[b'V', b'A', field, low, high] = self.rest.get(..RECORD_HEAD)? else {
-            return None;
+        let (field, length) = match *self.rest.get(..RECORD_HEAD)? {
+            [b'V', b'A', field, low, high] => (field, u16::from_le_bytes([low, high])),
+            _ => return None,
         };
-        let end = RECORD_HEAD + usize::from(u16::from_le_bytes([low, high]));
+        let end = RECORD_HEAD + usize::from(length);
         let values = self.rest.get(RECORD_HEAD..end)?;
         self.rest = &self.rest[end..];
         Some(Text { field, values })

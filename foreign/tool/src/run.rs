@@ -13,18 +13,15 @@ use bradovusc::{
 
 use crate::ask::{Asked, Buffers};
 use crate::catalogue::{Catalogue, BYTES};
-use crate::compile::judge;
+use crate::compile;
 use crate::json::Object;
-use crate::notation::{self, pattern_text, rule_text, template_text, Rule};
+use crate::notation::{pattern_text, rule_text, template_text, Rule};
 use crate::parallel::{in_order, processors, Event};
 use crate::progress::Progress;
-use crate::report::{
-    counted, grouped, pair_in, pair_object, pair_words, problem_objects, problem_words, titled,
-    Tally,
-};
+use crate::report::{counted, grouped, pair_in, pair_object, pair_words, titled, Tally};
 use crate::sides::{sheet, Side, Title};
 use crate::source::Source;
-use crate::status::{Problem, Status};
+use crate::status::{problem_objects, problem_words, Problem, Status};
 use crate::way::{follow, way_objects, way_words, Row};
 use crate::words::{self, Command, Options, USAGE};
 
@@ -196,7 +193,7 @@ impl Run<'_> {
         if !json {
             self.streams.output.write_all(tally.summary(rules.len()).as_bytes())?;
         }
-        Ok(tally.status())
+        Ok(tally.into())
     }
 
     fn pair(&mut self, path: &Path, left: &str, right: &str) -> Outcome {
@@ -334,7 +331,7 @@ impl Run<'_> {
         if !json {
             self.streams.output.write_all(tally.summary(entries.len()).as_bytes())?;
         }
-        Ok(tally.status())
+        Ok(tally.into())
     }
 
     fn add(&mut self, path: &Path, file: &Path, rule: &str) -> Outcome {
@@ -451,28 +448,12 @@ fn library_says(answer: impl fmt::Display) -> Problem {
 fn status_of(answer: Answer) -> Status {
     let mut tally = Tally::default();
     tally.count(answer);
-    tally.status()
+    tally.into()
 }
 
 /// The rules of a source as the library reads them.
 pub fn judged(source: Source) -> Result<Vec<Side>, Problem> {
-    let rules = match notation::read(&source) {
-        Ok(rules) => rules,
-        Err(mistakes) => return Err(Problem::Mistakes(source, mistakes)),
-    };
-    let (mut sides, mut mistakes) = (Vec::new(), Vec::new());
-    for rule in &rules {
-        match judge(rule) {
-            Ok(side) => sides.push(side),
-            Err(mistake) => mistakes.push(mistake),
-        }
-    }
-    if mistakes.is_empty() {
-        Ok(sides)
-    } else {
-        mistakes.sort_by_key(|mistake| mistake.span);
-        Err(Problem::Mistakes(source, mistakes))
-    }
+    compile::judged(&source).map_err(|mistakes| Problem::Mistakes(source, mistakes))
 }
 
 /// The rule with this name.

@@ -3,6 +3,8 @@
 use std::io;
 use std::path::Path;
 
+use crate::json::Object;
+use crate::report::{counted, mistake_object, Tally};
 use crate::source::{Mistake, Source};
 
 /// How a command ends.
@@ -23,6 +25,17 @@ pub enum Status {
 impl Status {
     pub fn number(self) -> u8 {
         self as u8
+    }
+}
+
+/// A clash comes before all else.
+impl From<Tally> for Status {
+    fn from(tally: Tally) -> Status {
+        match tally {
+            Tally { clashes: 1.., .. } => Status::Clash,
+            Tally { not_decided: 1.., .. } => Status::NotDecided,
+            _ => Status::Good,
+        }
     }
 }
 
@@ -55,5 +68,45 @@ impl Problem {
 impl From<io::Error> for Problem {
     fn from(error: io::Error) -> Problem {
         Problem::Failure(format!("the output can't be written: {error}"))
+    }
+}
+
+/// Why there is no answer, in words.
+pub fn problem_words(problem: &Problem) -> String {
+    match problem {
+        Problem::Mistakes(source, mistakes) => {
+            let shown: String =
+                mistakes.iter().map(|mistake| source.show(mistake).to_string()).collect();
+            let mistakes = counted(mistakes.len(), "mistake", "mistakes");
+            format!("{shown}{}: {mistakes}; nothing was done\n", source.name)
+        }
+        Problem::Fault(words) | Problem::Failure(words) => format!("bradovusc: {words}\n"),
+    }
+}
+
+/// Why there is no answer, as objects.
+pub fn problem_objects(problem: &Problem) -> String {
+    match problem {
+        Problem::Mistakes(source, mistakes) => {
+            mistakes.iter().map(|mistake| mistake_object(source, mistake).done() + "\n").collect()
+        }
+        Problem::Fault(words) | Problem::Failure(words) => {
+            let status = usize::from(problem.status().number());
+            Object::new().text("error", words).number("status", status).done() + "\n"
+        }
+    }
+}
+
+#[cfg(test)]
+mod tests {
+    use super::*;
+
+    #[test]
+    fn a_tally_is_a_clash_before_all_else() {
+        let status =
+            |clashes, not_decided, apart| Status::from(Tally { clashes, not_decided, apart });
+        assert_eq!(status(1, 1, 1), Status::Clash);
+        assert_eq!(status(0, 1, 1), Status::NotDecided);
+        assert_eq!(status(0, 0, 1), Status::Good);
     }
 }

@@ -8,11 +8,10 @@ use std::fs;
 use bradovusc::{drop_strays, Edition, Mended};
 use bradovusc_tool::ask::{Buffers, Room};
 use bradovusc_tool::notation::{read, rule_text};
-use bradovusc_tool::report::{problem_objects, problem_words};
 use bradovusc_tool::run::judged;
 use bradovusc_tool::sides::sheet;
 use bradovusc_tool::source::{Mistake, Source};
-use bradovusc_tool::status::Problem;
+use bradovusc_tool::status::{problem_objects, problem_words, Problem};
 use common::{files, golden, Dice};
 
 const FILES: usize = 10_000;

@@ -3,10 +3,10 @@
 
 use bradovusc::{Answer, Fault, RULE_FIELDS};
 
-use crate::notation::{Field, Rule, Stands};
 use crate::plain::{plain, Form, Plain};
 use crate::sides::{Side, Title};
-use crate::source::{Mistake, Span};
+use crate::source::{Mistake, Source, Span};
+use crate::{read, Field, Rule, Stands};
 
 /// A pattern has at most so many bytes.
 const PATTERN_BYTES: usize = 192;
@@ -88,6 +88,23 @@ pub fn judge(rule: &Rule) -> Result<Side, Mistake> {
     }
 }
 
+/// The rules of a source as the library reads them, or all mistakes, in the order of its lines.
+pub fn judged(source: &Source) -> Result<Vec<Side>, Vec<Mistake>> {
+    let (mut sides, mut mistakes) = (Vec::new(), Vec::new());
+    for rule in &read(source)? {
+        match judge(rule) {
+            Ok(side) => sides.push(side),
+            Err(mistake) => mistakes.push(mistake),
+        }
+    }
+    mistakes.sort_by_key(|mistake: &Mistake| mistake.span);
+    if mistakes.is_empty() {
+        Ok(sides)
+    } else {
+        Err(mistakes)
+    }
+}
+
 /// A rule, and the front of a sheet with it on the left, with the origin of each byte.
 struct Compiled {
     side: Side,
@@ -105,8 +122,9 @@ fn compile(rule: &Rule) -> Compiled {
     let mut patterns = Vec::new();
     front.mark(edition.record(), rule.span);
     for (index, field) in rule.fields.iter().enumerate() {
-        let Some(pattern) = &field.pattern else {
-            continue;
+        let pattern = match &field.pattern {
+            Some(pattern) => pattern,
+            None => continue,
         };
         let mut body = Traced::default();
         let wanted = plain(pattern).map(|plain| {
@@ -187,9 +205,8 @@ fn too_many_fields(span: Span, field: usize) -> Mistake {
 impl Traced {
     /// A fault that the library found, where the byte at fault is from.
     fn mistake(&self, fault: Fault, place: usize) -> Mistake {
-        let Some(&Origin { span, says }) = self.origins.get(place).or(self.origins.last()) else {
-            return Mistake::new(Span::default(), format!("the library says: {fault}"));
-        };
+        let origin = self.origins.get(place).or(self.origins.last());
+        let (span, says) = origin.map_or((Span::default(), Says::Mark), |at| (at.span, at.says));
         match (fault, says) {
             (Fault::WrongLength, Says::SideLength(tokens)) => Mistake::new(
                 span,
@@ -226,18 +243,15 @@ const SHORTER: &str =
 #[cfg(test)]
 mod tests {
     use super::*;
-    use crate::notation::read;
     use crate::sides::sheet;
-    use crate::source::Source;
 
-    fn judged(text: &str) -> Vec<Side> {
-        let rules = read(&Source::new("f", text.as_bytes())).unwrap();
-        rules.iter().map(|rule| judge(rule).unwrap()).collect()
+    fn sides(text: &str) -> Vec<Side> {
+        judged(&Source::new("f", text.as_bytes())).unwrap()
     }
 
     #[test]
     fn a_rule_and_a_sheet() {
-        let rules = judged("a = LT{x}{y}\n y = [0-9]*\nb = {n}4{n}\n n = A|BR\n");
+        let rules = sides("a = LT{x}{y}\n y = [0-9]*\nb = {n}4{n}\n n = A|BR\n");
         assert_eq!(rules[0].record(), b"RUPA\x01\x04\x44\x41\x00\x09LE\x04\x15\x1D\x40\x41");
         assert_eq!(rules[1].record(), b"RUPA\x00\x05\x43\x0A\x42\x0B\x1BLE\x03\x40\x04\x40");
         assert_eq!(
@@ -250,7 +264,7 @@ mod tests {
     /// pattern and stands is never stray, wherever it stands.
     #[test]
     fn no_strays() {
-        let rules = judged("a = A{x}{x}\n x = B\nb = {n}{m}{o}{p}\n p = A\n m = B*\nc = A\n");
+        let rules = sides("a = A{x}{x}\n x = B\nb = {n}{m}{o}{p}\n p = A\n m = B*\nc = A\n");
         for (left, right) in
             rules.iter().flat_map(|left| rules.iter().map(move |right| (left, right)))
         {
@@ -279,7 +293,7 @@ mod tests {
     #[test]
     fn in_full_ascii() {
         let rules =
-            judged("full ascii\na = Lt{x}\\<GS>\n x = [a-z]*\nb = {n}\\#@{n}\n n = \\{|()\n");
+            sides("full ascii\na = Lt{x}\\<GS>\n x = [a-z]*\nb = {n}\\#@{n}\n n = \\{|()\n");
         assert_eq!(
             sheet(&rules[0], &rules[1]).unwrap(),
             b"ED\x02PA\x00\x04\xC4\xC1azPA\x04\x03\xC3{\xC0LE\x04Lt\xC0\x1DRI\x04\xC4#@\xC4"

@@ -6,8 +6,8 @@
 //! texts a pattern takes.
 
 use crate::characters::Set;
-use crate::notation::{Kind, Pattern};
 use crate::source::Span;
+use crate::{Kind, Pattern};
 
 /// A pattern, and the part of the source that it is from.
 #[derive(Clone, Debug)]
@@ -203,8 +203,9 @@ fn group(rows: Vec<Vec<Plain>>, span: Span) -> Plain {
     let mut begun: Vec<(Plain, Vec<Vec<Plain>>)> = Vec::new();
     for row in rows {
         let mut parts = row.into_iter();
-        let Some(first) = parts.next() else {
-            continue;
+        let first = match parts.next() {
+            Some(first) => first,
+            None => continue,
         };
         let rest: Vec<Plain> = parts.collect();
         match begun.iter_mut().find(|(known, _)| *known == first) {

@@ -1,8 +1,8 @@
 //! Reads a template: characters and fields.
 
-use super::cursor::{is_blank, quoted, Cursor, Result};
-use super::{Field, Stands, Token};
+use crate::cursor::{is_blank, quoted, Cursor, Result};
 use crate::source::{Mistake, Span};
+use crate::{Field, Stands, Token};
 
 const A_FIELD: &str = "a field is written {name}, where a name has letters, digits, _ and -";
 const THE_EMPTY_LABEL: &str = "() is the template of a rule that makes the empty label alone";
@@ -63,9 +63,8 @@ impl Cursor<'_> {
     /// A character or a field.
     fn token(&mut self, fields: &mut Vec<Field>) -> Result<Stands> {
         let start = self.at;
-        let Some(sign) = self.take() else {
-            return Err(Mistake::new(self.here(), "a character is missing here"));
-        };
+        let missing = "a character is missing here";
+        let sign = self.take().ok_or_else(|| Mistake::new(self.here(), missing))?;
         match sign {
             '{' => Ok(Stands::Field(self.standing(start, fields)?)),
             '\\' => Ok(Stands::Character(self.escaped(start)?)),
@@ -87,10 +86,10 @@ impl Cursor<'_> {
 
     /// A field of a template, whose { is taken: its place among the fields.
     fn standing(&mut self, start: usize, fields: &mut Vec<Field>) -> Result<usize> {
-        let Some(name) = self.name() else {
-            return Err(Mistake::new(self.from(start), "a field without a name")
-                .hint(self.and_itself(A_FIELD, '{')));
-        };
+        let name = self.name().ok_or_else(|| {
+            Mistake::new(self.from(start), "a field without a name")
+                .hint(self.and_itself(A_FIELD, '{'))
+        })?;
         match self.next() {
             Some('}') => self.at += 1,
             Some(sign) => {

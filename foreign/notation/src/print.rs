@@ -4,8 +4,8 @@ use std::fmt::Write;
 
 use bradovusc::Edition;
 
-use super::{Kind, Pattern, Rule, Stands};
 use crate::characters::{control_name, sign, Set};
+use crate::{Kind, Pattern, Rule, Stands};
 
 /// A rule's lines, each ended.
 pub fn rule_text(rule: &Rule) -> String {

@@ -4,9 +4,9 @@
 use bradovusc::{Edition, Withdrawn};
 
 use crate::characters::Set;
-use crate::notation::{Field, Kind, Pattern, Rule, Stands, Token};
 use crate::sides::{Side, Title, RIGHT};
 use crate::source::Span;
+use crate::{Field, Kind, Pattern, Rule, Stands, Token};
 
 /// The edition of every rule of a catalogue.
 const EDITION: Edition = Edition::Code39;

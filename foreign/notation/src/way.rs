@@ -4,7 +4,7 @@
 use bradovusc::{Edition, Step};
 
 use crate::json::Object;
-use crate::notation::{character_text, told_text, Place};
+use crate::print::{character_text, told_text, Place};
 use crate::sides::{Side, RIGHT};
 
 /// The hidden fields of a sheet: the spaces at the end of the left side and of the right one.
@@ -182,7 +182,7 @@ pub fn way_words(left: &Side, right: &Side, rows: &[Row]) -> String {
         "what was done".to_string(),
     ]];
     for (number, row) in rows.iter().enumerate() {
-        let [on_left, on_right] = row.sides.each_ref().map(|side| names.side(side));
+        let [on_left, on_right] = [&row.sides[0], &row.sides[1]].map(|side| names.side(side));
         let label = told_text(left.edition, &row.label);
         table.push([number.to_string(), label, on_left, on_right, names.done(row)]);
     }
@@ -221,7 +221,7 @@ pub fn way_objects(left: &Side, right: &Side, rows: &[Row]) -> Vec<Object> {
                 })
             }
         };
-        let [on_left, on_right] = row.sides.each_ref().map(|side| names.side(side));
+        let [on_left, on_right] = [&row.sides[0], &row.sides[1]].map(|side| names.side(side));
         object
             .text("label", &left.edition.text(&row.label))
             .text("left", &on_left)

@@ -66,7 +66,7 @@ impl<'a> Cursor<'a> {
 
     pub fn skip_blanks(&mut self) -> bool {
         let start = self.at;
-        while self.next().is_some_and(is_blank) {
+        while self.next().map_or(false, is_blank) {
             self.at += 1;
         }
         self.at > start
@@ -75,10 +75,10 @@ impl<'a> Cursor<'a> {
     /// A name, an equals sign and the blanks around it.
     pub fn name_and_sign(&mut self, form: &str) -> Result<(String, Span)> {
         let start = self.at;
-        let Some(name) = self.name() else {
-            return Err(Mistake::new(self.here(), "a name is missing here")
-                .hint(format!("{form}; a name has letters, digits, _ and -")));
-        };
+        let name = self.name().ok_or_else(|| {
+            Mistake::new(self.here(), "a name is missing here")
+                .hint(format!("{form}; a name has letters, digits, _ and -"))
+        })?;
         let span = self.from(start);
         self.skip_blanks();
         match self.next() {
@@ -97,7 +97,7 @@ impl<'a> Cursor<'a> {
 
     pub fn name(&mut self) -> Option<String> {
         let start = self.at;
-        while self.next().is_some_and(is_name) {
+        while self.next().map_or(false, is_name) {
             self.at += 1;
         }
         (self.at > start).then(|| self.signs[start..self.at].iter().collect())

@@ -1,12 +1,28 @@
-//! The notation of a file of rules: what a rule is, how it is read and how it is printed.
+//! The notation of label rules, from a text to what is said of two of them: read, compiled for the
+//! proved library, asked about, and told in words or in JSON.
 //!
-//! docs/NOTATION.md has it with examples.
+//! A [`Source`](source::Source) is read into rules ([`read`]); the library judges them
+//! ([`judged`](compile::judged)), so that a mistake is told at its place; two of them are asked about
+//! ([`ask`]), and the answer is told ([`report`], [`way`]). Rules are printed too ([`rule_text`]), also
+//! from the bytes of a catalogue ([`decompile`]). docs/NOTATION.md has the notation with examples.
+//!
+//! No file, thread, clock or terminal is touched here: the caller has those.
 
+pub mod ask;
+pub mod characters;
+pub mod compile;
 mod cursor;
+pub mod decompile;
+pub mod json;
 mod pattern;
+pub mod plain;
 mod print;
 mod read;
+pub mod report;
+pub mod sides;
+pub mod source;
 mod template;
+pub mod way;
 
 pub use print::{character_text, pattern_text, rule_text, template_text, told_text, Place};
 pub use read::read;

@@ -4,9 +4,9 @@ use std::collections::HashMap;
 
 use bradovusc::Edition;
 
-use super::cursor::{is_blank, Cursor, Result};
-use super::Rule;
+use crate::cursor::{is_blank, Cursor, Result};
 use crate::source::{Mistake, Source, Span};
+use crate::Rule;
 
 /// The rules of a file, or all mistakes that are found in it: at most one a line.
 pub fn read(source: &Source) -> Result<Vec<Rule>, Vec<Mistake>> {

@@ -72,7 +72,9 @@ impl Source {
         let bytes = bytes.strip_prefix(BYTE_ORDER_MARK).unwrap_or(bytes);
         let mut lines: Vec<Line> = bytes.split(|&byte| byte == b'\n').map(Line::of).collect();
         // behind the last newline no line begins
-        lines.pop_if(|last| last.signs.is_empty());
+        if lines.last().map_or(false, |last| last.signs.is_empty()) {
+            lines.pop();
+        }
         Source { name: name.into(), lines }
     }
 

@@ -4,10 +4,9 @@ use bradovusc::{spelt_bytes, Answer, Edition};
 
 use crate::ask::{Asked, Shared};
 use crate::json::Object;
-use crate::notation::told_text;
+use crate::print::told_text;
 use crate::sides::{Side, Text, Title};
 use crate::source::{Mistake, Source};
-use crate::status::{Problem, Status};
 
 /// A side of a situation has at most so many tokens.
 const LONGEST_SIDE: usize = 48;
@@ -17,7 +16,7 @@ pub fn grouped(number: usize) -> String {
     let digits = number.to_string();
     let mut text = String::new();
     for (index, digit) in digits.chars().enumerate() {
-        if index > 0 && (digits.len() - index).is_multiple_of(3) {
+        if index > 0 && (digits.len() - index) % 3 == 0 {
             text.push(',');
         }
         text.push(digit);
@@ -44,14 +43,6 @@ impl Tally {
             Some(true) => self.clashes += 1,
             Some(false) => self.apart += 1,
             None => self.not_decided += 1,
-        }
-    }
-
-    pub fn status(self) -> Status {
-        match self {
-            Tally { clashes: 1.., .. } => Status::Clash,
-            Tally { not_decided: 1.., .. } => Status::NotDecided,
-            _ => Status::Good,
         }
     }
 
@@ -181,33 +172,8 @@ fn fields_object(side: &Side, texts: &[Text]) -> Object {
     })
 }
 
-/// Why there is no answer, in words.
-pub fn problem_words(problem: &Problem) -> String {
-    match problem {
-        Problem::Mistakes(source, mistakes) => {
-            let shown: String =
-                mistakes.iter().map(|mistake| source.show(mistake).to_string()).collect();
-            let mistakes = counted(mistakes.len(), "mistake", "mistakes");
-            format!("{shown}{}: {mistakes}; nothing was done\n", source.name)
-        }
-        Problem::Fault(words) | Problem::Failure(words) => format!("bradovusc: {words}\n"),
-    }
-}
-
-/// Why there is no answer, as objects.
-pub fn problem_objects(problem: &Problem) -> String {
-    match problem {
-        Problem::Mistakes(source, mistakes) => {
-            mistakes.iter().map(|mistake| mistake_object(source, mistake).done() + "\n").collect()
-        }
-        Problem::Fault(words) | Problem::Failure(words) => {
-            let status = usize::from(problem.status().number());
-            Object::new().text("error", words).number("status", status).done() + "\n"
-        }
-    }
-}
-
-fn mistake_object(source: &Source, mistake: &Mistake) -> Object {
+/// A mistake in a source, as an object.
+pub fn mistake_object(source: &Source, mistake: &Mistake) -> Object {
     let object = Object::new()
         .text("mistake", &mistake.words)
         .text("file", &source.name)
@@ -228,13 +194,5 @@ mod tests {
     fn numbers_in_groups() {
         let texts = [0, 7, 999, 1_000, 65_535, 1_234_567].map(grouped);
         assert_eq!(texts, ["0", "7", "999", "1,000", "65,535", "1,234,567"]);
-    }
-
-    #[test]
-    fn a_tally_is_a_clash_before_all_else() {
-        let tally = |clashes, not_decided, apart| Tally { clashes, not_decided, apart }.status();
-        assert_eq!(tally(1, 1, 1), Status::Clash);
-        assert_eq!(tally(0, 1, 1), Status::NotDecided);
-        assert_eq!(tally(0, 0, 1), Status::Good);
     }
 }

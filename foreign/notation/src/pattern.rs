@@ -2,11 +2,11 @@
 
 use bradovusc::Edition;
 
-use super::cursor::{is_blank, quoted, Cursor, Result};
-use super::print::{character_text, Place};
-use super::{Kind, Pattern};
 use crate::characters::{sign, Set};
+use crate::cursor::{is_blank, quoted, Cursor, Result};
+use crate::print::{character_text, Place};
 use crate::source::{Mistake, Span};
+use crate::{Kind, Pattern};
 
 /// Brackets within brackets, up to so many.
 const MOST_NESTED: usize = 100;
@@ -82,8 +82,9 @@ impl Cursor<'_> {
     fn part(&mut self, nested: usize) -> Result<Pattern> {
         let start = self.at;
         let one = self.one(nested)?;
-        let Some((least, most)) = self.times()? else {
-            return Ok(one);
+        let (least, most) = match self.times()? {
+            Some(times) => times,
+            None => return Ok(one),
         };
         let span = self.from(start);
         let again = self.at;
@@ -104,9 +105,8 @@ impl Cursor<'_> {
     /// A character, a class, or a pattern in brackets.
     fn one(&mut self, nested: usize) -> Result<Pattern> {
         let start = self.at;
-        let Some(sign) = self.take() else {
-            return Err(Mistake::new(self.here(), "a part of the pattern is missing here"));
-        };
+        let missing = "a part of the pattern is missing here";
+        let sign = self.take().ok_or_else(|| Mistake::new(self.here(), missing))?;
         let wrong =
             |words: String, hint: &str| Err(Mistake::new(self.from(start), words).hint(hint));
         let set = match sign {

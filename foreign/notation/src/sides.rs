@@ -87,7 +87,9 @@ impl Side {
 
 /// Drops the spaces at the end of a label.
 pub fn without_spaces(edition: Edition, label: &mut Vec<u8>) {
-    while label.pop_if(|last| *last == edition.space()).is_some() {}
+    while label.last() == Some(&edition.space()) {
+        label.pop();
+    }
 }
 
 /// The sheet that asks whether two rules make the same label. The library writes it, or says what is
