@@ -5,6 +5,7 @@
 //! of the command. docs/NOTATION.md has the notation, the commands, the JSON and the exit statuses.
 
 pub mod catalogue;
+pub mod near;
 pub mod parallel;
 pub mod progress;
 pub mod replace;

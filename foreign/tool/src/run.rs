@@ -23,7 +23,7 @@ use crate::sides::{sheet, Side, Title};
 use crate::source::Source;
 use crate::status::{problem_objects, problem_words, Problem, Status};
 use crate::way::{follow, way_objects, way_words, Row};
-use crate::words::{self, Command, Options, USAGE};
+use crate::words::{self, Command, Options};
 
 /// Where a command reads and writes.
 pub struct Streams<'a> {
@@ -88,7 +88,7 @@ impl Run<'_> {
             Command::Recheck { catalogue } => self.recheck(&catalogue),
             Command::Script { file, left, right } => self.script(&file, &left, &right),
             Command::Sheet { file, left, right } => self.sheet(&file, &left, &right),
-            Command::Help => self.say(USAGE, || Object::new().text("help", USAGE)),
+            Command::Help { text } => self.say(&text, || Object::new().text("help", &text)),
             Command::Version => {
                 let version = bradovusc::VERSION;
                 let object = || Object::new().text("version", version);

@@ -6,6 +6,7 @@ use std::path::PathBuf;
 use bradovusc::MOST_SITUATIONS;
 
 use crate::ask::Room;
+use crate::near::nearest;
 use crate::report::grouped;
 
 pub const USAGE: &str = "\
@@ -19,6 +20,7 @@ bradovusc: can two label rules make the same label?
     bradovusc recheck CATALOGUE             every pair of the rules that are there
     bradovusc script FILE A B               writes a script for string solvers such as z3
     bradovusc sheet FILE A B                writes the bytes that ask the library
+    bradovusc help [COMMAND]                prints this, or what is there of one command
 
 FILE is a file of rules, or - for standard input. Options:
 
@@ -28,7 +30,8 @@ FILE is a file of rules, or - for standard input. Options:
     --threads N   so many threads; else as many as there are processors
     --new         add: the catalogue is begun; without it the file must be there
     --bytes N     the catalogue file has N bytes; else 26,016
-    --help, --version
+    --help, -h    prints this
+    --version, -V prints the version
 
 Exit status: 0 no clash anywhere, or done; 1 a clash; 2 something not decided, and no clash known;
 3 a fault in a file, in a catalogue or in these words; 4 something could not be read or written.
@@ -45,7 +48,7 @@ pub enum Command {
     Recheck { catalogue: PathBuf },
     Script { file: PathBuf, left: String, right: String },
     Sheet { file: PathBuf, left: String, right: String },
-    Help,
+    Help { text: String },
     Version,
 }
 
@@ -73,6 +76,33 @@ impl Default for Options {
     }
 }
 
+/// A command: its name, the words behind it, and its options besides `--json`.
+pub struct Form {
+    pub name: &'static str,
+    pub words: &'static str,
+    pub options: &'static [&'static str],
+}
+
+const fn form(name: &'static str, words: &'static str, options: &'static [&'static str]) -> Form {
+    Form { name, words, options }
+}
+
+/// All commands.
+pub const COMMANDS: [Form; 9] = [
+    form("check", "FILE", &["--room", "--threads"]),
+    form("pair", "FILE A B", &["--room", "--steps"]),
+    form("add", "CATALOGUE FILE RULE", &["--room", "--new", "--bytes"]),
+    form("withdraw", "CATALOGUE NUMBER", &["--bytes"]),
+    form("list", "CATALOGUE", &["--bytes"]),
+    form("recheck", "CATALOGUE", &["--room", "--threads", "--bytes"]),
+    form("script", "FILE A B", &[]),
+    form("sheet", "FILE A B", &[]),
+    form("help", "[COMMAND]", &[]),
+];
+
+/// The options of all commands.
+pub const FOR_ALL: [&str; 3] = ["--json", "--help", "--version"];
+
 /// The options that were given, by name, in their order.
 type Given = Vec<&'static str>;
 
@@ -83,7 +113,7 @@ pub fn read(words: &[OsString]) -> (Options, Result<Command, String>) {
     let result = sort(words, &mut options, &mut given, &mut plain);
     let command = result.and_then(|()| {
         if given.contains(&"--help") {
-            Ok(Command::Help)
+            Ok(Command::Help { text: USAGE.to_string() })
         } else if given.contains(&"--version") {
             Ok(Command::Version)
         } else {
@@ -152,8 +182,8 @@ fn sort(
                 "--steps"
             }
             "--help" | "-h" => "--help",
-            "--version" => "--version",
-            _ => return Err(format!("{name} is no option; {TRY}")),
+            "--version" | "-V" => "--version",
+            _ => return Err(format!("{name} is no option; {}", instead(&name, all_options()))),
         });
     }
     Ok(())
@@ -166,20 +196,15 @@ fn command(plain: &[OsString], given: &Given) -> Result<Command, String> {
     let name = name.to_string_lossy();
     let path = |index: usize| PathBuf::from(&words[index]);
     let text = |index: usize| words[index].to_string_lossy().into_owned();
-    let (form, options): (&str, &[&str]) = match &*name {
-        "check" => ("FILE", &["--room", "--threads"]),
-        "pair" => ("FILE A B", &["--room", "--steps"]),
-        "add" => ("CATALOGUE FILE RULE", &["--room", "--new", "--bytes"]),
-        "withdraw" => ("CATALOGUE NUMBER", &["--bytes"]),
-        "list" => ("CATALOGUE", &["--bytes"]),
-        "recheck" => ("CATALOGUE", &["--room", "--threads", "--bytes"]),
-        "script" | "sheet" => ("FILE A B", &[]),
-        _ => return Err(format!("'{name}' is no command; {TRY}")),
-    };
-    if words.len() != form.split(' ').count() {
-        return Err(format!("the form is: bradovusc {name} {form}"));
+    let form = form_of(&name)?;
+    if name == "help" {
+        return help(words);
     }
-    if let Some(option) = given.iter().find(|name| **name != "--json" && !options.contains(name)) {
+    if words.len() != form.words.split(' ').count() {
+        return Err(format!("the form is: bradovusc {name} {}", form.words));
+    }
+    let known = |option: &&str| *option == "--json" || form.options.contains(option);
+    if let Some(option) = given.iter().find(|option| !known(option)) {
         return Err(format!("{name} has no option {option}"));
     }
     Ok(match &*name {
@@ -197,4 +222,47 @@ fn command(plain: &[OsString], given: &Given) -> Result<Command, String> {
         "script" => Command::Script { file: path(0), left: text(1), right: text(2) },
         _ => Command::Sheet { file: path(0), left: text(1), right: text(2) },
     })
+}
+
+fn form_of(name: &str) -> Result<&'static Form, String> {
+    let names = COMMANDS.iter().map(|form| form.name);
+    let form = COMMANDS.iter().find(|form| form.name == name);
+    form.ok_or_else(|| format!("'{name}' is no command; {}", instead(name, names)))
+}
+
+/// Everything, or what is said of one command and its options.
+fn help(words: &[OsString]) -> Result<Command, String> {
+    let text = match words {
+        [] => USAGE.to_string(),
+        [name] => {
+            let form = form_of(&name.to_string_lossy())?;
+            let said = USAGE.split_inclusive('\n').filter(|line| says(line, form));
+            said.collect()
+        }
+        _ => return Err("the form is: bradovusc help [COMMAND]".to_string()),
+    };
+    Ok(Command::Help { text })
+}
+
+/// Whether a line of the usage is of this command, or of an option that it has.
+fn says(line: &str, form: &Form) -> bool {
+    let mut words = line.split([' ', ',']).filter(|word| !word.is_empty());
+    match (line.starts_with("    "), words.next()) {
+        (true, Some("bradovusc")) => words.next() == Some(form.name),
+        (true, Some(option)) => form.options.contains(&option) || FOR_ALL.contains(&option),
+        _ => false,
+    }
+}
+
+/// The options of every command.
+fn all_options() -> impl Iterator<Item = &'static str> {
+    FOR_ALL.into_iter().chain(COMMANDS.iter().flat_map(|form| form.options.iter().copied()))
+}
+
+/// What may have been meant by a word that is not known; else where to look.
+fn instead(word: &str, known: impl Iterator<Item = &'static str>) -> String {
+    match nearest(word, known) {
+        Some(near) => format!("did you mean {near}?"),
+        None => TRY.to_string(),
+    }
 }
