@@ -149,8 +149,8 @@ mod tests {
     #[test]
     fn a_rule_that_the_library_refuses() {
         let (edition, title) = (Edition::Code39, Title::Number(0));
-        let side =
-            Side { edition, title, patterns: Vec::new(), tokens: vec![4, 43], fields: Vec::new() };
+        let (place, patterns, fields) = (None, Vec::new(), Vec::new());
+        let side = Side { edition, title, place, patterns, tokens: vec![4, 43], fields };
         let asked = Buffers::new().ask(&side, &side, Room::Growing);
         assert_eq!(asked.answer, Answer::Refused { fault: Fault::WrongToken, place: 4 });
         assert!(asked.shared.is_none());

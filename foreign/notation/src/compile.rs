@@ -1,10 +1,12 @@
 //! Rules as bytes, for the library. Of each byte it is known from which part of the source it was
 //! made, so that a fault which the library finds can be shown there.
 
+use std::sync::Arc;
+
 use bradovusc::{Answer, Fault, RULE_FIELDS};
 
 use crate::plain::{plain, Form, Plain};
-use crate::sides::{Side, Title};
+use crate::sides::{Place, Side, Title};
 use crate::source::{Mistake, Source, Span};
 use crate::{read, Field, Rule, Stands};
 
@@ -91,9 +93,11 @@ pub fn judge(rule: &Rule) -> Result<Side, Mistake> {
 /// The rules of a source as the library reads them, or all mistakes, in the order of its lines.
 pub fn judged(source: &Source) -> Result<Vec<Side>, Vec<Mistake>> {
     let (mut sides, mut mistakes) = (Vec::new(), Vec::new());
+    let file: Arc<str> = source.name.as_str().into();
     for rule in &read(source)? {
+        let place = Place { file: file.clone(), line: Some(rule.span.line) };
         match judge(rule) {
-            Ok(side) => sides.push(side),
+            Ok(side) => sides.push(Side { place: Some(place), ..side }),
             Err(mistake) => mistakes.push(mistake),
         }
     }
@@ -154,10 +158,8 @@ fn compile(rule: &Rule) -> Compiled {
     }
     let name = |(index, field): (usize, &Field)| (byte(index), field.name.clone());
     let fields = rule.fields.iter().enumerate().map(name).collect();
-    Compiled {
-        side: Side { edition, title: Title::Name(rule.name.clone()), patterns, tokens, fields },
-        front,
-    }
+    let (title, place) = (Title::Name(rule.name.clone()), None);
+    Compiled { side: Side { edition, title, place, patterns, tokens, fields }, front }
 }
 
 /// A pattern, operator first, in the codes of an edition.

@@ -82,7 +82,7 @@ impl<'a> Reader<'a> {
         let rule = rule(number, &tokens, &given);
         let fields = standing(&tokens).map(|field| (field, field_name(field))).collect();
         let (edition, title) = (EDITION, Title::Number(number));
-        let side = Side { edition, title, patterns: bodies, tokens, fields };
+        let side = Side { edition, title, place: None, patterns: bodies, tokens, fields };
         Some(Entry { rule, side, bytes: self.at - start })
     }
 

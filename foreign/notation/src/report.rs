@@ -2,7 +2,7 @@
 
 use bradovusc::{spelt_bytes, Answer, Edition};
 
-use crate::ask::{Asked, Shared};
+use crate::ask::Asked;
 use crate::json::Object;
 use crate::print::told_text;
 use crate::sides::{Side, Text, Title};
@@ -68,15 +68,25 @@ pub fn pair_words(left: &Side, right: &Side, asked: &Asked) -> String {
             format!("{titles}: no clash: no label can be made by both ({situations})\n")
         }
         (_, Some(shared)) => {
-            let Shared { label, left: on_left, right: on_right } = shared;
-            let fields = [fields_words(left, on_left), fields_words(right, on_right)].concat();
-            let spelt = spelt(left.edition, label);
-            let spelt = spelt.map_or(String::new(), |signs| format!(", spelt \"{signs}\""));
-            format!("{titles} clash: {}{spelt}\n{fields}", told_text(left.edition, label))
+            let label = label_words(left.edition, &shared.label);
+            let (on_left, on_right) =
+                (fields_words(left, &shared.left), fields_words(right, &shared.right));
+            format!(
+                "{titles} clash: {label}\n  {}: {on_left}\n  {}: {on_right}\n",
+                left.told(),
+                right.told()
+            )
         }
         (answer, None) if answer.clashes() == Some(true) => format!("{titles} {answer}\n"),
-        (answer, None) => format!("{titles}: {}\n", not_decided_words(answer, asked.room)),
+        (_, None) => format!("{titles}: {}\n", not_decided_words(asked)),
     }
+}
+
+/// A label as it is told, and as it is spelt where that is another thing.
+pub fn label_words(edition: Edition, label: &[u8]) -> String {
+    let spelt = spelt(edition, label);
+    let spelt = spelt.map_or(String::new(), |signs| format!(", spelt \"{signs}\""));
+    told_text(edition, label) + &spelt
 }
 
 /// The label as it stands in Code 39, if it is one of Full ASCII.
@@ -92,11 +102,12 @@ fn spelt(edition: Edition, label: &[u8]) -> Option<String> {
 }
 
 /// What was spent on a question that is not decided, in a sentence that is neither yes nor no.
-fn not_decided_words(answer: Answer, room: usize) -> String {
-    let situations = counted(answer.count(), "situation", "situations");
-    let were = if answer.count() == 1 { "was" } else { "were" };
-    let room = grouped(room);
-    match answer {
+pub fn not_decided_words(asked: &Asked) -> String {
+    let entered = asked.answer.count();
+    let situations = counted(entered, "situation", "situations");
+    let were = if entered == 1 { "was" } else { "were" };
+    let room = grouped(asked.room);
+    match asked.answer {
         Answer::SideTooLong { .. } => format!(
             "not decided: a side grew above {LONGEST_SIDE} tokens; {situations} {were} entered, in \
              room for {room} (19)"
@@ -108,14 +119,18 @@ fn not_decided_words(answer: Answer, room: usize) -> String {
     }
 }
 
-fn fields_words(side: &Side, texts: &[Text]) -> String {
+/// What the fields of a rule hold.
+pub fn fields_words(side: &Side, texts: &[Text]) -> String {
     let held = |(field, name): &(u8, String)| {
         let text = texts.iter().find(|text| text.field == *field);
         text.map(|text| format!("{name} = {}", told_text(side.edition, &text.values)))
     };
     let held: Vec<String> = side.fields.iter().filter_map(held).collect();
-    let held = if held.is_empty() { "no fields".to_string() } else { held.join(", ") };
-    format!("  {}: {held}\n", side.title)
+    if held.is_empty() {
+        "no fields".to_string()
+    } else {
+        held.join(", ")
+    }
 }
 
 /// A rule's name or number under a key.
@@ -160,7 +175,24 @@ pub fn pair_in(object: Object, left: &Side, right: &Side, asked: &Asked) -> Obje
             .object("left_fields", fields_object(left, &shared.left))
             .object("right_fields", fields_object(right, &shared.right));
     }
-    object
+    if asked.answer.clashes() == Some(false) {
+        return object;
+    }
+    let object = placed(object, "left_file", "left_line", left);
+    placed(object, "right_file", "right_line", right)
+}
+
+/// Where a rule is from, under two keys.
+fn placed(object: Object, file: &str, line: &str, side: &Side) -> Object {
+    let place = match &side.place {
+        Some(place) => place,
+        None => return object,
+    };
+    let object = object.text(file, &place.file);
+    match place.line {
+        Some(number) => object.number(line, number),
+        None => object,
+    }
 }
 
 fn fields_object(side: &Side, texts: &[Text]) -> Object {

@@ -1,6 +1,7 @@
 //! A rule as the library reads it: one side of a sheet, or a record of a catalogue.
 
 use std::fmt;
+use std::sync::Arc;
 
 use bradovusc::{Edition, Written, RULE_FIELDS, SHEET_BYTES};
 
@@ -25,12 +26,32 @@ impl fmt::Display for Title {
     }
 }
 
+/// Where a rule stands.
+#[derive(Clone, Debug, PartialEq, Eq)]
+pub struct Place {
+    /// The file's name, as it is told.
+    pub file: Arc<str>,
+    /// The line of its name, from 1. A rule of a catalogue has a number instead.
+    pub line: Option<usize>,
+}
+
+impl fmt::Display for Place {
+    fn fmt(&self, to: &mut fmt::Formatter<'_>) -> fmt::Result {
+        match self.line {
+            Some(line) => write!(to, "{}:{line}", self.file),
+            None => to.write_str(&self.file),
+        }
+    }
+}
+
 /// A rule that the library takes, with the names by which it is told.
 #[derive(Clone, Debug)]
 pub struct Side {
     /// Which characters it has. Two rules that are asked about have the same.
     pub edition: Edition,
     pub title: Title,
+    /// Where it is from, if it is known.
+    pub place: Option<Place>,
     /// The fields with a pattern, by rising number, each with the pattern's bytes.
     pub patterns: Vec<(u8, Vec<u8>)>,
     pub tokens: Vec<u8>,
@@ -47,6 +68,14 @@ pub struct Text {
 }
 
 impl Side {
+    /// Its title, with where it is from.
+    pub fn told(&self) -> String {
+        match &self.place {
+            Some(place) => format!("{} ({place})", self.title),
+            None => self.title.to_string(),
+        }
+    }
+
     /// The record of a catalogue, for a rule of Code 39.
     pub fn record(&self) -> Vec<u8> {
         let mut bytes = b"RU".to_vec();
@@ -135,7 +164,8 @@ mod tests {
     fn side(patterns: &[(u8, &[u8])], tokens: &[u8]) -> Side {
         let patterns = patterns.iter().map(|&(field, body)| (field, body.to_vec())).collect();
         let (edition, title) = (Edition::Code39, Title::Number(0));
-        Side { edition, title, patterns, tokens: tokens.to_vec(), fields: Vec::new() }
+        let (place, tokens, fields) = (None, tokens.to_vec(), Vec::new());
+        Side { edition, title, place, patterns, tokens, fields }
     }
 
     #[test]

@@ -239,7 +239,8 @@ mod tests {
     fn side(name: &str, fields: &[&str], tokens: &[u8]) -> Side {
         let fields = (0..).zip(fields).map(|(field, name)| (field, name.to_string())).collect();
         let (edition, title) = (Edition::Code39, Title::Name(name.to_string()));
-        Side { edition, title, patterns: Vec::new(), tokens: tokens.to_vec(), fields }
+        let (place, patterns, tokens) = (None, Vec::new(), tokens.to_vec());
+        Side { edition, title, place, patterns, tokens, fields }
     }
 
     /// `LT{size}{finish}` and `LT{set}C{turn}`

@@ -12,6 +12,7 @@ use bradovusc::{catalogue_bytes, drop_strays_catalogue, MendedCatalogue, MOST_RU
 use crate::decompile::{entries, Entry};
 use crate::replace::Replaced;
 use crate::report::grouped;
+use crate::sides::Place;
 use crate::status::Problem;
 
 /// A catalogue file has so many bytes, unless another number is told: 32 rules always fit.
@@ -62,9 +63,11 @@ impl Catalogue {
                  (--bytes says another length)"
             )));
         }
-        let Some(entries) = entries(&bytes) else {
+        let Some(mut entries) = entries(&bytes) else {
             return Err(Problem::Fault(no_catalogue(&name, &bytes)));
         };
+        let place = Place { file: name.into(), line: None };
+        entries.iter_mut().for_each(|entry| entry.side.place = Some(place.clone()));
         Ok(Catalogue { bytes, entries, replaced: None })
     }
 

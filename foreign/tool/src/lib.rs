@@ -5,12 +5,16 @@
 //! of the command. docs/NOTATION.md has the notation, the commands, the JSON and the exit statuses.
 
 pub mod catalogue;
+pub mod format;
+pub mod groups;
 pub mod near;
 pub mod parallel;
 pub mod progress;
 pub mod replace;
 pub mod run;
+pub mod sarif;
 pub mod status;
+pub mod teller;
 pub mod words;
 
 pub use bradovusc_notation as notation;

@@ -14,6 +14,7 @@ use bradovusc::{
 use crate::ask::{Asked, Buffers};
 use crate::catalogue::{Catalogue, BYTES};
 use crate::compile;
+use crate::format::{problem_on_output, short_problem, Format};
 use crate::json::Object;
 use crate::notation::{pattern_text, rule_text, template_text, Rule};
 use crate::parallel::{in_order, processors, Event};
@@ -21,7 +22,8 @@ use crate::progress::Progress;
 use crate::report::{counted, grouped, pair_in, pair_object, pair_words, titled, Tally};
 use crate::sides::{sheet, Side, Title};
 use crate::source::Source;
-use crate::status::{problem_objects, problem_words, Problem, Status};
+use crate::status::{problem_words, Problem, Status};
+use crate::teller::Teller;
 use crate::way::{follow, way_objects, way_words, Row};
 use crate::words::{self, Command, Options};
 
@@ -45,7 +47,7 @@ const MOST_FILE: u64 = 16 << 20;
 /// Does what the words behind the program's name say.
 pub fn run(words: &[OsString], streams: Streams<'_>) -> Status {
     let (options, command) = words::read(words);
-    let json = options.json;
+    let format = options.format;
     let mut run = Run { options, streams };
     let outcome = match command {
         Ok(command) => run.command(command),
@@ -57,15 +59,20 @@ pub fn run(words: &[OsString], streams: Streams<'_>) -> Status {
     });
     outcome.unwrap_or_else(|problem| {
         let Streams { output, errors, .. } = run.streams;
-        let told = if json {
-            output.write_all(problem_objects(&problem).as_bytes()).and_then(|()| output.flush())
-        } else {
-            // what was said before stands before it
-            let _ = output.flush();
-            Err(io::ErrorKind::Other.into())
+        let told = match problem_on_output(format, &problem) {
+            Some(text) => output.write_all(text.as_bytes()).and_then(|()| output.flush()),
+            None => {
+                // what was said before stands before it
+                let _ = output.flush();
+                Err(io::ErrorKind::Other.into())
+            }
         };
         if told.is_err() {
-            let _ = errors.write_all(problem_words(&problem).as_bytes());
+            let words = match format {
+                Format::Short => short_problem(&problem),
+                _ => problem_words(&problem),
+            };
+            let _ = errors.write_all(words.as_bytes());
             let _ = errors.flush();
         }
         problem.status()
@@ -177,28 +184,36 @@ impl Run<'_> {
     fn check(&mut self, path: &Path) -> Outcome {
         let rules = self.rules(path)?;
         let pairs = Pairs { rules: rules.len() };
-        let (json, mut tally) = (self.options.json, Tally::default());
         let pair = |index: usize| {
             let (left, right) = pairs.at(index);
             (&rules[left], &rules[right])
         };
-        self.ask(pairs.count(), pair, |to, left, right, asked| {
-            tally.count(asked.answer);
-            match asked.answer {
-                _ if json => writeln!(to, "{}", pair_object(left, right, asked).done()),
-                Answer::NoClash { .. } => Ok(()),
-                _ => to.write_all(pair_words(left, right, asked).as_bytes()),
-            }
-        })?;
-        if !json {
-            self.streams.output.write_all(tally.summary(rules.len()).as_bytes())?;
-        }
-        Ok(tally.into())
+        let teller = Teller::new("check", &self.options);
+        self.tell(teller, rules.len(), pairs.count(), pair)
+    }
+
+    /// Asks of so many pairs of so many rules, and has them told.
+    fn tell<'s>(
+        &mut self,
+        mut teller: Teller<'s>,
+        rules: usize,
+        count: usize,
+        pair: impl Fn(usize) -> (&'s Side, &'s Side) + Sync,
+    ) -> Outcome {
+        teller.begin(self.streams.output)?;
+        self.ask(count, pair, |to, left, right, asked| teller.tell(to, left, right, asked))?;
+        Ok(teller.end(self.streams.output, rules)?)
     }
 
     fn pair(&mut self, path: &Path, left: &str, right: &str) -> Outcome {
         let [left, right] = self.two(path, left, right)?;
         let asked = self.ask_one(&left, &right)?;
+        if matches!(self.options.format, Format::Short | Format::Github | Format::Sarif) {
+            let mut teller = Teller::new("pair", &self.options);
+            teller.begin(self.streams.output)?;
+            teller.tell(self.streams.output, &left, &right, &asked)?;
+            return Ok(teller.end(self.streams.output, 2)?);
+        }
         let (mut words, mut object) =
             (pair_words(&left, &right, &asked), pair_object(&left, &right, &asked));
         if self.options.steps && asked.answer.clashes() == Some(true) {
@@ -314,24 +329,12 @@ impl Run<'_> {
             other => return Err(Problem::Fault(format!("{}: {other}", path.display()))),
         };
         // the others are answered 1; these are asked again, for their labels and in more room
-        let (json, mut tally) =
-            (self.options.json, Tally { apart: all - pairs.len(), ..Tally::default() });
         let pair = |index: usize| {
             let (lower, higher) = pairs[index];
             (&entries[lower].side, &entries[higher].side)
         };
-        self.ask(pairs.len(), pair, |to, left, right, asked| {
-            tally.count(asked.answer);
-            match asked.answer {
-                Answer::NoClash { .. } => Ok(()),
-                _ if json => writeln!(to, "{}", pair_object(left, right, asked).done()),
-                _ => to.write_all(pair_words(left, right, asked).as_bytes()),
-            }
-        })?;
-        if !json {
-            self.streams.output.write_all(tally.summary(entries.len()).as_bytes())?;
-        }
-        Ok(tally.into())
+        let teller = Teller::new("recheck", &self.options).without_apart(all - pairs.len());
+        self.tell(teller, entries.len(), pairs.len(), pair)
     }
 
     fn add(&mut self, path: &Path, file: &Path, rule: &str) -> Outcome {

@@ -6,6 +6,7 @@ use std::path::PathBuf;
 use bradovusc::MOST_SITUATIONS;
 
 use crate::ask::Room;
+use crate::format::Format;
 use crate::near::nearest;
 use crate::report::grouped;
 
@@ -25,6 +26,11 @@ bradovusc: can two label rules make the same label?
 FILE is a file of rules, or - for standard input. Options:
 
     --json        prints one JSON object a line
+    --format F    check, recheck, pair: text, json, short (one line a pair), github or sarif
+    --max N       check, recheck: tells N clashes and N pairs not decided at most, and counts the rest
+    --clashes-only
+                  check, recheck: tells nothing but clashes
+    --summary     check, recheck: an object or a line with the counts behind all pairs
     --steps       pair: the way to the clash, step by step
     --room N      room for N situations, 1 to 65,535; else it grows from 356 to 65,535
     --threads N   so many threads; else as many as there are processors
@@ -55,7 +61,14 @@ pub enum Command {
 /// How it is to be done.
 #[derive(Clone, Debug, PartialEq, Eq)]
 pub struct Options {
+    /// The form is JSON.
     pub json: bool,
+    pub format: Format,
+    /// So many clashes are told, and so many pairs that are not decided.
+    pub max: Option<usize>,
+    pub clashes_only: bool,
+    pub summary: bool,
+    pub repair: bool,
     pub room: Room,
     pub threads: Option<usize>,
     pub new: bool,
@@ -67,6 +80,11 @@ impl Default for Options {
     fn default() -> Options {
         Options {
             json: false,
+            format: Format::Text,
+            max: None,
+            clashes_only: false,
+            summary: false,
+            repair: false,
             room: Room::Growing,
             threads: None,
             new: false,
@@ -89,12 +107,20 @@ const fn form(name: &'static str, words: &'static str, options: &'static [&'stat
 
 /// All commands.
 pub const COMMANDS: [Form; 9] = [
-    form("check", "FILE", &["--room", "--threads"]),
-    form("pair", "FILE A B", &["--room", "--steps"]),
+    form(
+        "check",
+        "FILE",
+        &["--format", "--max", "--clashes-only", "--summary", "--room", "--threads"],
+    ),
+    form("pair", "FILE A B", &["--format", "--room", "--steps"]),
     form("add", "CATALOGUE FILE RULE", &["--room", "--new", "--bytes"]),
     form("withdraw", "CATALOGUE NUMBER", &["--bytes"]),
     form("list", "CATALOGUE", &["--bytes"]),
-    form("recheck", "CATALOGUE", &["--room", "--threads", "--bytes"]),
+    form(
+        "recheck",
+        "CATALOGUE",
+        &["--format", "--max", "--clashes-only", "--summary", "--room", "--threads", "--bytes"],
+    ),
     form("script", "FILE A B", &[]),
     form("sheet", "FILE A B", &[]),
     form("help", "[COMMAND]", &[]),
@@ -132,8 +158,9 @@ fn sort(
     given: &mut Given,
     plain: &mut Vec<OsString>,
 ) -> Result<(), String> {
-    // the output is JSON also where a fault stands before the word
-    options.json = words.iter().take_while(|word| *word != "--").any(|word| word == "--json");
+    // a fault is told in the form that is wanted also where it stands before the word
+    options.format = format_of(words);
+    options.json = options.format == Format::Json;
     let mut words = words.iter();
     while let Some(word) = words.next() {
         let text = word.to_string_lossy();
@@ -145,48 +172,95 @@ fn sort(
             plain.push(word.clone());
             continue;
         }
-        let (name, value) = match text.split_once('=') {
-            Some((name, value)) => (name.to_string(), Some(value.to_string())),
-            None => (text.to_string(), None),
+        let (name, behind) = match text.split_once('=') {
+            Some((name, value)) => (name, Some(value.to_string())),
+            None => (&*text, None),
         };
-        let mut number = |least: usize, most: usize| {
-            let value = match &value {
-                Some(value) => value.clone(),
-                None => words.next().map_or(String::new(), |word| word.to_string_lossy().into()),
-            };
-            let known = value.parse().ok().filter(|number| (least..=most).contains(number));
-            let (least, most) = (grouped(least), grouped(most));
-            known.ok_or(format!("{name} takes a number from {least} to {most}, not '{value}'"))
+        let mut value = || match &behind {
+            Some(value) => value.clone(),
+            None => words.next().map_or(String::new(), |word| word.to_string_lossy().into()),
         };
-        given.push(match name.as_str() {
-            "--room" => {
-                options.room = Room::Fixed(number(1, MOST_SITUATIONS)?);
-                "--room"
-            }
-            "--threads" => {
-                options.threads = Some(number(1, 1_024)?);
-                "--threads"
-            }
-            "--bytes" => {
-                options.bytes = Some(number(0, 1_000_000_000)?);
-                "--bytes"
-            }
-            _ if value.is_some() => return Err(format!("{name} is no option here; {TRY}")),
-            "--json" => "--json",
-            "--new" => {
-                options.new = true;
-                "--new"
-            }
-            "--steps" => {
-                options.steps = true;
-                "--steps"
-            }
-            "--help" | "-h" => "--help",
-            "--version" | "-V" => "--version",
-            _ => return Err(format!("{name} is no option; {}", instead(&name, all_options()))),
+        given.push(match set_value(name, &mut value, options)? {
+            Some(option) => option,
+            None if behind.is_some() => return Err(format!("{name} is no option here; {TRY}")),
+            None => set_flag(name, options)
+                .ok_or_else(|| format!("{name} is no option; {}", instead(name, all_options())))?,
         });
     }
     Ok(())
+}
+
+/// The form that the words ask for, as far as they are right.
+fn format_of(words: &[OsString]) -> Format {
+    let mut format = Format::Text;
+    let mut words = words.iter().map(|word| word.to_string_lossy());
+    while let Some(word) = words.next().filter(|word| word != "--") {
+        let named = match (&*word, word.strip_prefix("--format=")) {
+            ("--json", _) => Format::named("json"),
+            ("--format", _) => Format::named(&words.next().unwrap_or_default()),
+            (_, Some(name)) => Format::named(name),
+            _ => continue,
+        };
+        format = named.unwrap_or(format);
+    }
+    format
+}
+
+/// Sets an option that has a value; none where it is no such option.
+fn set_value(
+    name: &str,
+    value: &mut dyn FnMut() -> String,
+    options: &mut Options,
+) -> Result<Option<&'static str>, String> {
+    let mut number = |least: usize, most: usize| {
+        let value = value();
+        let known = value.parse().ok().filter(|number| (least..=most).contains(number));
+        let (least, most) = (grouped(least), grouped(most));
+        known.ok_or(format!("{name} takes a number from {least} to {most}, not '{value}'"))
+    };
+    Ok(Some(match name {
+        "--room" => {
+            options.room = Room::Fixed(number(1, MOST_SITUATIONS)?);
+            "--room"
+        }
+        "--threads" => {
+            options.threads = Some(number(1, 1_024)?);
+            "--threads"
+        }
+        "--bytes" => {
+            options.bytes = Some(number(0, 1_000_000_000)?);
+            "--bytes"
+        }
+        "--max" => {
+            options.max = Some(number(0, 1_000_000_000)?);
+            "--max"
+        }
+        "--format" => {
+            // it is set already
+            Format::named(&value())?;
+            "--format"
+        }
+        _ => return Ok(None),
+    }))
+}
+
+/// Sets an option that has no value; none where it is no option.
+fn set_flag(name: &str, options: &mut Options) -> Option<&'static str> {
+    let mut set = |flag: fn(&mut Options) -> &mut bool, name| {
+        *flag(options) = true;
+        Some(name)
+    };
+    match name {
+        "--json" => Some("--json"),
+        "--new" => set(|options| &mut options.new, "--new"),
+        "--steps" => set(|options| &mut options.steps, "--steps"),
+        "--repair" => set(|options| &mut options.repair, "--repair"),
+        "--clashes-only" => set(|options| &mut options.clashes_only, "--clashes-only"),
+        "--summary" => set(|options| &mut options.summary, "--summary"),
+        "--help" | "-h" => Some("--help"),
+        "--version" | "-V" => Some("--version"),
+        _ => None,
+    }
 }
 
 fn command(plain: &[OsString], given: &Given) -> Result<Command, String> {

@@ -1,0 +1,229 @@
+//! Tells the pairs of a check as they come: in the form that is wanted, at most so many, those of one
+//! rule with many together.
+
+use std::io::{self, Write};
+use std::ptr;
+
+use crate::ask::Asked;
+use crate::format::{annotation, github, short, Format};
+use crate::groups::{groups, Group};
+use crate::json::Object;
+use crate::report::{counted, fields_words, label_words, pair_object, pair_words, Tally};
+use crate::sarif;
+use crate::sides::Side;
+use crate::status::Status;
+use crate::words::Options;
+
+/// The version of the objects: it rises where a key is taken away or changes its meaning.
+pub const SCHEMA: usize = 1;
+
+/// So many pairs are put into groups at a time.
+const MOST_HELD: usize = 5_000;
+
+/// What is told of a check.
+pub struct Teller<'s> {
+    command: &'static str,
+    format: Format,
+    clashes_only: bool,
+    summary: bool,
+    /// So many clashes are told, and so many pairs that are not decided.
+    most: usize,
+    /// Whether a pair without a clash is told, in JSON.
+    apart: bool,
+    /// All pairs, and those that were told.
+    pub tally: Tally,
+    told: Tally,
+    /// What is still to be told in words.
+    held: Vec<Held<'s>>,
+}
+
+struct Held<'s> {
+    left: &'s Side,
+    right: &'s Side,
+    asked: Asked,
+}
+
+impl<'s> Teller<'s> {
+    /// For a command that is called so.
+    pub fn new(command: &'static str, options: &Options) -> Teller<'s> {
+        Teller {
+            command,
+            format: options.format,
+            clashes_only: options.clashes_only,
+            summary: options.summary,
+            most: options.max.unwrap_or(usize::MAX),
+            apart: !options.clashes_only,
+            tally: Tally::default(),
+            told: Tally::default(),
+            held: Vec::new(),
+        }
+    }
+
+    /// The same, but with no word of pairs without a clash, of which so many are known already.
+    pub fn without_apart(self, known: usize) -> Teller<'s> {
+        Teller { apart: false, tally: Tally { apart: known, ..self.tally }, ..self }
+    }
+
+    /// What goes before all pairs.
+    pub fn begin(&self, to: &mut dyn Write) -> io::Result<()> {
+        match self.format {
+            Format::Sarif => to.write_all(sarif::begun().as_bytes()),
+            _ => Ok(()),
+        }
+    }
+
+    /// Tells a pair, or holds it back until it is known with which others it goes.
+    pub fn tell(
+        &mut self,
+        to: &mut dyn Write,
+        left: &'s Side,
+        right: &'s Side,
+        asked: &Asked,
+    ) -> io::Result<()> {
+        self.tally.count(asked.answer);
+        let wanted = match asked.answer.clashes() {
+            Some(true) => self.told.clashes < self.most,
+            Some(false) => self.apart && self.format == Format::Json,
+            None => !self.clashes_only && self.told.not_decided < self.most,
+        };
+        if !wanted {
+            return Ok(());
+        }
+        let first = self.told.clashes + self.told.not_decided == 0;
+        self.told.count(asked.answer);
+        match self.format {
+            Format::Text => {
+                self.held.push(Held { left, right, asked: asked.clone() });
+                if self.held.len() >= MOST_HELD {
+                    self.tell_held(to)?;
+                }
+                Ok(())
+            }
+            Format::Json => writeln!(to, "{}", pair_object(left, right, asked).done()),
+            Format::Short => to.write_all(short(left, right, asked).as_bytes()),
+            Format::Github => to.write_all(github(left, right, asked).as_bytes()),
+            Format::Sarif => {
+                let comma = if first { "" } else { "," };
+                write!(to, "{comma}{}", sarif::pair(left, right, asked).done())
+            }
+        }
+    }
+
+    /// Tells what is held back: the clashes, those of one rule together, then what is not decided.
+    fn tell_held(&mut self, to: &mut dyn Write) -> io::Result<()> {
+        let (clashes, open): (Vec<Held>, Vec<Held>) =
+            self.held.drain(..).partition(|held| held.asked.answer.clashes() == Some(true));
+        let key = |side: &'s Side| ptr::from_ref(side);
+        let pairs: Vec<_> = clashes.iter().map(|held| (key(held.left), key(held.right))).collect();
+        for Group { rule, members } in groups(&pairs) {
+            let members = members.iter().map(|&member| &clashes[member]);
+            let words: String = match rule {
+                Some(rule) => group_words(members.map(|held| held.of(rule)).collect()),
+                None => members.map(Held::words).collect(),
+            };
+            to.write_all(words.as_bytes())?;
+        }
+        open.iter().try_for_each(|held| to.write_all(held.words().as_bytes()))
+    }
+
+    /// What goes behind all pairs, of so many rules.
+    pub fn end(mut self, to: &mut dyn Write, rules: usize) -> io::Result<Status> {
+        self.tell_held(to)?;
+        let status = Status::from(self.tally);
+        let words = self.tally.summary(rules);
+        let more = self.more_words();
+        match self.format {
+            Format::Text => write!(to, "{more}{words}")?,
+            Format::Short if self.summary => write!(to, "{more}{words}")?,
+            Format::Short => to.write_all(more.as_bytes())?,
+            Format::Github if self.summary || !more.is_empty() => {
+                to.write_all(annotation("notice", &[], (more + &words).trim_end()).as_bytes())?;
+            }
+            Format::Json if self.summary => {
+                let object = Object::new().text("summary", self.command).number("schema", SCHEMA);
+                let status = usize::from(status.number());
+                writeln!(to, "{}", self.counts(object, rules).number("status", status).done())?;
+            }
+            Format::Sarif => {
+                let counts = self.counts(Object::new(), rules);
+                to.write_all(sarif::ended(status, None, counts).as_bytes())?;
+            }
+            Format::Json | Format::Github => (),
+        }
+        Ok(status)
+    }
+
+    fn counts(&self, object: Object, rules: usize) -> Object {
+        let Tally { clashes, not_decided, apart } = self.tally;
+        object
+            .number("rules", rules)
+            .number("pairs", clashes + not_decided + apart)
+            .number("clashes", clashes)
+            .number("not_decided", not_decided)
+            .number("no_clash", apart)
+    }
+
+    /// A line on what was counted and not told; none where all was.
+    fn more_words(&self) -> String {
+        let clashes = self.tally.clashes - self.told.clashes;
+        let open = self.tally.not_decided - self.told.not_decided;
+        let mut more = Vec::new();
+        if clashes > 0 {
+            more.push(counted(clashes, "more clash", "more clashes"));
+        }
+        if open > 0 {
+            more.push(counted(open, "more pair not decided", "more pairs not decided"));
+        }
+        match more.is_empty() {
+            true => String::new(),
+            false => format!("and {}\n", more.join(", ")),
+        }
+    }
+}
+
+impl<'s> Held<'s> {
+    fn words(&self) -> String {
+        pair_words(self.left, self.right, &self.asked)
+    }
+
+    /// The pair as seen from one of its rules: that rule, the other one and what each holds.
+    fn of(&self, rule: *const Side) -> Seen<'s, '_> {
+        let Held { left, right, asked } = self;
+        let (rule, other) = if ptr::eq(*left, rule) { (*left, *right) } else { (*right, *left) };
+        Seen { rule, other, left, right, asked }
+    }
+}
+
+/// A clash as it stands in a group.
+struct Seen<'s, 'a> {
+    /// The rule that all clashes of the group have.
+    rule: &'s Side,
+    other: &'s Side,
+    left: &'s Side,
+    right: &'s Side,
+    asked: &'a Asked,
+}
+
+/// Clashes of one rule with many.
+fn group_words(clashes: Vec<Seen<'_, '_>>) -> String {
+    let mut words = String::new();
+    if let Some(first) = clashes.first() {
+        let many = counted(clashes.len(), "rule", "rules");
+        words += &format!("{} clashes with {many}:\n", first.rule.told());
+    }
+    for Seen { other, left, right, asked, .. } in clashes {
+        words += &match &asked.shared {
+            Some(shared) => format!(
+                "  {}: {}\n    {}: {}\n    {}: {}\n",
+                other.told(),
+                label_words(left.edition, &shared.label),
+                left.title,
+                fields_words(left, &shared.left),
+                right.title,
+                fields_words(right, &shared.right)
+            ),
+            None => format!("  {}: {}\n", other.told(), asked.answer),
+        };
+    }
+    words
+}
