@@ -4,7 +4,7 @@ use bradovusc::{
     answer_bytes, steps_bytes, Answer, Step, Written, MOST_SITUATIONS, SITUATION_BYTES,
 };
 
-use crate::sides::{sheet, texts, Side, Text};
+use crate::sides::{sheet, texts, Side, Text, RIGHT};
 
 /// Room that grows begins with so many situations.
 pub const FIRST_ROOM: usize = 356;
@@ -57,6 +57,33 @@ pub struct Shared {
     /// What the fields of the rules hold on it.
     pub left: Vec<Text>,
     pub right: Vec<Text>,
+}
+
+impl Asked {
+    /// What is said of two rules that the library settles by their fronts, without a search.
+    pub const SETTLED: Asked =
+        Asked { answer: Answer::NoClash { count: 0 }, search: 0, room: 0, shared: None };
+}
+
+/// A rule, with what would else be worked out for each of its pairs.
+#[derive(Debug)]
+pub struct Ready<'a> {
+    pub side: &'a Side,
+    /// Its tokens as they stand on the right.
+    right: Vec<u8>,
+}
+
+impl<'a> Ready<'a> {
+    pub fn new(side: &'a Side) -> Ready<'a> {
+        Ready { side, right: side.renamed(RIGHT) }
+    }
+
+    /// Whether no texts at all make the labels of this rule, on the left, and of another one the same,
+    /// as the library says by their fixed fronts and ends alone. Else nothing is known.
+    pub fn differs(&self, right: &Ready) -> bool {
+        let (_left, _right) = (&self.side.tokens, &right.right);
+        false
+    }
 }
 
 /// The buffers that are lent to the library.

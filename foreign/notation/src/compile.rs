@@ -18,11 +18,11 @@ const LEAVES: usize = 63;
 const TOKENS: usize = 24;
 
 /// The codes of a pattern, from the first one of an edition on.
-const EMPTY: u8 = 0;
-const RANGE: u8 = 1;
-const THEN: u8 = 2;
-const OR: u8 = 3;
-const MANY: u8 = 4;
+pub const EMPTY: u8 = 0;
+pub const RANGE: u8 = 1;
+pub const THEN: u8 = 2;
+pub const OR: u8 = 3;
+pub const MANY: u8 = 4;
 
 /// A right side that is empty.
 const NO_RIGHT: &[u8] = b"RI\x00";

@@ -8,6 +8,7 @@ pub mod catalogue;
 pub mod format;
 pub mod groups;
 pub mod near;
+pub mod pairs;
 pub mod parallel;
 pub mod progress;
 pub mod replace;
@@ -18,4 +19,4 @@ pub mod teller;
 pub mod words;
 
 pub use bradovusc_notation as notation;
-pub use bradovusc_notation::{ask, compile, decompile, json, report, sides, source, way};
+pub use bradovusc_notation::{ask, compile, decompile, json, matching, report, sides, source, way};

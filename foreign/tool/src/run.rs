@@ -4,19 +4,22 @@ use std::ffi::OsString;
 use std::fmt;
 use std::fs::File;
 use std::io::{self, Read, Write};
+use std::ops::Range;
 use std::path::Path;
+use std::time::{Duration, Instant};
 
 use bradovusc::{
     Added, AddedDecided, Answer, Edition, RecheckedDecided, Scripted, Withdrawn, MOST_RULES,
     SCRIPT_BYTES,
 };
 
-use crate::ask::{Asked, Buffers};
+use crate::ask::{Asked, Buffers, Ready};
 use crate::catalogue::{Catalogue, BYTES};
 use crate::compile;
 use crate::format::{problem_on_output, short_problem, Format};
 use crate::json::Object;
 use crate::notation::{pattern_text, rule_text, template_text, Rule};
+use crate::pairs::Pairs;
 use crate::parallel::{in_order, processors, Event};
 use crate::progress::Progress;
 use crate::report::{counted, grouped, pair_in, pair_object, pair_words, titled, Tally};
@@ -40,6 +43,9 @@ type Outcome = Result<Status, Problem>;
 
 /// The search of the library that writes its steps.
 const FIRST_SEARCH: u8 = 1;
+
+/// What was said is handed on at least so often, if there is something new.
+const PAUSE: Duration = Duration::from_millis(50);
 
 /// A file of rules may have so many bytes.
 const MOST_FILE: u64 = 16 << 20;
@@ -145,18 +151,17 @@ impl Run<'_> {
     }
 
     /// Asks of so many pairs, and tells each in its order.
-    fn ask<'s>(
+    fn ask<'s, I: Iterator<Item = (&'s Ready<'s>, &'s Ready<'s>)>>(
         &mut self,
         count: usize,
-        pair: impl Fn(usize) -> (&'s Side, &'s Side) + Sync,
+        pairs: impl Fn(Range<usize>) -> I + Sync,
         mut tell: impl FnMut(&mut dyn Write, &'s Side, &'s Side, &Asked) -> io::Result<()>,
     ) -> Result<(), Problem> {
         let (threads, room) = (self.threads(), self.options.room);
         let Streams { output, errors, terminal, .. } = &mut self.streams;
         let mut progress = Progress::new(*terminal);
-        let work = |buffers: &mut Buffers, index: usize| {
-            let (left, right) = pair(index);
-            buffers.ask(left, right, room)
+        let work = |buffers: &mut Buffers, range: Range<usize>| {
+            asked_of(pairs(range), |left, right| buffers.ask(left, right, room))
         };
         let mut told = Vec::new();
         let result = in_order(count, threads, Buffers::new, work, |event| {
@@ -165,13 +170,17 @@ impl Run<'_> {
                     output.flush()?;
                     progress.tick(done, count, errors);
                 }
-                Event::Result(index, asked) => {
-                    let (left, right) = pair(index);
-                    tell(&mut told, left, right, &asked)?;
-                    if !told.is_empty() {
-                        progress.clear(errors);
-                        output.write_all(&told)?;
-                        told.clear();
+                Event::Result(range, asked) => {
+                    let mut asked = asked.into_iter().peekable();
+                    for (place, (left, right)) in pairs(range).enumerate() {
+                        let said = asked.next_if(|(at, _)| *at == place);
+                        let said = said.as_ref().map_or(&Asked::SETTLED, |(_, said)| said);
+                        tell(&mut told, left.side, right.side, said)?;
+                        if !told.is_empty() {
+                            progress.clear(errors);
+                            output.write_all(&told)?;
+                            told.clear();
+                        }
                     }
                 }
             }
@@ -183,25 +192,23 @@ impl Run<'_> {
 
     fn check(&mut self, path: &Path) -> Outcome {
         let rules = self.rules(path)?;
-        let pairs = Pairs { rules: rules.len() };
-        let pair = |index: usize| {
-            let (left, right) = pairs.at(index);
-            (&rules[left], &rules[right])
-        };
+        let ready: Vec<Ready> = rules.iter().map(Ready::new).collect();
+        let pairs = Pairs::of(rules.len());
+        let walk = |range| pairs.walk(range).map(|(left, right)| (&ready[left], &ready[right]));
         let teller = Teller::new("check", &self.options);
-        self.tell(teller, rules.len(), pairs.count(), pair)
+        self.tell(teller, rules.len(), pairs.count(), walk)
     }
 
     /// Asks of so many pairs of so many rules, and has them told.
-    fn tell<'s>(
+    fn tell<'s, I: Iterator<Item = (&'s Ready<'s>, &'s Ready<'s>)>>(
         &mut self,
         mut teller: Teller<'s>,
         rules: usize,
         count: usize,
-        pair: impl Fn(usize) -> (&'s Side, &'s Side) + Sync,
+        pairs: impl Fn(Range<usize>) -> I + Sync,
     ) -> Outcome {
         teller.begin(self.streams.output)?;
-        self.ask(count, pair, |to, left, right, asked| teller.tell(to, left, right, asked))?;
+        self.ask(count, pairs, |to, left, right, asked| teller.tell(to, left, right, asked))?;
         Ok(teller.end(self.streams.output, rules)?)
     }
 
@@ -232,9 +239,10 @@ impl Run<'_> {
     /// Asks of one pair.
     fn ask_one(&mut self, left: &Side, right: &Side) -> Result<Asked, Problem> {
         let mut said = None;
+        let pair = [Ready::new(left), Ready::new(right)];
         self.ask(
             1,
-            |_| (left, right),
+            |_| std::iter::once((&pair[0], &pair[1])),
             |_, _, _, asked| {
                 said = Some(asked.clone());
                 Ok(())
@@ -317,7 +325,7 @@ impl Run<'_> {
     fn recheck(&mut self, path: &Path) -> Outcome {
         let catalogue = Catalogue::read(path, self.bytes())?;
         let entries = &catalogue.entries;
-        let all = Pairs { rules: entries.len() }.count();
+        let all = Pairs::of(entries.len()).count();
         let room = self.options.room.sizes().next().unwrap_or_default();
         let mut list = vec![0; bradovusc::decided_list_bytes(MOST_RULES)];
         let mut buffers = Buffers::new();
@@ -329,12 +337,12 @@ impl Run<'_> {
             other => return Err(Problem::Fault(format!("{}: {other}", path.display()))),
         };
         // the others are answered 1; these are asked again, for their labels and in more room
-        let pair = |index: usize| {
-            let (lower, higher) = pairs[index];
-            (&entries[lower].side, &entries[higher].side)
+        let ready: Vec<Ready> = entries.iter().map(|entry| Ready::new(&entry.side)).collect();
+        let walk = |range: Range<usize>| {
+            pairs[range].iter().map(|&(lower, higher)| (&ready[lower], &ready[higher]))
         };
         let teller = Teller::new("recheck", &self.options).without_apart(all - pairs.len());
-        self.tell(teller, entries.len(), pairs.len(), pair)
+        self.tell(teller, entries.len(), pairs.len(), walk)
     }
 
     fn add(&mut self, path: &Path, file: &Path, rule: &str) -> Outcome {
@@ -382,7 +390,7 @@ impl Run<'_> {
         side: &Side,
     ) -> Result<(AddedDecided, usize, Vec<u8>), Problem> {
         let room = self.options.room;
-        let work = |buffers: &mut Buffers, _: usize| {
+        let work = |buffers: &mut Buffers, _: Range<usize>| {
             let (mut bytes, record) = (before.to_vec(), side.record());
             let (mut decided, mut last) =
                 (AddedDecided { added: Added::NoCatalogue, search: 0 }, 0);
@@ -397,7 +405,7 @@ impl Run<'_> {
                     break;
                 }
             }
-            (decided, last, bytes)
+            (1, (decided, last, bytes))
         };
         let Streams { errors, terminal, .. } = &mut self.streams;
         let mut progress = Progress::new(*terminal);
@@ -423,6 +431,26 @@ impl Run<'_> {
         self.say(&words, || pair_in(Object::new().truth("added", false), there, new, &asked))?;
         Ok(status_of(asked.answer))
     }
+}
+
+/// What was said of the pairs that the library does not settle by their fronts, each with its place
+/// among these; and of how many pairs it was asked until some time was over.
+fn asked_of<'s>(
+    pairs: impl Iterator<Item = (&'s Ready<'s>, &'s Ready<'s>)>,
+    mut ask: impl FnMut(&Side, &Side) -> Asked,
+) -> (usize, Vec<(usize, Asked)>) {
+    let (begun, mut done, mut asked) = (Instant::now(), 0, Vec::new());
+    for (left, right) in pairs {
+        done += 1;
+        if left.differs(right) {
+            continue;
+        }
+        asked.push((done - 1, ask(left.side, right.side)));
+        if begun.elapsed() > PAUSE {
+            break;
+        }
+    }
+    (done, asked)
 }
 
 /// The way to the clash, if the library's first search has found it.
@@ -487,40 +515,4 @@ fn rule_object(title: &Title, rule: &Rule) -> Object {
     });
     let object = titled(Object::new(), "rule", title);
     object.text("template", &template_text(rule)).object("fields", fields)
-}
-
-/// All pairs of so many rules: those of the first one, then those of the second one, and so on.
-struct Pairs {
-    rules: usize,
-}
-
-impl Pairs {
-    fn count(&self) -> usize {
-        self.rules * self.rules.saturating_sub(1) / 2
-    }
-
-    /// The numbers of the two rules of a pair.
-    fn at(&self, index: usize) -> (usize, usize) {
-        let (mut left, mut rest) = (0, index);
-        while left + 1 < self.rules && rest >= self.rules - 1 - left {
-            rest -= self.rules - 1 - left;
-            left += 1;
-        }
-        (left, left + 1 + rest)
-    }
-}
-
-#[cfg(test)]
-mod tests {
-    use super::*;
-
-    #[test]
-    fn pairs_in_their_order() {
-        for rules in 0..9 {
-            let pairs = Pairs { rules };
-            let wanted =
-                (0..rules).flat_map(|left| (left + 1..rules).map(move |right| (left, right)));
-            assert!((0..pairs.count()).map(|index| pairs.at(index)).eq(wanted));
-        }
-    }
 }
