@@ -538,13 +538,13 @@ pub fn clash(sheet: &[u8], work: &mut [u8], answer: &mut [u8]) -> Answer {
     let number = unsafe {
         bradovusc_clash(
             sheet.as_ptr(),
-            sheet.len(),
+            sheet.len() as u64,
             work.as_mut_ptr(),
-            work.len(),
+            work.len() as u64,
             answer.as_mut_ptr(),
-            answer.len(),
+            answer.len() as u64,
             told.as_mut_ptr(),
-            told.len(),
+            told.len() as u64,
         )
     };
     // These are lengths and offsets of slices, and the number of situations that one holds.
@@ -552,16 +552,17 @@ pub fn clash(sheet: &[u8], work: &mut [u8], answer: &mut [u8]) -> Answer {
     Answer::numbered(number, count, place, written)
 }
 
+// In the library a length has 64 bits whatever the processor, so no block of these says `usize`.
 extern "C" {
     fn bradovusc_clash(
         sheet: *const u8,
-        sheet_length: usize,
+        sheet_length: u64,
         work: *mut u8,
-        work_length: usize,
+        work_length: u64,
         answer: *mut u8,
-        answer_length: usize,
+        answer_length: u64,
         told: *mut u64,
-        told_length: usize,
+        told_length: u64,
     ) -> u32;
 }
 
