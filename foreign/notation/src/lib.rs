@@ -9,10 +9,12 @@
 //! No file, thread, clock or terminal is touched here: the caller has those.
 
 pub mod ask;
+pub mod bands;
 pub mod characters;
 pub mod compile;
 mod cursor;
 pub mod decompile;
+mod groups;
 pub mod json;
 pub mod matching;
 mod pattern;
@@ -24,6 +26,7 @@ pub mod report;
 pub mod sides;
 pub mod source;
 mod template;
+pub mod told;
 pub mod way;
 
 pub use print::{character_text, pattern_text, rule_text, template_text, told_text, Place};

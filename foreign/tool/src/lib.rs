@@ -6,7 +6,6 @@
 
 pub mod catalogue;
 pub mod format;
-pub mod groups;
 pub mod near;
 pub mod pairs;
 pub mod parallel;
@@ -19,4 +18,6 @@ pub mod teller;
 pub mod words;
 
 pub use bradovusc_notation as notation;
-pub use bradovusc_notation::{ask, compile, decompile, json, matching, report, sides, source, way};
+pub use bradovusc_notation::{
+    ask, compile, decompile, json, matching, report, sides, source, told, way,
+};

@@ -2,16 +2,15 @@
 //! rule with many together.
 
 use std::io::{self, Write};
-use std::ptr;
 
 use crate::ask::Asked;
 use crate::format::{annotation, github, short, Format};
-use crate::groups::{groups, Group};
 use crate::json::Object;
-use crate::report::{counted, fields_words, label_words, pair_object, pair_words, Tally};
+use crate::report::{counted, pair_object, Tally};
 use crate::sarif;
 use crate::sides::Side;
 use crate::status::Status;
+use crate::told::{told_words, Told};
 use crate::words::Options;
 
 /// The version of the objects: it rises where a key is taken away or changes its meaning.
@@ -34,13 +33,7 @@ pub struct Teller<'s> {
     pub tally: Tally,
     told: Tally,
     /// What is still to be told in words.
-    held: Vec<Held<'s>>,
-}
-
-struct Held<'s> {
-    left: &'s Side,
-    right: &'s Side,
-    asked: Asked,
+    held: Vec<Told<'s>>,
 }
 
 impl<'s> Teller<'s> {
@@ -93,7 +86,7 @@ impl<'s> Teller<'s> {
         self.told.count(asked.answer);
         match self.format {
             Format::Text => {
-                self.held.push(Held { left, right, asked: asked.clone() });
+                self.held.push(Told { left, right, asked: asked.clone() });
                 if self.held.len() >= MOST_HELD {
                     self.tell_held(to)?;
                 }
@@ -109,21 +102,11 @@ impl<'s> Teller<'s> {
         }
     }
 
-    /// Tells what is held back: the clashes, those of one rule together, then what is not decided.
+    /// Tells what is held back.
     fn tell_held(&mut self, to: &mut dyn Write) -> io::Result<()> {
-        let (clashes, open): (Vec<Held>, Vec<Held>) =
-            self.held.drain(..).partition(|held| held.asked.answer.clashes() == Some(true));
-        let key = |side: &'s Side| ptr::from_ref(side);
-        let pairs: Vec<_> = clashes.iter().map(|held| (key(held.left), key(held.right))).collect();
-        for Group { rule, members } in groups(&pairs) {
-            let members = members.iter().map(|&member| &clashes[member]);
-            let words: String = match rule {
-                Some(rule) => group_words(members.map(|held| held.of(rule)).collect()),
-                None => members.map(Held::words).collect(),
-            };
-            to.write_all(words.as_bytes())?;
-        }
-        open.iter().try_for_each(|held| to.write_all(held.words().as_bytes()))
+        let words = told_words(&self.held);
+        self.held.clear();
+        to.write_all(words.as_bytes())
     }
 
     /// What goes behind all pairs, of so many rules.
@@ -179,51 +162,4 @@ impl<'s> Teller<'s> {
             false => format!("and {}\n", more.join(", ")),
         }
     }
-}
-
-impl<'s> Held<'s> {
-    fn words(&self) -> String {
-        pair_words(self.left, self.right, &self.asked)
-    }
-
-    /// The pair as seen from one of its rules: that rule, the other one and what each holds.
-    fn of(&self, rule: *const Side) -> Seen<'s, '_> {
-        let Held { left, right, asked } = self;
-        let (rule, other) = if ptr::eq(*left, rule) { (*left, *right) } else { (*right, *left) };
-        Seen { rule, other, left, right, asked }
-    }
-}
-
-/// A clash as it stands in a group.
-struct Seen<'s, 'a> {
-    /// The rule that all clashes of the group have.
-    rule: &'s Side,
-    other: &'s Side,
-    left: &'s Side,
-    right: &'s Side,
-    asked: &'a Asked,
-}
-
-/// Clashes of one rule with many.
-fn group_words(clashes: Vec<Seen<'_, '_>>) -> String {
-    let mut words = String::new();
-    if let Some(first) = clashes.first() {
-        let many = counted(clashes.len(), "rule", "rules");
-        words += &format!("{} clashes with {many}:\n", first.rule.told());
-    }
-    for Seen { other, left, right, asked, .. } in clashes {
-        words += &match &asked.shared {
-            Some(shared) => format!(
-                "  {}: {}\n    {}: {}\n    {}: {}\n",
-                other.told(),
-                label_words(left.edition, &shared.label),
-                left.title,
-                fields_words(left, &shared.left),
-                right.title,
-                fields_words(right, &shared.right)
-            ),
-            None => format!("  {}: {}\n", other.told(), asked.answer),
-        };
-    }
-    words
 }

@@ -24,8 +24,9 @@ pub fn groups<K: Copy + Eq + Hash>(pairs: &[(K, K)]) -> Vec<Group<K>> {
         }
         // of several with as many the last one is taken by max_by_key, so they stand backwards
         let most = rules.iter().rev().max_by_key(|(_, members)| members.len());
-        let Some((rule, members)) = most.filter(|(_, members)| members.len() > 1) else {
-            break;
+        let (rule, members) = match most {
+            Some((rule, members)) if members.len() > 1 => (rule, members),
+            _ => break,
         };
         members.iter().for_each(|&member| taken[member] = true);
         groups.push(Group { rule: Some(*rule), members: members.clone() });
