@@ -15,6 +15,8 @@ mod cursor;
 pub mod decompile;
 pub mod json;
 pub mod matching;
+pub mod mistakes;
+pub mod paint;
 mod pattern;
 mod places;
 pub mod plain;
@@ -24,6 +26,7 @@ pub mod report;
 pub mod sides;
 pub mod source;
 mod template;
+pub mod visible;
 pub mod way;
 
 pub use print::{character_text, pattern_text, rule_text, template_text, told_text, Place};
