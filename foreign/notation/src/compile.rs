@@ -5,6 +5,7 @@ use std::sync::Arc;
 
 use bradovusc::{Answer, Fault, RULE_FIELDS};
 
+use crate::mistakes::Mistakes;
 use crate::plain::{plain, Form, Plain};
 use crate::sides::{Place, Side, Title};
 use crate::source::{Mistake, Source, Span};
@@ -90,9 +91,9 @@ pub fn judge(rule: &Rule) -> Result<Side, Mistake> {
     }
 }
 
-/// The rules of a source as the library reads them, or all mistakes, in the order of its lines.
-pub fn judged(source: &Source) -> Result<Vec<Side>, Vec<Mistake>> {
-    let (mut sides, mut mistakes) = (Vec::new(), Vec::new());
+/// The rules of a source as the library reads them, or the mistakes, in the order of its lines.
+pub fn judged(source: &Source) -> Result<Vec<Side>, Mistakes> {
+    let (mut sides, mut mistakes) = (Vec::new(), Mistakes::default());
     let file: Arc<str> = source.name.as_str().into();
     for rule in &read(source)? {
         let place = Place { file: file.clone(), line: Some(rule.span.line) };
@@ -101,12 +102,8 @@ pub fn judged(source: &Source) -> Result<Vec<Side>, Vec<Mistake>> {
             Err(mistake) => mistakes.push(mistake),
         }
     }
-    mistakes.sort_by_key(|mistake: &Mistake| mistake.span);
-    if mistakes.is_empty() {
-        Ok(sides)
-    } else {
-        Err(mistakes)
-    }
+    mistakes.sort();
+    mistakes.or(sides)
 }
 
 /// A rule, and the front of a sheet with it on the left, with the origin of each byte.

@@ -2,6 +2,8 @@
 
 use std::fmt::Write;
 
+use crate::visible::is_hidden;
+
 /// An object that is being written.
 #[derive(Clone, Debug, Default)]
 pub struct Object {
@@ -62,9 +64,11 @@ fn quoted(text: &str) -> String {
         match sign {
             '"' | '\\' => string.extend(['\\', sign]),
             '\n' => string += "\\n",
-            // U+2028 and U+2029 end lines for some readers
-            sign if sign.is_control() || ('\u{2028}'..='\u{2029}').contains(&sign) => {
-                let _ = write!(string, "\\u{:04x}", sign as u32);
+            // U+2028 and U+2029 end lines for some readers, and others change what is seen
+            sign if is_hidden(sign) => {
+                for unit in sign.encode_utf16(&mut [0; 2]) {
+                    let _ = write!(string, "\\u{:04x}", unit);
+                }
             }
             sign => string.push(sign),
         }
@@ -81,6 +85,12 @@ mod tests {
         let object = Object::new().text("a\"b", "c\\d\ne\u{1}é").number("n", 7).truth("t", true);
         let object = object.object("o", Object::new());
         assert_eq!(object.done(), r#"{"a\"b":"c\\d\ne\u0001é","n":7,"t":true,"o":{}}"#);
+    }
+
+    #[test]
+    fn what_is_not_seen_is_escaped() {
+        let object = Object::new().text("t", "\u{202E}\u{2028}\u{E0041}\u{7F}");
+        assert_eq!(object.done(), "{\"t\":\"\\u202e\\u2028\\udb40\\udc41\\u007f\"}");
     }
 
     #[test]

@@ -17,6 +17,8 @@ pub mod decompile;
 mod groups;
 pub mod json;
 pub mod matching;
+pub mod mistakes;
+pub mod paint;
 mod pattern;
 mod places;
 pub mod plain;
@@ -27,6 +29,7 @@ pub mod sides;
 pub mod source;
 mod template;
 pub mod told;
+pub mod visible;
 pub mod way;
 
 pub use print::{character_text, pattern_text, rule_text, template_text, told_text, Place};

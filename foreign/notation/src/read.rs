@@ -5,11 +5,12 @@ use std::collections::HashMap;
 use bradovusc::Edition;
 
 use crate::cursor::{is_blank, Cursor, Result};
+use crate::mistakes::Mistakes;
 use crate::source::{Mistake, Source, Span};
 use crate::Rule;
 
-/// The rules of a file, or all mistakes that are found in it: at most one a line.
-pub fn read(source: &Source) -> Result<Vec<Rule>, Vec<Mistake>> {
+/// The rules of a file, or the mistakes that are found in it: at most one a line.
+pub fn read(source: &Source) -> Result<Vec<Rule>, Mistakes> {
     let mut file = File::default();
     for (number, line) in source.lines() {
         let mut cursor =
@@ -21,13 +22,11 @@ pub fn read(source: &Source) -> Result<Vec<Rule>, Vec<Mistake>> {
             }
             None => file.line(&mut cursor),
         };
-        file.mistakes.extend(result.err());
+        if let Err(mistake) = result {
+            file.mistakes.push(mistake);
+        }
     }
-    if file.mistakes.is_empty() {
-        Ok(file.rules)
-    } else {
-        Err(file.mistakes)
-    }
+    file.mistakes.or(file.rules)
 }
 
 /// The line that says that a file is Full ASCII.
@@ -62,7 +61,7 @@ struct File {
     template: bool,
     /// Whether a line of a rule was met, read or not.
     begun: bool,
-    mistakes: Vec<Mistake>,
+    mistakes: Mistakes,
 }
 
 impl File {

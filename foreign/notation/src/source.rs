@@ -2,6 +2,9 @@
 
 use std::fmt;
 
+use crate::paint::Paint;
+use crate::visible::{visible, visible_sign};
+
 /// A part of one line. Lines and columns count from 1, columns in characters.
 #[derive(Clone, Copy, Debug, Default, PartialEq, Eq, PartialOrd, Ord, Hash)]
 pub struct Span {
@@ -37,11 +40,12 @@ impl Mistake {
     }
 }
 
-/// A file's name, as it is told, and its lines.
+/// A file's name, and its bytes. A line is read when it is asked for, so that a file takes no more
+/// room than its bytes.
 #[derive(Clone, Debug)]
 pub struct Source {
     pub name: String,
-    lines: Vec<Line>,
+    bytes: Vec<u8>,
 }
 
 /// A line without its end.
@@ -69,36 +73,39 @@ const BYTE_ORDER_MARK: &[u8] = "\u{FEFF}".as_bytes();
 
 impl Source {
     pub fn new(name: impl Into<String>, bytes: &[u8]) -> Source {
-        let bytes = bytes.strip_prefix(BYTE_ORDER_MARK).unwrap_or(bytes);
-        let mut lines: Vec<Line> = bytes.split(|&byte| byte == b'\n').map(Line::of).collect();
-        // behind the last newline no line begins
-        if lines.last().map_or(false, |last| last.signs.is_empty()) {
-            lines.pop();
-        }
-        Source { name: name.into(), lines }
+        let bytes = bytes.strip_prefix(BYTE_ORDER_MARK).unwrap_or(bytes).to_vec();
+        Source { name: name.into(), bytes }
     }
 
     /// The lines with their numbers.
-    pub fn lines(&self) -> impl Iterator<Item = (usize, &Line)> {
-        (1..).zip(&self.lines)
+    pub fn lines(&self) -> impl Iterator<Item = (usize, Line)> + '_ {
+        // behind the last newline no line begins
+        let bytes = self.bytes.strip_suffix(b"\n").unwrap_or(&self.bytes);
+        let lines = bytes.split(|&byte| byte == b'\n').map(Line::of);
+        let some = if self.bytes.is_empty() { 0 } else { usize::MAX };
+        (1..).zip(lines).take(some)
+    }
+
+    fn line(&self, number: usize) -> Option<Line> {
+        self.lines().nth(number.checked_sub(1)?).map(|(_, line)| line)
     }
 
     /// Whether a part is one of this file: at least one character, all of them there.
     pub fn holds(&self, span: Span) -> bool {
-        let line = span.line.checked_sub(1).and_then(|index| self.lines.get(index));
-        let length = line.map_or(0, |line| line.signs.len());
+        let length = self.line(span.line).map_or(0, |line| line.signs.len());
         span.column >= 1 && span.width >= 1 && span.column + span.width <= length + 1
     }
 
     /// A mistake with its place, its line and a caret below.
-    pub fn show<'a>(&'a self, mistake: &'a Mistake) -> impl fmt::Display + 'a {
-        Shown { source: self, mistake }
+    pub fn show<'a>(&'a self, mistake: &'a Mistake, paint: Paint) -> impl fmt::Display + 'a {
+        Shown { source: self, mistake, paint }
     }
 }
 
 struct Shown<'a> {
     source: &'a Source,
     mistake: &'a Mistake,
+    paint: Paint,
 }
 
 /// So many characters of a line are shown before and behind the beginning of a mistake.
@@ -106,32 +113,52 @@ const AROUND: usize = 60;
 
 impl fmt::Display for Shown<'_> {
     fn fmt(&self, to: &mut fmt::Formatter<'_>) -> fmt::Result {
-        let Mistake { span, words, hint } = self.mistake;
-        writeln!(to, "{}:{}:{}: {words}", self.source.name, span.line, span.column)?;
-        let index = span.line.saturating_sub(1);
-        if let Some(line) = self.source.lines.get(index) {
-            let at = span.column.saturating_sub(1).min(line.signs.len());
-            let first = at.saturating_sub(AROUND);
-            let end = (at + AROUND).min(line.signs.len());
-            let visible = |&sign: &char| match sign {
-                '\t' => '\t',
-                sign if sign.is_control() => char::REPLACEMENT_CHARACTER,
-                sign => sign,
-            };
-            let text: String = line.signs[first..end].iter().map(visible).collect();
-            let blank = |&sign: &char| if sign == '\t' { '\t' } else { ' ' };
-            let before: String = line.signs[first..at].iter().map(blank).collect();
-            let (cut, behind) = (first > 0, end < line.signs.len());
-            let dots = |cut| if cut { "..." } else { "" };
-            writeln!(to, "    {}{text}{}", dots(cut), dots(behind))?;
-            let carets = "^".repeat(span.width.min(end.saturating_sub(at)).max(1));
-            writeln!(to, "    {}{before}{carets}", if cut { "   " } else { "" })?;
+        let Shown { source, mistake, paint } = *self;
+        let place = format!("{}:{}:{}:", source.name, mistake.span.line, mistake.span.column);
+        let (place, words) = (paint.place(&visible(&place)), visible(&mistake.words));
+        writeln!(to, "{place} {}", paint.bold(&words))?;
+        if let Some(line) = source.line(mistake.span.line) {
+            self.put_line(&line, to)?;
         }
-        match hint {
-            Some(hint) => writeln!(to, "    {hint}"),
+        match &mistake.hint {
+            Some(hint) => writeln!(to, "    {}", visible(hint)),
             None => Ok(()),
         }
     }
+}
+
+impl Shown<'_> {
+    /// The line, or a part of it, with carets below.
+    fn put_line(&self, line: &Line, to: &mut fmt::Formatter<'_>) -> fmt::Result {
+        let (span, length) = (self.mistake.span, line.signs.len());
+        let at = span.column.saturating_sub(1).min(length);
+        let (first, end) = (at.saturating_sub(AROUND), (at + AROUND).min(length));
+        let text: String = line.signs[first..end].iter().map(|&sign| in_line(sign)).collect();
+        let blanks = |&sign: &char| match sign {
+            '\t' => "\t".to_string(),
+            sign => " ".repeat(width(sign)),
+        };
+        let before: String = line.signs[first..at].iter().map(blanks).collect();
+        let (cut, behind) = (first > 0, end < length);
+        let dots = |cut| if cut { "..." } else { "" };
+        writeln!(to, "    {}{text}{}", dots(cut), dots(behind))?;
+        let marked = &line.signs[at..end.min(at + span.width)];
+        let carets = "^".repeat(marked.iter().map(|&sign| width(sign)).sum::<usize>().max(1));
+        let front = if cut { "   " } else { "" };
+        writeln!(to, "    {front}{before}{}", self.paint.wrong(&carets))
+    }
+}
+
+/// A character of a line that is shown.
+fn in_line(sign: char) -> String {
+    match sign {
+        '\t' => "\t".to_string(),
+        sign => visible_sign(sign),
+    }
+}
+
+fn width(sign: char) -> usize {
+    in_line(sign).chars().count()
 }
 
 #[cfg(test)]
@@ -162,8 +189,29 @@ mod tests {
     fn a_long_line_is_shown_in_part() {
         let source = Source::new("f", "A".repeat(1000).as_bytes());
         let mistake = Mistake::new(Span { line: 1, column: 500, width: 2 }, "wrong").hint("so");
-        let shown = source.show(&mistake).to_string();
+        let shown = source.show(&mistake, Paint::NONE).to_string();
         let (a, spaces) = ("A".repeat(120), " ".repeat(60));
         assert_eq!(shown, format!("f:1:500: wrong\n    ...{a}...\n       {spaces}^^\n    so\n"));
+    }
+
+    #[test]
+    fn what_is_not_seen_is_shown() {
+        let source = Source::new("\u{202E}f", "\tA\u{1B}\u{202E}B".as_bytes());
+        let mistake = Mistake::new(Span { line: 1, column: 4, width: 2 }, "wrong '\u{202E}'");
+        let shown = source.show(&mistake, Paint::NONE).to_string();
+        let lines: Vec<&str> = shown.lines().collect();
+        assert_eq!(lines[0], "<U+202E>f:1:4: wrong '<U+202E>'");
+        assert_eq!(lines[1], "    \tA<U+001B><U+202E>B");
+        assert_eq!(lines[2], "    \t         ^^^^^^^^^");
+    }
+
+    #[test]
+    fn colours_take_no_place() {
+        let source = Source::new("f", b"A\n");
+        let mistake = Mistake::new(Span { line: 1, column: 1, width: 1 }, "wrong").hint("so");
+        let shown = source.show(&mistake, Paint::COLOURS).to_string();
+        assert!(shown.contains("\u{1B}["));
+        let bare = crate::paint::bare(&shown);
+        assert_eq!(bare, source.show(&mistake, Paint::NONE).to_string());
     }
 }

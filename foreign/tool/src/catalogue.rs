@@ -10,6 +10,7 @@ use std::path::Path;
 use bradovusc::{catalogue_bytes, drop_strays_catalogue, MendedCatalogue, MOST_RULES};
 
 use crate::decompile::{entries, Entry};
+use crate::kinds;
 use crate::replace::Replaced;
 use crate::report::grouped;
 use crate::sides::Place;
@@ -17,6 +18,9 @@ use crate::status::Problem;
 
 /// A catalogue file has so many bytes, unless another number is told: 32 rules always fit.
 pub const BYTES: usize = catalogue_bytes(MOST_RULES);
+
+/// So much of another file is looked at to see what it is.
+const LOOKED_AT: u64 = 1 << 16;
 
 /// A catalogue that was read from a file.
 #[derive(Debug)]
@@ -57,6 +61,12 @@ impl Catalogue {
             file.take(wanted as u64).read_to_end(&mut bytes).map_err(failed)?;
         }
         if bytes.len() != wanted || kept.len() != wanted as u64 {
+            if bytes.is_empty() && kept.is_file() {
+                let _ = file.take(LOOKED_AT).read_to_end(&mut bytes);
+            }
+            if kinds::is_rules(&bytes) {
+                return Err(Problem::Fault(kinds::rules(&name)));
+            }
             let (has, wanted) = (grouped(kept.len() as usize), grouped(wanted));
             return Err(Problem::Fault(format!(
                 "{name} has {has} bytes, and a catalogue has {wanted}: it is cut short, or it is none \

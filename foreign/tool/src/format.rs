@@ -1,11 +1,13 @@
 //! The forms in which pairs are told, and those of one line each: for editors, and for GitHub.
 
 use crate::ask::Asked;
+use crate::notation::paint::Paint;
+use crate::notation::visible::visible;
 use crate::report::{fields_words, label_words, not_decided_words};
 use crate::sarif;
 use crate::sides::{Place, Side};
 use crate::source::{Mistake, Source};
-use crate::status::{problem_objects, problem_words, Problem};
+use crate::status::{more_mistakes, problem_objects, problem_words, Problem};
 
 /// In which form it is told.
 #[derive(Clone, Copy, Debug, Default, PartialEq, Eq)]
@@ -74,16 +76,18 @@ pub fn problem_on_output(format: Format, problem: &Problem) -> Option<String> {
 pub fn short_problem(problem: &Problem) -> String {
     match problem {
         Problem::Mistakes(source, mistakes) => {
-            mistakes.iter().map(|mistake| short_mistake(source, mistake)).collect()
+            let more = more_mistakes(mistakes).map(|words| format!("{}: {words}\n", source.name));
+            let told = mistakes.iter().map(|mistake| short_mistake(source, mistake));
+            told.chain(more).collect()
         }
-        Problem::Fault(_) | Problem::Failure(_) => problem_words(problem),
+        _ => problem_words(problem, Paint::NONE),
     }
 }
 
 fn short_mistake(source: &Source, mistake: &Mistake) -> String {
     let Mistake { span, words, hint } = mistake;
     let hint = hint.as_ref().map_or(String::new(), |hint| format!("; {hint}"));
-    format!("{}:{}:{}: {words}{hint}\n", source.name, span.line, span.column)
+    visible(&format!("{}:{}:{}: {words}{hint}", source.name, span.line, span.column)) + "\n"
 }
 
 /// A pair as an annotation at the right rule: an error where it clashes, else a warning.
@@ -111,11 +115,15 @@ pub fn github(left: &Side, right: &Side, asked: &Asked) -> String {
 fn github_problem(problem: &Problem) -> String {
     match problem {
         Problem::Mistakes(source, mistakes) => {
-            mistakes.iter().map(|mistake| github_mistake(source, mistake)).collect()
+            let file = [("file", source.name.clone())];
+            let more = more_mistakes(mistakes).map(|words| annotation("error", &file, &words));
+            let told = mistakes.iter().map(|mistake| github_mistake(source, mistake));
+            told.chain(more).collect()
         }
-        Problem::Fault(words) | Problem::Failure(words) => {
+        Problem::Fault(words) | Problem::Failure(words) | Problem::NoRule(words) => {
             annotation("error", &[], &format!("bradovusc: {words}"))
         }
+        Problem::BrokenPipe => String::new(),
     }
 }
 

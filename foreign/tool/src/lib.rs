@@ -6,6 +6,7 @@
 
 pub mod catalogue;
 pub mod format;
+pub mod kinds;
 pub mod near;
 pub mod pairs;
 pub mod parallel;

@@ -18,6 +18,8 @@ use crate::catalogue::{Catalogue, BYTES};
 use crate::compile;
 use crate::format::{problem_on_output, short_problem, Format};
 use crate::json::Object;
+use crate::kinds;
+use crate::notation::paint::Paint;
 use crate::notation::{pattern_text, rule_text, template_text, Rule};
 use crate::pairs::Pairs;
 use crate::parallel::{in_order, processors, Event};
@@ -37,6 +39,9 @@ pub struct Streams<'a> {
     pub errors: &'a mut dyn Write,
     /// Whether the errors go to a terminal, where a progress bar may stand.
     pub terminal: bool,
+    /// The colours of the output and of the errors.
+    pub paint: Paint,
+    pub errors_paint: Paint,
 }
 
 type Outcome = Result<Status, Problem>;
@@ -64,7 +69,7 @@ pub fn run(words: &[OsString], streams: Streams<'_>) -> Status {
         Ok(status)
     });
     outcome.unwrap_or_else(|problem| {
-        let Streams { output, errors, .. } = run.streams;
+        let Streams { output, errors, errors_paint, .. } = run.streams;
         let told = match problem_on_output(format, &problem) {
             Some(text) => output.write_all(text.as_bytes()).and_then(|()| output.flush()),
             None => {
@@ -73,10 +78,11 @@ pub fn run(words: &[OsString], streams: Streams<'_>) -> Status {
                 Err(io::ErrorKind::Other.into())
             }
         };
-        if told.is_err() {
+        let nobody = |error: io::Error| error.kind() == io::ErrorKind::BrokenPipe;
+        if told.is_err_and(|error| !nobody(error)) {
             let words = match format {
                 Format::Short => short_problem(&problem),
-                _ => problem_words(&problem),
+                _ => problem_words(&problem, errors_paint),
             };
             let _ = errors.write_all(words.as_bytes());
             let _ = errors.flush();
@@ -136,8 +142,14 @@ impl Run<'_> {
                 format!("{} is above {} bytes", path.display(), grouped(MOST_FILE as usize));
             return Err(Problem::Fault(words));
         }
-        let source = Source::new(path.display().to_string(), &bytes);
-        judged(source)
+        if kinds::is_catalogue(&bytes) {
+            return Err(Problem::Fault(kinds::a_catalogue(path)));
+        }
+        let sides = judged(Source::new(path.display().to_string(), &bytes))?;
+        match sides.is_empty() {
+            true => Err(Problem::no_rule(path)),
+            false => Ok(sides),
+        }
     }
 
     /// The two rules with these names.

@@ -81,11 +81,13 @@ pub fn problem(problem: &Problem) -> String {
         Problem::Mistakes(source, mistakes) => {
             let results: Vec<String> =
                 mistakes.iter().map(|found| mistake(source, found).done()).collect();
-            begun() + &results.join(",") + &ended(status, None, Object::new())
+            let counts = Object::new().number("mistakes", mistakes.count());
+            begun() + &results.join(",") + &ended(status, None, counts)
         }
-        Problem::Fault(words) | Problem::Failure(words) => {
+        Problem::Fault(words) | Problem::Failure(words) | Problem::NoRule(words) => {
             begun() + &ended(status, Some(words), Object::new())
         }
+        Problem::BrokenPipe => String::new(),
     }
 }
 

@@ -4,8 +4,11 @@ use std::io;
 use std::path::Path;
 
 use crate::json::Object;
+use crate::notation::mistakes::Mistakes;
+use crate::notation::paint::Paint;
+use crate::notation::visible::visible;
 use crate::report::{counted, mistake_object, Tally};
-use crate::source::{Mistake, Source};
+use crate::source::Source;
 
 /// How a command ends.
 #[derive(Clone, Copy, Debug, PartialEq, Eq, PartialOrd, Ord)]
@@ -20,6 +23,8 @@ pub enum Status {
     Fault,
     /// 4: something could not be read or written.
     Failure,
+    /// 5: a file of rules has no rule.
+    NoRule,
 }
 
 impl Status {
@@ -43,18 +48,23 @@ impl From<Tally> for Status {
 #[derive(Debug)]
 pub enum Problem {
     /// Mistakes in a file of rules, in the order of its lines.
-    Mistakes(Source, Vec<Mistake>),
+    Mistakes(Source, Mistakes),
     /// A fault of a catalogue or of the words of the command.
     Fault(String),
     /// Something that could not be read or written.
     Failure(String),
+    /// A file of rules without a rule: it may be cut, or another one than was meant.
+    NoRule(String),
+    /// Nobody reads the output any more. There is nobody to tell it either.
+    BrokenPipe,
 }
 
 impl Problem {
     pub fn status(&self) -> Status {
         match self {
             Problem::Mistakes(..) | Problem::Fault(_) => Status::Fault,
-            Problem::Failure(_) => Status::Failure,
+            Problem::Failure(_) | Problem::BrokenPipe => Status::Failure,
+            Problem::NoRule(_) => Status::NoRule,
         }
     }
 
@@ -62,38 +72,67 @@ impl Problem {
     pub fn failed(done: &str, path: &Path, error: &io::Error) -> Problem {
         Problem::Failure(format!("{} can't be {done}: {error}", path.display()))
     }
+
+    /// A file of rules without a rule.
+    pub fn no_rule(path: &Path) -> Problem {
+        Problem::NoRule(format!("{} has no rule; a rule is NAME = TEMPLATE", path.display()))
+    }
 }
 
 /// The output is the only thing that is written by `?`.
 impl From<io::Error> for Problem {
     fn from(error: io::Error) -> Problem {
-        Problem::Failure(format!("the output can't be written: {error}"))
+        match error.kind() {
+            io::ErrorKind::BrokenPipe => Problem::BrokenPipe,
+            _ => Problem::Failure(format!("the output can't be written: {error}")),
+        }
     }
 }
 
 /// Why there is no answer, in words.
-pub fn problem_words(problem: &Problem) -> String {
+pub fn problem_words(problem: &Problem, paint: Paint) -> String {
     match problem {
         Problem::Mistakes(source, mistakes) => {
             let shown: String =
-                mistakes.iter().map(|mistake| source.show(mistake).to_string()).collect();
-            let mistakes = counted(mistakes.len(), "mistake", "mistakes");
-            format!("{shown}{}: {mistakes}; nothing was done\n", source.name)
+                mistakes.iter().map(|mistake| source.show(mistake, paint).to_string()).collect();
+            let count = more_mistakes(mistakes)
+                .unwrap_or_else(|| counted(mistakes.count(), "mistake", "mistakes"));
+            let name = visible(&source.name);
+            format!("{shown}{name}: {}; nothing was done\n", paint.wrong(&count))
         }
-        Problem::Fault(words) | Problem::Failure(words) => format!("bradovusc: {words}\n"),
+        Problem::Fault(words) | Problem::Failure(words) | Problem::NoRule(words) => {
+            format!("{} {}\n", paint.wrong("bradovusc:"), visible(words))
+        }
+        Problem::BrokenPipe => String::new(),
     }
 }
 
-/// Why there is no answer, as objects.
+/// How many mistakes there are, where not all are told.
+pub fn more_mistakes(mistakes: &Mistakes) -> Option<String> {
+    let all = counted(mistakes.count(), "mistake", "mistakes");
+    let told = mistakes.len();
+    (mistakes.count() > told).then(|| format!("{all}, of which the first {told} are told"))
+}
+
+/// Why there is no answer, as objects. Where there are more mistakes than are told, a last one says
+/// how many.
 pub fn problem_objects(problem: &Problem) -> String {
     match problem {
         Problem::Mistakes(source, mistakes) => {
-            mistakes.iter().map(|mistake| mistake_object(source, mistake).done() + "\n").collect()
+            let (all, told) = (mistakes.count(), mistakes.len());
+            let mut objects: Vec<Object> =
+                mistakes.iter().map(|mistake| mistake_object(source, mistake)).collect();
+            if all > told {
+                let object = Object::new().number("mistakes", all).number("told", told);
+                objects.push(object.text("file", &source.name));
+            }
+            objects.into_iter().map(|object| object.done() + "\n").collect()
         }
-        Problem::Fault(words) | Problem::Failure(words) => {
+        Problem::Fault(words) | Problem::Failure(words) | Problem::NoRule(words) => {
             let status = usize::from(problem.status().number());
             Object::new().text("error", words).number("status", status).done() + "\n"
         }
+        Problem::BrokenPipe => String::new(),
     }
 }
 

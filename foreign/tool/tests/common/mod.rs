@@ -7,6 +7,7 @@ use std::fs;
 use std::path::{Path, PathBuf};
 use std::process::{Command, Stdio};
 
+use bradovusc_tool::notation::paint::Paint;
 use bradovusc_tool::run::{run, Streams};
 use bradovusc_tool::status::Status;
 
@@ -55,8 +56,14 @@ pub fn call(words: &[&str]) -> Said {
 pub fn call_with(words: &[&str], mut input: &[u8]) -> Said {
     let words: Vec<OsString> = words.iter().map(OsString::from).collect();
     let (mut output, mut errors) = (Vec::new(), Vec::new());
-    let streams =
-        Streams { input: &mut input, output: &mut output, errors: &mut errors, terminal: false };
+    let streams = Streams {
+        input: &mut input,
+        output: &mut output,
+        errors: &mut errors,
+        terminal: false,
+        paint: Paint::NONE,
+        errors_paint: Paint::NONE,
+    };
     let status: Status = run(&words, streams);
     Said { status: status.number().into(), output, errors: String::from_utf8(errors).unwrap() }
 }
