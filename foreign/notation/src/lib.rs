@@ -27,6 +27,7 @@ mod read;
 pub mod report;
 pub mod sides;
 pub mod source;
+pub mod status;
 mod template;
 pub mod told;
 pub mod visible;

@@ -2,7 +2,11 @@
 
 use std::ops::Deref;
 
-use crate::source::Mistake;
+use crate::json::Object;
+use crate::paint::Paint;
+use crate::report::{counted, mistake_object};
+use crate::source::{Mistake, Source};
+use crate::visible::visible;
 
 /// So many mistakes are kept of a file. The others are counted: what comes behind the first ones
 /// mostly comes of them, and a file may be one great mistake.
@@ -52,11 +56,39 @@ impl Deref for Mistakes {
     }
 }
 
+/// All mistakes of a source that are kept, shown at their places, and how many there are.
+pub fn mistakes_words(source: &Source, mistakes: &Mistakes, paint: Paint) -> String {
+    let shown = mistakes.iter().map(|mistake| source.show(mistake, paint).to_string());
+    let count =
+        more_mistakes(mistakes).unwrap_or_else(|| counted(mistakes.count(), "mistake", "mistakes"));
+    let (shown, name) = (shown.collect::<String>(), visible(&source.name));
+    format!("{shown}{name}: {}; nothing was done\n", paint.wrong(&count))
+}
+
+/// How many mistakes there are, where not all are told.
+pub fn more_mistakes(mistakes: &Mistakes) -> Option<String> {
+    let all = counted(mistakes.count(), "mistake", "mistakes");
+    let told = mistakes.len();
+    (mistakes.count() > told).then(|| format!("{all}, of which the first {told} are told"))
+}
+
+/// The same as objects. Where there are more than are told, a last one says how many.
+pub fn mistakes_objects(source: &Source, mistakes: &Mistakes) -> Vec<Object> {
+    let (all, told) = (mistakes.count(), mistakes.len());
+    let mut objects: Vec<Object> =
+        mistakes.iter().map(|mistake| mistake_object(source, mistake)).collect();
+    if all > told {
+        let object = Object::new().number("mistakes", all).number("told", told);
+        objects.push(object.text("file", &source.name));
+    }
+    objects
+}
+
 #[cfg(test)]
 mod tests {
     use super::*;
     use crate::read;
-    use crate::source::{Source, Span};
+    use crate::source::Span;
 
     #[test]
     fn the_first_fifty_are_kept() {

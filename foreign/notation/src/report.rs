@@ -7,6 +7,7 @@ use crate::json::Object;
 use crate::print::told_text;
 use crate::sides::{Side, Text, Title};
 use crate::source::{Mistake, Source};
+use crate::status::Status;
 
 /// A side of a situation has at most so many tokens.
 const LONGEST_SIDE: usize = 48;
@@ -202,6 +203,11 @@ fn fields_object(side: &Side, texts: &[Text]) -> Object {
             None => object,
         }
     })
+}
+
+/// What ends a question without an answer, as an object.
+pub fn fault_object(words: &str, status: Status) -> Object {
+    Object::new().text("error", words).number("status", usize::from(status.number()))
 }
 
 /// A mistake in a source, as an object.

@@ -5,8 +5,13 @@ use std::sync::Arc;
 
 use bradovusc::{Edition, Written, RULE_FIELDS, SHEET_BYTES};
 
+use crate::report::counted;
+
 /// The fields of a right side stand behind those of the left one: 4 to 7 for 0 to 3.
 pub const RIGHT: u8 = RULE_FIELDS as u8;
+
+/// Where a name is not found, so many rules are named, and more are only counted.
+const MOST_NAMES: usize = 20;
 
 /// By what a rule is told.
 #[derive(Clone, Debug, PartialEq, Eq)]
@@ -112,6 +117,20 @@ impl Side {
         let renamed = |&token: &u8| if token < codes { token } else { token.saturating_add(first) };
         self.tokens.iter().map(renamed).collect()
     }
+}
+
+/// The rule with this name, among those of a file that is told so; else which ones there are.
+pub fn find<'a>(rules: &'a [Side], file: &str, name: &str) -> Result<&'a Side, String> {
+    let title = Title::Name(name.to_string());
+    rules.iter().find(|side| side.title == title).ok_or_else(|| {
+        let names: Vec<String> = rules.iter().map(|side| side.title.to_string()).collect();
+        let names = match &names[..] {
+            [] => "it has none".to_string(),
+            few if few.len() <= MOST_NAMES => format!("it has {}", few.join(", ")),
+            many => format!("it has {}", counted(many.len(), "rule", "rules")),
+        };
+        format!("{file} has no rule '{name}'; {names}")
+    })
 }
 
 /// Drops the spaces at the end of a label.

@@ -3,6 +3,7 @@
 
 use bradovusc::{Edition, Step};
 
+use crate::ask::{Asked, Buffers};
 use crate::json::Object;
 use crate::print::{character_text, told_text, Place};
 use crate::sides::{Side, RIGHT};
@@ -35,6 +36,18 @@ pub enum Done {
     Struck { side: usize, field: u8 },
     /// Both sides read a character; a front that is a field takes it.
     Read { character: u8, fields: [Option<u8>; 2] },
+}
+
+/// The search of the library that writes its steps.
+const FIRST_SEARCH: u8 = 1;
+
+/// The way to a clash, if the library's first search has found it.
+pub fn way(left: &Side, right: &Side, asked: &Asked) -> Option<Vec<Row>> {
+    if asked.search != FIRST_SEARCH {
+        return None;
+    }
+    let steps = Buffers::new().way(left, right, asked.room)?;
+    follow(left, right, &steps)
 }
 
 /// The rows of a way, the start and then one for each step; none where a step can't be made there,
@@ -198,6 +211,26 @@ pub fn way_words(left: &Side, right: &Side, rows: &[Row]) -> String {
         );
     }
     words + &format!("{SPACES} is any number of spaces at the end of a label, which are dropped.\n")
+}
+
+/// The way to a clash in words, or that there is none to show.
+pub fn steps_words(left: &Side, right: &Side, asked: &Asked, rows: Option<&[Row]>) -> String {
+    match rows {
+        Some(rows) => way_words(left, right, rows),
+        None => format!(
+            "There is no way to show: search {} has found the clash, and only search \
+             {FIRST_SEARCH} writes its steps down.\n",
+            asked.search
+        ),
+    }
+}
+
+/// The same behind what an object has already.
+pub fn steps_in(object: Object, left: &Side, right: &Side, rows: Option<&[Row]>) -> Object {
+    match rows {
+        Some(rows) => object.list("steps", way_objects(left, right, rows)),
+        None => object.nothing("steps"),
+    }
 }
 
 /// The rows as objects.

@@ -1,13 +1,14 @@
 //! The forms in which pairs are told, and those of one line each: for editors, and for GitHub.
 
 use crate::ask::Asked;
+use crate::notation::mistakes::more_mistakes;
 use crate::notation::paint::Paint;
 use crate::notation::visible::visible;
 use crate::report::{fields_words, label_words, not_decided_words};
 use crate::sarif;
 use crate::sides::{Place, Side};
 use crate::source::{Mistake, Source};
-use crate::status::{more_mistakes, problem_objects, problem_words, Problem};
+use crate::status::{problem_objects, problem_words, Problem};
 
 /// In which form it is told.
 #[derive(Clone, Copy, Debug, Default, PartialEq, Eq)]

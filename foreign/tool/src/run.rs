@@ -25,11 +25,11 @@ use crate::pairs::Pairs;
 use crate::parallel::{in_order, processors, Event};
 use crate::progress::Progress;
 use crate::report::{counted, grouped, pair_in, pair_object, pair_words, titled, Tally};
-use crate::sides::{sheet, Side, Title};
+use crate::sides::{find, sheet, Side, Title};
 use crate::source::Source;
 use crate::status::{problem_words, Problem, Status};
 use crate::teller::Teller;
-use crate::way::{follow, way_objects, way_words, Row};
+use crate::way::{steps_in, steps_words, way};
 use crate::words::{self, Command, Options};
 
 /// Where a command reads and writes.
@@ -45,9 +45,6 @@ pub struct Streams<'a> {
 }
 
 type Outcome = Result<Status, Problem>;
-
-/// The search of the library that writes its steps.
-const FIRST_SEARCH: u8 = 1;
 
 /// What was said is handed on at least so often, if there is something new.
 const PAUSE: Duration = Duration::from_millis(50);
@@ -236,13 +233,9 @@ impl Run<'_> {
         let (mut words, mut object) =
             (pair_words(&left, &right, &asked), pair_object(&left, &right, &asked));
         if self.options.steps && asked.answer.clashes() == Some(true) {
-            (words, object) = match way(&left, &right, &asked) {
-                Some(rows) => {
-                    let object = object.list("steps", way_objects(&left, &right, &rows));
-                    (words + &way_words(&left, &right, &rows), object)
-                }
-                None => (words + &no_way_words(asked.search), object.nothing("steps")),
-            };
+            let rows = way(&left, &right, &asked);
+            words += &steps_words(&left, &right, &asked, rows.as_deref());
+            object = steps_in(object, &left, &right, rows.as_deref());
         }
         self.say(&words, || object)?;
         Ok(status_of(asked.answer))
@@ -465,23 +458,6 @@ fn asked_of<'s>(
     (done, asked)
 }
 
-/// The way to the clash, if the library's first search has found it.
-fn way(left: &Side, right: &Side, asked: &Asked) -> Option<Vec<Row>> {
-    if asked.search != FIRST_SEARCH {
-        return None;
-    }
-    let steps = Buffers::new().way(left, right, asked.room)?;
-    follow(left, right, &steps)
-}
-
-/// That there is no way to show.
-fn no_way_words(search: u8) -> String {
-    format!(
-        "There is no way to show: search {search} has found the clash, and only search \
-         {FIRST_SEARCH} writes its steps down.\n"
-    )
-}
-
 /// An answer of the library that ends a command, with its place if it has one.
 fn library_says(answer: impl fmt::Display) -> Problem {
     Problem::Fault(format!("the library says: {answer}"))
@@ -501,18 +477,8 @@ pub fn judged(source: Source) -> Result<Vec<Side>, Problem> {
 
 /// The rule with this name.
 fn named(rules: &[Side], path: &Path, name: &str) -> Result<Side, Problem> {
-    let title = Title::Name(name.to_string());
-    let found = rules.iter().find(|side| side.title == title).cloned();
-    found.ok_or_else(|| {
-        let file = path.display();
-        let names: Vec<String> = rules.iter().map(|side| side.title.to_string()).collect();
-        let names = match &names[..] {
-            [] => "it has none".to_string(),
-            few if few.len() <= 20 => format!("it has {}", few.join(", ")),
-            many => format!("it has {}", counted(many.len(), "rule", "rules")),
-        };
-        Problem::Fault(format!("{file} has no rule '{name}'; {names}"))
-    })
+    let found = find(rules, &path.display().to_string(), name);
+    found.cloned().map_err(Problem::Fault)
 }
 
 fn titles(left: &Side, right: &Side) -> Object {

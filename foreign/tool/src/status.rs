@@ -1,48 +1,15 @@
-//! The exit statuses, and what ends a command without an answer.
+//! What ends a command without an answer.
 
 use std::io;
 use std::path::Path;
 
-use crate::json::Object;
-use crate::notation::mistakes::Mistakes;
+use crate::notation::mistakes::{mistakes_objects, mistakes_words, Mistakes};
 use crate::notation::paint::Paint;
 use crate::notation::visible::visible;
-use crate::report::{counted, mistake_object, Tally};
+use crate::report::fault_object;
 use crate::source::Source;
 
-/// How a command ends.
-#[derive(Clone, Copy, Debug, PartialEq, Eq, PartialOrd, Ord)]
-pub enum Status {
-    /// 0: what was asked for is done; of rules that were checked, no two clash.
-    Good,
-    /// 1: two rules clash.
-    Clash,
-    /// 2: of some rules it is not decided whether they clash, and no two are known to.
-    NotDecided,
-    /// 3: a fault of a file of rules, of a catalogue, or of the words of the command.
-    Fault,
-    /// 4: something could not be read or written.
-    Failure,
-    /// 5: a file of rules has no rule.
-    NoRule,
-}
-
-impl Status {
-    pub fn number(self) -> u8 {
-        self as u8
-    }
-}
-
-/// A clash comes before all else.
-impl From<Tally> for Status {
-    fn from(tally: Tally) -> Status {
-        match tally {
-            Tally { clashes: 1.., .. } => Status::Clash,
-            Tally { not_decided: 1.., .. } => Status::NotDecided,
-            _ => Status::Good,
-        }
-    }
-}
+pub use crate::notation::status::Status;
 
 /// Why there is no answer.
 #[derive(Debug)]
@@ -92,14 +59,7 @@ impl From<io::Error> for Problem {
 /// Why there is no answer, in words.
 pub fn problem_words(problem: &Problem, paint: Paint) -> String {
     match problem {
-        Problem::Mistakes(source, mistakes) => {
-            let shown: String =
-                mistakes.iter().map(|mistake| source.show(mistake, paint).to_string()).collect();
-            let count = more_mistakes(mistakes)
-                .unwrap_or_else(|| counted(mistakes.count(), "mistake", "mistakes"));
-            let name = visible(&source.name);
-            format!("{shown}{name}: {}; nothing was done\n", paint.wrong(&count))
-        }
+        Problem::Mistakes(source, mistakes) => mistakes_words(source, mistakes, paint),
         Problem::Fault(words) | Problem::Failure(words) | Problem::NoRule(words) => {
             format!("{} {}\n", paint.wrong("bradovusc:"), visible(words))
         }
@@ -107,45 +67,16 @@ pub fn problem_words(problem: &Problem, paint: Paint) -> String {
     }
 }
 
-/// How many mistakes there are, where not all are told.
-pub fn more_mistakes(mistakes: &Mistakes) -> Option<String> {
-    let all = counted(mistakes.count(), "mistake", "mistakes");
-    let told = mistakes.len();
-    (mistakes.count() > told).then(|| format!("{all}, of which the first {told} are told"))
-}
-
-/// Why there is no answer, as objects. Where there are more mistakes than are told, a last one says
-/// how many.
+/// Why there is no answer, as objects.
 pub fn problem_objects(problem: &Problem) -> String {
     match problem {
         Problem::Mistakes(source, mistakes) => {
-            let (all, told) = (mistakes.count(), mistakes.len());
-            let mut objects: Vec<Object> =
-                mistakes.iter().map(|mistake| mistake_object(source, mistake)).collect();
-            if all > told {
-                let object = Object::new().number("mistakes", all).number("told", told);
-                objects.push(object.text("file", &source.name));
-            }
-            objects.into_iter().map(|object| object.done() + "\n").collect()
+            let objects = mistakes_objects(source, mistakes).into_iter();
+            objects.map(|object| object.done() + "\n").collect()
         }
         Problem::Fault(words) | Problem::Failure(words) | Problem::NoRule(words) => {
-            let status = usize::from(problem.status().number());
-            Object::new().text("error", words).number("status", status).done() + "\n"
+            fault_object(words, problem.status()).done() + "\n"
         }
         Problem::BrokenPipe => String::new(),
-    }
-}
-
-#[cfg(test)]
-mod tests {
-    use super::*;
-
-    #[test]
-    fn a_tally_is_a_clash_before_all_else() {
-        let status =
-            |clashes, not_decided, apart| Status::from(Tally { clashes, not_decided, apart });
-        assert_eq!(status(1, 1, 1), Status::Clash);
-        assert_eq!(status(0, 1, 1), Status::NotDecided);
-        assert_eq!(status(0, 0, 1), Status::Good);
     }
 }
