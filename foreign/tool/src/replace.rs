@@ -4,6 +4,7 @@
 use std::ffi::{OsStr, OsString};
 use std::fs::{self, File, Metadata, OpenOptions};
 use std::io::{self, Write};
+use std::os::unix::ffi::OsStrExt;
 use std::os::unix::fs::{fchown, MetadataExt};
 use std::path::{Path, PathBuf};
 
@@ -34,7 +35,7 @@ impl Replaced {
             // another one may have been put there while this one waited
             let (mine, now) =
                 (file.metadata().map_err(failed)?, fs::metadata(path).map_err(failed)?);
-            if (mine.dev(), mine.ino()) == (now.dev(), now.ino()) {
+            if same(&mine, &now) {
                 let (name, path) =
                     (path.display().to_string(), fs::canonicalize(path).map_err(failed)?);
                 let locked = Some(file.try_clone().map_err(failed)?);
@@ -47,7 +48,7 @@ impl Replaced {
     pub fn begin(path: &Path) -> Result<Replaced, Problem> {
         let name = path.display().to_string();
         if fs::symlink_metadata(path).is_ok() {
-            return Err(Problem::Fault(format!("{name} is there already, so it is not --new")));
+            return Err(there_already(&name));
         }
         Ok(Replaced { path: path.to_path_buf(), name, locked: None })
     }
@@ -60,19 +61,30 @@ impl Replaced {
             Some(file) => Some(file.metadata().map_err(failed)?),
             None => None,
         };
-        let new = write_beside(&self.path, bytes, old.as_ref()).map_err(failed)?;
+        clear_beside(&self.path);
+        // the new file is open, and so locked, until it has its place
+        let (file, new) = write_beside(&self.path, bytes, old.as_ref()).map_err(failed)?;
         let put = match &self.locked {
             Some(_) => fs::rename(&new, &self.path),
             None => put_new(&new, &self.path),
         };
         put.map_err(|error| {
             let _ = fs::remove_file(&new);
-            failed(error)
+            match error.kind() {
+                io::ErrorKind::AlreadyExists => there_already(&self.name),
+                _ => failed(error),
+            }
         })?;
+        drop(file);
         // the change is made; that it outlasts a loss of power is asked for, not waited on
         let _ = File::open(folder(&self.path)).and_then(|folder| folder.sync_all());
         Ok(())
     }
+}
+
+/// Whoever begins a file and finds one hears this, also where another one was quicker by a moment.
+fn there_already(name: &str) -> Problem {
+    Problem::Fault(format!("{name} is there already, so it is not --new"))
 }
 
 /// Puts a new file to a place where none is. A link is never made over a file that someone else has
@@ -95,7 +107,7 @@ fn folder(path: &Path) -> &Path {
 
 /// Writes a new file beside another one, down to the disk, with the owner and the permissions of the
 /// old one.
-fn write_beside(path: &Path, bytes: &[u8], old: Option<&Metadata>) -> io::Result<PathBuf> {
+fn write_beside(path: &Path, bytes: &[u8], old: Option<&Metadata>) -> io::Result<(File, PathBuf)> {
     let (mut file, new) = open_beside(path)?;
     let mut write = || {
         file.write_all(bytes)?;
@@ -107,7 +119,7 @@ fn write_beside(path: &Path, bytes: &[u8], old: Option<&Metadata>) -> io::Result
         file.sync_all()
     };
     match write() {
-        Ok(()) => Ok(new),
+        Ok(()) => Ok((file, new)),
         Err(error) => {
             let _ = fs::remove_file(&new);
             Err(error)
@@ -115,20 +127,63 @@ fn write_beside(path: &Path, bytes: &[u8], old: Option<&Metadata>) -> io::Result
     }
 }
 
-/// Opens a new file beside another one. What a crash left there is not touched.
+/// Opens a new file beside another one, and locks it, so that it is seen not to be left over.
 fn open_beside(path: &Path) -> io::Result<(File, PathBuf)> {
-    let name = path.file_name().unwrap_or(OsStr::new("file"));
     let mut tries = 0;
     loop {
-        let mut hidden = OsString::from(".");
-        hidden.push(name);
-        hidden.push(format!(".{}.{tries}.new", std::process::id()));
-        let new = folder(path).join(hidden);
+        let mut name = front_beside(path);
+        name.push(format!("{}.{tries}{END_BESIDE}", std::process::id()));
+        let new = folder(path).join(name);
         match OpenOptions::new().write(true).create_new(true).open(&new) {
-            Err(error) if error.kind() == io::ErrorKind::AlreadyExists && tries < MOST_TRIES => {
-                tries += 1;
+            Ok(file) => {
+                // where nothing can be locked, nothing is ever taken away either
+                let _ = file.lock();
+                // before it was locked, someone may have taken it for one that is left over
+                if fs::metadata(&new)
+                    .is_ok_and(|now| file.metadata().is_ok_and(|mine| same(&mine, &now)))
+                {
+                    return Ok((file, new));
+                }
             }
-            result => return result.map(|file| (file, new)),
+            Err(error) if error.kind() != io::ErrorKind::AlreadyExists => return Err(error),
+            Err(error) if tries == MOST_TRIES => return Err(error),
+            Err(_) => (),
+        }
+        tries += 1;
+    }
+}
+
+/// What the name of a new file begins with, and ends with; between stand two numbers.
+fn front_beside(path: &Path) -> OsString {
+    let mut front = OsString::from(".");
+    front.push(path.file_name().unwrap_or(OsStr::new("file")));
+    front.push(".");
+    front
+}
+
+const END_BESIDE: &str = ".new";
+
+/// Takes away the new files that were left beside a file by who was killed. What someone is still
+/// writing is locked.
+fn clear_beside(path: &Path) {
+    let front = front_beside(path);
+    let is_beside = |name: &OsStr| {
+        let middle = name.as_bytes().strip_prefix(front.as_bytes());
+        let middle = middle.and_then(|rest| rest.strip_suffix(END_BESIDE.as_bytes()));
+        let numbers = middle.map(|middle| middle.split(|&byte| byte == b'.').collect::<Vec<_>>());
+        let is_number = |part: &&[u8]| !part.is_empty() && part.iter().all(u8::is_ascii_digit);
+        numbers.is_some_and(|numbers| numbers.len() == 2 && numbers.iter().all(is_number))
+    };
+    let entries = fs::read_dir(folder(path)).into_iter().flatten().flatten();
+    for entry in entries.filter(|entry| is_beside(&entry.file_name())) {
+        let is_file = entry.file_type().is_ok_and(|kind| kind.is_file());
+        let left = is_file.then(|| File::open(entry.path())).and_then(Result::ok);
+        if left.is_some_and(|file| file.try_lock().is_ok()) {
+            let _ = fs::remove_file(entry.path());
         }
     }
+}
+
+fn same(one: &Metadata, other: &Metadata) -> bool {
+    (one.dev(), one.ino()) == (other.dev(), other.ino())
 }

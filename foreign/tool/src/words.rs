@@ -310,8 +310,13 @@ fn help(words: &[OsString]) -> Result<Command, String> {
         [] => USAGE.to_string(),
         [name] => {
             let form = form_of(&name.to_string_lossy())?;
-            let said = USAGE.split_inclusive('\n').filter(|line| says(line, form));
-            said.collect()
+            let mut said = false;
+            let of_it = |line: &&str| {
+                // a line that is indented further goes on with the one before
+                said = if line.starts_with("     ") { said } else { says(line, form) };
+                said
+            };
+            USAGE.split_inclusive('\n').filter(of_it).collect()
         }
         _ => return Err("the form is: bradovusc help [COMMAND]".to_string()),
     };
@@ -320,7 +325,7 @@ fn help(words: &[OsString]) -> Result<Command, String> {
 
 /// Whether a line of the usage is of this command, or of an option that it has.
 fn says(line: &str, form: &Form) -> bool {
-    let mut words = line.split([' ', ',']).filter(|word| !word.is_empty());
+    let mut words = line.split([' ', ',']).map(str::trim).filter(|word| !word.is_empty());
     match (line.starts_with("    "), words.next()) {
         (true, Some("bradovusc")) => words.next() == Some(form.name),
         (true, Some(option)) => form.options.contains(&option) || FOR_ALL.contains(&option),
@@ -338,5 +343,43 @@ fn instead(word: &str, known: impl Iterator<Item = &'static str>) -> String {
     match nearest(word, known) {
         Some(near) => format!("did you mean {near}?"),
         None => TRY.to_string(),
+    }
+}
+
+#[cfg(test)]
+mod tests {
+    use super::*;
+
+    fn told(words: &[&str]) -> String {
+        let words: Vec<OsString> = words.iter().map(OsString::from).collect();
+        match read(&words).1 {
+            Ok(Command::Help { text }) => text,
+            other => format!("{other:?}"),
+        }
+    }
+
+    #[test]
+    fn help_in_every_form() {
+        for words in [&["help"][..], &["-h"], &["check", "--help"], &["--help", "nonsense"]] {
+            assert_eq!(told(words), USAGE, "{words:?}");
+        }
+    }
+
+    /// Every command and every option has its line, and no other command has it.
+    #[test]
+    fn help_on_each_command() {
+        let lines = |text: &str, front: &str| {
+            text.lines().filter(|line| line.trim_start().starts_with(front)).count()
+        };
+        for form in &COMMANDS {
+            let text = told(&["help", form.name]);
+            assert!(lines(&text, &format!("bradovusc {}", form.name)) >= 1, "{text}");
+            for option in all_options().collect::<std::collections::BTreeSet<_>>() {
+                let has = form.options.contains(&option) || FOR_ALL.contains(&option);
+                let exact = text.split([' ', ',', '\n']).any(|word| word == option);
+                assert_eq!(exact, has, "{} {option}", form.name);
+                assert!(USAGE.contains(&format!("    {option}")), "{option}");
+            }
+        }
     }
 }
