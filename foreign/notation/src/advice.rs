@@ -264,7 +264,8 @@ mod tests {
 
     #[test]
     fn a_field_that_stands_twice() {
-        let neither = "stand side by side: a separator between them may help that neither of them takes";
+        let neither =
+            "stand side by side: a separator between them may help that neither of them takes";
         assert_eq!(
             shown("a = KP{n}-{n}\n n = [0-9]+\nb = {x}{y}{x}\n", MOST_SITUATIONS),
             [

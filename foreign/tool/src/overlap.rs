@@ -34,7 +34,8 @@ const DROPPED: &str = "\\s*";
 /// The label cut wherever a part of one of the rules ends.
 pub fn pieces(left: &Side, right: &Side, shared: &Shared) -> Vec<Piece> {
     let sides = [bands(left, &shared.left), bands(right, &shared.right)];
-    let mut cuts: Vec<usize> = sides.iter().flatten().flat_map(|band| [band.from, band.to]).collect();
+    let mut cuts: Vec<usize> =
+        sides.iter().flatten().flat_map(|band| [band.from, band.to]).collect();
     cuts.sort_unstable();
     cuts.dedup();
     // what is dropped from the label stands in the bands
@@ -70,10 +71,13 @@ pub fn overlap_words(left: &Side, right: &Side, pieces: &[Piece]) -> String {
         table.iter().map(|row| row[column].chars().count()).max().unwrap_or_default()
     };
     let (first, second) = (width(0), width(1));
-    let row = |[text, one, other]: &[String; 3]| format!("  {text:first$}  {one:second$}  {other}\n");
+    let row =
+        |[text, one, other]: &[String; 3]| format!("  {text:first$}  {one:second$}  {other}\n");
     let rows: String = table.iter().map(row).collect();
     let note = match pieces.iter().any(|piece| piece.reads.contains(&None)) {
-        true => format!("  {DROPPED} stands for spaces at the end of a label, which are dropped.\n"),
+        true => {
+            format!("  {DROPPED} stands for spaces at the end of a label, which are dropped.\n")
+        }
         false => String::new(),
     };
     format!("Which parts overlap:\n{rows}{note}")

@@ -18,7 +18,7 @@ use crate::notation::{
 };
 use crate::overlap::{overlap_objects, overlap_words, pieces, Piece};
 use crate::report::{fields_object, titled};
-use crate::sides::{Side, Text};
+use crate::sides::{Side, Title};
 use crate::source::Span;
 
 /// So many labels are told, the first one among them.
@@ -67,8 +67,10 @@ struct Pair<'a> {
     buffers: Buffers,
 }
 
-/// What can be done about a clash of which a label is known.
-pub fn repair(rules: [&Rule; 2], sides: [&Side; 2], known: &Shared) -> Repair {
+/// What can be done about a clash of two of these rules, of which a label is known.
+pub fn repair(rules: &[Rule], sides: [&Side; 2], known: &Shared) -> Option<Repair> {
+    let rule = |side: &Side| rules.iter().find(|rule| side.title == Title::Name(rule.name.clone()));
+    let rules = [rule(sides[0])?, rule(sides[1])?];
     let mut pair = Pair { rules, sides, buffers: Buffers::new() };
     let pieces = pieces(sides[0], sides[1], known);
     let labels = pair.labels(known);
@@ -77,46 +79,53 @@ pub fn repair(rules: [&Rule; 2], sides: [&Side; 2], known: &Shared) -> Repair {
         changes.extend(pair.class(side, &pieces));
         changes.extend(pair.separator(side));
     }
-    Repair { labels, pieces, changes }
+    Some(Repair { labels, pieces, changes })
 }
 
 impl Pair<'_> {
-    /// What the library says where one rule is changed; none where it does not take the changed rule.
-    fn ask(&mut self, side: usize, rule: &Rule) -> Option<Asked> {
-        let changed = judge(rule).ok()?;
-        Some(match side {
-            0 => self.buffers.ask(&changed, self.sides[1], ROOM),
-            _ => self.buffers.ask(self.sides[0], &changed, ROOM),
-        })
-    }
-
+    /// Whether the library says that the two don't clash where one of them is changed.
     fn parts(&mut self, side: usize, rule: &Rule) -> bool {
-        let asked = self.ask(side, rule);
-        asked.is_some_and(|asked| asked.answer.clashes() == Some(false))
+        let Ok(changed) = judge(rule) else {
+            return false;
+        };
+        let mut sides = self.sides;
+        sides[side] = &changed;
+        self.buffers.ask(sides[0], sides[1], ROOM).answer.clashes() == Some(false)
     }
 
-    /// Different labels, by narrowing what one field may hold.
+    /// Different labels, by narrowing what one field may hold, and again from what was found.
     fn labels(&mut self, known: &Shared) -> Vec<Shared> {
-        let mut labels = vec![known.clone()];
-        let texts = [&known.left, &known.right];
-        let narrower: Vec<(usize, Rule)> = [0, 1]
-            .into_iter()
-            .flat_map(|side| narrower(self.rules[side], texts[side]).map(move |rule| (side, rule)))
-            .take(MOST_TRIES)
-            .collect();
-        for (side, rule) in narrower {
-            let Some(shared) = self.ask(side, &rule).and_then(|asked| asked.shared) else {
-                continue;
-            };
-            let new = labels.iter().all(|known| known.label != shared.label);
-            if new && self.both_read(&shared.label) {
-                labels.push(shared);
-            }
-            if labels.len() == MOST_LABELS {
+        let (mut labels, mut tries) = (vec![known.clone()], 0);
+        let mut found = vec![self.rules.map(Rule::clone)];
+        for place in 0.. {
+            let (Some(rules), Some(shared)) =
+                (found.get(place).cloned(), labels.get(place).cloned())
+            else {
                 break;
+            };
+            for (side, rule) in narrower(&rules, &shared) {
+                if labels.len() == MOST_LABELS || tries == MOST_TRIES {
+                    return labels;
+                }
+                tries += 1;
+                let mut narrowed = rules.clone();
+                narrowed[side] = rule;
+                let Some(shared) = self.ask_both(&narrowed).and_then(|asked| asked.shared) else {
+                    continue;
+                };
+                let new = labels.iter().all(|known| known.label != shared.label);
+                if new && self.both_read(&shared.label) {
+                    labels.push(shared);
+                    found.push(narrowed);
+                }
             }
         }
         labels
+    }
+
+    fn ask_both(&mut self, rules: &[Rule; 2]) -> Option<Asked> {
+        let (left, right) = (judge(&rules[0]).ok()?, judge(&rules[1]).ok()?);
+        Some(self.buffers.ask(&left, &right, ROOM))
     }
 
     /// Whether both rules, as they are, make this label.
@@ -194,13 +203,19 @@ impl Pair<'_> {
     }
 }
 
-/// The rule with one of its fields narrowed, in several ways.
-fn narrower<'a>(rule: &'a Rule, texts: &'a [Text]) -> impl Iterator<Item = Rule> + 'a {
-    rule.fields.iter().enumerate().flat_map(move |(place, field)| {
-        let text = texts.iter().find(|text| usize::from(text.field) == place);
-        let held = text.map_or(&[][..], |text| &text.values);
-        let patterns = narrowed(&pattern_of(rule.edition, field), held);
-        patterns.into_iter().map(move |pattern| with_pattern(rule, place, pattern))
+/// The left rule, 0, or the right one, 1, with one of its fields narrowed, in several ways.
+fn narrower<'a>(
+    rules: &'a [Rule; 2],
+    held: &'a Shared,
+) -> impl Iterator<Item = (usize, Rule)> + 'a {
+    let sides = rules.iter().zip([&held.left, &held.right]).enumerate();
+    sides.flat_map(|(side, (rule, texts))| {
+        rule.fields.iter().enumerate().flat_map(move |(place, field)| {
+            let text = texts.iter().find(|text| usize::from(text.field) == place);
+            let held = text.map_or(&[][..], |text| &text.values);
+            let patterns = narrowed(&pattern_of(rule.edition, field), held);
+            patterns.into_iter().map(move |pattern| (side, with_pattern(rule, place, pattern)))
+        })
     })
 }
 
