@@ -41,7 +41,6 @@ pub struct Advice<'a> {
 /// What may help with a pair that is not decided.
 pub fn advice<'a>(left: &'a Side, right: &'a Side, asked: &Asked) -> Vec<Advice<'a>> {
     let mut all: Vec<Advice> = more_room(asked).into_iter().collect();
-    let known = all.len();
     let sides = [left, right].map(Held::all);
     let twice = sides.iter().flatten().any(|held| held.stands > 1);
     for (side, held) in [left, right].into_iter().zip(&sides) {
@@ -49,7 +48,7 @@ pub fn advice<'a>(left: &'a Side, right: &'a Side, asked: &Asked) -> Vec<Advice<
         all.extend(held.iter().filter(wanted).map(|held| held.advice(side)));
         all.extend(side_by_side(side, held));
     }
-    if all.len() == known {
+    if all.is_empty() {
         let words =
             "the fields have many texts: shorter lists, shorter lengths or narrower classes \
                      may help";
@@ -199,11 +198,11 @@ fn side_by_side<'a>(side: &'a Side, all: &[Held<'a>]) -> Vec<Advice<'a>> {
         pairs.push(pair);
         let (first, second) = (one.name, other.name);
         let example = match separator(side.edition, one.set.or(other.set)) {
-            Some(sign) => format!(", as {{{first}}}{sign}{{{second}}}"),
-            None => " that neither of them takes".to_string(),
+            Some(sign) => format!(" may help, as {{{first}}}{sign}{{{second}}}"),
+            None => " that neither takes may help".to_string(),
         };
         let words = format!(
-            "{{{first}}}{{{second}}} stand side by side: a separator between them may help{example}"
+            "{{{first}}}{{{second}}} stand side by side: a separator between them{example}"
         );
         let fields = vec![first, second];
         found.push(Advice { kind: "separator", side: Some(side), fields, stands: None, words });
@@ -264,8 +263,7 @@ mod tests {
 
     #[test]
     fn a_field_that_stands_twice() {
-        let neither =
-            "stand side by side: a separator between them may help that neither of them takes";
+        let neither = "stand side by side: a separator between them that neither takes may help";
         assert_eq!(
             shown("a = KP{n}-{n}\n n = [0-9]+\nb = {x}{y}{x}\n", MOST_SITUATIONS),
             [
