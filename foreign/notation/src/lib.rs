@@ -16,6 +16,7 @@ pub mod compile;
 mod cursor;
 pub mod decompile;
 mod groups;
+pub mod join;
 pub mod json;
 pub mod matching;
 pub mod mistakes;

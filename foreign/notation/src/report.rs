@@ -48,11 +48,10 @@ impl Tally {
         }
     }
 
-    /// The last line of what is told about so many rules.
-    pub fn summary(self, rules: usize) -> String {
+    /// The last line of what is told about these rules.
+    pub fn summary(self, rules: &str) -> String {
         format!(
-            "{}, {}: {}, {} not decided, {} without a clash\n",
-            counted(rules, "rule", "rules"),
+            "{rules}, {}: {}, {} not decided, {} without a clash\n",
             counted(self.clashes + self.not_decided + self.apart, "pair", "pairs"),
             counted(self.clashes, "clash", "clashes"),
             grouped(self.not_decided),
@@ -113,6 +112,10 @@ pub fn not_decided_words(asked: &Asked) -> String {
     let were = if entered == 1 { "was" } else { "were" };
     let room = grouped(asked.room);
     match asked.answer {
+        answer if asked.given_up => format!(
+            "not decided: the seconds were over; {situations} {were} entered, in room for {room} ({})",
+            answer.number()
+        ),
         Answer::SideTooLong { .. } => format!(
             "not decided: a side grew above {LONGEST_SIDE} tokens; {situations} {were} entered, in \
              room for {room} (19)"
@@ -167,6 +170,7 @@ pub fn pair_in(object: Object, left: &Side, right: &Side, asked: &Asked) -> Obje
         .number("situations", asked.answer.count())
         .number("room", asked.room);
     match asked.answer {
+        _ if asked.given_up => object = object.text("limit", "seconds"),
         Answer::NoRoom { .. } => object = object.text("limit", "room"),
         Answer::SideTooLong { .. } => object = object.text("limit", "side"),
         _ => (),
@@ -192,7 +196,7 @@ pub fn pair_in(object: Object, left: &Side, right: &Side, asked: &Asked) -> Obje
 }
 
 /// Where a rule is from, under two keys.
-fn placed(object: Object, file: &str, line: &str, side: &Side) -> Object {
+pub fn placed(object: Object, file: &str, line: &str, side: &Side) -> Object {
     let place = match &side.place {
         Some(place) => place,
         None => return object,

@@ -73,6 +73,13 @@ pub struct Text {
 }
 
 impl Side {
+    /// Whether it is the same rule as another one, wherever both are from.
+    pub fn is_as(&self, other: &Side) -> bool {
+        let Side { edition, title, place: _, patterns, tokens, fields } = self;
+        (edition, title, patterns, tokens, fields)
+            == (&other.edition, &other.title, &other.patterns, &other.tokens, &other.fields)
+    }
+
     /// Its title, with where it is from.
     pub fn told(&self) -> String {
         match &self.place {

@@ -1,11 +1,14 @@
 //! The commands.
 
+mod accept;
+mod which;
+
 use std::ffi::OsString;
 use std::fmt;
-use std::fs::File;
+use std::fs::{self, File};
 use std::io::{self, Read, Write};
 use std::ops::Range;
-use std::path::Path;
+use std::path::{Path, PathBuf};
 use std::time::{Duration, Instant};
 
 use bradovusc::{
@@ -28,6 +31,7 @@ use crate::repair::{repair, repair_in, repair_words};
 use crate::report::{counted, grouped, pair_in, pair_object, pair_words, titled, Tally};
 use crate::sides::{find, sheet, Side, Title};
 use crate::source::Source;
+use crate::spend::Spend;
 use crate::status::{problem_words, Problem, Status};
 use crate::teller::Teller;
 use crate::way::{steps_in, steps_words, way};
@@ -97,12 +101,14 @@ struct Run<'a> {
 impl Run<'_> {
     fn command(&mut self, command: Command) -> Outcome {
         match command {
-            Command::Check { file } => self.check(&file),
+            Command::Check { files } => self.check(&files),
             Command::Pair { file, left, right } => self.pair(&file, &left, &right),
             Command::Add { catalogue, file, rule } => self.add(&catalogue, &file, &rule),
             Command::Withdraw { catalogue, number } => self.withdraw(&catalogue, number),
             Command::List { catalogue } => self.list(&catalogue),
             Command::Recheck { catalogue } => self.recheck(&catalogue),
+            Command::Which { file, labels } => self.which(&file, &labels),
+            Command::Accept { base, new } => self.accept(&base, &new),
             Command::Script { file, left, right } => self.script(&file, &left, &right),
             Command::Sheet { file, left, right } => self.sheet(&file, &left, &right),
             Command::Help { text } => self.say(&text, || Object::new().text("help", &text)),
@@ -124,6 +130,29 @@ impl Run<'_> {
         Ok(Status::Good)
     }
 
+    /// The bytes of a file, or of standard input, of which there are at most so many.
+    fn bytes_of(&mut self, path: &Path, most: u64) -> Result<Vec<u8>, Problem> {
+        let failed = |error| Problem::failed("read", path, &error);
+        let mut bytes = Vec::new();
+        if path == Path::new("-") {
+            (&mut *self.streams.input).take(most + 1).read_to_end(&mut bytes).map_err(failed)?;
+        } else {
+            let file = File::open(path).map_err(failed)?;
+            file.take(most + 1).read_to_end(&mut bytes).map_err(failed)?;
+        }
+        if bytes.len() as u64 > most {
+            let words = format!("{} is above {} bytes", path.display(), grouped(most as usize));
+            return Err(Problem::Fault(words));
+        }
+        Ok(bytes)
+    }
+
+    /// A file of rules as it is.
+    fn source(&mut self, path: &Path) -> Result<Source, Problem> {
+        let bytes = self.bytes_of(path, MOST_FILE)?;
+        source_of(path, &bytes)
+    }
+
     /// The rules of a file, as the library reads them, all of them taken by it.
     fn rules(&mut self, path: &Path) -> Result<Vec<Side>, Problem> {
         let sides = judged(self.source(path)?)?;
@@ -133,26 +162,22 @@ impl Run<'_> {
         }
     }
 
-    /// A file of rules as it is.
-    fn source(&mut self, path: &Path) -> Result<Source, Problem> {
-        let failed = |error| Problem::failed("read", path, &error);
-        let mut bytes = Vec::new();
-        let most = MOST_FILE + 1;
-        if path == Path::new("-") {
-            (&mut *self.streams.input).take(most).read_to_end(&mut bytes).map_err(failed)?;
-        } else {
-            let file = File::open(path).map_err(failed)?;
-            file.take(most).read_to_end(&mut bytes).map_err(failed)?;
+    /// The rules of several files, one behind the other; and how many of them are from the first `old`
+    /// files.
+    fn rules_of(&mut self, paths: &[PathBuf], old: usize) -> Result<(Vec<Side>, usize), Problem> {
+        let (mut rules, mut from_old): (Vec<Side>, usize) = (Vec::new(), 0);
+        for (index, path) in paths.iter().enumerate() {
+            if paths[..index].iter().any(|before| same_file(before, path)) {
+                return Err(Problem::Fault(format!("{} is named twice", path.display())));
+            }
+            let more = self.rules(path)?;
+            if let (Some(first), Some(new)) = (rules.first(), more.first()) {
+                same_edition((&paths[0], first.edition), (path, new.edition))?;
+            }
+            from_old += if index < old { more.len() } else { 0 };
+            rules.extend(more);
         }
-        if bytes.len() as u64 == most {
-            let words =
-                format!("{} is above {} bytes", path.display(), grouped(MOST_FILE as usize));
-            return Err(Problem::Fault(words));
-        }
-        if kinds::is_catalogue(&bytes) {
-            return Err(Problem::Fault(kinds::a_catalogue(path)));
-        }
-        Ok(Source::new(path.display().to_string(), &bytes))
+        Ok((rules, from_old))
     }
 
     /// The two rules with these names.
@@ -172,13 +197,13 @@ impl Run<'_> {
         pairs: impl Fn(Range<usize>) -> I + Sync,
         mut tell: impl FnMut(&mut dyn Write, &'s Side, &'s Side, &Asked) -> io::Result<()>,
     ) -> Result<(), Problem> {
-        let (threads, room) = (self.threads(), self.options.room);
+        let (threads, spend) = (self.threads(), Spend::new(&self.options));
         let Streams { output, errors, terminal, .. } = &mut self.streams;
         let mut progress = Progress::new(*terminal);
         let work = |buffers: &mut Buffers, range: Range<usize>| {
-            asked_of(pairs(range), |left, right| buffers.ask(left, right, room))
+            asked_of(pairs(range), |left, right| spend.ask(buffers, left, right))
         };
-        let mut told = Vec::new();
+        let (mut told, settled) = (Vec::new(), Asked::SETTLED);
         let result = in_order(count, threads, Buffers::new, work, |event| {
             match event {
                 Event::Done(done) => {
@@ -189,7 +214,7 @@ impl Run<'_> {
                     let mut asked = asked.into_iter().peekable();
                     for (place, (left, right)) in pairs(range).enumerate() {
                         let said = asked.next_if(|(at, _)| *at == place);
-                        let said = said.as_ref().map_or(&Asked::SETTLED, |(_, said)| said);
+                        let said = said.as_ref().map_or(&settled, |(_, said)| said);
                         tell(&mut told, left.side, right.side, said)?;
                         if !told.is_empty() {
                             progress.clear(errors);
@@ -205,13 +230,23 @@ impl Run<'_> {
         Ok(result?)
     }
 
-    fn check(&mut self, path: &Path) -> Outcome {
-        let rules = self.rules(path)?;
+    fn check(&mut self, files: &[PathBuf]) -> Outcome {
+        let against = &self.options.against;
+        let (paths, old) = ([against, files].concat(), against.len());
+        let (rules, old) = self.rules_of(&paths, old)?;
+        let teller = Teller::new("check", &self.options).beside(old);
+        self.tell_pairs(teller, &rules, Pairs::with_new(rules.len(), old))
+    }
+
+    /// Asks of pairs of rules, those that are in the part which is wanted, and has them told.
+    fn tell_pairs(&mut self, teller: Teller<'_>, rules: &[Side], pairs: Pairs) -> Outcome {
         let ready: Vec<Ready> = rules.iter().map(Ready::new).collect();
-        let pairs = Pairs::of(rules.len());
-        let walk = |range| pairs.walk(range).map(|(left, right)| (&ready[left], &ready[right]));
-        let teller = Teller::new("check", &self.options);
-        self.tell(teller, rules.len(), pairs.count(), walk)
+        let part = self.options.part.range(pairs.count());
+        let walk = |range: Range<usize>| {
+            let range = part.start + range.start..part.start + range.end;
+            pairs.walk(range).map(|(left, right)| (&ready[left], &ready[right]))
+        };
+        self.tell(teller, rules.len(), part.len(), walk)
     }
 
     /// Asks of so many pairs of so many rules, and has them told.
@@ -391,7 +426,7 @@ impl Run<'_> {
             }
             Added::NotApart { rule: number, pair } => match catalogue.entries.get(number) {
                 Some(entry) => {
-                    let asked = Asked { answer: pair, search: decided.search, room, shared: None };
+                    let asked = Asked::of(pair, decided.search, room);
                     self.not_added(&entry.side, &side, asked)
                 }
                 None => Err(Problem::Fault(format!("the library says: {decided}"))),
@@ -484,6 +519,33 @@ fn status_of(answer: Answer) -> Status {
     let mut tally = Tally::default();
     tally.count(answer);
     tally.into()
+}
+
+/// Whether two paths lead to the same file.
+fn same_file(one: &Path, other: &Path) -> bool {
+    let real = |path: &Path| fs::canonicalize(path).unwrap_or_else(|_| path.to_path_buf());
+    one == other || real(one) == real(other)
+}
+
+/// Rules are asked about together only if they have the same characters.
+fn same_edition(one: (&Path, Edition), other: (&Path, Edition)) -> Result<(), Problem> {
+    if one.1 == other.1 {
+        return Ok(());
+    }
+    let (full, plain) = if one.1 == Edition::FullAscii { (one, other) } else { (other, one) };
+    Err(Problem::Fault(format!(
+        "{} is Full ASCII and {} is not: only rules with the same characters are asked about together",
+        full.0.display(),
+        plain.0.display()
+    )))
+}
+
+/// The bytes of a file of rules as its lines.
+fn source_of(path: &Path, bytes: &[u8]) -> Result<Source, Problem> {
+    match kinds::is_catalogue(bytes) {
+        true => Err(Problem::Fault(kinds::a_catalogue(path))),
+        false => Ok(Source::new(path.display().to_string(), bytes)),
+    }
 }
 
 /// The rules of a source as the library reads them.

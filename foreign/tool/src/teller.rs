@@ -6,7 +6,8 @@ use std::io::{self, Write};
 use crate::ask::Asked;
 use crate::format::{annotation, github, short, Format};
 use crate::json::Object;
-use crate::report::{counted, pair_object, Tally};
+use crate::pairs::Part;
+use crate::report::{counted, grouped, pair_object, Tally};
 use crate::sarif;
 use crate::sides::Side;
 use crate::status::Status;
@@ -34,6 +35,9 @@ pub struct Teller<'s> {
     told: Tally,
     /// What is still to be told in words.
     held: Vec<Told<'s>>,
+    /// How many of the rules are not new.
+    old: usize,
+    part: Part,
 }
 
 impl<'s> Teller<'s> {
@@ -49,7 +53,15 @@ impl<'s> Teller<'s> {
             tally: Tally::default(),
             told: Tally::default(),
             held: Vec::new(),
+            old: 0,
+            part: options.part,
         }
+    }
+
+    /// The same, where so many of the rules were there before, and only pairs with another one are
+    /// asked about.
+    pub fn beside(self, old: usize) -> Teller<'s> {
+        Teller { old, ..self }
     }
 
     /// The same, but with no word of pairs without a clash, of which so many are known already.
@@ -113,7 +125,7 @@ impl<'s> Teller<'s> {
     pub fn end(mut self, to: &mut dyn Write, rules: usize) -> io::Result<Status> {
         self.tell_held(to)?;
         let status = Status::from(self.tally);
-        let words = self.tally.summary(rules);
+        let words = self.tally.summary(&self.rules_words(rules));
         let more = self.more_words();
         match self.format {
             Format::Text => write!(to, "{more}{words}")?,
@@ -136,10 +148,30 @@ impl<'s> Teller<'s> {
         Ok(status)
     }
 
+    /// Of which rules, and of which part of their pairs, it is told.
+    fn rules_words(&self, rules: usize) -> String {
+        let mut words = counted(rules, "rule", "rules");
+        if self.old > 0 {
+            words += &format!(", {} of them new", grouped(rules - self.old));
+        }
+        if self.part != Part::WHOLE {
+            let Part { number, of } = self.part;
+            words += &format!(", part {} of {}", grouped(number), grouped(of));
+        }
+        words
+    }
+
     fn counts(&self, object: Object, rules: usize) -> Object {
         let Tally { clashes, not_decided, apart } = self.tally;
+        let mut object = object.number("rules", rules);
+        if self.old > 0 {
+            object = object.number("new", rules - self.old);
+        }
+        if self.part != Part::WHOLE {
+            let Part { number, of } = self.part;
+            object = object.number("part", number).number("parts", of);
+        }
         object
-            .number("rules", rules)
             .number("pairs", clashes + not_decided + apart)
             .number("clashes", clashes)
             .number("not_decided", not_decided)
