@@ -37,12 +37,12 @@ FILE is a file of rules, or - for standard input. Options:
     --summary     check, recheck, which: an object or a line with the counts behind all else
     --steps       pair: the way to the clash, step by step
     --repair      pair: further labels, which parts overlap, and what would part the two
-    --against BASE
-                  check: only pairs with a rule of FILE.., with the rules of the file BASE too
+    --against B   check: only pairs with a rule of the files, beside those of the file B
     --part I/N    check: part I of N parts of the pairs
-    --seconds N   check, pair, recheck, accept: goes on to larger room for N seconds a pair at most
-    --csv CSV, --column C, --separator S
-                  which: the labels are in column C, its name or number, of the file CSV; S is its comma
+    --seconds N   check, pair, recheck, accept: no larger room once N seconds are spent on a pair
+    --csv CSV     which: the labels are in a column of the file CSV
+    --column C    which: that column, by its name in the first row, or by its number
+    --separator S which: what stands between two values, or tab; else a comma
     --room N      room for N situations, 1 to 65,535; else it grows from 356 to 65,535
     --threads N   so many threads; else as many as there are processors
     --new         add, accept: the file is begun; without it the file must be there
@@ -51,7 +51,8 @@ FILE is a file of rules, or - for standard input. Options:
     --version, -V prints the version
 
 Exit status: 0 no clash anywhere, or done; 1 a clash; 2 something not decided, and no clash known;
-3 a fault in a file, in a catalogue or in these words; 4 something could not be read or written.
+3 a fault in a file, in a catalogue or in these words; 4 something could not be read or written;
+5 a file without a rule; 6 no rule reads a label, and no label is read by several.
 ";
 
 /// What is to be done.
