@@ -19,6 +19,7 @@ mod groups;
 pub mod join;
 pub mod json;
 pub mod matching;
+mod merging;
 pub mod mistakes;
 pub mod paint;
 mod pattern;

@@ -3,8 +3,9 @@
 use bradovusc::{spelt_bytes, Answer, Edition};
 
 use crate::advice::{advice_objects, advice_words};
-use crate::ask::Asked;
+use crate::ask::{Asked, Shared};
 use crate::json::Object;
+use crate::paint::Paint;
 use crate::print::told_text;
 use crate::sides::{Side, Text, Title};
 use crate::source::{Mistake, Source};
@@ -12,6 +13,9 @@ use crate::status::Status;
 
 /// A side of a situation has at most so many tokens.
 const LONGEST_SIDE: usize = 48;
+
+/// What begins all words on a pair that is not decided.
+const OPEN: &str = "not decided";
 
 /// A number with a comma before each three digits.
 pub fn grouped(number: usize) -> String {
@@ -49,41 +53,77 @@ impl Tally {
     }
 
     /// The last line of what is told about these rules.
-    pub fn summary(self, rules: &str) -> String {
+    pub fn summary(self, rules: &str, paint: Paint) -> String {
+        let clashes = counted(self.clashes, "clash", "clashes");
+        let open = format!("{} {OPEN}", grouped(self.not_decided));
         format!(
-            "{rules}, {}: {}, {} not decided, {} without a clash\n",
+            "{rules}, {}: {}, {}, {} without a clash\n",
             counted(self.clashes + self.not_decided + self.apart, "pair", "pairs"),
-            counted(self.clashes, "clash", "clashes"),
-            grouped(self.not_decided),
+            if self.clashes > 0 { paint.wrong(&clashes) } else { clashes },
+            if self.not_decided > 0 { paint.open(&open) } else { open },
             grouped(self.apart),
         )
     }
 }
 
 /// Two rules and what was said of them, in words.
-pub fn pair_words(left: &Side, right: &Side, asked: &Asked) -> String {
+pub fn pair_words(left: &Side, right: &Side, asked: &Asked, paint: Paint) -> String {
     let titles = format!("{} and {}", left.title, right.title);
     match (asked.answer, &asked.shared) {
         (Answer::NoClash { count }, _) => {
             let situations = counted(count, "situation", "situations");
-            format!("{titles}: no clash: no label can be made by both ({situations})\n")
+            let none = paint.good("no clash");
+            format!("{titles}: {none}: no label can be made by both ({situations})\n")
         }
         (_, Some(shared)) => {
-            let label = label_words(left.edition, &shared.label);
-            let (on_left, on_right) =
-                (fields_words(left, &shared.left), fields_words(right, &shared.right));
-            format!(
-                "{titles} clash: {label}\n  {}: {on_left}\n  {}: {on_right}\n",
-                left.told(),
-                right.told()
-            )
+            let label = paint.bold(&label_words(left.edition, &shared.label));
+            let (clash, made) =
+                (paint.wrong("clash"), shared_lines(left, right, shared, "  ", Side::told));
+            format!("{titles} {clash}: {label}\n{made}")
         }
         (answer, None) if answer.clashes() == Some(true) => format!("{titles} {answer}\n"),
         (_, None) => {
-            let helps = advice_words(left, right, asked);
-            format!("{titles}: {}\n{helps}", not_decided_words(asked))
+            let (words, helps) = (not_decided_words(asked), advice_words(left, right, asked));
+            let open = words.replacen(OPEN, &paint.open(OPEN), 1);
+            format!("{titles}: {open}\n{helps}")
         }
     }
+}
+
+/// What the fields of both rules hold on a label that both make, each on a line behind this indent,
+/// and whether spaces at its end are dropped.
+pub fn shared_lines(
+    left: &Side,
+    right: &Side,
+    shared: &Shared,
+    indent: &str,
+    name: fn(&Side) -> String,
+) -> String {
+    let line = |side: &Side, texts: &[Text]| {
+        format!("{indent}{}: {}\n", name(side), fields_words(side, texts))
+    };
+    let lines = line(left, &shared.left) + &line(right, &shared.right);
+    match dropped_words(left, right, shared) {
+        Some(words) => format!("{lines}{indent}{words}\n"),
+        None => lines,
+    }
+}
+
+/// That spaces at the end are dropped, where one of the rules has some there: then what the fields
+/// hold makes more than the label that is told.
+pub fn dropped_words(left: &Side, right: &Side, shared: &Shared) -> Option<String> {
+    let (on_left, on_right) = (left.written(&shared.left), right.written(&shared.right));
+    let more = |written: &[u8]| written.len() > shared.label.len();
+    let made = |side: &Side, written: &[u8]| {
+        format!("{} makes {}", side.title, told_text(side.edition, written))
+    };
+    (more(&on_left) || more(&on_right)).then(|| {
+        format!(
+            "spaces at the end of a label are dropped: {}, {}",
+            made(left, &on_left),
+            made(right, &on_right)
+        )
+    })
 }
 
 /// A label as it is told, and as it is spelt where that is another thing.

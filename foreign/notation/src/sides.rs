@@ -6,6 +6,7 @@ use std::sync::Arc;
 use bradovusc::{Edition, Written, RULE_FIELDS, SHEET_BYTES};
 
 use crate::report::counted;
+use crate::visible::visible;
 
 /// The fields of a right side stand behind those of the left one: 4 to 7 for 0 to 3.
 pub const RIGHT: u8 = RULE_FIELDS as u8;
@@ -42,9 +43,10 @@ pub struct Place {
 
 impl fmt::Display for Place {
     fn fmt(&self, to: &mut fmt::Formatter<'_>) -> fmt::Result {
+        to.write_str(&visible(&self.file))?;
         match self.line {
-            Some(line) => write!(to, "{}:{line}", self.file),
-            None => to.write_str(&self.file),
+            Some(line) => write!(to, ":{line}"),
+            None => Ok(()),
         }
     }
 }
@@ -104,6 +106,13 @@ impl Side {
 
     /// The label that the rule makes of these texts, by value, without the spaces at its end.
     pub fn label(&self, texts: &[Text]) -> Vec<u8> {
+        let mut label = self.written(texts);
+        without_spaces(self.edition, &mut label);
+        label
+    }
+
+    /// The same with the spaces at its end.
+    pub fn written(&self, texts: &[Text]) -> Vec<u8> {
         let mut label = Vec::new();
         for &token in &self.tokens {
             match token.checked_sub(self.edition.codes()) {
@@ -114,7 +123,6 @@ impl Side {
                 }
             }
         }
-        without_spaces(self.edition, &mut label);
         label
     }
 

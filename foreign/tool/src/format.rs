@@ -4,7 +4,7 @@ use crate::ask::Asked;
 use crate::notation::mistakes::more_mistakes;
 use crate::notation::paint::Paint;
 use crate::notation::visible::visible;
-use crate::report::{fields_words, label_words, not_decided_words};
+use crate::report::{dropped_words, fields_words, label_words, not_decided_words};
 use crate::sarif;
 use crate::sides::{Place, Side};
 use crate::source::{Mistake, Source};
@@ -50,7 +50,11 @@ impl Format {
 pub fn sentence(left: &Side, right: &Side, asked: &Asked) -> String {
     let titles = format!("{} and {}", right.title, left.told());
     match &asked.shared {
-        Some(shared) => format!("{titles} clash: {}", label_words(left.edition, &shared.label)),
+        Some(shared) => {
+            let dropped = dropped_words(left, right, shared);
+            let dropped = dropped.map_or(String::new(), |words| format!(" ({words})"));
+            format!("{titles} clash: {}{dropped}", label_words(left.edition, &shared.label))
+        }
         None if asked.answer.clashes() == Some(true) => format!("{titles} {}", asked.answer),
         None => format!("{titles}: {}", not_decided_words(asked)),
     }

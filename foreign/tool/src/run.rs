@@ -59,7 +59,10 @@ const MOST_FILE: u64 = 16 << 20;
 
 /// Does what the words behind the program's name say.
 pub fn run(words: &[OsString], streams: Streams<'_>) -> Status {
-    let (options, command) = words::read(words);
+    let (mut options, command) = words::read(words);
+    if options.format == Format::Text {
+        options.paint = streams.paint;
+    }
     let format = options.format;
     let mut run = Run { options, streams };
     let outcome = match command {
@@ -274,8 +277,10 @@ impl Run<'_> {
             teller.tell(self.streams.output, &left, &right, &asked)?;
             return Ok(teller.end(self.streams.output, 2)?);
         }
-        let (mut words, mut object) =
-            (pair_words(&left, &right, &asked), pair_object(&left, &right, &asked));
+        let (mut words, mut object) = (
+            pair_words(&left, &right, &asked, self.options.paint),
+            pair_object(&left, &right, &asked),
+        );
         if self.options.steps && asked.answer.clashes() == Some(true) {
             let rows = way(&left, &right, &asked);
             words += &steps_words(&left, &right, &asked, rows.as_deref());
@@ -483,7 +488,11 @@ impl Run<'_> {
         if asked.answer.clashes() == Some(true) {
             asked = self.ask_one(there, new)?;
         }
-        let words = format!("{} is not added\n{}", new.title, pair_words(there, new, &asked));
+        let words = format!(
+            "{} is not added\n{}",
+            new.title,
+            pair_words(there, new, &asked, self.options.paint)
+        );
         self.say(&words, || pair_in(Object::new().truth("added", false), there, new, &asked))?;
         Ok(status_of(asked.answer))
     }

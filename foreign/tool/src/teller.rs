@@ -6,6 +6,7 @@ use std::io::{self, Write};
 use crate::ask::Asked;
 use crate::format::{annotation, github, short, Format};
 use crate::json::Object;
+use crate::notation::paint::Paint;
 use crate::pairs::Part;
 use crate::report::{counted, grouped, pair_object, Tally};
 use crate::sarif;
@@ -24,6 +25,7 @@ const MOST_HELD: usize = 5_000;
 pub struct Teller<'s> {
     command: &'static str,
     format: Format,
+    paint: Paint,
     clashes_only: bool,
     summary: bool,
     /// So many clashes are told, and so many pairs that are not decided.
@@ -46,6 +48,7 @@ impl<'s> Teller<'s> {
         Teller {
             command,
             format: options.format,
+            paint: options.paint,
             clashes_only: options.clashes_only,
             summary: options.summary,
             most: options.max.unwrap_or(usize::MAX),
@@ -116,7 +119,7 @@ impl<'s> Teller<'s> {
 
     /// Tells what is held back.
     fn tell_held(&mut self, to: &mut dyn Write) -> io::Result<()> {
-        let words = told_words(&self.held);
+        let words = told_words(&self.held, self.paint);
         self.held.clear();
         to.write_all(words.as_bytes())
     }
@@ -125,7 +128,7 @@ impl<'s> Teller<'s> {
     pub fn end(mut self, to: &mut dyn Write, rules: usize) -> io::Result<Status> {
         self.tell_held(to)?;
         let status = Status::from(self.tally);
-        let words = self.tally.summary(&self.rules_words(rules));
+        let words = self.tally.summary(&self.rules_words(rules), self.paint);
         let more = self.more_words();
         match self.format {
             Format::Text => write!(to, "{more}{words}")?,

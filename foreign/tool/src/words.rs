@@ -9,6 +9,7 @@ use bradovusc::MOST_SITUATIONS;
 use crate::ask::Room;
 use crate::format::Format;
 use crate::near::nearest;
+use crate::notation::paint::Paint;
 use crate::pairs::Part;
 use crate::report::grouped;
 
@@ -78,6 +79,8 @@ pub struct Options {
     /// The form is JSON.
     pub json: bool,
     pub format: Format,
+    /// The colours of words on the output: none where it is no terminal.
+    pub paint: Paint,
     /// So many clashes are told, and so many pairs that are not decided.
     pub max: Option<usize>,
     pub clashes_only: bool,
@@ -104,6 +107,7 @@ impl Default for Options {
         Options {
             json: false,
             format: Format::Text,
+            paint: Paint::NONE,
             max: None,
             clashes_only: false,
             summary: false,
