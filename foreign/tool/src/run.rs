@@ -158,11 +158,7 @@ impl Run<'_> {
 
     /// The rules of a file, as the library reads them, all of them taken by it.
     fn rules(&mut self, path: &Path) -> Result<Vec<Side>, Problem> {
-        let sides = judged(self.source(path)?)?;
-        match sides.is_empty() {
-            true => Err(Problem::no_rule(path)),
-            false => Ok(sides),
-        }
+        judged_some(self.source(path)?)
     }
 
     /// The rules of several files, one behind the other; and how many of them are from the first `old`
@@ -268,7 +264,7 @@ impl Run<'_> {
     fn pair(&mut self, path: &Path, left: &str, right: &str) -> Outcome {
         let source = self.source(path)?;
         let written = read(&source).unwrap_or_default();
-        let rules = judged(source)?;
+        let rules = judged_some(source)?;
         let [left, right] = [named(&rules, path, left)?, named(&rules, path, right)?];
         let asked = self.ask_one(&left, &right)?;
         if matches!(self.options.format, Format::Short | Format::Github | Format::Sarif) {
@@ -560,6 +556,16 @@ fn source_of(path: &Path, bytes: &[u8]) -> Result<Source, Problem> {
 /// The rules of a source as the library reads them.
 pub fn judged(source: Source) -> Result<Vec<Side>, Problem> {
     compile::judged(&source).map_err(|mistakes| Problem::Mistakes(source, mistakes))
+}
+
+/// The same of a source that must have a rule.
+fn judged_some(source: Source) -> Result<Vec<Side>, Problem> {
+    let name = source.name.clone();
+    let sides = judged(source)?;
+    match sides.is_empty() {
+        true => Err(Problem::no_rule(&name)),
+        false => Ok(sides),
+    }
 }
 
 /// The rule with this name.

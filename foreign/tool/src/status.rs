@@ -41,8 +41,8 @@ impl Problem {
     }
 
     /// A file of rules without a rule.
-    pub fn no_rule(path: &Path) -> Problem {
-        Problem::NoRule(format!("{} has no rule; a rule is NAME = TEMPLATE", path.display()))
+    pub fn no_rule(name: &str) -> Problem {
+        Problem::NoRule(format!("{name} has no rule; a rule is NAME = TEMPLATE"))
     }
 }
 

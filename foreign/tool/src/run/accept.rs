@@ -5,7 +5,7 @@ use std::fs::{self, File};
 use std::io::Read;
 use std::path::Path;
 
-use super::{judged, same_edition, source_of, Outcome, Run, MOST_FILE};
+use super::{judged, judged_some, same_edition, source_of, Outcome, Run, MOST_FILE};
 use crate::json::Object;
 use crate::notation::join::joined;
 use crate::notation::mistakes::Mistakes;
@@ -25,10 +25,7 @@ impl Run<'_> {
             return Err(Problem::Fault("BASE is replaced, so it can't be -".to_string()));
         }
         let new = self.bytes_of(new_path, MOST_FILE)?;
-        let new_rules = judged(source_of(new_path, &new)?)?;
-        if new_rules.is_empty() {
-            return Err(Problem::no_rule(new_path));
-        }
+        let new_rules = judged_some(source_of(new_path, &new)?)?;
         let (base, bytes) = match self.options.new {
             true => (Replaced::begin(path)?, Vec::new()),
             false => {
