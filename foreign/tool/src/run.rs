@@ -1,6 +1,7 @@
 //! The commands.
 
 mod accept;
+mod pair;
 mod which;
 
 use std::ffi::OsString;
@@ -23,18 +24,17 @@ use crate::format::{problem_on_output, short_problem, Format};
 use crate::json::Object;
 use crate::kinds;
 use crate::notation::paint::Paint;
-use crate::notation::{pattern_text, read, rule_text, template_text, Rule};
+use crate::notation::{pattern_text, rule_text, template_text, Rule};
 use crate::pairs::Pairs;
 use crate::parallel::{in_order, processors, Event};
 use crate::progress::Progress;
-use crate::repair::{repair, repair_in, repair_words};
-use crate::report::{counted, grouped, pair_in, pair_object, pair_words, titled, Tally};
+use crate::report::{counted, grouped, pair_in, pair_words, titled, Tally};
 use crate::sides::{find, sheet, Side, Title};
 use crate::source::Source;
 use crate::spend::Spend;
 use crate::status::{problem_words, Problem, Status};
-use crate::teller::Teller;
-use crate::way::{steps_in, steps_words, way};
+use crate::teller::{Teller, SCHEMA};
+
 use crate::words::{self, Command, Options};
 
 /// Where a command reads and writes.
@@ -117,7 +117,7 @@ impl Run<'_> {
             Command::Help { text } => self.say(&text, || Object::new().text("help", &text)),
             Command::Version => {
                 let version = bradovusc::VERSION;
-                let object = || Object::new().text("version", version);
+                let object = || Object::new().text("version", version).number("schema", SCHEMA);
                 self.say(&format!("bradovusc {version}\n"), object)
             }
         }
@@ -259,38 +259,6 @@ impl Run<'_> {
         teller.begin(self.streams.output)?;
         self.ask(count, pairs, |to, left, right, asked| teller.tell(to, left, right, asked))?;
         Ok(teller.end(self.streams.output, rules)?)
-    }
-
-    fn pair(&mut self, path: &Path, left: &str, right: &str) -> Outcome {
-        let source = self.source(path)?;
-        let written = read(&source).unwrap_or_default();
-        let rules = judged_some(source)?;
-        let [left, right] = [named(&rules, path, left)?, named(&rules, path, right)?];
-        let asked = self.ask_one(&left, &right)?;
-        if matches!(self.options.format, Format::Short | Format::Github | Format::Sarif) {
-            let mut teller = Teller::new("pair", &self.options);
-            teller.begin(self.streams.output)?;
-            teller.tell(self.streams.output, &left, &right, &asked)?;
-            return Ok(teller.end(self.streams.output, 2)?);
-        }
-        let (mut words, mut object) = (
-            pair_words(&left, &right, &asked, self.options.paint),
-            pair_object(&left, &right, &asked),
-        );
-        if self.options.steps && asked.answer.clashes() == Some(true) {
-            let rows = way(&left, &right, &asked);
-            words += &steps_words(&left, &right, &asked, rows.as_deref());
-            object = steps_in(object, &left, &right, rows.as_deref());
-        }
-        if let Some(shared) = asked.shared.as_ref().filter(|_| self.options.repair) {
-            let sides = [&left, &right];
-            if let Some(found) = repair(&written, sides, shared) {
-                words += &repair_words(sides, &found);
-                object = repair_in(object, sides, &found);
-            }
-        }
-        self.say(&words, || object)?;
-        Ok(status_of(asked.answer))
     }
 
     /// Asks of one pair.
