@@ -87,8 +87,7 @@ impl<'a> Ready<'a> {
     /// Whether no texts at all make the labels of this rule, on the left, and of another one the same,
     /// as the library says by their fixed fronts and ends alone. Else nothing is known.
     pub fn differs(&self, right: &Ready) -> bool {
-        let (_left, _right) = (&self.side.tokens, &right.right);
-        false
+        bradovusc::fronts_differ(self.side.edition, &self.side.tokens, &right.right)
     }
 }
 
