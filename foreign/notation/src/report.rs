@@ -71,9 +71,13 @@ pub fn pair_words(left: &Side, right: &Side, asked: &Asked, paint: Paint) -> Str
     let titles = format!("{} and {}", left.title, right.title);
     match (asked.answer, &asked.shared) {
         (Answer::NoClash { count }, _) => {
-            let situations = counted(count, "situation", "situations");
+            let how = match asked.search {
+                0 => "their fixed fronts or ends differ".to_string(),
+                _ => counted(count, "situation", "situations"),
+            };
             let none = paint.good("no clash");
-            format!("{titles}: {none}: no label can be made by both ({situations})\n")
+            format!("{titles}: {none}: no label can be made by both ({how})
+")
         }
         (_, Some(shared)) => {
             let label = paint.bold(&label_words(left.edition, &shared.label));
