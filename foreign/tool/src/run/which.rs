@@ -146,7 +146,8 @@ fn look_up<'a>(
 }
 
 fn place_words(label: &Label) -> String {
-    label.place.as_ref().map_or(String::new(), |(file, line)| format!("{file}:{line}: "))
+    let place = |(file, line): &(String, usize)| format!("{}:{line}: ", visible(file));
+    label.place.as_ref().map_or(String::new(), place)
 }
 
 impl Found<'_> {
