@@ -9,7 +9,9 @@ use crate::json::Object;
 use crate::labels::{from_lines, from_values, Column, Label};
 use crate::matching::{Reader, LONGEST_LABEL};
 use crate::notation::visible::{visible, visible_sign};
-use crate::report::{counted, fields_object, fields_words, grouped, label_words, placed, titled};
+use crate::report::{
+    counted, fields_object, fields_words, grouped, label_words, placed, spelt, titled,
+};
 use crate::sides::{Side, Text};
 use crate::status::{Problem, Status};
 use crate::teller::SCHEMA;
@@ -188,6 +190,10 @@ impl Found<'_> {
             _ => "clash",
         };
         let mut object = Object::new().text("label", &self.label.text).text("answer", answer);
+        let spelt = self.values.as_ref().ok().and_then(|values| spelt(self.edition, values));
+        if let Some(spelt) = spelt {
+            object = object.text("spelt", &spelt);
+        }
         if let Some(wrong) = self.wrong() {
             object = object.text("reason", &wrong);
         }
