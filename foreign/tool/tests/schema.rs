@@ -51,7 +51,7 @@ fn shown() -> Vec<String> {
     let mut lines = Vec::new();
     for path in said {
         let text = fs::read_to_string(path).unwrap();
-        let objects = text.lines().map(str::trim).filter(|line| line.starts_with('{'));
+        let objects = text.lines().map(str::trim).filter(|line| line.starts_with("{\""));
         lines.extend(objects.map(String::from));
     }
     lines
