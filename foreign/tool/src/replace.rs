@@ -38,6 +38,7 @@ impl Replaced {
             if same(&mine, &now) {
                 let (name, path) =
                     (path.display().to_string(), fs::canonicalize(path).map_err(failed)?);
+                clear_beside(&path);
                 let locked = Some(file.try_clone().map_err(failed)?);
                 return Ok((Replaced { path, name, locked }, file));
             }
@@ -50,6 +51,7 @@ impl Replaced {
         if fs::symlink_metadata(path).is_ok() {
             return Err(there_already(&name));
         }
+        clear_beside(path);
         Ok(Replaced { path: path.to_path_buf(), name, locked: None })
     }
 
@@ -61,7 +63,6 @@ impl Replaced {
             Some(file) => Some(file.metadata().map_err(failed)?),
             None => None,
         };
-        clear_beside(&self.path);
         // the new file is open, and so locked, until it has its place
         let (file, new) = write_beside(&self.path, bytes, old.as_ref()).map_err(failed)?;
         let put = match &self.locked {
