@@ -31,6 +31,11 @@ impl Replaced {
         let failed = |error| Problem::failed("read", path, &error);
         loop {
             let file = OpenOptions::new().read(true).write(true).open(path).map_err(failed)?;
+            if !file.metadata().map_err(failed)?.is_file() {
+                // a device or a pipe would be gone
+                let name = path.display();
+                return Err(Problem::Fault(format!("{name} is no regular file, so it stays")));
+            }
             file.lock().map_err(|error| Problem::failed("locked", path, &error))?;
             // another one may have been put there while this one waited
             let (mine, now) =
