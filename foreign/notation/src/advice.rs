@@ -1,7 +1,7 @@
 //! What a storekeeper can do where it is not decided whether two rules clash: which fields stand
 //! several times, have no length or stand side by side, and what may help.
 //!
-//! The searches follow what fields may hold. A field that stands several times must hold the same text
+//! Deciding follows what fields may hold. A field that stands several times must hold the same text
 //! each time, so each of its texts is a way of its own; where there is no longest text, the ways have
 //! no end. So fewer texts may help: a length, a narrower class, or a separator that says where a field
 //! ends.

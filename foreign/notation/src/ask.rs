@@ -62,7 +62,7 @@ pub struct Shared {
 }
 
 impl Asked {
-    /// What is said of two rules that the library settles by their fronts, without a search.
+    /// What is said of two rules that the library settles by their fronts, without an attempt.
     pub const SETTLED: Asked = Asked::of(Answer::NoClash { count: 0 }, 0, 0);
 
     /// An answer without a label.

@@ -273,7 +273,7 @@ impl Run<'_> {
                 Ok(())
             },
         )?;
-        said.ok_or_else(|| Problem::Failure("the search was not made".to_string()))
+        said.ok_or_else(|| Problem::Failure("the library was not asked".to_string()))
     }
 
     fn script(&mut self, path: &Path, left: &str, right: &str) -> Outcome {
@@ -443,7 +443,7 @@ impl Run<'_> {
             Ok::<(), Problem>(())
         })?;
         progress.clear(errors);
-        result.ok_or_else(|| Problem::Failure("the search was not made".to_string()))
+        result.ok_or_else(|| Problem::Failure("the library was not asked".to_string()))
     }
 
     /// A rule that is not added, for what was said of it and a rule that is there.

@@ -240,7 +240,7 @@ fn a_crash_loses_nothing() {
 /// An editor that knows no lock saves the file while the pairs are asked about: its text stays.
 #[test]
 fn changed_meanwhile() {
-    // pairs that take a search each
+    // pairs that take an attempt each
     let signs = || "ABCDEFGHIJKLMNOPQRSTUVWXYZ".chars();
     let name = signs().flat_map(|one| signs().take(6).map(move |two| format!("{one}{two}")));
     let slow: String = name

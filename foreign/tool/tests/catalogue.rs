@@ -215,8 +215,8 @@ fn a_full_disk() {
     }
 }
 
-/// Twenty rules with a serial number that stands twice, of which no two clash. One search decides of
-/// no two of them, in whatever room; the tool adds them all, in the first.
+/// Twenty rules with a serial number that stands twice, of which no two clash. The first search decides
+/// of no two of them, in whatever room; the tool adds them all, in the first.
 #[test]
 fn serial_numbers() {
     let folder = Folder::new("serial");
