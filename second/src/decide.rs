@@ -1,16 +1,19 @@
-//! Decides more than one search does: up to four searches, one after the other,
-//! in the same working buffer.
+//! Decides more than one search does: up to seven attempts, one after the other,
+//! in the same working buffer, up to the first that decides.
 //!
 //! 1. The search of `answer`. Where it says clash or no clash, that is the
 //!    answer.
-//! 2. Characters alike: "Two characters are alike on a sheet if neither is a
+//! 2. Letters, a test: if they differ there is no clash.
+//! 3. "Each standing apart by K9's engine", a test: its no clash decides.
+//! 4. The shortest texts: each field that stands twice holds one text alone. A
+//!    clash decides.
+//! 5. Longer texts: the same with those of three characters or more.
+//! 6. Characters alike: "Two characters are alike on a sheet if neither is a
 //!    fixed character of a side and every leaf of every standing field takes
 //!    both or neither." Of those alike the least one alone is put. Clash and no
 //!    clash both decide.
-//! 3. Few characters: one for each leaf, and fewer where one serves several. A
+//! 7. Few characters: one for each leaf, and fewer where one serves several. A
 //!    clash decides.
-//! 4. Each standing apart: every standing of a field is a field of its own with
-//!    the same pattern. No clash decides.
 //!
 //! The hidden fields stand and have their leaf; "fixed characters are those of
 //! the sheet's (untrimmed) sides"; the room is the same for every search.
@@ -18,63 +21,94 @@
 use crate::catalogue::{Asked, Searcher};
 use crate::edition::Edition;
 use crate::pattern::{characters, Allowed, CharacterSet};
+use crate::plain;
 use crate::sheet::{Question, Reading, Token, ALL_FIELDS, FIELDS};
-use crate::{scan, Outcome, NO_CLASH, NO_ROOM, SIDE_TOO_LONG};
+use crate::{letters, room, scan, Outcome, NO_CLASH, NO_ROOM, SIDE_TOO_LONG, SITUATION_BYTES};
 
 /// The character 0 alone.
 const LEAST_OF_ALL: CharacterSet = 1;
+/// No longer text is tried for a field that stands twice.
+const MOST_TRIED: usize = 24;
 
-/// How many searches there are, numbered from 1.
-pub const SEARCHES: usize = 4;
-/// The numbers of the two that say only yes, or only no.
-pub const FEW_CHARACTERS: usize = 3;
-pub const EACH_APART: usize = 4;
+/// An attempt to decide.
+#[derive(Clone, Copy, Debug, PartialEq, Eq)]
+pub enum Attempt {
+    First,
+    Letters,
+    Apart,
+    /// With the texts of so many characters or more.
+    Texts(usize),
+    Alike,
+    Few,
+}
+
+/// The attempts in their order, numbered from 1.
+pub const ATTEMPTS: [Attempt; 7] = [
+    Attempt::First,
+    Attempt::Letters,
+    Attempt::Apart,
+    Attempt::Texts(0),
+    Attempt::Texts(3),
+    Attempt::Alike,
+    Attempt::Few,
+];
+
+/// What an attempt asks.
+pub enum Asks {
+    /// The search of this question, in the whole room.
+    Search(Question),
+    /// A test, which enters no situation: does it say no clash? Else it says
+    /// nothing.
+    Test(bool),
+}
+
+impl Attempt {
+    /// What it asks where there is room for so many situations.
+    pub fn asks(self, question: &Question, room: usize) -> Asks {
+        match self {
+            Attempt::First => Asks::Search(question.clone()),
+            Attempt::Letters => Asks::Test(letters::differ(question)),
+            Attempt::Apart => {
+                // "It is asked only if its bits are at most 8 × 184 × the room."
+                let fits = plain::pairs(question) <= 8 * SITUATION_BYTES * room;
+                Asks::Test(fits && !plain::clashes(question))
+            }
+            Attempt::Texts(length) => Asks::Search(with_texts(question, length)),
+            Attempt::Alike => Asks::Search(over(question, least_alike(question))),
+            Attempt::Few => Asks::Search(over(question, few(question, least_alike(question)))),
+        }
+    }
+
+    /// Whether what its search says is said of the sheet's own question. With other
+    /// texts or other characters there may be a label where these have none.
+    pub fn decides(self, number: u8) -> bool {
+        match number {
+            NO_ROOM | SIDE_TOO_LONG => false,
+            NO_CLASH => matches!(self, Attempt::First | Attempt::Alike),
+            _ => true,
+        }
+    }
+}
 
 /// What is handed back beside the two buffers.
 #[derive(Clone, Copy, Debug, PartialEq, Eq)]
 pub struct Decided {
     /// The count is that of the situations entered in all searches made.
     pub outcome: Outcome,
-    /// Which search decided, 1 to 4; 0 where none did, and for a refused sheet.
-    /// Where the texts don't fit, the search that found them.
+    /// Which attempt decided, 1 to 7; 0 where none did, and for a refused sheet.
+    /// Where the texts don't fit, the attempt that found them.
     pub search: u8,
-    /// The situations entered in each search; 0 for one that was not made.
-    pub spent: [usize; SEARCHES],
+    /// The situations entered in each attempt; 0 for one that was not made.
+    pub spent: [usize; ATTEMPTS.len()],
 }
 
-/// The searches of a module.
-#[derive(Clone, Copy)]
-pub struct By {
-    /// Searches and writes the texts.
-    pub asked: fn(&Question, &mut [u8], &mut [u8]) -> Outcome,
-    /// Searches and writes none: number and count.
-    pub searched: fn(&Question, &mut [u8]) -> (u8, usize),
-}
+/// A module's search that writes the texts.
+pub type By = fn(&Question, &mut [u8], &mut [u8]) -> Outcome;
 
 /// With situations in storage of its own.
-pub const HASHING: By = By { asked: crate::asked, searched: crate::searched };
+pub const HASHING: By = crate::asked;
 /// With situations in the lent working buffer.
-pub const SCANNING: By = By { asked: scan::asked, searched: scan::searched };
-
-/// The questions of the four searches; none for the last where there are more
-/// than 8 standings.
-pub fn questions(question: &Question) -> [Option<Question>; SEARCHES] {
-    let least = least_alike(question);
-    let apart = each_apart(question).map(|apart| over(&apart, least_alike(&apart)));
-    let few = few(question, least);
-    [Some(question.clone()), Some(over(question, least)), Some(over(question, few)), apart]
-}
-
-/// Whether what this search says is said of the sheet's own question. Of the few
-/// characters: "Its 0 carries texts that solve the question; its 1 says
-/// nothing." Of each standing apart: "Its 1 is a no clash; its 0 says nothing."
-pub fn decides(search: usize, number: u8) -> bool {
-    match number {
-        NO_ROOM | SIDE_TOO_LONG => false,
-        NO_CLASH => search != FEW_CHARACTERS,
-        _ => search != EACH_APART,
-    }
-}
+pub const SCANNING: By = scan::asked;
 
 /// Judges the sheet, searches, and writes the answer.
 pub fn decide(sheet: &[u8], work: &mut [u8], answer: &mut [u8], by: By) -> Decided {
@@ -89,49 +123,74 @@ pub fn decide_by(
     answer: &mut [u8],
     by: By,
 ) -> Decided {
-    let mut spent = [0; SEARCHES];
-    let question = match reading.sheet(sheet) {
-        Ok(question) => question,
-        Err(fault) => return Decided { outcome: Outcome::of_fault(fault), search: 0, spent },
-    };
-    // "18 or 19 as the first search said it"
-    let mut given_up = None;
-    for (search, question) in (1..).zip(questions(&question)) {
-        let Some(question) = question else { continue };
-        // The texts of fields that stand apart are none of the sheet's.
-        let outcome = if search == EACH_APART {
-            let (number, count) = (by.searched)(&question, work);
-            Outcome::of_search(number, count, 0)
-        } else {
-            (by.asked)(&question, work, answer)
-        };
-        spent[search - 1] = outcome.count;
-        if decides(search, outcome.number) {
-            // "no further search is made"
-            let outcome = Outcome { count: spent.iter().sum(), ..outcome };
-            return Decided { outcome, search: search as u8, spent };
+    match reading.sheet(sheet) {
+        Ok(question) => {
+            attempted(&question, room(work.len()), |asked| by(asked, work, answer))
         }
-        given_up.get_or_insert(outcome.number);
+        Err(fault) => {
+            Decided { outcome: Outcome::of_fault(fault), search: 0, spent: Default::default() }
+        }
     }
-    let number = given_up.unwrap_or(NO_ROOM);
-    Decided { outcome: Outcome::of_search(number, spent.iter().sum(), 0), search: 0, spent }
 }
 
 /// Decides a pair's question. "A pair's texts are not written", so a clash is 0
 /// whatever its texts, and never 20.
 pub fn pair(question: &Question, work: &mut [u8], search: Searcher) -> Asked {
-    let mut count = 0;
+    let decided = attempted(question, room(work.len()), |asked| {
+        let (answer, entered) = search(asked, work);
+        Outcome::of_search(answer, entered, 0)
+    });
+    let Outcome { number, count, .. } = decided.outcome;
+    Asked { answer: number, count, search: decided.search }
+}
+
+/// Makes the attempts in turn, in room for so many situations, up to the first
+/// that decides.
+fn attempted(
+    question: &Question,
+    room: usize,
+    mut search: impl FnMut(&Question) -> Outcome,
+) -> Decided {
+    let mut spent = [0; ATTEMPTS.len()];
+    // "18/19 as the first search said it"
     let mut given_up = None;
-    for (number, question) in (1u8..).zip(questions(question)) {
-        let Some(question) = question else { continue };
-        let (answer, entered) = search(&question, work);
-        count += entered;
-        if decides(number.into(), answer) {
-            return Asked { answer, count, search: number };
+    for (at, attempt) in ATTEMPTS.into_iter().enumerate() {
+        let decided = match attempt.asks(question, room) {
+            Asks::Search(asked) => {
+                let outcome = search(&asked);
+                spent[at] = outcome.count;
+                given_up.get_or_insert(outcome.number);
+                attempt.decides(outcome.number).then_some(outcome)
+            }
+            Asks::Test(no_clash) => no_clash.then(|| Outcome::of_search(NO_CLASH, 0, 0)),
+        };
+        if let Some(outcome) = decided {
+            let outcome = Outcome { count: spent.iter().sum(), ..outcome };
+            return Decided { outcome, search: at as u8 + 1, spent };
         }
-        given_up.get_or_insert(answer);
     }
-    Asked { answer: given_up.unwrap_or(NO_ROOM), count, search: 0 }
+    let number = given_up.unwrap_or(NO_ROOM);
+    Decided { outcome: Outcome::of_search(number, spent.iter().sum(), 0), search: 0, spent }
+}
+
+/// The question where each field that stands twice holds one text alone: that of
+/// so many characters or more.
+pub fn with_texts(question: &Question, length: usize) -> Question {
+    let mut asked = question.clone();
+    for (field, allowed) in (0..).zip(&mut asked.allowed[..FIELDS]) {
+        let text = one_text(allowed, length).filter(|_| question.times(Token::Field(field)) > 1);
+        if let Some(text) = text {
+            *allowed = Allowed::only(&text);
+        }
+    }
+    asked
+}
+
+/// The least text of the least length from this one on, or where there is none of
+/// the greatest below it; none where no text has at most 24 characters.
+pub fn one_text(allowed: &Allowed, length: usize) -> Option<Vec<u8>> {
+    let mut lengths = (length..=MOST_TRIED).chain((0..length).rev());
+    lengths.find_map(|length| allowed.least_text(length))
 }
 
 /// The question where no place takes another character.
@@ -141,23 +200,13 @@ fn over(question: &Question, characters: CharacterSet) -> Question {
 
 /// The fields that stand, the hidden ones too, rising.
 fn standing(question: &Question) -> Vec<&Allowed> {
-    let sides = || question.left.iter().chain(&question.right);
-    let stands = |field: usize| sides().any(|&token| token == Token::Field(field as u8));
-    (0..ALL_FIELDS).filter(|&field| stands(field)).map(|field| &question.allowed[field]).collect()
-}
-
-/// The fixed characters of the sides.
-fn fixed(question: &Question) -> CharacterSet {
-    let sides = question.left.iter().chain(&question.right);
-    sides.fold(0, |set, &token| match token {
-        Token::Character(character) => set | 1 << character,
-        Token::Field(_) => set,
-    })
+    let stands = |&field: &usize| question.times(Token::Field(field as u8)) > 0;
+    (0..ALL_FIELDS).filter(stands).map(|field| &question.allowed[field]).collect()
 }
 
 /// The least ones alike: "a character no smaller one is alike to".
 pub fn least_alike(question: &Question) -> CharacterSet {
-    let (standing, fixed) = (standing(question), fixed(question));
+    let (standing, fixed) = (standing(question), question.fixed());
     let is_fixed = |character: u8| fixed & (1 << character) != 0;
     let alike = |a: u8, b: u8| {
         !is_fixed(a)
@@ -173,7 +222,7 @@ pub fn least_alike(question: &Question) -> CharacterSet {
 /// that stands fixed in no side, or where there is none the least that it takes;
 /// where nothing is chosen, the least of all".
 pub fn few(question: &Question, least: CharacterSet) -> CharacterSet {
-    let fixed = fixed(question);
+    let fixed = question.fixed();
     let mut chosen = 0;
     for field in standing(question) {
         for leaf in field.leaves() {
@@ -192,30 +241,7 @@ pub fn few(question: &Question, least: CharacterSet) -> CharacterSet {
     }
 }
 
-/// "Every standing of a field becomes a field of its own with the same pattern,
-/// if there are at most 8 standings (numbered from 0, left side then right;
-/// hidden fields stay)".
-pub fn each_apart(question: &Question) -> Option<Question> {
-    let mut allowed = question.allowed.clone();
-    let mut standings = 0;
-    let mut apart = |side: &[Token]| -> Vec<Token> {
-        let mut renumbered = |token: &Token| match *token {
-            Token::Field(field) if usize::from(field) < FIELDS => {
-                if let Some(own) = allowed[..FIELDS].get_mut(standings) {
-                    *own = question.allowed[usize::from(field)].clone();
-                }
-                standings += 1;
-                Token::Field((standings - 1) as u8)
-            }
-            other => other,
-        };
-        side.iter().map(&mut renumbered).collect()
-    };
-    let (left, right) = (apart(&question.left), apart(&question.right));
-    (standings <= FIELDS).then_some(Question { left, right, allowed, ..question.clone() })
-}
-
-/// What the program `decide` prints: what `clash` prints, "the search's number at
+/// What the program `decide` prints: what `clash` prints, "the attempt's number at
 /// the end of the first line".
 pub fn lines(edition: Edition, decided: &Decided, answer: &[u8]) -> String {
     let lines = crate::lines(edition, &decided.outcome, answer);

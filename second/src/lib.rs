@@ -14,7 +14,7 @@
 //! `pattern::Allowed` has its two place sets, and `spell_open` writes the old
 //! meaning out, by which it held the empty text too.
 //!
-//! `decide::decide` goes on searching where `answer` gives up, in the same
+//! `decide::decide` makes other attempts where `answer` gives up, in the same
 //! working buffer, and so answers more sheets with yes or no.
 //!
 //! `catalogue::add` and `catalogue::withdraw` keep a catalogue of rules of which
@@ -56,9 +56,11 @@ pub mod catalogue;
 pub mod decide;
 pub mod drop_strays;
 pub mod edition;
+pub mod equations;
 pub mod fault;
 pub mod fronts;
 pub mod full_ascii;
+pub mod letters;
 pub mod make;
 pub mod pattern;
 pub mod plain;

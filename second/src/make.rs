@@ -2,11 +2,12 @@
 //! and answer buffers near their bounds. `spaces` makes the ends of labels,
 //! `calls` operations on a catalogue with the same parts, `spelt` sheets and
 //! rules to carry over, `damages` the faults of them all. `pairs` makes pairs of
-//! rules as storerooms write them, `decided` cases to decide, `written` what is
-//! handed to the writer of sheets, `plainly` sheets for the engine for plain
-//! rules, `ascii` texts to be spelt and read back, `ways` cases of the steps and
-//! of the player, `fronts` sides to be told apart. `said` says what is made in the second edition. `strays` makes
-//! sheets and rules with stray patterns.
+//! rules as storerooms write them, `decided` cases to decide, with `uneven`,
+//! `standings` and `lengths` for one attempt each, `written` what is handed to the
+//! writer of sheets, `plainly` sheets for the engine for plain rules, `ascii` texts
+//! to be spelt and read back, `ways` cases of the steps and of the player, `fronts`
+//! sides to be told apart. `said` says what is made in the second edition. `strays`
+//! makes sheets and rules with stray patterns.
 //!
 //! Others have some too, as they had before those were refused. What is looked up
 //! while such a case is made goes by the old rule, so that its stream stays as it
@@ -19,12 +20,15 @@ pub mod decided;
 pub mod editions;
 pub mod fronts;
 pub mod kept;
+mod lengths;
 pub mod pairs;
 pub mod plainly;
 mod said;
 mod spaces;
 pub mod spelt;
+mod standings;
 pub mod strays;
+mod uneven;
 pub mod ways;
 pub mod written;
 

@@ -134,6 +134,8 @@ impl Reader<'_> {
 /// worked out once from the pattern."
 #[derive(Clone, Debug)]
 pub struct Places {
+    /// The pattern itself.
+    pub pattern: Pattern,
     /// For each place, the places that may follow it.
     follow: [PlaceSet; PLACES],
     /// For each character, the leaves that take it.
@@ -157,7 +159,8 @@ impl Places {
     /// The places of a pattern with at most 63 leaves.
     pub fn of(pattern: &Pattern) -> Places {
         let takes = [0; MOST_CHARACTERS as usize];
-        let mut places = Places { follow: [0; PLACES], takes, last: 0 };
+        let follow = [0; PLACES];
+        let mut places = Places { pattern: pattern.clone(), follow, takes, last: 0 };
         let mut leaves = 0;
         let whole = places.part(pattern, &mut leaves);
         places.follow[0] = whole.first;
@@ -209,7 +212,7 @@ impl Places {
 }
 
 /// The places of a set, rising.
-fn members(set: PlaceSet) -> impl Iterator<Item = usize> {
+pub fn members(set: PlaceSet) -> impl Iterator<Item = usize> {
     let mut rest = set;
     std::iter::from_fn(move || {
         if rest == 0 {
@@ -271,9 +274,50 @@ impl Allowed {
 
     /// "The set may end if some place in it may be the last one of a text".
     pub fn may_end(&self, set: PlaceSet) -> bool {
+        set & self.last() != 0
+    }
+
+    /// The places that may be the last one of a text.
+    fn last(&self) -> PlaceSet {
         match self {
-            Allowed::Open(_) => set & AFTER_A_CHARACTER != 0,
-            Allowed::Pattern(places) => set & places.last != 0,
+            Allowed::Open(_) => AFTER_A_CHARACTER,
+            Allowed::Pattern(places) => places.last,
         }
+    }
+
+    /// The places that may follow this one.
+    fn following(&self, place: usize) -> PlaceSet {
+        match self {
+            Allowed::Open(_) => AFTER_A_CHARACTER,
+            Allowed::Pattern(places) => places.follow[place],
+        }
+    }
+
+    /// This text alone.
+    pub fn only(text: &[u8]) -> Allowed {
+        let leaf = |&character: &u8| Pattern::Leaf { lo: character, hi: character };
+        let before = |behind, first| Pattern::Then(Box::new(first), Box::new(behind));
+        let pattern = text.iter().map(leaf).rev().reduce(before).unwrap_or(Pattern::Empty);
+        Allowed::Pattern(Box::new(Places::of(&pattern)))
+    }
+
+    /// The least text of just so many characters: "the smallest first character
+    /// with which there is one, then the smallest second one, and so on".
+    pub fn least_text(&self, length: usize) -> Option<Vec<u8>> {
+        // The places from which so many characters lead to an end, from none on.
+        let mut leading: Vec<PlaceSet> = vec![self.last()];
+        for fewer in 0..length {
+            let leads = |&place: &usize| self.following(place) & leading[fewer] != 0;
+            let places = (0..PLACES).filter(leads).fold(0, |set, place| set | 1 << place);
+            leading.push(places);
+        }
+        let (mut set, mut text) = (leading[length] & ONLY_START, Vec::new());
+        for left in (0..length).rev() {
+            let leads = |&one: &u8| self.after(set, one) & leading[left] != 0;
+            let one = (0..MOST_CHARACTERS).find(leads)?;
+            set = self.after(set, one);
+            text.push(one);
+        }
+        (set != 0).then_some(text)
     }
 }

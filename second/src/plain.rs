@@ -10,7 +10,7 @@ use std::collections::HashSet;
 
 use crate::catalogue::DONE;
 use crate::fault::Fault;
-use crate::pattern::Allowed;
+use crate::pattern::{members, Allowed};
 use crate::sheet::{Question, Reading, Token, FIELDS};
 use crate::{CLASH, NO_CLASH};
 
@@ -81,13 +81,11 @@ pub fn plain_bytes_by(reading: Reading, sheet: &[u8]) -> Needs {
 
 /// A field of the sheet stands more than once in the two sides together.
 pub fn stands_twice(question: &Question) -> bool {
-    let tokens = || question.left.iter().chain(&question.right);
-    let times = |field: &Token| tokens().filter(|&token| token == field).count();
-    (0..FIELDS).any(|field| times(&Token::Field(field as u8)) > 1)
+    (0..FIELDS).any(|field| question.times(Token::Field(field as u8)) > 1)
 }
 
 /// The pairs of a left and a right standing.
-fn pairs(question: &Question) -> usize {
+pub fn pairs(question: &Question) -> usize {
     standings(question, &question.left) * standings(question, &question.right)
 }
 
@@ -149,12 +147,12 @@ impl Standing {
 
 /// The places that may follow this one and take the character.
 fn following(allowed: &Allowed, place: usize, character: u8) -> impl Iterator<Item = usize> {
-    let set = allowed.after(1 << place, character);
-    (0..64).filter(move |place| set & (1 << place) != 0)
+    members(allowed.after(1 << place, character))
 }
 
-/// Some pair at which both sides are at their ends can be reached.
-fn clashes(question: &Question) -> bool {
+/// Some pair at which both sides are at their ends can be reached. Each standing
+/// of a field is read for itself.
+pub fn clashes(question: &Question) -> bool {
     let (left, right) = (&question.left, &question.right);
     let mut met = HashSet::from([(FIRST, FIRST)]);
     let mut ahead = vec![(FIRST, FIRST)];
@@ -166,9 +164,12 @@ fn clashes(question: &Question) -> bool {
         next.extend(l.left(question, left).map(|l| (l, r)));
         next.extend(r.left(question, right).map(|r| (l, r)));
         for character in 0..question.edition.characters {
-            let rights = r.after(question, right, character);
-            for l in l.after(question, left, character) {
-                next.extend(rights.iter().map(|&r| (l, r)));
+            let lefts = l.after(question, left, character);
+            if lefts.is_empty() {
+                continue;
+            }
+            for r in r.after(question, right, character) {
+                next.extend(lefts.iter().map(|&l| (l, r)));
             }
         }
         for pair in next {

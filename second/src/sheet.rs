@@ -91,6 +91,20 @@ impl Question {
         let allowed = std::array::from_fn(|_| allowed.next().unwrap_or_else(hidden));
         Question { edition, left, right, allowed, characters: edition.all() }
     }
+
+    /// How often the token stands in the two sides together.
+    pub fn times(&self, token: Token) -> usize {
+        self.left.iter().chain(&self.right).filter(|&&of| of == token).count()
+    }
+
+    /// The fixed characters of the sides.
+    pub fn fixed(&self) -> CharacterSet {
+        let sides = self.left.iter().chain(&self.right);
+        sides.fold(0, |set, &token| match token {
+            Token::Character(character) => set | 1 << character,
+            Token::Field(_) => set,
+        })
+    }
 }
 
 /// What becomes of a stray pattern, one "for a field that stands in neither side".

@@ -402,8 +402,8 @@ fn serial(sign: &str) -> Vec<u8> {
 }
 
 /// Twenty rules of which no two can make the same label. For no pair of them is
-/// there room in one search: the digits are too many. The second search takes
-/// one digit for all ten, and decides each.
+/// there room in one search: the digits are too many. The letters differ, since
+/// one sign does, and so each is decided.
 pub fn serial_rows() -> Vec<Row> {
     let (first, others) = BETWEEN.split_first().expect("twenty");
     let mut rows = vec![add_decided("no pair: rule 0", serial(first), "add_decided 0 0 0 0 0 0")];
@@ -418,16 +418,18 @@ pub fn serial_rows() -> Vec<Row> {
         recheck("for none of the 190 pairs is there room", 949, "recheck 35 0 0"),
         recheck_decided("and each is decided", 0, "recheck_decided 0 0 0"),
         add("18: for the pair with rule 0", ends_in_0.clone(), "add 30 356 0 0 18"),
-        add_decided("`KP000000/000000` is of rule 1", ends_in_0, CLASH_OF_RULE_1),
+        add_decided("`KP000000/000000` is of rule 1", ends_in_0.clone(), CLASH_OF_RULE_1),
         work("no room", 0),
-        add_decided("18: no search has room", serial("X"), "add_decided 30 0 0 0 18 0"),
+        add_decided("18: no search has room", ends_in_0, "add_decided 30 0 0 1 18 0"),
         work("356 situations again", WORK),
     ]);
     rows
 }
 
-/// 356 situations of the first search and those of the second.
-const CLASH_OF_RULE_1: &str = "add_decided 30 520 0 1 0 2";
+/// 356 situations of the first search and 14 of the fourth attempt: one for each
+/// digit of `000000` that is read, and the start; either field struck; the two
+/// hidden fields, with a space and without, either of them struck, and both.
+const CLASH_OF_RULE_1: &str = "add_decided 30 370 0 1 0 4";
 
 pub fn serial_stream() -> Vec<u8> {
     written(serial_rows().into_iter().map(|row| row.operation))

@@ -70,14 +70,16 @@ fn refused(before: &[Vec<u8>], new: &[u8], work: usize, pair: (usize, u8, usize,
 fn known_decisions() {
     enters(&[open("A")], &open("B"), 184);
     refused(&[open("a")], &open("A"), 2208, (0, 0, 10, 1));
-    // 6, 6, 1 and 6: the fourth search
+    // no 4 on the left
     enters(&[open("A")], &open("a4a"), 1104);
-    enters(&[open("A")], &open("a4aaaaaaa"), 1104);
-    // nine standings: it is not made
-    refused(&[open("A")], &open("a4aaaaaaaa"), 1104, (0, 18, 13, 0));
-    refused(&[open("AA")], &open("a"), 552, (0, 18, 10, 0));
-    refused(&[open("aa")], &open("A"), 2576, (0, 18, 43, 0));
-    refused(&[open(&"a".repeat(24))], &open("AA"), 552, (0, 19, 7, 0));
+    enters(&[open("A")], &open("a4aaaaaaaa"), 1104);
+    // 3, 3, 3, 3 and 1
+    refused(&[open("AA")], &open("a"), 552, (0, 18, 13, 0));
+    refused(&[open("a")], &open("AA"), 552, (0, 18, 13, 0));
+    // x twice is never one character
+    enters(&[open("aa")], &open("A"), 2576);
+    // 3, 1, 1, 3 and 1
+    refused(&[open(&("a".repeat(23) + "b"))], &open("AA"), 552, (0, 19, 9, 0));
     refused(&[open("a")], &open("A"), 0, (0, 18, 0, 0));
     refused(&[open("a")], &open("A"), 183, (0, 18, 0, 0));
 }
@@ -87,11 +89,11 @@ fn a_number_that_stands_twice() {
     // `KP`n`-`n and `KP`m`-`m, where m ends in 0
     let number = rule(&[(0, row(vec![digit(), many(digit())]))], &tokens("KPa-a"));
     let ends_in_0 = rule(&[(0, row(vec![many(digit()), vec![0]]))], &tokens("KPa-a"));
-    refused(std::slice::from_ref(&number), &ends_in_0, 65_520, (0, 0, 413, 2));
+    refused(std::slice::from_ref(&number), &ends_in_0, 65_520, (0, 0, 365, 4));
     // The first pair is decided with 1, and the second is told.
     let slash = rule(&[(0, row(vec![digit(), many(digit())]))], &tokens("KPa/a"));
     enters(std::slice::from_ref(&number), &slash, 65_520);
-    refused(&[slash, number], &ends_in_0, 65_520, (1, 0, 413, 2));
+    refused(&[slash, number], &ends_in_0, 65_520, (1, 0, 365, 4));
 }
 
 #[test]
@@ -126,11 +128,11 @@ fn rechecked(kept: &[u8], work: usize, list: usize) -> (Rechecked, Vec<u8>, Vec<
 
 #[test]
 fn seven_bytes_for_a_pair() {
-    // 0 with the second search; not decided; a clash of the first one
+    // a clash of the fourth attempt, and one of the first
     let number = rule(&[(0, row(vec![digit(), many(digit())]))], &tokens("KPa-a"));
     let ends_in_0 = rule(&[(0, row(vec![many(digit()), vec![0]]))], &tokens("KPa-a"));
     let kept = catalogue(&[number, open("B"), ends_in_0, open("B ")]);
-    let expected = [0, 2, 0, 157, 1, 0, 2, 1, 3, 0, 6, 0, 0, 1];
+    let expected = [0, 2, 0, 109, 1, 0, 4, 1, 3, 0, 6, 0, 0, 1];
     let (told, list, worked) = rechecked(&kept, 65_520, 16);
     assert_eq!(told, Rechecked { number: 0, pairs: 2, written: 14 });
     assert_eq!(list, [&expected[..], &[165, 165]].concat());
@@ -140,9 +142,9 @@ fn seven_bytes_for_a_pair() {
         assert_eq!(told, Rechecked { number: 35, pairs: 0, written: 0 });
         assert!(list.iter().all(|&byte| byte == 165) && worked.iter().all(|&byte| byte == 0));
     }
-    // Nine standings, at room for six.
-    let kept = catalogue(&[open("A"), open("a4aaaaaaaa")]);
-    let (_, list, _) = rechecked(&kept, 1104, 7);
+    // Not decided, at room for three.
+    let kept = catalogue(&[open("a"), open("AA")]);
+    let (_, list, _) = rechecked(&kept, 552, 7);
     assert_eq!(list, [0, 1, 18, 13, 0, 0, 0]);
 }
 
@@ -160,8 +162,11 @@ fn without_a_pair_nothing_is_searched() {
 
 #[test]
 fn a_count_of_three_bytes() {
-    // Nine standings; each of the three searches fills the greatest room.
-    let kept = catalogue(&[open("BXaaaaaL"), open("BXaaaaR")]);
+    // Up to the dash both are the same, and then there is `PP` too much: the first
+    // search and that of the characters alike fill the greatest room.
+    let signs = || vec![(0, many(vec![65, 0, 35]))];
+    let (short, long) = (rule(&signs(), &tokens("a-a")), rule(&signs(), &tokens("a-aPP")));
+    let kept = catalogue(&[short.clone(), long.clone()]);
     let mut work = vec![FILL; MOST_ROOM * SITUATION_BYTES];
     let mut list = [165; 7];
     let told = recheck_decided(&kept, &mut work, &mut list, HASHING);
@@ -169,8 +174,8 @@ fn a_count_of_three_bytes() {
     let pair = DecidedPair::of_bytes(list);
     assert_eq!(pair.bytes(), list);
     assert!((pair.answer, pair.search) == (18, 0) && pair.count > 65_535, "{pair:?}");
-    let mut present = catalogue(&[open("BXaaaaaL")]);
-    let told = add_decided(&mut present, &open("BXaaaaR"), &mut work, HASHING);
+    let mut present = catalogue(&[short]);
+    let told = add_decided(&mut present, &long, &mut work, HASHING);
     let expected = Added { number: 30, count: pair.count as usize, place: 0, rule: 0, pair: 18 };
     assert_eq!(told, AddedDecided { added: expected, search: 0 });
 }
@@ -222,7 +227,7 @@ fn all_answers_come_up() {
         }
     }
     let adds = [0, 11, 12, 13, 14, 15, 16, 17, 22, 31, 32, 34].map(|number| ("add", number, 0, 0));
-    let answers = [(0, 1), (0, 2), (0, 3), (18, 0), (19, 0)];
+    let answers = [(0, 1), (0, 4), (0, 5), (0, 6), (0, 7), (18, 0), (19, 0)];
     let pairs = answers.map(|(answer, search)| ("add", 30, answer, search));
     let listed = answers.map(|(answer, search)| ("pair", 0, answer, search));
     let rechecks =
@@ -240,7 +245,7 @@ fn all_answers_come_up() {
 fn each_pair_is_decided_as_a_sheet_of_its_own() {
     let mut calls = Calls::new(HASHING);
     let mut work = 65_520;
-    let (mut apart, mut refused, mut entered_by) = (0, 0, [0; 5]);
+    let (mut apart, mut refused, mut entered_by) = (0, 0, [0; 8]);
     for operation in decided_operations(&mut Dice::new(3), 2500) {
         if let Operation::Work(length) = operation {
             work = length;
@@ -292,8 +297,8 @@ fn each_pair_is_decided_as_a_sheet_of_its_own() {
         }
     }
     assert!(apart > 300 && refused > 100, "{apart} {refused}");
-    assert!(entered_by[0] == 0 && entered_by[3] == 0, "{entered_by:?}");
-    assert!([1, 2, 4].iter().all(|&search| entered_by[search] >= 10), "{entered_by:?}");
+    assert!([0, 4, 5, 7].iter().all(|&search| entered_by[search] == 0), "{entered_by:?}");
+    assert!([1, 2, 3].iter().all(|&search| entered_by[search] >= 10), "{entered_by:?}");
 }
 
 #[test]

@@ -1,14 +1,14 @@
-//! Up to four searches: sheets worked out by hand, and what is decided is right
-//! by the definitions.
+//! Up to seven attempts: the known decisions, sheets worked out by hand, and what
+//! is decided is right by the definitions.
 
 use std::collections::{BTreeMap, BTreeSet};
 
 use second::cases::{AfterDecided, Case};
-use second::decide::{each_apart, few, least_alike, HASHING, SCANNING};
+use second::decide::{few, least_alike, one_text, with_texts, HASHING, SCANNING};
 use second::edition::{Edition, FIRST, SECOND};
 use second::make::{case, decided, pairs, Dice};
-use second::pattern::{characters, CharacterSet, Pattern};
-use second::sheet::{read, Question, Reading, Token};
+use second::pattern::{characters, Allowed, CharacterSet, Pattern, Places};
+use second::sheet::{read, Question, Reading};
 use second::write::{choice, many, row, sheet, text, tokens};
 use second::{CODE_39, SITUATION_BYTES};
 
@@ -102,23 +102,61 @@ fn the_few() {
     assert_eq!(of(&sheet(&[(X, codes)], &tokens("A"), &tokens("a"))), "BCHKR ");
 }
 
+// ---------------------------------------------------------------- the texts
+
+/// The text that a field with this pattern is given.
+fn given(pattern: Vec<u8>, length: usize) -> Option<String> {
+    let pattern = Pattern::read(FIRST, &pattern).unwrap();
+    let text = one_text(&Allowed::Pattern(Box::new(Places::of(&pattern))), length)?;
+    Some(text.into_iter().map(|value| char::from(CODE_39[usize::from(value)])).collect())
+}
+
 #[test]
-fn each_standing_apart() {
-    let twice = sheet(&[(Y, digit())], &tokens("bAb"), &tokens("ab"));
-    let apart = each_apart(&question(&twice)).unwrap();
-    let bytes = |side: &[Token]| side.iter().map(|token| token.byte(FIRST)).collect::<Vec<u8>>();
-    assert_eq!(bytes(&apart.left), [64, 10, 65, 72]);
-    assert_eq!(bytes(&apart.right), [66, 67, 73]);
-    // 0, 1 and 3 are digits, 2 is open.
-    let takes_a = |field: usize| apart.allowed[field].leaves_taking(10) != 0;
-    assert_eq!([0, 1, 2, 3].map(takes_a), [false, false, true, false]);
-    // At most 8 standings, the hidden ones not counted.
-    let standings = |left: usize, right: usize| {
-        let side = |number| tokens(&"a".repeat(number));
-        each_apart(&question(&sheet(&[], &side(left), &side(right)))).is_some()
-    };
-    assert!(standings(8, 0) && standings(4, 4) && standings(0, 8) && standings(0, 0));
-    assert!(!standings(9, 0) && !standings(4, 5) && !standings(0, 9) && !standings(24, 24));
+fn the_text_of_a_field_that_stands_twice() {
+    let letters = |number| row(vec![letter(); number]);
+    let of = |lengths: &[usize]| choice(lengths.iter().map(|&length| letters(length)).collect());
+    // The least of its lengths from the one asked for on, or else the greatest.
+    for (lengths, shortest, from_three) in [
+        (&[0][..], 0, 0),
+        (&[2], 2, 2),
+        (&[3], 3, 3),
+        (&[2, 0, 1], 0, 2),
+        (&[5, 2], 2, 5),
+        (&[7, 5, 2], 2, 5),
+        (&[24], 24, 24),
+        (&[1, 24], 1, 24),
+        (&[1, 25], 1, 1),
+    ] {
+        assert_eq!(given(of(lengths), 0), Some("A".repeat(shortest)), "{lengths:?}");
+        assert_eq!(given(of(lengths), 3), Some("A".repeat(from_three)), "{lengths:?}");
+    }
+    // No text of at most 24 characters.
+    assert_eq!(given(letters(25), 0), None);
+    assert_eq!(given(letters(25), 3), None);
+    assert_eq!(given(row(vec![letters(23), many(letters(2))]), 24), Some("A".repeat(23)));
+    // The least of that length, character by character: 0 leads to nothing here.
+    assert_eq!(given(choice(vec![text("0"), text("CA"), text("BZ")]), 2), Some("BZ".to_string()));
+    assert_eq!(given(choice(vec![text("B5"), text("B07")]), 2), Some("B5".to_string()));
+    // A field without a pattern holds one character or more, the least one a 0.
+    let open = Allowed::Open(FIRST.all());
+    assert_eq!(one_text(&open, 0), Some(vec![0]));
+    assert_eq!(one_text(&open, 3), Some(vec![0; 3]));
+}
+
+#[test]
+fn fields_that_stand_once_hold_what_they_held() {
+    // x stands twice in the left side, y in both, z once; 25 letters have no text.
+    let patterns = [(X, digit()), (Y, letter()), (Z, digit())];
+    let asked = with_texts(&question(&sheet(&patterns, &tokens("aab"), &tokens("bcdd"))), 0);
+    let takes = |field: usize, character| asked.allowed[field].leaves_taking(character) != 0;
+    assert!(takes(0, 0) && !takes(0, 1));
+    assert!(takes(1, 10) && !takes(1, 11));
+    assert!(takes(2, 0) && takes(2, 9));
+    assert!(takes(3, 0) && !takes(3, 1));
+    // The hidden fields are none that stand twice.
+    assert!(takes(8, 38) && takes(9, 38));
+    let long = sheet(&[(X, row(vec![letter(); 25]))], &tokens("aa"), &tokens("b"));
+    assert!(with_texts(&question(&long), 0).allowed[0].leaves_taking(35) != 0);
 }
 
 // --------------------------------------------------------- worked out by hand
@@ -137,90 +175,103 @@ fn the_first_search() {
     assert_eq!(printed(b"LE\0RI\0X", 0, 0), "12 0 6 0\n");
 }
 
+/// Each row of "Known decisions" in docs/RULES.md, section 15.
+#[test]
+fn the_known_decisions() {
+    let rules = include_str!("../../docs/RULES.md");
+    let section = rules.split("\n## ").find(|section| section.starts_with("15. ")).unwrap();
+    let rows = section.lines().filter(|line| line.contains("| work "));
+    let mut decided = BTreeSet::new();
+    for row in rows {
+        let cells: Vec<&str> = row.split('|').map(str::trim).collect();
+        let quoted = |cell: &str| -> Vec<String> {
+            cell.split('`').skip(1).step_by(2).map(str::to_string).collect()
+        };
+        let number = |cell: &str| cell.rsplit(' ').next().unwrap().parse::<u32>().unwrap();
+        let byte = |digits: &str| u8::from_str_radix(digits, 16).unwrap();
+        let sheet = quoted(cells[2])[0].split(' ').map(byte).collect();
+        let (work, answer) = cells[3].split_once(", ").unwrap();
+        let case = Case { work: number(work), answer: number(answer), sheet };
+        let after = decide(&case);
+        assert_eq!(after.lines().lines().collect::<Vec<_>>(), quoted(cells[4]), "{row}");
+        decided.insert((after.decided.outcome.number, after.decided.search));
+    }
+    let all = [(0, 1), (0, 4), (0, 5), (0, 6), (0, 7), (1, 1), (1, 2), (1, 3), (1, 6), (20, 4)];
+    assert!(all.iter().all(|kind| decided.contains(kind)), "{decided:?}");
+    assert!(decided.contains(&(18, 0)) && decided.contains(&(19, 0)), "{decided:?}");
+}
+
 /// xx and y`B`, x and y a digit. With n digits of which none are alike: the
 /// start; for each digit c `xcx` and `yB`, both read; from each of these x struck
-/// and y struck, and nothing further. So 1 + 3n: 31, or 4 where all are alike.
+/// and y struck, and nothing further. So 1 + 3n: 31. No digit is a B.
 #[test]
-fn the_second_search_says_no_clash() {
+fn the_letters_say_no_clash() {
     let of = sheet(&[(X, digit()), (Y, digit())], &tokens("aa"), &tokens("bB"));
     assert_eq!(printed(&of, 31, 0), "1 31 0 1\n");
-    assert_eq!(printed(&of, 30, 0), "1 34 0 2\n");
-    assert_eq!(printed(&of, 4, 0), "1 8 0 2\n");
+    assert_eq!(printed(&of, 30, 0), "1 30 0 2\n");
+    assert_eq!(printed(&of, 0, 0), "1 0 0 2\n");
+    // 24 times x, and `AA`: 24 times as many as x has are never two.
+    let many_times = sheet(&[], &tokens(&"a".repeat(24)), &tokens("AA"));
+    assert_eq!(printed(&many_times, 3, 4096), "1 3 0 2\n");
+    // x`A` and `B`yx: a B more on the right.
+    let running_on = sheet(&[], &tokens("aA"), &tokens("Bba"));
+    assert_eq!(printed(&running_on, 356, 4096), "1 356 0 2\n");
+}
+
+/// xx`A` and y`B`, open: no label ends with both. Of each standing apart there are
+/// 2 + 2 + 1 + 2 + 1 = 8 standings on the left and 2 + 1 + 2 + 1 = 6 on the right:
+/// 48 bits.
+#[test]
+fn each_standing_apart_says_no_clash() {
+    let of = sheet(&[], &tokens("aaA"), &tokens("bB"));
+    assert_eq!(printed(&of, 1, 0), "1 1 0 3\n");
+    assert_eq!(printed(&of, 356, 4096), "1 356 0 3\n");
+    assert_eq!(printed(&of, 0, 4096), "18 0 0 0\n");
 }
 
 /// xx`12` and yz`12`, x, y and z a digit. With n digits of which none are alike:
 /// the start; n with the first digit c read; from each x struck and y struck;
 /// from both of these `c12` and z`12`; from all of these `12` and z`12`, then
 /// nothing but the two hidden fields, and from there either of them struck or a
-/// space read; then both struck. So 4n + 7: 47; 19 with 0, 1 and 2, since 1 and 2
-/// are fixed; 11 with the 0 alone.
+/// space read; then both struck. So 4n + 7: 47, and 11 where x is a 0 alone.
 fn digits_and_12() -> Vec<u8> {
     let patterns = [(X, digit()), (Y, digit()), (Z, digit())];
     sheet(&patterns, &tokens("aa12"), &tokens("bc12"))
 }
 
 #[test]
-fn the_second_search_says_clash() {
+fn the_shortest_texts_say_clash() {
     let texts = "0 0\n1 0\n2 0\n";
     assert_eq!(printed(&digits_and_12(), 47, 18), format!("0 47 0 1\n{texts}"));
-    assert_eq!(printed(&digits_and_12(), 46, 18), format!("0 65 0 2\n{texts}"));
-    assert_eq!(printed(&digits_and_12(), 19, 18), format!("0 38 0 2\n{texts}"));
-    assert_eq!(printed(&digits_and_12(), 19, 17), "20 38 0 2\n");
+    assert_eq!(printed(&digits_and_12(), 46, 18), format!("0 57 0 4\n{texts}"));
+    assert_eq!(printed(&digits_and_12(), 11, 18), format!("0 22 0 4\n{texts}"));
+    // The texts don't fit: no further attempt is made.
+    assert_eq!(printed(&digits_and_12(), 11, 17), "20 22 0 4\n");
+    assert_eq!(printed(&digits_and_12(), 11, 0), "20 22 0 4\n");
 }
 
+/// xx and `000000`, x a digit or three. The start; what is left after one digit,
+/// two and three; after three x is struck, and the two hidden fields are left, with
+/// a space and without; either of them struck, and both. So 9, and 10 where x may be
+/// struck after one digit too. With a `0` alone 3: the start, the digit read and x
+/// struck.
 #[test]
-fn the_third_search_says_clash() {
-    let texts = "0 0\n1 0\n2 0\n";
-    assert_eq!(printed(&digits_and_12(), 18, 18), format!("0 47 0 3\n{texts}"));
-    assert_eq!(printed(&digits_and_12(), 11, 18), format!("0 33 0 3\n{texts}"));
-    // The texts don't fit: the fourth search is not made.
-    assert_eq!(printed(&digits_and_12(), 11, 17), "20 33 0 3\n");
-    assert_eq!(printed(&digits_and_12(), 11, 0), "20 33 0 3\n");
-}
-
-/// xx`A` and y`B`, open: no label ends with both. Each standing apart, ab`A` and
-/// c`B`, has 24 situations, whatever the characters are:
-///
-/// ```text
-///  1  abAl = cBr  a{0} b{0} c{0}          13  abAl = r    a{1} b{0} r{1}
-///  2  abAl = cBr  a{1} b{0} c{1}          14    Al = r    r{0}
-///  3   bAl = cBr  b{0} c{1}               15   bAl =      b{1}
-///  4  abAl = Br   a{1} b{0}               16   bAl = r    b{1} r{1}
-///  5   bAl = Br   b{0}                    17     l = cBr  l{0} c{1}
-///  6   bAl = cBr  b{1} c{1}               18   bAl =      b{0}
-///  7  abAl = r    a{1} b{0} r{0}          19   bAl = r    b{0} r{1}
-///  8   bAl = r    b{1} r{0}               20    Al = r    r{1}
-///  9    Al = cBr  c{1}                    21       = cBr  c{1}
-/// 10   bAl = Br   b{1}                    22     l = Br   l{0}
-/// 11   bAl = r    b{0} r{0}               23     l = cBr  l{1} c{1}
-/// 12  abAl =      a{1} b{0}               24     l = Br   l{1}
-/// ```
-#[test]
-fn the_fourth_search_says_no_clash() {
-    let of = sheet(&[], &tokens("aaA"), &tokens("bB"));
-    assert_eq!(printed(&of, 24, 0), "1 96 0 4\n");
-    // One less is too little for any of the four.
-    assert_eq!(printed(&of, 23, 4096), "18 92 0 0\n");
-    // In 356 situations none of the first three ends.
-    assert_eq!(printed(&of, 356, 4096), "1 1092 0 4\n");
+fn longer_texts_say_clash() {
+    let one_or_three = choice(vec![digit(), row(vec![digit(); 3])]);
+    let of = sheet(&[(X, one_or_three)], &tokens("aa"), &tokens("000000"));
+    assert_eq!(printed(&of, 10, 8), "0 10 0 1\n0 000\n");
+    assert_eq!(printed(&of, 9, 8), "0 21 0 5\n0 000\n");
+    assert_eq!(printed(&of, 9, 7), "20 21 0 5\n");
 }
 
 #[test]
 fn not_decided() {
-    // A place for one situation, four times; and none.
-    assert_eq!(printed(&digits_and_12(), 1, 4096), "18 4 0 0\n");
+    // A place for one situation, five times; and none.
+    assert_eq!(printed(&digits_and_12(), 1, 4096), "18 5 0 0\n");
     assert_eq!(printed(&digits_and_12(), 0, 4096), "18 0 0 0\n");
-    // 24 times x, and `AA`, open: 19 with three situations, two times. With the 0
-    // and the space alone nothing can be put, and that says nothing. There are
-    // more than 8 standings.
-    let many_times = sheet(&[], &tokens(&"a".repeat(24)), &tokens("AA"));
-    assert_eq!(printed(&many_times, 3, 4096), "19 7 0 0\n");
-    assert_eq!(printed(&many_times, 2, 4096), "18 5 0 0\n");
-    // xA and Byx, open: apart there is a clash, which says nothing.
-    let running_on = sheet(&[], &tokens("aA"), &tokens("Bba"));
-    let after = decide(&with_room(&running_on, 356, 4096)).decided;
-    assert_eq!((after.outcome.number, after.search), (18, 0));
-    assert!(after.spent[3] > 0 && after.spent[3] < 356);
+    // In tests none is entered.
+    let after = decide(&with_room(&digits_and_12(), 1, 4096)).decided;
+    assert_eq!(after.spent, [1, 0, 0, 1, 1, 1, 1]);
 }
 
 /// "a working buffer which a search has used ends all zero after every answer;
@@ -232,13 +283,13 @@ fn the_buffers() {
     };
     assert_eq!(
         line(&digits_and_12(), 11 * 184 + 183, 19),
-        "0 33 0 18, written 56 41 00 01 00 00 56 41 01 01 00 00 56 41 02 01 00 00, rest unchanged, \
-         work all zero, search 3"
+        "0 22 0 18, written 56 41 00 01 00 00 56 41 01 01 00 00 56 41 02 01 00 00, rest unchanged, \
+         work all zero, search 4"
     );
     let no_clash = sheet(&[], &tokens("aaA"), &tokens("bB"));
     assert_eq!(
         line(&no_clash, 24 * 184, 2),
-        "1 96 0 0, written, rest unchanged, work all zero, search 4"
+        "1 24 0 0, written, rest unchanged, work all zero, search 3"
     );
     assert_eq!(
         line(&no_clash, 183, 2),
@@ -270,14 +321,16 @@ fn all_kinds_come_up_in(edition: Edition) {
         let decided = decide(&case).decided;
         *seen.entry((decided.outcome.number, decided.search)).or_insert(0) += 1;
     }
-    let kinds =
-        [(0, 1), (0, 2), (0, 3), (1, 1), (1, 2), (1, 4), (18, 0), (20, 1), (20, 2), (20, 3)];
-    for kind in kinds {
-        assert!(seen.get(&kind).is_some_and(|&times| times >= 15), "{kind:?}: {seen:?}");
+    let no_clash = [(1, 1), (1, 2), (1, 3), (18, 0)];
+    let clash = [1, 4, 5, 6, 7].map(|search| (0, search));
+    let do_not_fit = [1, 4, 5, 6, 7].map(|search| (20, search));
+    for kind in no_clash.iter().chain(&clash).chain(&do_not_fit) {
+        assert!(seen.get(kind).is_some_and(|&times| times >= 5), "{kind:?}: {seen:?}");
     }
-    assert!(seen.contains_key(&(19, 0)), "{seen:?}");
+    assert!(seen.contains_key(&(19, 0)) && seen.contains_key(&(1, 6)), "{seen:?}");
     assert!((11..=17).all(|number| seen.contains_key(&(number, 0))), "{seen:?}");
-    let never = [(0, 0), (0, 4), (1, 0), (1, 3), (20, 0), (20, 4)];
+    let never = [0, 2, 3].map(|search| [(0, search), (20, search)]).concat();
+    let never = [never, [0, 4, 5, 7].map(|search| (1, search)).to_vec()].concat();
     assert!(never.iter().all(|kind| !seen.contains_key(kind)), "{seen:?}");
 }
 
@@ -286,7 +339,7 @@ fn all_kinds_come_up_in(edition: Edition) {
 #[test]
 fn what_the_first_search_says_stands() {
     let made = |edition| {
-        let decided = of_edition(edition, 2, 600, decided::case);
+        let decided = of_edition(edition, 2, 300, decided::case);
         [decided, of_edition(edition, 3, 3000, case)].concat()
     };
     for case in [FIRST, SECOND].map(made).concat() {
@@ -382,14 +435,14 @@ fn solve(sheet: &[u8], texts: &Texts) -> bool {
     texts.iter().all(held) && left == right
 }
 
-/// Whatever search decides, its texts solve the question.
+/// Whatever attempt decides, its texts solve the question.
 #[test]
 fn the_texts_solve_the_question() {
     let mut seen = BTreeMap::new();
     let roomy = |case: Case| Case { answer: 4096, ..case };
     let all = [FIRST, SECOND].map(|edition| {
         let twice = of_edition(edition, 5, 1000, |dice| pairs::case(dice, true, 40));
-        [of_edition(edition, 4, 1000, decided::case), twice].concat()
+        [of_edition(edition, 4, 600, decided::case), twice].concat()
     });
     for case in all.concat().into_iter().map(roomy) {
         let after = case.decide(HASHING);
@@ -399,13 +452,14 @@ fn the_texts_solve_the_question() {
             *seen.entry(after.decided.search).or_insert(0) += 1;
         }
     }
-    assert!((1..=3).all(|search| seen.get(&search).is_some_and(|&times| times > 50)), "{seen:?}");
+    let finds = [1, 4, 5, 6, 7];
+    assert!(finds.iter().all(|search| seen.get(search).is_some_and(|&times| times > 30)), "{seen:?}");
 }
 
 /// Where the first search has room enough to answer, a later one in less room
 /// says the same.
 #[test]
-fn all_searches_agree() {
+fn all_attempts_agree() {
     let mut seen = BTreeMap::new();
     let all = [FIRST, SECOND].map(|edition| {
         let twice = of_edition(edition, 7, 800, |dice| pairs::case(dice, true, 30));
@@ -424,8 +478,8 @@ fn all_searches_agree() {
             *seen.entry((decided.search, says_clash)).or_insert(0) += 1;
         }
     }
-    for kind in [(2, true), (2, false), (3, true), (4, false)] {
-        assert!(seen.get(&kind).is_some_and(|&times| times > 20), "{kind:?}: {seen:?}");
+    for kind in [(2, false), (3, false), (4, true), (5, true), (6, true), (6, false), (7, true)] {
+        assert!(seen.get(&kind).is_some_and(|&times| times > 0), "{kind:?}: {seen:?}");
     }
 }
 
@@ -489,7 +543,7 @@ fn small_questions_are_decided_as_all_their_texts_say() {
         }
         *seen.entry((decided.search, clash)).or_insert(0) += 1;
     }
-    for kind in [(1, true), (1, false), (2, true), (2, false), (3, true), (4, false)] {
+    for kind in [(1, true), (1, false), (2, false), (3, false), (4, true)] {
         assert!(seen.contains_key(&kind), "{kind:?}: {seen:?}");
     }
 }

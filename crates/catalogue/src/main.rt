@@ -109,7 +109,7 @@
 //
 // Then come those of the second program's `calls --serial`: twenty rules with a serial number that stands twice. The first is added by deciding;
 // each of the others is refused by `AD`, with 18, and entered by `AE`. `RE` has no room for the 190 pairs that it would list, and `RD` lists none.
-// Of three more, none is entered: `AD` leaves one open, `AE` finds the clash by its second search, and without room it decides nothing.
+// Of three more, none is entered: `AD` leaves one open, `AE` finds the clash by its fourth attempt, and without room it decides nothing.
 //
 //     SH  every byte from here on
 //     CA  8,192 zero bytes

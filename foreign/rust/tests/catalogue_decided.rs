@@ -115,7 +115,7 @@ fn not_decided() {
     let too_long = Answer::SideTooLong { count: 9 };
     assert_eq!(not_apart(&[rule(&long)], &rule(&[A, A]), three), (0, too_long, 0));
     // xxy and `A` make no label that is the same, but x can take one space after the other.
-    let too_long = Answer::SideTooLong { count: 287 };
+    let too_long = Answer::SideTooLong { count: 269 };
     assert_eq!(not_apart(&[rule(&[X, X, X + 1])], &rule(&[A]), ROOM), (0, too_long, 0));
 }
 

@@ -238,7 +238,7 @@ fn serial_numbers() {
     let said = call(&["add", "--json", &path, &rules, "ends_in_0"]);
     assert_eq!(said.status, 1);
     let object = "{\"added\":false,\"left\":1,\"right\":\"ends_in_0\",\"answer\":\"clash\",\
-                  \"number\":0,\"search\":2,\"situations\":520,\"room\":356,\
+                  \"number\":0,\"search\":4,\"situations\":370,\"room\":356,\
                   \"label\":\"KP000000/000000\",\"left_fields\":{\"a\":\"000000\"},\
                   \"right_fields\":{\"n\":\"000000\"}";
     let places =

@@ -5,11 +5,11 @@
 //! - `second --many [--scan]`: a stream of cases, a line for each
 //! - `second --many --lines`: a stream of cases, what `clash` prints for each
 //! - `second --decide [--scan]`: a stream of cases, a line for each, with the
-//!   number of the search that decided at its end
+//!   number of the attempt that decided at its end
 //! - `second --decide --lines`: a stream of cases, what `decide` prints for each
-//! - `second --decide --table`: of a stream of cases, how many each search
+//! - `second --decide --table`: of a stream of cases, how many each attempt
 //!   decided and the situations spent
-//! - `second --decide --left`: of a stream of cases, those that no search
+//! - `second --decide --left`: of a stream of cases, those that no attempt
 //!   decided, as rules
 //! - `second --calls [--scan]`: a stream of operations, a line for each
 //! - `second --calls --lines`: a stream of operations, what `catalogue` prints
@@ -50,7 +50,7 @@ use std::process::ExitCode;
 use second::calls::{self, Calls, Operation};
 use second::cases::{edition_of, Answerer, Case};
 use second::catalogue::{Searcher, HASHING, SCANNING};
-use second::decide::{self, SEARCHES};
+use second::decide::{self, ATTEMPTS};
 use second::fault::Fault;
 use second::smt::{self, compare, output, Told};
 use second::{drop_strays, fronts, full_ascii, sheet, shown, spell_open, steps, writer};
@@ -189,7 +189,8 @@ fn each<C>(read: Reading<C>, mut shown: impl FnMut(&C) -> String) -> io::Result<
     out.flush()
 }
 
-/// A case that no search decided: its number and its rules.
+/// A case that no attempt decided: its number, the situations of each attempt and
+/// its rules.
 fn left(case: &Case) -> String {
     let decided = case.decide(decide::HASHING).decided;
     if decided.search > 0 || !matches!(decided.outcome.number, NO_ROOM | SIDE_TOO_LONG) {
@@ -198,21 +199,21 @@ fn left(case: &Case) -> String {
     format!("{} {:?} {}\n", decided.outcome.number, decided.spent, shown::sheet(&case.sheet))
 }
 
-/// How many sheets each search decided, with clash and with no clash, and the
+/// How many sheets each attempt decided, with clash and with no clash, and the
 /// situations spent.
 fn table() -> io::Result<()> {
-    // By the search that decided; none where the sheet is refused.
-    let mut decided = [0usize; SEARCHES + 1];
-    let mut clashes = [0usize; SEARCHES + 1];
-    let (mut refused, mut spent) = (0usize, [0usize; SEARCHES]);
+    // By the attempt that decided; none where the sheet is refused.
+    let mut decided = [0usize; ATTEMPTS.len() + 1];
+    let mut clashes = [0usize; ATTEMPTS.len() + 1];
+    let (mut refused, mut spent) = (0usize, [0usize; ATTEMPTS.len()]);
     many(|case| {
         let of = case.decide(decide::HASHING).decided;
-        let search = usize::from(of.search);
+        let attempt = usize::from(of.search);
         match of.outcome.number {
-            NO_CLASH | NO_ROOM | SIDE_TOO_LONG => decided[search] += 1,
+            NO_CLASH | NO_ROOM | SIDE_TOO_LONG => decided[attempt] += 1,
             CLASH | ANSWER_BUFFER_TOO_SHORT => {
-                decided[search] += 1;
-                clashes[search] += 1;
+                decided[attempt] += 1;
+                clashes[attempt] += 1;
             }
             _ => refused += 1,
         }
@@ -222,10 +223,10 @@ fn table() -> io::Result<()> {
         String::new()
     })?;
     let mut out = io::stdout().lock();
-    writeln!(out, "search decided clash no-clash situations")?;
-    for search in 1..=SEARCHES {
-        let (all, clash) = (decided[search], clashes[search]);
-        writeln!(out, "{search} {all} {clash} {} {}", all - clash, spent[search - 1])?;
+    writeln!(out, "attempt decided clash no-clash situations")?;
+    for attempt in 1..=ATTEMPTS.len() {
+        let (all, clash) = (decided[attempt], clashes[attempt]);
+        writeln!(out, "{attempt} {all} {clash} {} {}", all - clash, spent[attempt - 1])?;
     }
     let sheets: usize = decided.iter().sum();
     let all: usize = spent.iter().sum();

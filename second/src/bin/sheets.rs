@@ -32,6 +32,8 @@
 //!   as storerooms write them, or of those with a field that stands twice; with
 //!   room for so many situations, or for 356
 //! - `sheets --decide SEED NUMBER`: so many cases to decide, made from the seed
+//! - `sheets --equations ROOM`: the word equations that the source documents print,
+//!   with room for so many situations
 //! - `sheets --editions`: every damage of a record `ED`, and each code on both sides
 //!   of each limit in both editions
 //! - `sheets --editions --few`: those of them with a byte next to a limit
@@ -61,6 +63,7 @@ use std::process::ExitCode;
 
 use second::cases::Case;
 use second::edition::{Edition, FIRST, SECOND};
+use second::equations::PRINTED;
 use second::make::editions::Tried;
 use second::make::{
     ascii, case, decided, editions, fronts, kept, long, pairs, plainly, spelt, strays, ways,
@@ -73,14 +76,14 @@ fn main() -> ExitCode {
     let arguments: Vec<&str> = arguments.iter().map(String::as_str).collect();
     let (edition, arguments) = match &arguments[..] {
         // What is the same in both editions, or of the first one alone.
-        ["--edition", "2", "--long" | "--growing" | "--ascii" | "--editions", ..]
+        ["--edition", "2", "--long" | "--growing" | "--ascii" | "--editions" | "--equations", ..]
         | ["--edition", "2", "--pairs" | "--fronts"] => return usage(),
         ["--edition", "2", rest @ ..] => (SECOND, rest),
         all => (FIRST, all),
     };
     let (keeps, arguments) = match arguments {
         // What has no stray patterns, or has them on purpose.
-        ["--kept", "--long" | "--growing" | "--ascii" | "--editions", ..]
+        ["--kept", "--long" | "--growing" | "--ascii" | "--editions" | "--equations", ..]
         | ["--kept", "--pairs" | "--plain-pairs" | "--fronts" | "--strays" | "--drop", ..] => {
             return usage()
         }
@@ -179,6 +182,10 @@ fn main() -> ExitCode {
             Some(cases) => cases,
             None => return usage(),
         },
+        ["--equations", room] => match room.parse().ok().filter(|&room| room <= MOST_ROOM) {
+            Some(room) => PRINTED.iter().map(|equation| equation.case(room)).collect(),
+            None => return usage(),
+        },
         [seed, number] => match made(edition, seed, number, case) {
             Some(cases) => cases,
             None => return usage(),
@@ -270,7 +277,8 @@ fn usage() -> ExitCode {
         "usage: sheets [--spelt | --write | --plain | --plain-pairs] SEED NUMBER | sheets --growing [N]"
     );
     eprintln!("       sheets --steps SEED NUMBER | sheets --play SEED NUMBER | sheets --play-each");
-    eprintln!("       sheets --long ROOM [N] | sheets --printed [N] | sheets --decide SEED NUMBER");
+    eprintln!("       sheets --long ROOM [N] | sheets --printed [N] | sheets --equations ROOM");
+    eprintln!("       sheets --decide SEED NUMBER");
     eprintln!("       sheets --pairs [SEED NUMBER [--twice] [--room ROOM]]");
     eprintln!("       sheets --ascii [SEED NUMBER] | sheets --editions [--few | --write]");
     eprintln!("       sheets --fronts [SEED NUMBER]");
