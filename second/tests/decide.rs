@@ -317,7 +317,9 @@ fn all_kinds_come_up() {
 
 fn all_kinds_come_up_in(edition: Edition) {
     let mut seen = BTreeMap::new();
-    for case in of_edition(edition, 1, 1200, decided::case) {
+    // Each fault comes up among cases of all kinds.
+    let faulty = of_edition(edition, 1, 1200, case);
+    for case in of_edition(edition, 1, 1000, decided::case).into_iter().chain(faulty) {
         let decided = decide(&case).decided;
         *seen.entry((decided.outcome.number, decided.search)).or_insert(0) += 1;
     }

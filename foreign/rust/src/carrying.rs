@@ -130,11 +130,11 @@ pub fn spell_open(sheet: &[u8], out: &mut [u8]) -> SpeltOpen {
     let number = unsafe {
         bradovusc_spell_open(
             sheet.as_ptr(),
-            sheet.len(),
+            sheet.len() as u64,
             out.as_mut_ptr(),
-            out.len(),
+            out.len() as u64,
             told.as_mut_ptr(),
-            told.len(),
+            told.len() as u64,
         )
     };
     // These are lengths and offsets of slices.
@@ -154,11 +154,11 @@ pub fn spell_open_rule(rule: &[u8], out: &mut [u8]) -> SpeltOpen {
     let number = unsafe {
         bradovusc_spell_open_rule(
             rule.as_ptr(),
-            rule.len(),
+            rule.len() as u64,
             out.as_mut_ptr(),
-            out.len(),
+            out.len() as u64,
             told.as_mut_ptr(),
-            told.len(),
+            told.len() as u64,
         )
     };
     // These are lengths and offsets of slices.
@@ -183,7 +183,8 @@ pub fn spell_open_rule(rule: &[u8], out: &mut [u8]) -> SpeltOpen {
 /// always enough. Only [`CarriedOver::Done`] changes the catalogue.
 pub fn spell_open_catalogue(catalogue: &mut [u8]) -> CarriedOver {
     // SAFETY: pointer and length are those of one slice. The function keeps no pointer.
-    match unsafe { bradovusc_spell_open_catalogue(catalogue.as_mut_ptr(), catalogue.len()) } {
+    match unsafe { bradovusc_spell_open_catalogue(catalogue.as_mut_ptr(), catalogue.len() as u64) }
+    {
         0 => CarriedOver::Done,
         32 => CarriedOver::Full,
         34 => CarriedOver::NoCatalogue,
@@ -194,21 +195,21 @@ pub fn spell_open_catalogue(catalogue: &mut [u8]) -> CarriedOver {
 extern "C" {
     fn bradovusc_spell_open(
         sheet: *const u8,
-        sheet_length: usize,
+        sheet_length: u64,
         out: *mut u8,
-        out_length: usize,
+        out_length: u64,
         told: *mut u64,
-        told_length: usize,
+        told_length: u64,
     ) -> u32;
 
     fn bradovusc_spell_open_rule(
         rule: *const u8,
-        rule_length: usize,
+        rule_length: u64,
         out: *mut u8,
-        out_length: usize,
+        out_length: u64,
         told: *mut u64,
-        told_length: usize,
+        told_length: u64,
     ) -> u32;
 
-    fn bradovusc_spell_open_catalogue(catalogue: *mut u8, catalogue_length: usize) -> u32;
+    fn bradovusc_spell_open_catalogue(catalogue: *mut u8, catalogue_length: u64) -> u32;
 }

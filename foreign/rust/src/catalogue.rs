@@ -188,10 +188,12 @@ impl Iterator for Pairs<'_> {
     type Item = Pair;
 
     fn next(&mut self) -> Option<Pair> {
-        let &[lower, higher, answer, low, high] = self.rest.next()? else {
-            unreachable!("a pair has five bytes");
+        let (lower, higher, answer, count) = match *self.rest.next()? {
+            [lower, higher, answer, low, high] => {
+                (lower, higher, answer, usize::from(u16::from_le_bytes([low, high])))
+            }
+            _ => unreachable!("a pair has five bytes"),
         };
-        let count = usize::from(u16::from_le_bytes([low, high]));
         let answer = Answer::numbered(u32::from(answer), count, 0, 0);
         Some(Pair { lower: usize::from(lower), higher: usize::from(higher), answer })
     }
@@ -229,13 +231,13 @@ pub fn add(catalogue: &mut [u8], rule: &[u8], work: &mut [u8]) -> Added {
     let number = unsafe {
         bradovusc_add(
             catalogue.as_mut_ptr(),
-            catalogue.len(),
+            catalogue.len() as u64,
             rule.as_ptr(),
-            rule.len(),
+            rule.len() as u64,
             work.as_mut_ptr(),
-            work.len(),
+            work.len() as u64,
             told.as_mut_ptr(),
-            told.len(),
+            told.len() as u64,
         )
     };
     // These are an offset in a slice, the number of situations that one holds, and small numbers.
@@ -248,7 +250,9 @@ pub fn add(catalogue: &mut [u8], rule: &[u8], work: &mut [u8]) -> Added {
 /// behind it then has the number before its own. Only [`Withdrawn::Gone`] changes the catalogue.
 pub fn withdraw(catalogue: &mut [u8], number: usize) -> Withdrawn {
     // SAFETY: pointer and length are those of one slice. The function keeps no pointer.
-    match unsafe { bradovusc_withdraw(catalogue.as_mut_ptr(), catalogue.len(), number) } {
+    match unsafe {
+        bradovusc_withdraw(catalogue.as_mut_ptr(), catalogue.len() as u64, number as u64)
+    } {
         0 => Withdrawn::Gone,
         33 => Withdrawn::NoRule,
         34 => Withdrawn::NoCatalogue,
@@ -270,13 +274,13 @@ pub fn recheck<'a>(catalogue: &[u8], work: &mut [u8], list: &'a mut [u8]) -> Rec
     let number = unsafe {
         bradovusc_recheck(
             catalogue.as_ptr(),
-            catalogue.len(),
+            catalogue.len() as u64,
             work.as_mut_ptr(),
-            work.len(),
+            work.len() as u64,
             list.as_mut_ptr(),
-            list.len(),
+            list.len() as u64,
             told.as_mut_ptr(),
-            told.len(),
+            told.len() as u64,
         )
     };
     match number {
@@ -294,25 +298,25 @@ pub fn recheck<'a>(catalogue: &[u8], work: &mut [u8], list: &'a mut [u8]) -> Rec
 extern "C" {
     fn bradovusc_add(
         catalogue: *mut u8,
-        catalogue_length: usize,
+        catalogue_length: u64,
         rule: *const u8,
-        rule_length: usize,
+        rule_length: u64,
         work: *mut u8,
-        work_length: usize,
+        work_length: u64,
         told: *mut u64,
-        told_length: usize,
+        told_length: u64,
     ) -> u32;
 
-    fn bradovusc_withdraw(catalogue: *mut u8, catalogue_length: usize, number: usize) -> u32;
+    fn bradovusc_withdraw(catalogue: *mut u8, catalogue_length: u64, number: u64) -> u32;
 
     fn bradovusc_recheck(
         catalogue: *const u8,
-        catalogue_length: usize,
+        catalogue_length: u64,
         work: *mut u8,
-        work_length: usize,
+        work_length: u64,
         list: *mut u8,
-        list_length: usize,
+        list_length: u64,
         told: *mut u64,
-        told_length: usize,
+        told_length: u64,
     ) -> u32;
 }

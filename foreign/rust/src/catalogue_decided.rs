@@ -108,10 +108,12 @@ impl Iterator for DecidedPairs<'_> {
     type Item = DecidedPair;
 
     fn next(&mut self) -> Option<DecidedPair> {
-        let &[lower, higher, answer, low, middle, high, search] = self.rest.next()? else {
-            unreachable!("a decided pair has seven bytes");
+        let (lower, higher, answer, count, search) = match *self.rest.next()? {
+            [lower, higher, answer, low, middle, high, search] => {
+                (lower, higher, answer, u32::from_le_bytes([low, middle, high, 0]) as usize, search)
+            }
+            _ => unreachable!("a decided pair has seven bytes"),
         };
-        let count = u32::from_le_bytes([low, middle, high, 0]) as usize;
         let answer = Answer::numbered(u32::from(answer), count, 0, 0);
         let (lower, higher) = (usize::from(lower), usize::from(higher));
         Some(DecidedPair { lower, higher, answer, search })
@@ -140,13 +142,13 @@ pub fn add_decided(catalogue: &mut [u8], rule: &[u8], work: &mut [u8]) -> AddedD
     let number = unsafe {
         bradovusc_add_decided(
             catalogue.as_mut_ptr(),
-            catalogue.len(),
+            catalogue.len() as u64,
             rule.as_ptr(),
-            rule.len(),
+            rule.len() as u64,
             work.as_mut_ptr(),
-            work.len(),
+            work.len() as u64,
             told.as_mut_ptr(),
-            told.len(),
+            told.len() as u64,
         )
     };
     // These are an offset in a slice, the number of situations that the searches entered, and small
@@ -175,13 +177,13 @@ pub fn recheck_decided<'a>(
     let number = unsafe {
         bradovusc_recheck_decided(
             catalogue.as_ptr(),
-            catalogue.len(),
+            catalogue.len() as u64,
             work.as_mut_ptr(),
-            work.len(),
+            work.len() as u64,
             list.as_mut_ptr(),
-            list.len(),
+            list.len() as u64,
             told.as_mut_ptr(),
-            told.len(),
+            told.len() as u64,
         )
     };
     match number {
@@ -201,23 +203,23 @@ pub fn recheck_decided<'a>(
 extern "C" {
     fn bradovusc_add_decided(
         catalogue: *mut u8,
-        catalogue_length: usize,
+        catalogue_length: u64,
         rule: *const u8,
-        rule_length: usize,
+        rule_length: u64,
         work: *mut u8,
-        work_length: usize,
+        work_length: u64,
         told: *mut u64,
-        told_length: usize,
+        told_length: u64,
     ) -> u32;
 
     fn bradovusc_recheck_decided(
         catalogue: *const u8,
-        catalogue_length: usize,
+        catalogue_length: u64,
         work: *mut u8,
-        work_length: usize,
+        work_length: u64,
         list: *mut u8,
-        list_length: usize,
+        list_length: u64,
         told: *mut u64,
-        told_length: usize,
+        told_length: u64,
     ) -> u32;
 }

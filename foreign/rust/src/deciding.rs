@@ -56,13 +56,13 @@ pub fn decide(sheet: &[u8], work: &mut [u8], answer: &mut [u8]) -> Decision {
     let number = unsafe {
         bradovusc_decide(
             sheet.as_ptr(),
-            sheet.len(),
+            sheet.len() as u64,
             work.as_mut_ptr(),
-            work.len(),
+            work.len() as u64,
             answer.as_mut_ptr(),
-            answer.len(),
+            answer.len() as u64,
             told.as_mut_ptr(),
-            told.len(),
+            told.len() as u64,
         )
     };
     // These are lengths and offsets of slices, the number of situations that the searches entered,
@@ -74,12 +74,12 @@ pub fn decide(sheet: &[u8], work: &mut [u8], answer: &mut [u8]) -> Decision {
 extern "C" {
     fn bradovusc_decide(
         sheet: *const u8,
-        sheet_length: usize,
+        sheet_length: u64,
         work: *mut u8,
-        work_length: usize,
+        work_length: u64,
         answer: *mut u8,
-        answer_length: usize,
+        answer_length: u64,
         told: *mut u64,
-        told_length: usize,
+        told_length: u64,
     ) -> u32;
 }

@@ -80,6 +80,20 @@
 //! assert_eq!(plain(twice, &mut [0; PLAIN_BYTES]).clashes(), None);
 //! ```
 //!
+//! Most pairs of rules differ in what is fixed at their fronts or ends. [`fronts_differ`] tells that
+//! from the tokens of two sides alone, before any sheet is written.
+//!
+//! ```
+//! use bradovusc::{fronts_differ, Edition};
+//!
+//! // L, T and field 0; L, U and field 0; field 1 and 4; field 1 and 5.
+//! let (lt, lu) = ([21, 29, 64], [21, 30, 64]);
+//! assert!(fronts_differ(Edition::Code39, &lt, &lu));
+//! assert!(fronts_differ(Edition::Code39, &[65, 4], &[65, 5]));
+//! // Nothing is said: field 1 may begin with L and T, and field 0 may end with 4.
+//! assert!(!fronts_differ(Edition::Code39, &lt, &[65, 4]));
+//! ```
+//!
 //! Of a sheet at fault the place is told, the byte itself.
 //!
 //! ```
@@ -272,6 +286,7 @@ mod catalogue;
 mod catalogue_decided;
 mod deciding;
 mod editions;
+mod fronts;
 mod plain;
 mod scripts;
 mod spelling;
@@ -292,6 +307,7 @@ pub use catalogue_decided::{
 };
 pub use deciding::{decide, Decision};
 pub use editions::{Edition, MOST_CHARACTERS};
+pub use fronts::fronts_differ;
 pub use plain::{plain, plain_bytes, Plain, PlainBytes, PLAIN_BYTES};
 pub use scripts::{script, Scripted, SCRIPT_BYTES};
 pub use spelling::{read_spelt, spell, spelt_bytes, Spelt};
@@ -538,13 +554,13 @@ pub fn clash(sheet: &[u8], work: &mut [u8], answer: &mut [u8]) -> Answer {
     let number = unsafe {
         bradovusc_clash(
             sheet.as_ptr(),
-            sheet.len(),
+            sheet.len() as u64,
             work.as_mut_ptr(),
-            work.len(),
+            work.len() as u64,
             answer.as_mut_ptr(),
-            answer.len(),
+            answer.len() as u64,
             told.as_mut_ptr(),
-            told.len(),
+            told.len() as u64,
         )
     };
     // These are lengths and offsets of slices, and the number of situations that one holds.
@@ -552,16 +568,17 @@ pub fn clash(sheet: &[u8], work: &mut [u8], answer: &mut [u8]) -> Answer {
     Answer::numbered(number, count, place, written)
 }
 
+// In the library a length has 64 bits whatever the processor, so no block of these says `usize`.
 extern "C" {
     fn bradovusc_clash(
         sheet: *const u8,
-        sheet_length: usize,
+        sheet_length: u64,
         work: *mut u8,
-        work_length: usize,
+        work_length: u64,
         answer: *mut u8,
-        answer_length: usize,
+        answer_length: u64,
         told: *mut u64,
-        told_length: usize,
+        told_length: u64,
     ) -> u32;
 }
 
@@ -597,10 +614,11 @@ impl<'a> Iterator for Texts<'a> {
     type Item = Text<'a>;
 
     fn next(&mut self) -> Option<Text<'a>> {
-        let &[b'V', b'A', field, low, high] = self.rest.get(..RECORD_HEAD)? else {
-            return None;
+        let (field, length) = match *self.rest.get(..RECORD_HEAD)? {
+            [b'V', b'A', field, low, high] => (field, u16::from_le_bytes([low, high])),
+            _ => return None,
         };
-        let end = RECORD_HEAD + usize::from(u16::from_le_bytes([low, high]));
+        let end = RECORD_HEAD + usize::from(length);
         let values = self.rest.get(RECORD_HEAD..end)?;
         self.rest = &self.rest[end..];
         Some(Text { field, values })

@@ -141,11 +141,11 @@ pub fn plain(sheet: &[u8], bits: &mut [u8]) -> Plain {
     let number = unsafe {
         bradovusc_plain(
             sheet.as_ptr(),
-            sheet.len(),
+            sheet.len() as u64,
             bits.as_mut_ptr(),
-            bits.len(),
+            bits.len() as u64,
             told.as_mut_ptr(),
-            told.len(),
+            told.len() as u64,
         )
     };
     // The place is an offset of the sheet.
@@ -166,7 +166,12 @@ pub fn plain_bytes(sheet: &[u8]) -> PlainBytes {
     // SAFETY: each pointer and length are those of one slice. The two slices do not overlap, since
     // one is borrowed mutably. The function keeps no pointer.
     let number = unsafe {
-        bradovusc_plain_bytes(sheet.as_ptr(), sheet.len(), told.as_mut_ptr(), told.len())
+        bradovusc_plain_bytes(
+            sheet.as_ptr(),
+            sheet.len() as u64,
+            told.as_mut_ptr(),
+            told.len() as u64,
+        )
     };
     // These are an offset of the sheet and the length of a buffer, at most `PLAIN_BYTES`.
     let [_, place, bytes] = told.map(|number| number as usize);
@@ -180,17 +185,17 @@ pub fn plain_bytes(sheet: &[u8]) -> PlainBytes {
 extern "C" {
     fn bradovusc_plain(
         sheet: *const u8,
-        sheet_length: usize,
+        sheet_length: u64,
         bits: *mut u8,
-        bits_length: usize,
+        bits_length: u64,
         told: *mut u64,
-        told_length: usize,
+        told_length: u64,
     ) -> u32;
 
     fn bradovusc_plain_bytes(
         sheet: *const u8,
-        sheet_length: usize,
+        sheet_length: u64,
         told: *mut u64,
-        told_length: usize,
+        told_length: u64,
     ) -> u32;
 }

@@ -76,11 +76,11 @@ pub fn script(sheet: &[u8], script: &mut [u8]) -> Scripted {
     let number = unsafe {
         bradovusc_script(
             sheet.as_ptr(),
-            sheet.len(),
+            sheet.len() as u64,
             script.as_mut_ptr(),
-            script.len(),
+            script.len() as u64,
             told.as_mut_ptr(),
-            told.len(),
+            told.len() as u64,
         )
     };
     // These are lengths and offsets of slices.
@@ -95,10 +95,10 @@ pub fn script(sheet: &[u8], script: &mut [u8]) -> Scripted {
 extern "C" {
     fn bradovusc_script(
         sheet: *const u8,
-        sheet_length: usize,
+        sheet_length: u64,
         script: *mut u8,
-        script_length: usize,
+        script_length: u64,
         told: *mut u64,
-        told_length: usize,
+        told_length: u64,
     ) -> u32;
 }

@@ -80,7 +80,7 @@ pub fn read_spelt(spelt: &[u8], out: &mut [u8]) -> Spelt {
     called(bradovusc_read_spelt, spelt, out)
 }
 
-type Speller = unsafe extern "C" fn(*const u8, usize, *mut u8, usize, *mut u64, usize) -> u32;
+type Speller = unsafe extern "C" fn(*const u8, u64, *mut u8, u64, *mut u64, u64) -> u32;
 
 fn called(speller: Speller, given: &[u8], out: &mut [u8]) -> Spelt {
     let mut told = [0; 3];
@@ -89,11 +89,11 @@ fn called(speller: Speller, given: &[u8], out: &mut [u8]) -> Spelt {
     let number = unsafe {
         speller(
             given.as_ptr(),
-            given.len(),
+            given.len() as u64,
             out.as_mut_ptr(),
-            out.len(),
+            out.len() as u64,
             told.as_mut_ptr(),
-            told.len(),
+            told.len() as u64,
         )
     };
     Spelt::told(number, told)
@@ -102,18 +102,18 @@ fn called(speller: Speller, given: &[u8], out: &mut [u8]) -> Spelt {
 extern "C" {
     fn bradovusc_spell(
         text: *const u8,
-        text_length: usize,
+        text_length: u64,
         out: *mut u8,
-        out_length: usize,
+        out_length: u64,
         told: *mut u64,
-        told_length: usize,
+        told_length: u64,
     ) -> u32;
     fn bradovusc_read_spelt(
         spelt: *const u8,
-        spelt_length: usize,
+        spelt_length: u64,
         out: *mut u8,
-        out_length: usize,
+        out_length: u64,
         told: *mut u64,
-        told_length: usize,
+        told_length: u64,
     ) -> u32;
 }

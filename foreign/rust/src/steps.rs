@@ -237,15 +237,15 @@ pub fn steps(sheet: &[u8], work: &mut [u8], answer: &mut [u8], steps: &mut [u8])
     let number = unsafe {
         bradovusc_steps(
             sheet.as_ptr(),
-            sheet.len(),
+            sheet.len() as u64,
             work.as_mut_ptr(),
-            work.len(),
+            work.len() as u64,
             answer.as_mut_ptr(),
-            answer.len(),
+            answer.len() as u64,
             steps.as_mut_ptr(),
-            steps.len(),
+            steps.len() as u64,
             told.as_mut_ptr(),
-            told.len(),
+            told.len() as u64,
         )
     };
     // These are at most 65,535, an offset of the sheet, and lengths within the buffers.
@@ -276,13 +276,13 @@ pub fn play(sheet: &[u8], steps: &[u8], answer: &mut [u8]) -> Played {
     let number = unsafe {
         bradovusc_play(
             sheet.as_ptr(),
-            sheet.len(),
+            sheet.len() as u64,
             steps.as_ptr(),
-            steps.len(),
+            steps.len() as u64,
             answer.as_mut_ptr(),
-            answer.len(),
+            answer.len() as u64,
             told.as_mut_ptr(),
-            told.len(),
+            told.len() as u64,
         )
     };
     // These are an offset of the sheet and a length within the answer buffer.
@@ -302,25 +302,25 @@ pub fn play(sheet: &[u8], steps: &[u8], answer: &mut [u8]) -> Played {
 extern "C" {
     fn bradovusc_steps(
         sheet: *const u8,
-        sheet_length: usize,
+        sheet_length: u64,
         work: *mut u8,
-        work_length: usize,
+        work_length: u64,
         answer: *mut u8,
-        answer_length: usize,
+        answer_length: u64,
         steps: *mut u8,
-        steps_length: usize,
+        steps_length: u64,
         told: *mut u64,
-        told_length: usize,
+        told_length: u64,
     ) -> u32;
 
     fn bradovusc_play(
         sheet: *const u8,
-        sheet_length: usize,
+        sheet_length: u64,
         steps: *const u8,
-        steps_length: usize,
+        steps_length: u64,
         answer: *mut u8,
-        answer_length: usize,
+        answer_length: u64,
         told: *mut u64,
-        told_length: usize,
+        told_length: u64,
     ) -> u32;
 }

@@ -123,11 +123,11 @@ pub fn drop_strays(sheet: &[u8], out: &mut [u8]) -> Mended {
     let number = unsafe {
         bradovusc_drop_strays(
             sheet.as_ptr(),
-            sheet.len(),
+            sheet.len() as u64,
             out.as_mut_ptr(),
-            out.len(),
+            out.len() as u64,
             told.as_mut_ptr(),
-            told.len(),
+            told.len() as u64,
         )
     };
     // These are lengths and offsets of slices.
@@ -147,11 +147,11 @@ pub fn drop_strays_rule(rule: &[u8], out: &mut [u8]) -> Mended {
     let number = unsafe {
         bradovusc_drop_strays_rule(
             rule.as_ptr(),
-            rule.len(),
+            rule.len() as u64,
             out.as_mut_ptr(),
-            out.len(),
+            out.len() as u64,
             told.as_mut_ptr(),
-            told.len(),
+            told.len() as u64,
         )
     };
     // These are lengths and offsets of slices.
@@ -170,7 +170,8 @@ pub fn drop_strays_rule(rule: &[u8], out: &mut [u8]) -> Mended {
 /// Only [`MendedCatalogue::Done`] changes the catalogue.
 pub fn drop_strays_catalogue(catalogue: &mut [u8]) -> MendedCatalogue {
     // SAFETY: pointer and length are those of one slice. The function keeps no pointer.
-    match unsafe { bradovusc_drop_strays_catalogue(catalogue.as_mut_ptr(), catalogue.len()) } {
+    match unsafe { bradovusc_drop_strays_catalogue(catalogue.as_mut_ptr(), catalogue.len() as u64) }
+    {
         0 => MendedCatalogue::Done,
         34 => MendedCatalogue::NoCatalogue,
         _ => unreachable!("the library promises its numbers"),
@@ -180,21 +181,21 @@ pub fn drop_strays_catalogue(catalogue: &mut [u8]) -> MendedCatalogue {
 extern "C" {
     fn bradovusc_drop_strays(
         sheet: *const u8,
-        sheet_length: usize,
+        sheet_length: u64,
         out: *mut u8,
-        out_length: usize,
+        out_length: u64,
         told: *mut u64,
-        told_length: usize,
+        told_length: u64,
     ) -> u32;
 
     fn bradovusc_drop_strays_rule(
         rule: *const u8,
-        rule_length: usize,
+        rule_length: u64,
         out: *mut u8,
-        out_length: usize,
+        out_length: u64,
         told: *mut u64,
-        told_length: usize,
+        told_length: u64,
     ) -> u32;
 
-    fn bradovusc_drop_strays_catalogue(catalogue: *mut u8, catalogue_length: usize) -> u32;
+    fn bradovusc_drop_strays_catalogue(catalogue: *mut u8, catalogue_length: u64) -> u32;
 }

@@ -90,19 +90,19 @@ pub fn write_edition(
     // overlap no other, since they are borrowed mutably. The function keeps no pointer.
     let number = unsafe {
         bradovusc_write_edition(
-            edition.number(),
+            edition.number() as u64,
             patterns.as_ptr(),
-            patterns.len(),
+            patterns.len() as u64,
             lengths.as_ptr(),
-            lengths.len(),
+            lengths.len() as u64,
             left.as_ptr(),
-            left.len(),
+            left.len() as u64,
             right.as_ptr(),
-            right.len(),
+            right.len() as u64,
             out.as_mut_ptr(),
-            out.len(),
+            out.len() as u64,
             told.as_mut_ptr(),
-            told.len(),
+            told.len() as u64,
         )
     };
     // These are lengths and offsets of a sheet.
@@ -128,18 +128,18 @@ pub fn write(
 
 extern "C" {
     fn bradovusc_write_edition(
-        edition: usize,
+        edition: u64,
         patterns: *const u8,
-        patterns_length: usize,
+        patterns_length: u64,
         lengths: *const u64,
-        lengths_length: usize,
+        lengths_length: u64,
         left: *const u8,
-        left_length: usize,
+        left_length: u64,
         right: *const u8,
-        right_length: usize,
+        right_length: u64,
         out: *mut u8,
-        out_length: usize,
+        out_length: u64,
         told: *mut u64,
-        told_length: usize,
+        told_length: u64,
     ) -> u32;
 }

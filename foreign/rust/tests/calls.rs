@@ -196,9 +196,12 @@ fn decided_calls() {
         }
     }
     let alone = [0, 11, 12, 13, 14, 15, 16, 17, 22, 31, 32, 34].map(|number| ("add", number, 0, 0));
-    let answers = [(0, 1), (0, 2), (0, 3), (18, 0), (19, 0)];
+    // a clash by each attempt that finds one, and what none decides
+    let answers = [(0, 1), (0, 4), (0, 5), (0, 6), (0, 7), (18, 0)];
     let pairs = answers.map(|(answer, search)| ("add", 30, answer, search));
-    let listed = answers.map(|(answer, search)| ("listed", 0, answer, search));
+    let too_long = [("listed", 0, 19, 0)];
+    let listed =
+        answers.map(|(answer, search)| ("listed", 0, answer, search)).into_iter().chain(too_long);
     let rechecks = [0, 34, 35].map(|number| ("recheck", number, 0, 0));
     let expected = alone.into_iter().chain(pairs).chain(listed).chain(rechecks);
     assert_eq!(seen, expected.collect());

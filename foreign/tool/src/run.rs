@@ -1,32 +1,41 @@
 //! The commands.
 
+mod accept;
+mod pair;
+mod which;
+
 use std::ffi::OsString;
 use std::fmt;
-use std::fs::File;
+use std::fs::{self, File};
 use std::io::{self, Read, Write};
-use std::path::Path;
+use std::ops::Range;
+use std::path::{Path, PathBuf};
+use std::time::{Duration, Instant};
 
 use bradovusc::{
     Added, AddedDecided, Answer, Edition, RecheckedDecided, Scripted, Withdrawn, MOST_RULES,
     SCRIPT_BYTES,
 };
 
-use crate::ask::{Asked, Buffers};
+use crate::ask::{Asked, Buffers, Ready};
 use crate::catalogue::{Catalogue, BYTES};
-use crate::compile::judge;
+use crate::compile;
+use crate::format::{problem_on_output, short_problem, Format};
 use crate::json::Object;
-use crate::notation::{self, pattern_text, rule_text, template_text, Rule};
+use crate::kinds;
+use crate::notation::paint::Paint;
+use crate::notation::{pattern_text, rule_text, template_text, Rule};
+use crate::pairs::Pairs;
 use crate::parallel::{in_order, processors, Event};
 use crate::progress::Progress;
-use crate::report::{
-    counted, grouped, pair_in, pair_object, pair_words, problem_objects, problem_words, titled,
-    Tally,
-};
-use crate::sides::{sheet, Side, Title};
+use crate::report::{counted, grouped, pair_in, pair_words, titled, Tally};
+use crate::sides::{find, sheet, Side, Title};
 use crate::source::Source;
-use crate::status::{Problem, Status};
-use crate::way::{follow, way_objects, way_words, Row};
-use crate::words::{self, Command, Options, USAGE};
+use crate::spend::Spend;
+use crate::status::{problem_words, Problem, Status};
+use crate::teller::{Teller, SCHEMA};
+
+use crate::words::{self, Command, Options};
 
 /// Where a command reads and writes.
 pub struct Streams<'a> {
@@ -35,20 +44,26 @@ pub struct Streams<'a> {
     pub errors: &'a mut dyn Write,
     /// Whether the errors go to a terminal, where a progress bar may stand.
     pub terminal: bool,
+    /// The colours of the output and of the errors.
+    pub paint: Paint,
+    pub errors_paint: Paint,
 }
 
 type Outcome = Result<Status, Problem>;
 
-/// The one of the library's attempts, a search, that writes its steps.
-const FIRST_SEARCH: u8 = 1;
+/// What was said is handed on at least so often, if there is something new.
+const PAUSE: Duration = Duration::from_millis(50);
 
 /// A file of rules may have so many bytes.
 const MOST_FILE: u64 = 16 << 20;
 
 /// Does what the words behind the program's name say.
 pub fn run(words: &[OsString], streams: Streams<'_>) -> Status {
-    let (options, command) = words::read(words);
-    let json = options.json;
+    let (mut options, command) = words::read(words);
+    if options.format == Format::Text {
+        options.paint = streams.paint;
+    }
+    let format = options.format;
     let mut run = Run { options, streams };
     let outcome = match command {
         Ok(command) => run.command(command),
@@ -59,16 +74,22 @@ pub fn run(words: &[OsString], streams: Streams<'_>) -> Status {
         Ok(status)
     });
     outcome.unwrap_or_else(|problem| {
-        let Streams { output, errors, .. } = run.streams;
-        let told = if json {
-            output.write_all(problem_objects(&problem).as_bytes()).and_then(|()| output.flush())
-        } else {
-            // what was said before stands before it
-            let _ = output.flush();
-            Err(io::ErrorKind::Other.into())
+        let Streams { output, errors, errors_paint, .. } = run.streams;
+        let told = match problem_on_output(format, &problem) {
+            Some(text) => output.write_all(text.as_bytes()).and_then(|()| output.flush()),
+            None => {
+                // what was said before stands before it
+                let _ = output.flush();
+                Err(io::ErrorKind::Other.into())
+            }
         };
-        if told.is_err() {
-            let _ = errors.write_all(problem_words(&problem).as_bytes());
+        let nobody = |error: io::Error| error.kind() == io::ErrorKind::BrokenPipe;
+        if told.is_err_and(|error| !nobody(error)) {
+            let words = match format {
+                Format::Short => short_problem(&problem),
+                _ => problem_words(&problem, errors_paint),
+            };
+            let _ = errors.write_all(words.as_bytes());
             let _ = errors.flush();
         }
         problem.status()
@@ -83,18 +104,20 @@ struct Run<'a> {
 impl Run<'_> {
     fn command(&mut self, command: Command) -> Outcome {
         match command {
-            Command::Check { file } => self.check(&file),
+            Command::Check { files } => self.check(&files),
             Command::Pair { file, left, right } => self.pair(&file, &left, &right),
             Command::Add { catalogue, file, rule } => self.add(&catalogue, &file, &rule),
             Command::Withdraw { catalogue, number } => self.withdraw(&catalogue, number),
             Command::List { catalogue } => self.list(&catalogue),
             Command::Recheck { catalogue } => self.recheck(&catalogue),
+            Command::Which { file, labels } => self.which(&file, &labels),
+            Command::Accept { base, new } => self.accept(&base, &new),
             Command::Script { file, left, right } => self.script(&file, &left, &right),
             Command::Sheet { file, left, right } => self.sheet(&file, &left, &right),
-            Command::Help => self.say(USAGE, || Object::new().text("help", USAGE)),
+            Command::Help { text } => self.say(&text, || Object::new().text("help", &text)),
             Command::Version => {
                 let version = bradovusc::VERSION;
-                let object = || Object::new().text("version", version);
+                let object = || Object::new().text("version", version).number("schema", SCHEMA);
                 self.say(&format!("bradovusc {version}\n"), object)
             }
         }
@@ -110,24 +133,50 @@ impl Run<'_> {
         Ok(Status::Good)
     }
 
-    /// The rules of a file, as the library reads them, all of them taken by it.
-    fn rules(&mut self, path: &Path) -> Result<Vec<Side>, Problem> {
+    /// The bytes of a file, or of standard input, of which there are at most so many.
+    fn bytes_of(&mut self, path: &Path, most: u64) -> Result<Vec<u8>, Problem> {
         let failed = |error| Problem::failed("read", path, &error);
         let mut bytes = Vec::new();
-        let most = MOST_FILE + 1;
         if path == Path::new("-") {
-            (&mut *self.streams.input).take(most).read_to_end(&mut bytes).map_err(failed)?;
+            (&mut *self.streams.input).take(most + 1).read_to_end(&mut bytes).map_err(failed)?;
         } else {
             let file = File::open(path).map_err(failed)?;
-            file.take(most).read_to_end(&mut bytes).map_err(failed)?;
+            file.take(most + 1).read_to_end(&mut bytes).map_err(failed)?;
         }
-        if bytes.len() as u64 == most {
-            let words =
-                format!("{} is above {} bytes", path.display(), grouped(MOST_FILE as usize));
+        if bytes.len() as u64 > most {
+            let words = format!("{} is above {} bytes", path.display(), grouped(most as usize));
             return Err(Problem::Fault(words));
         }
-        let source = Source::new(path.display().to_string(), &bytes);
-        judged(source)
+        Ok(bytes)
+    }
+
+    /// A file of rules as it is.
+    fn source(&mut self, path: &Path) -> Result<Source, Problem> {
+        let bytes = self.bytes_of(path, MOST_FILE)?;
+        source_of(path, &bytes)
+    }
+
+    /// The rules of a file, as the library reads them, all of them taken by it.
+    fn rules(&mut self, path: &Path) -> Result<Vec<Side>, Problem> {
+        judged_some(self.source(path)?)
+    }
+
+    /// The rules of several files, one behind the other; and how many of them are from the first `old`
+    /// files.
+    fn rules_of(&mut self, paths: &[PathBuf], old: usize) -> Result<(Vec<Side>, usize), Problem> {
+        let (mut rules, mut from_old): (Vec<Side>, usize) = (Vec::new(), 0);
+        for (index, path) in paths.iter().enumerate() {
+            if paths[..index].iter().any(|before| same_file(before, path)) {
+                return Err(Problem::Fault(format!("{} is named twice", path.display())));
+            }
+            let more = self.rules(path)?;
+            if let (Some(first), Some(new)) = (rules.first(), more.first()) {
+                same_edition((&paths[0], first.edition), (path, new.edition))?;
+            }
+            from_old += if index < old { more.len() } else { 0 };
+            rules.extend(more);
+        }
+        Ok((rules, from_old))
     }
 
     /// The two rules with these names.
@@ -141,33 +190,36 @@ impl Run<'_> {
     }
 
     /// Asks of so many pairs, and tells each in its order.
-    fn ask<'s>(
+    fn ask<'s, I: Iterator<Item = (&'s Ready<'s>, &'s Ready<'s>)>>(
         &mut self,
         count: usize,
-        pair: impl Fn(usize) -> (&'s Side, &'s Side) + Sync,
+        pairs: impl Fn(Range<usize>) -> I + Sync,
         mut tell: impl FnMut(&mut dyn Write, &'s Side, &'s Side, &Asked) -> io::Result<()>,
     ) -> Result<(), Problem> {
-        let (threads, room) = (self.threads(), self.options.room);
+        let (threads, spend) = (self.threads(), Spend::new(&self.options));
         let Streams { output, errors, terminal, .. } = &mut self.streams;
         let mut progress = Progress::new(*terminal);
-        let work = |buffers: &mut Buffers, index: usize| {
-            let (left, right) = pair(index);
-            buffers.ask(left, right, room)
+        let work = |buffers: &mut Buffers, range: Range<usize>| {
+            asked_of(pairs(range), |left, right| spend.ask(buffers, left, right))
         };
-        let mut told = Vec::new();
+        let (mut told, settled) = (Vec::new(), Asked::SETTLED);
         let result = in_order(count, threads, Buffers::new, work, |event| {
             match event {
                 Event::Done(done) => {
                     output.flush()?;
                     progress.tick(done, count, errors);
                 }
-                Event::Result(index, asked) => {
-                    let (left, right) = pair(index);
-                    tell(&mut told, left, right, &asked)?;
-                    if !told.is_empty() {
-                        progress.clear(errors);
-                        output.write_all(&told)?;
-                        told.clear();
+                Event::Result(range, asked) => {
+                    let mut asked = asked.into_iter().peekable();
+                    for (place, (left, right)) in pairs(range).enumerate() {
+                        let said = asked.next_if(|(at, _)| *at == place);
+                        let said = said.as_ref().map_or(&settled, |(_, said)| said);
+                        tell(&mut told, left.side, right.side, said)?;
+                        if !told.is_empty() {
+                            progress.clear(errors);
+                            output.write_all(&told)?;
+                            told.clear();
+                        }
                     }
                 }
             }
@@ -177,58 +229,51 @@ impl Run<'_> {
         Ok(result?)
     }
 
-    fn check(&mut self, path: &Path) -> Outcome {
-        let rules = self.rules(path)?;
-        let pairs = Pairs { rules: rules.len() };
-        let (json, mut tally) = (self.options.json, Tally::default());
-        let pair = |index: usize| {
-            let (left, right) = pairs.at(index);
-            (&rules[left], &rules[right])
-        };
-        self.ask(pairs.count(), pair, |to, left, right, asked| {
-            tally.count(asked.answer);
-            match asked.answer {
-                _ if json => writeln!(to, "{}", pair_object(left, right, asked).done()),
-                Answer::NoClash { .. } => Ok(()),
-                _ => to.write_all(pair_words(left, right, asked).as_bytes()),
-            }
-        })?;
-        if !json {
-            self.streams.output.write_all(tally.summary(rules.len()).as_bytes())?;
-        }
-        Ok(tally.status())
+    fn check(&mut self, files: &[PathBuf]) -> Outcome {
+        let against = &self.options.against;
+        let (paths, old) = ([against, files].concat(), against.len());
+        let (rules, old) = self.rules_of(&paths, old)?;
+        let teller = Teller::new("check", &self.options).beside(old);
+        self.tell_pairs(teller, &rules, Pairs::with_new(rules.len(), old))
     }
 
-    fn pair(&mut self, path: &Path, left: &str, right: &str) -> Outcome {
-        let [left, right] = self.two(path, left, right)?;
-        let asked = self.ask_one(&left, &right)?;
-        let (mut words, mut object) =
-            (pair_words(&left, &right, &asked), pair_object(&left, &right, &asked));
-        if self.options.steps && asked.answer.clashes() == Some(true) {
-            (words, object) = match way(&left, &right, &asked) {
-                Some(rows) => {
-                    let object = object.list("steps", way_objects(&left, &right, &rows));
-                    (words + &way_words(&left, &right, &rows), object)
-                }
-                None => (words + &no_way_words(asked.search), object.nothing("steps")),
-            };
-        }
-        self.say(&words, || object)?;
-        Ok(status_of(asked.answer))
+    /// Asks of pairs of rules, those that are in the part which is wanted, and has them told.
+    fn tell_pairs(&mut self, teller: Teller<'_>, rules: &[Side], pairs: Pairs) -> Outcome {
+        let ready: Vec<Ready> = rules.iter().map(Ready::new).collect();
+        let part = self.options.part.range(pairs.count());
+        let walk = |range: Range<usize>| {
+            let range = part.start + range.start..part.start + range.end;
+            pairs.walk(range).map(|(left, right)| (&ready[left], &ready[right]))
+        };
+        self.tell(teller, rules.len(), part.len(), walk)
+    }
+
+    /// Asks of so many pairs of so many rules, and has them told.
+    fn tell<'s, I: Iterator<Item = (&'s Ready<'s>, &'s Ready<'s>)>>(
+        &mut self,
+        mut teller: Teller<'s>,
+        rules: usize,
+        count: usize,
+        pairs: impl Fn(Range<usize>) -> I + Sync,
+    ) -> Outcome {
+        teller.begin(self.streams.output)?;
+        self.ask(count, pairs, |to, left, right, asked| teller.tell(to, left, right, asked))?;
+        Ok(teller.end(self.streams.output, rules)?)
     }
 
     /// Asks of one pair.
     fn ask_one(&mut self, left: &Side, right: &Side) -> Result<Asked, Problem> {
         let mut said = None;
+        let pair = [Ready::new(left), Ready::new(right)];
         self.ask(
             1,
-            |_| (left, right),
+            |_| std::iter::once((&pair[0], &pair[1])),
             |_, _, _, asked| {
                 said = Some(asked.clone());
                 Ok(())
             },
         )?;
-        said.ok_or_else(|| Problem::Failure("the search was not made".to_string()))
+        said.ok_or_else(|| Problem::Failure("the library was not asked".to_string()))
     }
 
     fn script(&mut self, path: &Path, left: &str, right: &str) -> Outcome {
@@ -305,7 +350,7 @@ impl Run<'_> {
     fn recheck(&mut self, path: &Path) -> Outcome {
         let catalogue = Catalogue::read(path, self.bytes())?;
         let entries = &catalogue.entries;
-        let all = Pairs { rules: entries.len() }.count();
+        let all = Pairs::of(entries.len()).count();
         let room = self.options.room.sizes().next().unwrap_or_default();
         let mut list = vec![0; bradovusc::decided_list_bytes(MOST_RULES)];
         let mut buffers = Buffers::new();
@@ -317,24 +362,12 @@ impl Run<'_> {
             other => return Err(Problem::Fault(format!("{}: {other}", path.display()))),
         };
         // the others are answered 1; these are asked again, for their labels and in more room
-        let (json, mut tally) =
-            (self.options.json, Tally { apart: all - pairs.len(), ..Tally::default() });
-        let pair = |index: usize| {
-            let (lower, higher) = pairs[index];
-            (&entries[lower].side, &entries[higher].side)
+        let ready: Vec<Ready> = entries.iter().map(|entry| Ready::new(&entry.side)).collect();
+        let walk = |range: Range<usize>| {
+            pairs[range].iter().map(|&(lower, higher)| (&ready[lower], &ready[higher]))
         };
-        self.ask(pairs.len(), pair, |to, left, right, asked| {
-            tally.count(asked.answer);
-            match asked.answer {
-                Answer::NoClash { .. } => Ok(()),
-                _ if json => writeln!(to, "{}", pair_object(left, right, asked).done()),
-                _ => to.write_all(pair_words(left, right, asked).as_bytes()),
-            }
-        })?;
-        if !json {
-            self.streams.output.write_all(tally.summary(entries.len()).as_bytes())?;
-        }
-        Ok(tally.status())
+        let teller = Teller::new("recheck", &self.options).without_apart(all - pairs.len());
+        self.tell(teller, entries.len(), pairs.len(), walk)
     }
 
     fn add(&mut self, path: &Path, file: &Path, rule: &str) -> Outcome {
@@ -362,7 +395,7 @@ impl Run<'_> {
             }
             Added::NotApart { rule: number, pair } => match catalogue.entries.get(number) {
                 Some(entry) => {
-                    let asked = Asked { answer: pair, search: decided.search, room, shared: None };
+                    let asked = Asked::of(pair, decided.search, room);
                     self.not_added(&entry.side, &side, asked)
                 }
                 None => Err(Problem::Fault(format!("the library says: {decided}"))),
@@ -382,7 +415,7 @@ impl Run<'_> {
         side: &Side,
     ) -> Result<(AddedDecided, usize, Vec<u8>), Problem> {
         let room = self.options.room;
-        let work = |buffers: &mut Buffers, _: usize| {
+        let work = |buffers: &mut Buffers, _: Range<usize>| {
             let (mut bytes, record) = (before.to_vec(), side.record());
             let (mut decided, mut last) =
                 (AddedDecided { added: Added::NoCatalogue, search: 0 }, 0);
@@ -397,7 +430,7 @@ impl Run<'_> {
                     break;
                 }
             }
-            (decided, last, bytes)
+            (1, (decided, last, bytes))
         };
         let Streams { errors, terminal, .. } = &mut self.streams;
         let mut progress = Progress::new(*terminal);
@@ -410,7 +443,7 @@ impl Run<'_> {
             Ok::<(), Problem>(())
         })?;
         progress.clear(errors);
-        result.ok_or_else(|| Problem::Failure("the search was not made".to_string()))
+        result.ok_or_else(|| Problem::Failure("the library was not asked".to_string()))
     }
 
     /// A rule that is not added, for what was said of it and a rule that is there.
@@ -419,27 +452,34 @@ impl Run<'_> {
         if asked.answer.clashes() == Some(true) {
             asked = self.ask_one(there, new)?;
         }
-        let words = format!("{} is not added\n{}", new.title, pair_words(there, new, &asked));
+        let words = format!(
+            "{} is not added\n{}",
+            new.title,
+            pair_words(there, new, &asked, self.options.paint)
+        );
         self.say(&words, || pair_in(Object::new().truth("added", false), there, new, &asked))?;
         Ok(status_of(asked.answer))
     }
 }
 
-/// The way to the clash, if the library's first search has found it.
-fn way(left: &Side, right: &Side, asked: &Asked) -> Option<Vec<Row>> {
-    if asked.search != FIRST_SEARCH {
-        return None;
+/// What was said of the pairs that the library does not settle by their fronts, each with its place
+/// among these; and of how many pairs it was asked until some time was over.
+fn asked_of<'s>(
+    pairs: impl Iterator<Item = (&'s Ready<'s>, &'s Ready<'s>)>,
+    mut ask: impl FnMut(&Side, &Side) -> Asked,
+) -> (usize, Vec<(usize, Asked)>) {
+    let (begun, mut done, mut asked) = (Instant::now(), 0, Vec::new());
+    for (left, right) in pairs {
+        done += 1;
+        if left.differs(right) {
+            continue;
+        }
+        asked.push((done - 1, ask(left.side, right.side)));
+        if begun.elapsed() > PAUSE {
+            break;
+        }
     }
-    let steps = Buffers::new().way(left, right, asked.room)?;
-    follow(left, right, &steps)
-}
-
-/// That there is no way to show.
-fn no_way_words(search: u8) -> String {
-    format!(
-        "There is no way to show: attempt {search} has found the clash, and only attempt \
-         {FIRST_SEARCH} writes its steps down.\n"
-    )
+    (done, asked)
 }
 
 /// An answer of the library that ends a command, with its place if it has one.
@@ -451,44 +491,55 @@ fn library_says(answer: impl fmt::Display) -> Problem {
 fn status_of(answer: Answer) -> Status {
     let mut tally = Tally::default();
     tally.count(answer);
-    tally.status()
+    tally.into()
+}
+
+/// Whether two paths lead to the same file.
+fn same_file(one: &Path, other: &Path) -> bool {
+    let real = |path: &Path| fs::canonicalize(path).unwrap_or_else(|_| path.to_path_buf());
+    one == other || real(one) == real(other)
+}
+
+/// Rules are asked about together only if they have the same characters.
+fn same_edition(one: (&Path, Edition), other: (&Path, Edition)) -> Result<(), Problem> {
+    if one.1 == other.1 {
+        return Ok(());
+    }
+    let (full, plain) = if one.1 == Edition::FullAscii { (one, other) } else { (other, one) };
+    Err(Problem::Fault(format!(
+        "{} is Full ASCII and {} is not: only rules with the same characters are asked about together",
+        full.0.display(),
+        plain.0.display()
+    )))
+}
+
+/// The bytes of a file of rules as its lines.
+fn source_of(path: &Path, bytes: &[u8]) -> Result<Source, Problem> {
+    match kinds::is_catalogue(bytes) {
+        true => Err(Problem::Fault(kinds::a_catalogue(path))),
+        false => Ok(Source::new(path.display().to_string(), bytes)),
+    }
 }
 
 /// The rules of a source as the library reads them.
 pub fn judged(source: Source) -> Result<Vec<Side>, Problem> {
-    let rules = match notation::read(&source) {
-        Ok(rules) => rules,
-        Err(mistakes) => return Err(Problem::Mistakes(source, mistakes)),
-    };
-    let (mut sides, mut mistakes) = (Vec::new(), Vec::new());
-    for rule in &rules {
-        match judge(rule) {
-            Ok(side) => sides.push(side),
-            Err(mistake) => mistakes.push(mistake),
-        }
-    }
-    if mistakes.is_empty() {
-        Ok(sides)
-    } else {
-        mistakes.sort_by_key(|mistake| mistake.span);
-        Err(Problem::Mistakes(source, mistakes))
+    compile::judged(&source).map_err(|mistakes| Problem::Mistakes(source, mistakes))
+}
+
+/// The same of a source that must have a rule.
+fn judged_some(source: Source) -> Result<Vec<Side>, Problem> {
+    let name = source.name.clone();
+    let sides = judged(source)?;
+    match sides.is_empty() {
+        true => Err(Problem::no_rule(&name)),
+        false => Ok(sides),
     }
 }
 
 /// The rule with this name.
 fn named(rules: &[Side], path: &Path, name: &str) -> Result<Side, Problem> {
-    let title = Title::Name(name.to_string());
-    let found = rules.iter().find(|side| side.title == title).cloned();
-    found.ok_or_else(|| {
-        let file = path.display();
-        let names: Vec<String> = rules.iter().map(|side| side.title.to_string()).collect();
-        let names = match &names[..] {
-            [] => "it has none".to_string(),
-            few if few.len() <= 20 => format!("it has {}", few.join(", ")),
-            many => format!("it has {}", counted(many.len(), "rule", "rules")),
-        };
-        Problem::Fault(format!("{file} has no rule '{name}'; {names}"))
-    })
+    let found = find(rules, &path.display().to_string(), name);
+    found.cloned().map_err(Problem::Fault)
 }
 
 fn titles(left: &Side, right: &Side) -> Object {
@@ -503,40 +554,4 @@ fn rule_object(title: &Title, rule: &Rule) -> Object {
     });
     let object = titled(Object::new(), "rule", title);
     object.text("template", &template_text(rule)).object("fields", fields)
-}
-
-/// All pairs of so many rules: those of the first one, then those of the second one, and so on.
-struct Pairs {
-    rules: usize,
-}
-
-impl Pairs {
-    fn count(&self) -> usize {
-        self.rules * self.rules.saturating_sub(1) / 2
-    }
-
-    /// The numbers of the two rules of a pair.
-    fn at(&self, index: usize) -> (usize, usize) {
-        let (mut left, mut rest) = (0, index);
-        while left + 1 < self.rules && rest >= self.rules - 1 - left {
-            rest -= self.rules - 1 - left;
-            left += 1;
-        }
-        (left, left + 1 + rest)
-    }
-}
-
-#[cfg(test)]
-mod tests {
-    use super::*;
-
-    #[test]
-    fn pairs_in_their_order() {
-        for rules in 0..9 {
-            let pairs = Pairs { rules };
-            let wanted =
-                (0..rules).flat_map(|left| (left + 1..rules).map(move |right| (left, right)));
-            assert!((0..pairs.count()).map(|index| pairs.at(index)).eq(wanted));
-        }
-    }
 }

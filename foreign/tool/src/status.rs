@@ -1,47 +1,37 @@
-//! The exit statuses, and what ends a command without an answer.
+//! What ends a command without an answer.
 
 use std::io;
 use std::path::Path;
 
-use crate::source::{Mistake, Source};
+use crate::notation::mistakes::{mistakes_objects, mistakes_words, Mistakes};
+use crate::notation::paint::Paint;
+use crate::notation::visible::visible;
+use crate::report::fault_object;
+use crate::source::Source;
 
-/// How a command ends.
-#[derive(Clone, Copy, Debug, PartialEq, Eq, PartialOrd, Ord)]
-pub enum Status {
-    /// 0: what was asked for is done; of rules that were checked, no two clash.
-    Good,
-    /// 1: two rules clash.
-    Clash,
-    /// 2: of some rules it is not decided whether they clash, and no two are known to.
-    NotDecided,
-    /// 3: a fault of a file of rules, of a catalogue, or of the words of the command.
-    Fault,
-    /// 4: something could not be read or written.
-    Failure,
-}
-
-impl Status {
-    pub fn number(self) -> u8 {
-        self as u8
-    }
-}
+pub use crate::notation::status::Status;
 
 /// Why there is no answer.
 #[derive(Debug)]
 pub enum Problem {
     /// Mistakes in a file of rules, in the order of its lines.
-    Mistakes(Source, Vec<Mistake>),
+    Mistakes(Source, Mistakes),
     /// A fault of a catalogue or of the words of the command.
     Fault(String),
     /// Something that could not be read or written.
     Failure(String),
+    /// A file of rules without a rule: it may be cut, or another one than was meant.
+    NoRule(String),
+    /// Nobody reads the output any more. There is nobody to tell it either.
+    BrokenPipe,
 }
 
 impl Problem {
     pub fn status(&self) -> Status {
         match self {
             Problem::Mistakes(..) | Problem::Fault(_) => Status::Fault,
-            Problem::Failure(_) => Status::Failure,
+            Problem::Failure(_) | Problem::BrokenPipe => Status::Failure,
+            Problem::NoRule(_) => Status::NoRule,
         }
     }
 
@@ -49,11 +39,44 @@ impl Problem {
     pub fn failed(done: &str, path: &Path, error: &io::Error) -> Problem {
         Problem::Failure(format!("{} can't be {done}: {error}", path.display()))
     }
+
+    /// A file of rules without a rule.
+    pub fn no_rule(name: &str) -> Problem {
+        Problem::NoRule(format!("{name} has no rule; a rule is NAME = TEMPLATE"))
+    }
 }
 
 /// The output is the only thing that is written by `?`.
 impl From<io::Error> for Problem {
     fn from(error: io::Error) -> Problem {
-        Problem::Failure(format!("the output can't be written: {error}"))
+        match error.kind() {
+            io::ErrorKind::BrokenPipe => Problem::BrokenPipe,
+            _ => Problem::Failure(format!("the output can't be written: {error}")),
+        }
+    }
+}
+
+/// Why there is no answer, in words.
+pub fn problem_words(problem: &Problem, paint: Paint) -> String {
+    match problem {
+        Problem::Mistakes(source, mistakes) => mistakes_words(source, mistakes, paint),
+        Problem::Fault(words) | Problem::Failure(words) | Problem::NoRule(words) => {
+            format!("{} {}\n", paint.wrong("bradovusc:"), visible(words))
+        }
+        Problem::BrokenPipe => String::new(),
+    }
+}
+
+/// Why there is no answer, as objects.
+pub fn problem_objects(problem: &Problem) -> String {
+    match problem {
+        Problem::Mistakes(source, mistakes) => {
+            let objects = mistakes_objects(source, mistakes).into_iter();
+            objects.map(|object| object.done() + "\n").collect()
+        }
+        Problem::Fault(words) | Problem::Failure(words) | Problem::NoRule(words) => {
+            fault_object(words, problem.status()).done() + "\n"
+        }
+        Problem::BrokenPipe => String::new(),
     }
 }

@@ -143,8 +143,11 @@ fn a_crash_loses_nothing() {
         .unwrap();
     assert_ne!(status.code(), Some(0));
     assert_eq!(fs::read(&path).unwrap(), before);
+    // what is left of it is gone with the next change
+    let left = || folder.names().iter().filter(|name| name.ends_with(".new")).count();
+    assert_eq!(left(), 1);
     let said = program_in(&folder.0, &["add", "stock.cat", "apart.rules", "screw"]);
-    assert_eq!(said.status, 0, "{said:?}");
+    assert_eq!((said.status, left()), (0, 0), "{said:?}");
     assert_eq!(call(&["list", &path]).text().matches(" = S\\s{a}").count(), 1);
 }
 
@@ -212,8 +215,8 @@ fn a_full_disk() {
     }
 }
 
-/// Twenty rules with a serial number that stands twice, of which no two clash. One search decides of
-/// no two of them, in whatever room; the tool adds them all, in the first.
+/// Twenty rules with a serial number that stands twice, of which no two clash. The first search decides
+/// of no two of them, in whatever room; the tool adds them all, in the first.
 #[test]
 fn serial_numbers() {
     let folder = Folder::new("serial");
@@ -237,8 +240,10 @@ fn serial_numbers() {
     let object = "{\"added\":false,\"left\":1,\"right\":\"ends_in_0\",\"answer\":\"clash\",\
                   \"number\":0,\"search\":4,\"situations\":370,\"room\":356,\
                   \"label\":\"KP000000/000000\",\"left_fields\":{\"a\":\"000000\"},\
-                  \"right_fields\":{\"n\":\"000000\"}}\n";
-    assert_eq!(said.text(), object);
+                  \"right_fields\":{\"n\":\"000000\"}";
+    let places =
+        format!(",\"left_file\":\"{path}\",\"right_file\":\"{rules}\",\"right_line\":41}}\n");
+    assert_eq!(said.text(), object.to_string() + &places);
 }
 
 /// Standard input as a file of rules.

@@ -3,8 +3,8 @@
 //! A file `NAME.words` has the words of calls, one a line, done one after the other in a folder with
 //! copies of tests/golden/files; `NAME.said` has what they said: standard output as it is, standard
 //! error behind `! `, the status in brackets. Two further words change a file: `cut FILE BYTES` and
-//! `bytes FILE LENGTH HEX..`, which writes these bytes and zeros up to the length. A file
-//! `NAME.rules` has a mistake, or several of a kind; `NAME.said` has what `check` says of it.
+//! `bytes FILE LENGTH HEX..`, which writes these bytes and zeros up to the length; `show FILE` shows one.
+//! A file `NAME.rules` has a mistake, or several of a kind; `NAME.said` has what `check` says of it.
 //!
 //! `GOLDEN=write` writes the files anew.
 
@@ -53,6 +53,10 @@ fn commands() {
                     bytes.resize(length.parse().unwrap(), 0);
                     fs::write(folder.0.join(file), bytes).unwrap();
                 }
+                ["show", file] => {
+                    let text = fs::read_to_string(folder.0.join(file)).unwrap();
+                    let _ = write!(now, "$ cat {file}\n{text}");
+                }
                 ref words => {
                     let said = program_in(&folder.0, words);
                     let _ = write!(now, "$ bradovusc {line}\n{}", shown(&said));
@@ -84,11 +88,14 @@ fn mistakes() {
         }
         // the same in JSON: as many mistakes, each an object of one line
         let objects = call(&["check", "--json", name]).text();
-        assert!(objects
-            .lines()
-            .all(|line| line.starts_with("{\"mistake\":") && line.ends_with('}')));
+        let mistakes = objects.lines().filter(|line| line.starts_with("{\"mistake\":"));
+        let mistakes = mistakes.filter(|line| line.ends_with('}')).count();
         let told = now.lines().filter(|line| line.starts_with(&format!("! {name}:"))).count();
-        assert_eq!(objects.lines().count() + 1, told, "{name}");
+        assert_eq!(mistakes + 1, told, "{name}");
+        // where not all are told, the last object says how many there are
+        let more = objects.lines().filter(|line| line.starts_with("{\"mistakes\":")).count();
+        assert_eq!(objects.lines().count(), mistakes + more, "{name}");
+        assert_eq!(more, usize::from(now.contains(", of which the first 50 are told")), "{name}");
     }
     assert!(failed.is_empty(), "{failed:?} say something else");
 }

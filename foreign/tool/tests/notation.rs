@@ -191,7 +191,7 @@ fn patterns_at_random_read_back() {
 #[derive(Default)]
 struct Automaton {
     empty: Vec<Vec<usize>>,
-    steps: Vec<Option<(bradovusc_tool::characters::Set, usize)>>,
+    steps: Vec<Option<(bradovusc_tool::notation::characters::Set, usize)>>,
 }
 
 impl Automaton {
