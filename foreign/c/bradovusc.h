@@ -6,7 +6,8 @@
  * rules stand on a question sheet; the answer is a number, and after a clash a text for each field. One search answers it, or up to
  * four, which decide more. The one search can write the way to its clash too, step by step, and any such way can be played again.
  * Where no field stands twice, a small engine says clash or no clash in at most 9,731 bytes. The sheet is written from the two sides
- * and the patterns; where one of them is wrong, its place is told.
+ * and the patterns; where one of them is wrong, its place is told. Most pairs of rules differ in what is fixed at their fronts or
+ * ends, which is told from the two sides alone.
  * A catalogue has up to 32 rules in one buffer. A rule is added only if it clashes with none that is there; it can be withdrawn. One
  * that was kept can be checked again, pair by pair. A pair is asked by one search, or by up to four, which enter more rules.
  * A sheet can be written out as a script for string solvers, in SMT-LIB 2.6.
@@ -19,11 +20,11 @@
  * Up to version 0.8 a sheet or a rule could have a stray pattern, one for a field that does not stand. Now it is refused. Strays can
  * be dropped from sheets, rules and catalogues from before: every answer about them stays as it was.
  *
- * The static library libexported.a, for x86-64 Linux, defines twenty-two functions: bradovusc_clash, bradovusc_decide,
+ * The static library libexported.a, for x86-64 Linux, defines twenty-three functions: bradovusc_clash, bradovusc_decide,
  * bradovusc_steps, bradovusc_play, bradovusc_plain, bradovusc_plain_bytes, bradovusc_write, bradovusc_write_edition,
  * bradovusc_spell, bradovusc_read_spelt, bradovusc_script, bradovusc_add, bradovusc_add_decided, bradovusc_withdraw,
  * bradovusc_recheck, bradovusc_recheck_decided, bradovusc_spell_open, bradovusc_spell_open_rule, bradovusc_spell_open_catalogue,
- * bradovusc_drop_strays, bradovusc_drop_strays_rule and bradovusc_drop_strays_catalogue.
+ * bradovusc_drop_strays, bradovusc_drop_strays_rule, bradovusc_drop_strays_catalogue and bradovusc_fronts_differ.
  * They keep nothing from one call to the next, ask for no memory, and touch nothing but what they are lent, so calls in several
  * threads don't meet. bradovusc_add_decided takes at most about 240 KiB of stack, bradovusc_recheck_decided about 225,
  * bradovusc_decide about 190, bradovusc_spell_open_catalogue, bradovusc_drop_strays_catalogue and bradovusc_recheck about 120, the
@@ -33,8 +34,8 @@
  * bradovusc_ask, bradovusc_settle, bradovusc_find_steps, bradovusc_play_steps, bradovusc_ask_plain, bradovusc_measure_plain,
  * bradovusc_write_sheet, bradovusc_write_sheet_edition, bradovusc_spell_text, bradovusc_read_back, bradovusc_write_script,
  * bradovusc_enter, bradovusc_enter_decided, bradovusc_remove, bradovusc_check_again, bradovusc_check_again_decided,
- * bradovusc_carry_sheet, bradovusc_carry_rule, bradovusc_carry_catalogue, bradovusc_mend_sheet, bradovusc_mend_rule and
- * bradovusc_mend_catalogue call them with any buffers, bradovusc_text and bradovusc_catalogue_text say a number in words,
+ * bradovusc_carry_sheet, bradovusc_carry_rule, bradovusc_carry_catalogue, bradovusc_mend_sheet, bradovusc_mend_rule,
+ * bradovusc_mend_catalogue and bradovusc_tell_apart call them with any buffers, bradovusc_text and bradovusc_catalogue_text say a number in words,
  * bradovusc_next walks the texts of a clash, bradovusc_next_step the steps of its way, bradovusc_next_pair the pairs that were
  * listed, bradovusc_sign and bradovusc_value go between values and signs.
  *
@@ -1369,6 +1370,29 @@ static inline struct bradovusc_spelt bradovusc_read_back(const uint8_t *spelt, s
                                        out == NULL && out_length == 0 ? &no_out : out, out_length, told, BRADOVUSC_TOLD);
     read.written = told[BRADOVUSC_WRITTEN];
     return read;
+}
+
+/*
+ * Two sides told apart by what is fixed in them. Fixed are the characters before a side's first field and those behind its last one.
+ * The fronts differ if both sides have a character at some place, and the two are different. The ends are compared only where both
+ * sides end with a character that is not the space; then from behind, in the same way.
+ *
+ * Returns 1 if fronts or ends differ. It is proved that this comes only if no texts at all, whatever the fields may hold, make both
+ * sides the same label; so bradovusc_clash never finds one, whatever the patterns are. 0 says nothing, also of bytes that are no
+ * tokens. No situation is entered and no buffer is lent: it is far cheaper than any search, and tells most pairs of rules apart.
+ *
+ * The edition is 0 for none, that is Code 39, and 2 for Full ASCII, as of bradovusc_write_edition; of any other it is 0. The sides are
+ * tokens as a sheet of that edition has them, of any length. Each pointer must be that of so many elements, and not null, also where
+ * the length is 0; the two may overlap.
+ */
+uint32_t bradovusc_fronts_differ(size_t edition, const uint8_t *left, size_t left_length, const uint8_t *right, size_t right_length);
+
+/* bradovusc_fronts_differ, and each pointer may be null where its length is 0. This is the one to call. */
+static inline uint32_t bradovusc_tell_apart(size_t edition, const uint8_t *left, size_t left_length, const uint8_t *right,
+                                            size_t right_length) {
+    uint8_t no_left = 0, no_right = 0;
+    return bradovusc_fronts_differ(edition, left == NULL && left_length == 0 ? &no_left : left, left_length,
+                                   right == NULL && right_length == 0 ? &no_right : right, right_length);
 }
 
 #ifdef __cplusplus

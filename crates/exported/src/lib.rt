@@ -9,6 +9,7 @@ ghost use Rattle.paper_carry.specs.Spelling.{spelling, rule-spelling, carrying-
 ghost use Rattle.paper_strays.specs.Dropping.{dropping, rule-dropping, catalogue-dropping};
 ghost use Rattle.paper_write.specs.Writing.{writing};
 ghost use Rattle.paper_plain.specs.Engine.{engine, needs};
+ghost use Rattle.paper_fronts.specs.FixedFronts.{fronts-told};
 ghost use Rattle.paper_spell.specs.Spell.{spelling-text, reading-spelt};
 ghost use Rattle.paper_steps.specs.StepsOutcome.{steps-outcome};
 ghost use Rattle.paper_decide.specs.Deciding.{decision};
@@ -321,4 +322,13 @@ pub extern "C" fn bradovusc_read_spelt(spelt: &[u8], out: &mut [u8], told: &mut 
     ensures out { λ _. ⌜ now (out .exit) ≡ reading-spelt (now (spelt .entry)) (now (out .entry)) .out ⌝ }
 {
     c_spell::spelt(spelt, out, told)
+}
+
+// Can it be told from the fixed fronts and ends of two sides that they never make the same label? 1 only if no texts at all make both sides the same
+// label; 0 says nothing. The edition is 0 for none and 2 for Full ASCII; the sides are tokens of it, as a sheet has them.
+#[no_mangle]
+pub extern "C" fn bradovusc_fronts_differ(edition: usize, left: &[u8], right: &[u8]) -> u32
+    ensures { λ r. ⌜ r ≡ fronts-told edition (now (left .entry)) (now (right .entry)) ⌝ }
+{
+    fronts_sides::fronts_differ(edition, left, right)
 }

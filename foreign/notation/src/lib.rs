@@ -8,6 +8,7 @@
 //!
 //! No file, thread, clock or terminal is touched here: the caller has those.
 
+pub mod advice;
 pub mod ask;
 pub mod bands;
 pub mod characters;

@@ -2,6 +2,7 @@
 
 use bradovusc::{spelt_bytes, Answer, Edition};
 
+use crate::advice::{advice_objects, advice_words};
 use crate::ask::Asked;
 use crate::json::Object;
 use crate::print::told_text;
@@ -99,7 +100,10 @@ pub fn pair_words(left: &Side, right: &Side, asked: &Asked) -> String {
             )
         }
         (answer, None) if answer.clashes() == Some(true) => format!("{titles} {answer}\n"),
-        (_, None) => format!("{titles}: {}\n", not_decided_words(asked)),
+        (_, None) => {
+            let helps = advice_words(left, right, asked);
+            format!("{titles}: {}\n{helps}", not_decided_words(asked))
+        }
     }
 }
 
@@ -200,7 +204,11 @@ pub fn pair_in(object: Object, left: &Side, right: &Side, asked: &Asked) -> Obje
         return object;
     }
     let object = placed(object, "left_file", "left_line", left);
-    placed(object, "right_file", "right_line", right)
+    let object = placed(object, "right_file", "right_line", right);
+    match asked.answer.clashes() {
+        None => object.list("advice", advice_objects(left, right, asked)),
+        Some(_) => object,
+    }
 }
 
 /// Where a rule is from, under two keys.
@@ -216,7 +224,8 @@ fn placed(object: Object, file: &str, line: &str, side: &Side) -> Object {
     }
 }
 
-fn fields_object(side: &Side, texts: &[Text]) -> Object {
+/// What the fields of a rule hold, by name.
+pub fn fields_object(side: &Side, texts: &[Text]) -> Object {
     side.fields.iter().fold(Object::new(), |object, (field, name)| {
         match texts.iter().find(|text| text.field == *field) {
             Some(text) => object.text(name, &side.edition.text(&text.values)),

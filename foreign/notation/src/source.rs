@@ -32,12 +32,23 @@ pub struct Mistake {
 
 impl Mistake {
     pub fn new(span: Span, words: impl Into<String>) -> Mistake {
-        Mistake { span, words: words.into(), hint: None }
+        Mistake { span, words: shortened(words.into()), hint: None }
     }
 
     pub fn hint(self, hint: impl Into<String>) -> Mistake {
-        Mistake { hint: Some(hint.into()), ..self }
+        Mistake { hint: Some(shortened(hint.into())), ..self }
     }
+}
+
+/// The words of a mistake have at most so many characters: a name may be as long as a file.
+const MOST_WORDS: usize = 400;
+
+fn shortened(mut words: String) -> String {
+    if let Some((end, _)) = words.char_indices().nth(MOST_WORDS) {
+        words.truncate(end);
+        words += "...";
+    }
+    words
 }
 
 /// A file's name, and its bytes. A line is read when it is asked for, so that a file takes no more
@@ -192,6 +203,14 @@ mod tests {
         let shown = source.show(&mistake, Paint::NONE).to_string();
         let (a, spaces) = ("A".repeat(120), " ".repeat(60));
         assert_eq!(shown, format!("f:1:500: wrong\n    ...{a}...\n       {spaces}^^\n    so\n"));
+    }
+
+    #[test]
+    fn a_long_name_is_told_in_part() {
+        let name = "é".repeat(1000);
+        let mistake = Mistake::new(Span::default(), name.as_str()).hint(name.as_str());
+        let told = "é".repeat(400) + "...";
+        assert_eq!((&mistake.words, mistake.hint.as_ref()), (&told, Some(&told)));
     }
 
     #[test]

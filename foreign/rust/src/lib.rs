@@ -80,6 +80,20 @@
 //! assert_eq!(plain(twice, &mut [0; PLAIN_BYTES]).clashes(), None);
 //! ```
 //!
+//! Most pairs of rules differ in what is fixed at their fronts or ends. [`fronts_differ`] tells that
+//! from the tokens of two sides alone, before any sheet is written.
+//!
+//! ```
+//! use bradovusc::{fronts_differ, Edition};
+//!
+//! // L, T and field 0; L, U and field 0; field 1 and 4; field 1 and 5.
+//! let (lt, lu) = ([21, 29, 64], [21, 30, 64]);
+//! assert!(fronts_differ(Edition::Code39, &lt, &lu));
+//! assert!(fronts_differ(Edition::Code39, &[65, 4], &[65, 5]));
+//! // Nothing is said: field 1 may begin with L and T, and field 0 may end with 4.
+//! assert!(!fronts_differ(Edition::Code39, &lt, &[65, 4]));
+//! ```
+//!
 //! Of a sheet at fault the place is told, the byte itself.
 //!
 //! ```
@@ -272,6 +286,7 @@ mod catalogue;
 mod catalogue_decided;
 mod deciding;
 mod editions;
+mod fronts;
 mod plain;
 mod scripts;
 mod spelling;
@@ -292,6 +307,7 @@ pub use catalogue_decided::{
 };
 pub use deciding::{decide, Decision};
 pub use editions::{Edition, MOST_CHARACTERS};
+pub use fronts::fronts_differ;
 pub use plain::{plain, plain_bytes, Plain, PlainBytes, PLAIN_BYTES};
 pub use scripts::{script, Scripted, SCRIPT_BYTES};
 pub use spelling::{read_spelt, spell, spelt_bytes, Spelt};

@@ -7,10 +7,13 @@
 pub mod catalogue;
 pub mod format;
 pub mod kinds;
+pub mod narrow;
 pub mod near;
+pub mod overlap;
 pub mod pairs;
 pub mod parallel;
 pub mod progress;
+pub mod repair;
 pub mod replace;
 pub mod run;
 pub mod sarif;
@@ -20,5 +23,5 @@ pub mod words;
 
 pub use bradovusc_notation as notation;
 pub use bradovusc_notation::{
-    ask, compile, decompile, json, matching, report, sides, source, told, way,
+    advice, ask, bands, compile, decompile, json, matching, report, sides, source, told, way,
 };

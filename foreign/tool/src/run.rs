@@ -20,10 +20,11 @@ use crate::format::{problem_on_output, short_problem, Format};
 use crate::json::Object;
 use crate::kinds;
 use crate::notation::paint::Paint;
-use crate::notation::{pattern_text, rule_text, template_text, Rule};
+use crate::notation::{pattern_text, read, rule_text, template_text, Rule};
 use crate::pairs::Pairs;
 use crate::parallel::{in_order, processors, Event};
 use crate::progress::Progress;
+use crate::repair::{repair, repair_in, repair_words};
 use crate::report::{counted, grouped, pair_in, pair_object, pair_words, titled, Tally};
 use crate::sides::{find, sheet, Side, Title};
 use crate::source::Source;
@@ -125,6 +126,15 @@ impl Run<'_> {
 
     /// The rules of a file, as the library reads them, all of them taken by it.
     fn rules(&mut self, path: &Path) -> Result<Vec<Side>, Problem> {
+        let sides = judged(self.source(path)?)?;
+        match sides.is_empty() {
+            true => Err(Problem::no_rule(path)),
+            false => Ok(sides),
+        }
+    }
+
+    /// A file of rules as it is.
+    fn source(&mut self, path: &Path) -> Result<Source, Problem> {
         let failed = |error| Problem::failed("read", path, &error);
         let mut bytes = Vec::new();
         let most = MOST_FILE + 1;
@@ -142,11 +152,7 @@ impl Run<'_> {
         if kinds::is_catalogue(&bytes) {
             return Err(Problem::Fault(kinds::a_catalogue(path)));
         }
-        let sides = judged(Source::new(path.display().to_string(), &bytes))?;
-        match sides.is_empty() {
-            true => Err(Problem::no_rule(path)),
-            false => Ok(sides),
-        }
+        Ok(Source::new(path.display().to_string(), &bytes))
     }
 
     /// The two rules with these names.
@@ -222,7 +228,10 @@ impl Run<'_> {
     }
 
     fn pair(&mut self, path: &Path, left: &str, right: &str) -> Outcome {
-        let [left, right] = self.two(path, left, right)?;
+        let source = self.source(path)?;
+        let written = read(&source).unwrap_or_default();
+        let rules = judged(source)?;
+        let [left, right] = [named(&rules, path, left)?, named(&rules, path, right)?];
         let asked = self.ask_one(&left, &right)?;
         if matches!(self.options.format, Format::Short | Format::Github | Format::Sarif) {
             let mut teller = Teller::new("pair", &self.options);
@@ -236,6 +245,13 @@ impl Run<'_> {
             let rows = way(&left, &right, &asked);
             words += &steps_words(&left, &right, &asked, rows.as_deref());
             object = steps_in(object, &left, &right, rows.as_deref());
+        }
+        if let Some(shared) = asked.shared.as_ref().filter(|_| self.options.repair) {
+            let sides = [&left, &right];
+            if let Some(found) = repair(&written, sides, shared) {
+                words += &repair_words(sides, &found);
+                object = repair_in(object, sides, &found);
+            }
         }
         self.say(&words, || object)?;
         Ok(status_of(asked.answer))

@@ -32,6 +32,7 @@ FILE is a file of rules, or - for standard input. Options:
                   check, recheck: tells nothing but clashes
     --summary     check, recheck: an object or a line with the counts behind all pairs
     --steps       pair: the way to the clash, step by step
+    --repair      pair: further labels, which parts overlap, and what would part the two
     --room N      room for N situations, 1 to 65,535; else it grows from 356 to 65,535
     --threads N   so many threads; else as many as there are processors
     --new         add: the catalogue is begun; without it the file must be there
@@ -112,7 +113,7 @@ pub const COMMANDS: [Form; 9] = [
         "FILE",
         &["--format", "--max", "--clashes-only", "--summary", "--room", "--threads"],
     ),
-    form("pair", "FILE A B", &["--format", "--room", "--steps"]),
+    form("pair", "FILE A B", &["--format", "--room", "--steps", "--repair"]),
     form("add", "CATALOGUE FILE RULE", &["--room", "--new", "--bytes"]),
     form("withdraw", "CATALOGUE NUMBER", &["--bytes"]),
     form("list", "CATALOGUE", &["--bytes"]),
