@@ -39,5 +39,6 @@ pub fn of_file(name: &str, text: &str, more: &str) -> String {
 }
 
 /// The latches of the README.
-pub const LATCHES: &str = "mortice = LT{size}{finish}\n  size   = [0-9][0-9]\n  finish = BR | CH | SS\n\
+pub const LATCHES: &str =
+    "mortice = LT{size}{finish}\n  size   = [0-9][0-9]\n  finish = BR | CH | SS\n\
                            rim     = LT{set}C{turn}\n  set    = [0-9]+\n  turn   = H | K | T\n";
