@@ -34,8 +34,8 @@ use bradovusc_notation::json::Object;
 use bradovusc_notation::mistakes::{mistakes_objects, mistakes_words, Mistakes};
 use bradovusc_notation::paint::Paint;
 use bradovusc_notation::parts::source_of_two;
-use bradovusc_notation::report::{fault_object, no_rule_words, pair_words, Tally};
-use bradovusc_notation::sides::{Side, Text};
+use bradovusc_notation::report::{counted, fault_object, no_rule_words, pair_words, Tally};
+use bradovusc_notation::sides::{same_edition, Side, Text};
 use bradovusc_notation::source::Source;
 use bradovusc_notation::told::{told_words, Told};
 use bradovusc_notation::way::{way, Row};
@@ -110,23 +110,22 @@ impl Asking {
     }
 }
 
-/// The rules of these sources, one behind the other.
+/// The rules of these sources, one behind the other. The first one with a mistake ends it.
 fn rules_of(sources: Vec<Source>) -> Result<Vec<Arc<Side>>, Wrong> {
-    let (mut rules, mut wrong) = (Vec::new(), Vec::new());
+    let mut rules: Vec<Arc<Side>> = Vec::new();
     for source in sources {
-        match judged(&source) {
-            Ok(sides) if sides.is_empty() => {
-                return Err(Wrong::NoRule(no_rule_words(&source.name)))
-            }
-            Ok(sides) => rules.extend(sides.into_iter().map(Arc::new)),
-            Err(mistakes) => wrong.push((source, mistakes)),
+        let sides = match judged(&source) {
+            Ok(sides) => sides,
+            Err(mistakes) => return Err(Wrong::Mistakes(source, mistakes)),
+        };
+        match (rules.first(), sides.first()) {
+            (_, None) => return Err(Wrong::NoRule(no_rule_words(&source.name))),
+            (Some(first), Some(new)) => same_edition(first, new).map_err(Wrong::Fault)?,
+            (None, Some(_)) => (),
         }
+        rules.extend(sides.into_iter().map(Arc::new));
     }
-    if wrong.is_empty() {
-        Ok(rules)
-    } else {
-        Err(Wrong::Mistakes(wrong))
-    }
+    Ok(rules)
 }
 
 /// Two rules, and what was said of them. As a text it is what the tool prints.
@@ -193,7 +192,7 @@ fn texts<'a>(side: &'a Side, texts: &[Text]) -> Texts<'a> {
 
 impl fmt::Display for Pair {
     fn fmt(&self, to: &mut fmt::Formatter<'_>) -> fmt::Result {
-        to.write_str(pair_words(&self.left, &self.right, &self.asked).trim_end())
+        to.write_str(pair_words(&self.left, &self.right, &self.asked, Paint::NONE).trim_end())
     }
 }
 
@@ -232,14 +231,14 @@ fn check_words(pairs: &[Pair], tally: Tally, rules: usize) -> String {
         Told { left, right, asked }
     });
     let told: Vec<Told> = told.collect();
-    told_words(&told) + &tally.summary(rules)
+    told_words(&told, Paint::NONE) + &tally.summary(&counted(rules, "rule", "rules"), Paint::NONE)
 }
 
 /// Why there is no answer. As a text it is what the tool prints.
 #[derive(Clone, Debug)]
 pub enum Wrong {
     /// Mistakes in rules, with the text in which they stand.
-    Mistakes(Vec<(Source, Mistakes)>),
+    Mistakes(Source, Mistakes),
     /// Another fault.
     Fault(String),
     /// A text without a rule.
@@ -249,7 +248,7 @@ pub enum Wrong {
 impl Wrong {
     pub fn status(&self) -> Status {
         match self {
-            Wrong::Mistakes(_) | Wrong::Fault(_) => Status::Fault,
+            Wrong::Mistakes(..) | Wrong::Fault(_) => Status::Fault,
             Wrong::NoRule(_) => Status::NoRule,
         }
     }
@@ -257,11 +256,7 @@ impl Wrong {
     /// As objects.
     pub fn objects(&self) -> Vec<Object> {
         match self {
-            Wrong::Mistakes(files) => {
-                let objects =
-                    files.iter().flat_map(|(source, mistakes)| mistakes_objects(source, mistakes));
-                objects.collect()
-            }
+            Wrong::Mistakes(source, mistakes) => mistakes_objects(source, mistakes),
             Wrong::Fault(words) | Wrong::NoRule(words) => {
                 vec![fault_object(words, self.status())]
             }
@@ -272,11 +267,8 @@ impl Wrong {
 impl fmt::Display for Wrong {
     fn fmt(&self, to: &mut fmt::Formatter<'_>) -> fmt::Result {
         match self {
-            Wrong::Mistakes(files) => {
-                let words = files
-                    .iter()
-                    .map(|(source, mistakes)| mistakes_words(source, mistakes, Paint::NONE));
-                to.write_str(words.collect::<String>().trim_end())
+            Wrong::Mistakes(source, mistakes) => {
+                to.write_str(mistakes_words(source, mistakes, Paint::NONE).trim_end())
             }
             Wrong::Fault(words) | Wrong::NoRule(words) => to.write_str(words),
         }

@@ -8,8 +8,9 @@ use bradovusc::{Edition, MOST_SITUATIONS};
 use bradovusc_notation::ask::Room;
 use bradovusc_notation::bands::band_objects;
 use bradovusc_notation::json::Object as Out;
+use bradovusc_notation::paint::Paint;
 use bradovusc_notation::parts::{source_of_two, RuleParts, LEFT, RIGHT};
-use bradovusc_notation::report::{grouped, pair_object, pair_words, Tally};
+use bradovusc_notation::report::{grouped, pair_object, pair_words, summary_of, Tally};
 use bradovusc_notation::sides::{find, Side};
 use bradovusc_notation::source::Source;
 use bradovusc_notation::status::Status;
@@ -62,6 +63,7 @@ fn run(request: Request, tell: &mut dyn FnMut(Out)) -> Result<Status, Wrong> {
     let rules = rules_of(sources)?;
     let named =
         pairs.map(|pairs| named(&rules, &file, &pairs)).transpose().map_err(Wrong::Fault)?;
+    let command = if named.is_some() { "pair" } else { "check" };
     let (mut tally, mut kept) = (Tally::default(), Vec::new());
     let mut each = |pair: Pair| {
         tally.count(pair.answer());
@@ -80,7 +82,8 @@ fn run(request: Request, tell: &mut dyn FnMut(Out)) -> Result<Status, Wrong> {
         Some(pairs) => pairs.iter().for_each(|[left, right]| each(asking.ask(left, right))),
     }
     if tells.summary {
-        let object = tally.summary_object("check", rules.len());
+        let object = tally.counts(summary_of(command).number("rules", rules.len()));
+        let object = object.number("status", Status::from(tally).number().into());
         let words = check_words(&kept, tally, rules.len());
         tell(if tells.words { object.text("words", &words) } else { object });
     }
@@ -97,7 +100,7 @@ impl Tells {
     fn object(self, pair: &Pair) -> Out {
         let Pair { left, right, asked } = pair;
         let (mut object, mut words) =
-            (pair_object(left, right, asked), pair_words(left, right, asked));
+            (pair_object(left, right, asked), pair_words(left, right, asked, Paint::NONE));
         if self.steps && pair.clashes() == Some(true) {
             let rows = pair.way();
             object = steps_in(object, left, right, rows.as_deref());

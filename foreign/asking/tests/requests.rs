@@ -135,10 +135,14 @@ fn mistakes_are_told_at_their_places() {
     let number = |number: &str| Value::Number(number.to_string());
     assert_eq!([place("line", &one), place("column", &one)], [number("1"), number("10")]);
     assert_eq!([place("line", &other), place("column", &other)], [number("2"), number("9")]);
-    // of all files
-    let file = |name: &str| format!(r#"{{"name":"{name}","text":"a = b\n"}}"#);
-    let (_, lines) = asked(&format!("{{\"files\":[{},{}]}}", file("one"), file("two")));
-    assert_eq!(lines.len(), 2);
+    // of several files those of the first one that has some
+    let file = |name: &str, text: &str| format!(r#"{{"name":"{name}","text":"{text}\n"}}"#);
+    let files = |files: &[String]| asked(&format!("{{\"files\":[{}]}}", files.join(",")));
+    let (_, lines) = files(&[file("one", "a = A"), file("two", "a = b"), file("three", "a = b")]);
+    assert_eq!((lines.len(), text(&object(&lines[0]), "file")), (1, "two".to_string()));
+    let (status, lines) = files(&[file("one", "a = A"), file("two", "full ascii\\na = b")]);
+    assert_eq!(status, 3);
+    assert!(text(&object(&lines[0]), "error").starts_with("two is Full ASCII and one is not"));
     assert_eq!(asked(r##"{"rules":"# nothing\n"}"##).0, 5);
 }
 

@@ -18,6 +18,8 @@ pub enum Room {
     /// From [`FIRST_ROOM`] to the most there can be.
     #[default]
     Growing,
+    /// From there to so much.
+    UpTo(usize),
     /// So much and no more.
     Fixed(usize),
 }
@@ -25,14 +27,12 @@ pub enum Room {
 impl Room {
     /// What is tried, one after the other.
     pub fn sizes(self) -> impl Iterator<Item = usize> {
-        let first = match self {
-            Room::Growing => FIRST_ROOM,
-            Room::Fixed(room) => room,
+        let (first, last) = match self {
+            Room::Growing => (FIRST_ROOM, MOST_SITUATIONS),
+            Room::UpTo(room) => (FIRST_ROOM.min(room), room),
+            Room::Fixed(room) => (room, room),
         };
-        let next = move |&room: &usize| {
-            let grows = self == Room::Growing && room < MOST_SITUATIONS;
-            grows.then(|| (room * GROWTH).min(MOST_SITUATIONS))
-        };
+        let next = move |&room: &usize| (room < last).then(|| (room * GROWTH).min(last));
         std::iter::successors(Some(first), next)
     }
 }
@@ -46,6 +46,8 @@ pub struct Asked {
     pub search: u8,
     /// The last room that was tried, in situations.
     pub room: usize,
+    /// Whether larger room was to be tried and was not, since the caller had enough.
+    pub given_up: bool,
     /// The label that both make, if they clash and the library wrote the texts.
     pub shared: Option<Shared>,
 }
@@ -62,8 +64,12 @@ pub struct Shared {
 
 impl Asked {
     /// What is said of two rules that the library settles by their fronts, without a search.
-    pub const SETTLED: Asked =
-        Asked { answer: Answer::NoClash { count: 0 }, search: 0, room: 0, shared: None };
+    pub const SETTLED: Asked = Asked::of(Answer::NoClash { count: 0 }, 0, 0);
+
+    /// An answer without a label.
+    pub const fn of(answer: Answer, search: u8, room: usize) -> Asked {
+        Asked { answer, search, room, given_up: false, shared: None }
+    }
 }
 
 /// A rule, with what would else be worked out for each of its pairs.
@@ -82,8 +88,7 @@ impl<'a> Ready<'a> {
     /// Whether no texts at all make the labels of this rule, on the left, and of another one the same,
     /// as the library says by their fixed fronts and ends alone. Else nothing is known.
     pub fn differs(&self, right: &Ready) -> bool {
-        let (_left, _right) = (&self.side.tokens, &right.right);
-        false
+        bradovusc::fronts_differ(self.side.edition, &self.side.tokens, &right.right)
     }
 }
 
@@ -110,8 +115,19 @@ impl Buffers {
 
     /// Asks until it is decided, or the room is the most there can be.
     pub fn ask(&mut self, left: &Side, right: &Side, room: Room) -> Asked {
-        let mut asked =
-            Asked { answer: Answer::NoRoom { count: 0 }, search: 0, room: 0, shared: None };
+        self.ask_while(left, right, room, |_, _| true)
+    }
+
+    /// The same, but after the first room only while the caller wants to go on, who is told of the last
+    /// room and of the next one.
+    pub fn ask_while(
+        &mut self,
+        left: &Side,
+        right: &Side,
+        room: Room,
+        mut go_on: impl FnMut(usize, usize) -> bool,
+    ) -> Asked {
+        let mut asked = Asked::of(Answer::NoRoom { count: 0 }, 0, 0);
         let sheet = match sheet(left, right) {
             Ok(sheet) => sheet,
             Err(written) => {
@@ -122,7 +138,11 @@ impl Buffers {
                 return asked;
             }
         };
-        for room in room.sizes() {
+        for (index, room) in room.sizes().enumerate() {
+            if index > 0 && !go_on(asked.room, room) {
+                asked.given_up = true;
+                break;
+            }
             asked = self.ask_once(&sheet, room);
             if !matches!(asked.answer, Answer::NoRoom { .. } | Answer::SideTooLong { .. }) {
                 break;
@@ -165,7 +185,7 @@ impl Buffers {
             _ => None,
         };
         self.answer = answer;
-        Asked { answer: decision.answer, search: decision.search, room, shared }
+        Asked { shared, ..Asked::of(decision.answer, decision.search, room) }
     }
 }
 
@@ -178,6 +198,9 @@ mod tests {
     #[test]
     fn the_room_grows_fourfold() {
         assert!(Room::Growing.sizes().eq([356, 1_424, 5_696, 22_784, 65_535]));
+        assert!(Room::UpTo(17).sizes().eq([17]));
+        assert!(Room::UpTo(2_000).sizes().eq([356, 1_424, 2_000]));
+        assert!(Room::UpTo(65_535).sizes().eq(Room::Growing.sizes()));
         assert!(Room::Fixed(17).sizes().eq([17]));
         assert!(Room::Fixed(65_535).sizes().eq([65_535]));
     }

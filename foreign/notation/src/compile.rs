@@ -5,6 +5,7 @@ use std::sync::Arc;
 
 use bradovusc::{Answer, Fault, RULE_FIELDS};
 
+use crate::merging::merge_hint;
 use crate::mistakes::Mistakes;
 use crate::plain::{plain, Form, Plain};
 use crate::sides::{Place, Side, Title};
@@ -82,11 +83,11 @@ pub fn judge(rule: &Rule) -> Result<Side, Mistake> {
     let sheet = [&front.bytes, NO_RIGHT].concat();
     // no room: the sheet is only read
     if let Answer::Refused { fault, place } = bradovusc::clash(&sheet, &mut [], &mut []) {
-        return Err(front.mistake(fault, place));
+        return Err(front.mistake(fault, place, rule));
     }
     // a sheet has as many for each of its two rules
     match rule.fields.get(RULE_FIELDS) {
-        Some(field) => Err(too_many_fields(field.span, RULE_FIELDS)),
+        Some(field) => Err(too_many_fields(field.span, RULE_FIELDS, rule)),
         None => Ok(side),
     }
 }
@@ -195,15 +196,15 @@ fn put_row(codes: u8, operator: u8, parts: &[Plain], span: Span, to: &mut Traced
     }
 }
 
-fn too_many_fields(span: Span, field: usize) -> Mistake {
+fn too_many_fields(span: Span, field: usize, rule: &Rule) -> Mistake {
     let words =
         format!("field number {} of this rule: a rule has at most {RULE_FIELDS}", field + 1);
-    Mistake::new(span, words)
+    Mistake::new(span, words).hint(merge_hint(rule))
 }
 
 impl Traced {
     /// A fault that the library found, where the byte at fault is from.
-    fn mistake(&self, fault: Fault, place: usize) -> Mistake {
+    fn mistake(&self, fault: Fault, place: usize, rule: &Rule) -> Mistake {
         let origin = self.origins.get(place).or(self.origins.last());
         let (span, says) = origin.map_or((Span::default(), Says::Mark), |at| (at.span, at.says));
         match (fault, says) {
@@ -228,8 +229,8 @@ impl Traced {
                     format!("leaf number {} of this pattern: the most are {LEAVES}", LEAVES + 1);
                 Mistake::new(span, words).hint(SHORTER)
             }
-            (Fault::WrongField, Says::Field(field)) => too_many_fields(span, field),
-            (Fault::WrongToken, Says::Token(Some(field))) => too_many_fields(span, field),
+            (Fault::WrongField, Says::Field(field)) => too_many_fields(span, field, rule),
+            (Fault::WrongToken, Says::Token(Some(field))) => too_many_fields(span, field, rule),
             _ => Mistake::new(span, format!("the library says: {fault}")),
         }
     }
@@ -284,7 +285,7 @@ mod tests {
     #[test]
     fn a_stray_pattern_in_words() {
         let rules = read(&Source::new("f", b"a = {x}\n x = B\n")).unwrap();
-        let mistake = compile(&rules[0]).front.mistake(Fault::StrayPattern, 0);
+        let mistake = compile(&rules[0]).front.mistake(Fault::StrayPattern, 0, &rules[0]);
         assert_eq!(mistake.words, "the library says: a stray pattern");
         assert_eq!(mistake.span, rules[0].fields[0].span);
     }

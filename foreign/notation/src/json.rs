@@ -7,7 +7,8 @@ use crate::visible::is_hidden;
 /// An object that is being written.
 #[derive(Clone, Debug, Default)]
 pub struct Object {
-    inside: String,
+    /// What is written so far: nothing, or all but the last brace.
+    text: String,
 }
 
 impl Object {
@@ -15,12 +16,16 @@ impl Object {
         Object::default()
     }
 
-    pub fn text(self, key: &str, text: &str) -> Object {
-        self.raw(key, &quoted(text))
+    pub fn text(mut self, key: &str, text: &str) -> Object {
+        self.key(key);
+        put_quoted(&mut self.text, text);
+        self
     }
 
-    pub fn number(self, key: &str, number: usize) -> Object {
-        self.raw(key, &number.to_string())
+    pub fn number(mut self, key: &str, number: usize) -> Object {
+        self.key(key);
+        let _ = write!(self.text, "{}", number);
+        self
     }
 
     pub fn truth(self, key: &str, truth: bool) -> Object {
@@ -42,38 +47,56 @@ impl Object {
     }
 
     fn raw(mut self, key: &str, value: &str) -> Object {
-        if !self.inside.is_empty() {
-            self.inside.push(',');
-        }
-        self.inside += &quoted(key);
-        self.inside.push(':');
-        self.inside += value;
+        self.key(key);
+        self.text += value;
         self
     }
 
+    fn key(&mut self, key: &str) {
+        if self.text.is_empty() {
+            self.text.reserve(USUAL);
+        }
+        self.text.push(if self.text.is_empty() { '{' } else { ',' });
+        put_quoted(&mut self.text, key);
+        self.text.push(':');
+    }
+
     /// The object as text, without a newline.
-    pub fn done(self) -> String {
-        format!("{{{}}}", self.inside)
+    pub fn done(mut self) -> String {
+        self.text += if self.text.is_empty() { "{}" } else { "}" };
+        self.text
     }
 }
 
+/// Most objects have no more bytes.
+const USUAL: usize = 160;
+
 /// A text as a JSON string.
-fn quoted(text: &str) -> String {
-    let mut string = String::from('"');
+fn put_quoted(to: &mut String, text: &str) {
+    to.push('"');
+    let plain = |byte: u8| (b' '..0x7F).contains(&byte) && byte != b'"' && byte != b'\\';
+    if text.bytes().all(plain) {
+        *to += text;
+    } else {
+        put_escaped(to, text);
+    }
+    to.push('"');
+}
+
+fn put_escaped(to: &mut String, text: &str) {
     for sign in text.chars() {
         match sign {
-            '"' | '\\' => string.extend(['\\', sign]),
-            '\n' => string += "\\n",
+            '"' | '\\' => to.extend(['\\', sign]),
+            '\n' => *to += "\\n",
             // U+2028 and U+2029 end lines for some readers, and others change what is seen
             sign if is_hidden(sign) => {
                 for unit in sign.encode_utf16(&mut [0; 2]) {
-                    let _ = write!(string, "\\u{:04x}", unit);
+                    let _ = write!(to, "\\u{:04x}", unit);
                 }
             }
-            sign => string.push(sign),
+            sign => to.push(sign),
         }
     }
-    string + "\""
 }
 
 #[cfg(test)]

@@ -13,7 +13,10 @@ use std::iter::repeat;
 use bradovusc::RULE_FIELDS;
 
 use crate::places::{Places, START};
-use crate::sides::{without_spaces, Side, Text};
+use crate::sides::{Side, Text};
+
+/// Labels have at most so many characters.
+pub const LONGEST_LABEL: usize = 4_096;
 
 /// A rule, ready to read labels.
 pub struct Reader<'a> {
@@ -58,14 +61,11 @@ impl<'a> Reader<'a> {
     /// several ways it is that with the shortest text in the first field, then in the second one, and so
     /// on.
     pub fn read(&self, label: &[u8]) -> Option<Vec<Text>> {
-        let mut label = label.to_vec();
-        without_spaces(self.side.edition, &mut label);
-        let mut reading = Reading {
-            reader: self,
-            label: &label,
-            held: [None; RULE_FIELDS],
-            failed: HashSet::new(),
-        };
+        let space = self.side.edition.space();
+        let end = label.iter().rposition(|&sign| sign != space).map_or(0, |last| last + 1);
+        let label = &label[..end];
+        let mut reading =
+            Reading { reader: self, label, held: [None; RULE_FIELDS], failed: HashSet::new() };
         if !reading.from(0, 0) {
             return None;
         }

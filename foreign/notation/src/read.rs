@@ -48,6 +48,12 @@ fn is_full_ascii(signs: &[char]) -> bool {
     words.map(String::from_iter).eq(FULL_ASCII)
 }
 
+/// The number of the line that says that a file is Full ASCII, if there is one. The file has no mistake.
+pub fn full_ascii_line(source: &Source) -> Option<usize> {
+    let says = |signs: &[char]| is_full_ascii(without_comment(Edition::Code39, signs));
+    source.lines().find(|(_, line)| says(&line.signs)).map(|(number, _)| number)
+}
+
 /// What is read so far.
 #[derive(Default)]
 struct File {

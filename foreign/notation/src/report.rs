@@ -3,8 +3,9 @@
 use bradovusc::{spelt_bytes, Answer, Edition};
 
 use crate::advice::{advice_objects, advice_words};
-use crate::ask::Asked;
+use crate::ask::{Asked, Shared};
 use crate::json::Object;
+use crate::paint::Paint;
 use crate::print::told_text;
 use crate::sides::{Side, Text, Title};
 use crate::source::{Mistake, Source};
@@ -13,8 +14,16 @@ use crate::status::Status;
 /// The version of the objects: it rises where a key is taken away or changes its meaning.
 pub const SCHEMA: usize = 1;
 
+/// What is told at the end of a command that is called so, begun as an object.
+pub fn summary_of(command: &str) -> Object {
+    Object::new().text("summary", command).number("schema", SCHEMA)
+}
+
 /// A side of a situation has at most so many tokens.
 const LONGEST_SIDE: usize = 48;
+
+/// What begins all words on a pair that is not decided.
+const OPEN: &str = "not decided";
 
 /// A number with a comma before each three digits.
 pub fn grouped(number: usize) -> String {
@@ -51,60 +60,93 @@ impl Tally {
         }
     }
 
-    /// The counts as an object, behind what it has already.
-    pub fn counts(self, object: Object, rules: usize) -> Object {
+    /// The counts, behind what an object has already.
+    pub fn counts(self, object: Object) -> Object {
         object
-            .number("rules", rules)
             .number("pairs", self.clashes + self.not_decided + self.apart)
             .number("clashes", self.clashes)
             .number("not_decided", self.not_decided)
             .number("no_clash", self.apart)
     }
 
-    /// What is told at the end of a command that is called so, as an object.
-    pub fn summary_object(self, command: &str, rules: usize) -> Object {
-        let object = Object::new().text("summary", command).number("schema", SCHEMA);
-        let status = usize::from(Status::from(self).number());
-        self.counts(object, rules).number("status", status)
-    }
-
-    /// The last line of what is told about so many rules.
-    pub fn summary(self, rules: usize) -> String {
+    /// The last line of what is told about these rules.
+    pub fn summary(self, rules: &str, paint: Paint) -> String {
+        let clashes = counted(self.clashes, "clash", "clashes");
+        let open = format!("{} {OPEN}", grouped(self.not_decided));
         format!(
-            "{}, {}: {}, {} not decided, {} without a clash\n",
-            counted(rules, "rule", "rules"),
+            "{rules}, {}: {}, {}, {} without a clash\n",
             counted(self.clashes + self.not_decided + self.apart, "pair", "pairs"),
-            counted(self.clashes, "clash", "clashes"),
-            grouped(self.not_decided),
+            if self.clashes > 0 { paint.wrong(&clashes) } else { clashes },
+            if self.not_decided > 0 { paint.open(&open) } else { open },
             grouped(self.apart),
         )
     }
 }
 
 /// Two rules and what was said of them, in words.
-pub fn pair_words(left: &Side, right: &Side, asked: &Asked) -> String {
+pub fn pair_words(left: &Side, right: &Side, asked: &Asked, paint: Paint) -> String {
     let titles = format!("{} and {}", left.title, right.title);
     match (asked.answer, &asked.shared) {
         (Answer::NoClash { count }, _) => {
-            let situations = counted(count, "situation", "situations");
-            format!("{titles}: no clash: no label can be made by both ({situations})\n")
+            let how = match asked.search {
+                0 => "their fixed fronts or ends differ".to_string(),
+                _ => counted(count, "situation", "situations"),
+            };
+            let none = paint.good("no clash");
+            format!(
+                "{titles}: {none}: no label can be made by both ({how})
+"
+            )
         }
         (_, Some(shared)) => {
-            let label = label_words(left.edition, &shared.label);
-            let (on_left, on_right) =
-                (fields_words(left, &shared.left), fields_words(right, &shared.right));
-            format!(
-                "{titles} clash: {label}\n  {}: {on_left}\n  {}: {on_right}\n",
-                left.told(),
-                right.told()
-            )
+            let label = paint.bold(&label_words(left.edition, &shared.label));
+            let (clash, made) =
+                (paint.wrong("clash"), shared_lines(left, right, shared, "  ", Side::told));
+            format!("{titles} {clash}: {label}\n{made}")
         }
         (answer, None) if answer.clashes() == Some(true) => format!("{titles} {answer}\n"),
         (_, None) => {
-            let helps = advice_words(left, right, asked);
-            format!("{titles}: {}\n{helps}", not_decided_words(asked))
+            let (words, helps) = (not_decided_words(asked), advice_words(left, right, asked));
+            let open = words.replacen(OPEN, &paint.open(OPEN), 1);
+            format!("{titles}: {open}\n{helps}")
         }
     }
+}
+
+/// What the fields of both rules hold on a label that both make, each on a line behind this indent,
+/// and whether spaces at its end are dropped.
+pub fn shared_lines(
+    left: &Side,
+    right: &Side,
+    shared: &Shared,
+    indent: &str,
+    name: fn(&Side) -> String,
+) -> String {
+    let line = |side: &Side, texts: &[Text]| {
+        format!("{indent}{}: {}\n", name(side), fields_words(side, texts))
+    };
+    let lines = line(left, &shared.left) + &line(right, &shared.right);
+    match dropped_words(left, right, shared) {
+        Some(words) => format!("{lines}{indent}{words}\n"),
+        None => lines,
+    }
+}
+
+/// That spaces at the end are dropped, where one of the rules has some there: then what the fields
+/// hold makes more than the label that is told.
+pub fn dropped_words(left: &Side, right: &Side, shared: &Shared) -> Option<String> {
+    let (on_left, on_right) = (left.written(&shared.left), right.written(&shared.right));
+    let more = |written: &[u8]| written.len() > shared.label.len();
+    let made = |side: &Side, written: &[u8]| {
+        format!("{} makes {}", side.title, told_text(side.edition, written))
+    };
+    (more(&on_left) || more(&on_right)).then(|| {
+        format!(
+            "spaces at the end of a label are dropped: {}, {}",
+            made(left, &on_left),
+            made(right, &on_right)
+        )
+    })
 }
 
 /// A label as it is told, and as it is spelt where that is another thing.
@@ -133,6 +175,10 @@ pub fn not_decided_words(asked: &Asked) -> String {
     let were = if entered == 1 { "was" } else { "were" };
     let room = grouped(asked.room);
     match asked.answer {
+        answer if asked.given_up => format!(
+            "not decided: the seconds were over; {situations} {were} entered, in room for {room} ({})",
+            answer.number()
+        ),
         Answer::SideTooLong { .. } => format!(
             "not decided: a side grew above {LONGEST_SIDE} tokens; {situations} {were} entered, in \
              room for {room} (19)"
@@ -187,6 +233,7 @@ pub fn pair_in(object: Object, left: &Side, right: &Side, asked: &Asked) -> Obje
         .number("situations", asked.answer.count())
         .number("room", asked.room);
     match asked.answer {
+        _ if asked.given_up => object = object.text("limit", "seconds"),
         Answer::NoRoom { .. } => object = object.text("limit", "room"),
         Answer::SideTooLong { .. } => object = object.text("limit", "side"),
         _ => (),
@@ -212,7 +259,7 @@ pub fn pair_in(object: Object, left: &Side, right: &Side, asked: &Asked) -> Obje
 }
 
 /// Where a rule is from, under two keys.
-fn placed(object: Object, file: &str, line: &str, side: &Side) -> Object {
+pub fn placed(object: Object, file: &str, line: &str, side: &Side) -> Object {
     let place = match &side.place {
         Some(place) => place,
         None => return object,

@@ -7,6 +7,7 @@ use std::sync::Arc;
 use bradovusc::{Edition, Written, RULE_FIELDS, SHEET_BYTES};
 
 use crate::report::counted;
+use crate::visible::visible;
 
 /// The fields of a right side stand behind those of the left one: 4 to 7 for 0 to 3.
 pub const RIGHT: u8 = RULE_FIELDS as u8;
@@ -43,9 +44,10 @@ pub struct Place {
 
 impl fmt::Display for Place {
     fn fmt(&self, to: &mut fmt::Formatter<'_>) -> fmt::Result {
+        to.write_str(&visible(&self.file))?;
         match self.line {
-            Some(line) => write!(to, "{}:{line}", self.file),
-            None => to.write_str(&self.file),
+            Some(line) => write!(to, ":{line}"),
+            None => Ok(()),
         }
     }
 }
@@ -74,6 +76,13 @@ pub struct Text {
 }
 
 impl Side {
+    /// Whether it is the same rule as another one, wherever both are from.
+    pub fn is_as(&self, other: &Side) -> bool {
+        let Side { edition, title, place: _, patterns, tokens, fields } = self;
+        (edition, title, patterns, tokens, fields)
+            == (&other.edition, &other.title, &other.patterns, &other.tokens, &other.fields)
+    }
+
     /// Its title, with where it is from.
     pub fn told(&self) -> String {
         match &self.place {
@@ -98,6 +107,13 @@ impl Side {
 
     /// The label that the rule makes of these texts, by value, without the spaces at its end.
     pub fn label(&self, texts: &[Text]) -> Vec<u8> {
+        let mut label = self.written(texts);
+        without_spaces(self.edition, &mut label);
+        label
+    }
+
+    /// The same with the spaces at its end.
+    pub fn written(&self, texts: &[Text]) -> Vec<u8> {
         let mut label = Vec::new();
         for &token in &self.tokens {
             match token.checked_sub(self.edition.codes()) {
@@ -108,7 +124,6 @@ impl Side {
                 }
             }
         }
-        without_spaces(self.edition, &mut label);
         label
     }
 
@@ -132,6 +147,21 @@ pub fn find<'a, S: Borrow<Side>>(rules: &'a [S], file: &str, name: &str) -> Resu
         };
         format!("{file} has no rule '{name}'; {names}")
     })
+}
+
+/// Rules are asked about together only if they have the same characters. Those of a file have.
+pub fn same_edition(one: &Side, other: &Side) -> Result<(), String> {
+    if one.edition == other.edition {
+        return Ok(());
+    }
+    let (full, plain) = if one.edition == Edition::FullAscii { (one, other) } else { (other, one) };
+    let file =
+        |side: &Side| side.place.as_ref().map_or(side.title.to_string(), |at| at.file.to_string());
+    Err(format!(
+        "{} is Full ASCII and {} is not: only rules with the same characters are asked about together",
+        file(full),
+        file(plain)
+    ))
 }
 
 /// Drops the spaces at the end of a label.

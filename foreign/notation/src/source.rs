@@ -80,7 +80,7 @@ impl Line {
 }
 
 /// What some editors put in front of a file in UTF-8.
-const BYTE_ORDER_MARK: &[u8] = "\u{FEFF}".as_bytes();
+pub const BYTE_ORDER_MARK: &[u8] = "\u{FEFF}".as_bytes();
 
 impl Source {
     pub fn new(name: impl Into<String>, bytes: &[u8]) -> Source {

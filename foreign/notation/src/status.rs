@@ -17,6 +17,8 @@ pub enum Status {
     Failure,
     /// 5: a file of rules has no rule.
     NoRule,
+    /// 6: no rule reads some label, and no label is read by several.
+    NotRead,
 }
 
 impl Status {

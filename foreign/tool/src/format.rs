@@ -1,12 +1,13 @@
 //! The forms in which pairs are told, and those of one line each: for editors, and for GitHub.
 
+use crate::advice::advice_words;
 use crate::ask::Asked;
 use crate::notation::mistakes::more_mistakes;
 use crate::notation::paint::Paint;
 use crate::notation::visible::visible;
-use crate::report::{fields_words, label_words, not_decided_words};
+use crate::report::{dropped_words, fields_words, label_words, not_decided_words};
 use crate::sarif;
-use crate::sides::{Place, Side};
+use crate::sides::{Place, Side, Text};
 use crate::source::{Mistake, Source};
 use crate::status::{problem_objects, problem_words, Problem};
 
@@ -50,9 +51,29 @@ impl Format {
 pub fn sentence(left: &Side, right: &Side, asked: &Asked) -> String {
     let titles = format!("{} and {}", right.title, left.told());
     match &asked.shared {
-        Some(shared) => format!("{titles} clash: {}", label_words(left.edition, &shared.label)),
+        Some(shared) => {
+            let dropped = dropped_words(left, right, shared);
+            let dropped = dropped.map_or(String::new(), |words| format!(" ({words})"));
+            format!("{titles} clash: {}{dropped}", label_words(left.edition, &shared.label))
+        }
         None if asked.answer.clashes() == Some(true) => format!("{titles} {}", asked.answer),
         None => format!("{titles}: {}", not_decided_words(asked)),
+    }
+}
+
+/// What is told besides: of a clash what the fields hold, else what may help.
+pub fn details(left: &Side, right: &Side, asked: &Asked) -> Vec<String> {
+    match &asked.shared {
+        Some(shared) => {
+            let held = |(side, texts): (&Side, &[Text])| {
+                format!("{}: {}", side.title, fields_words(side, texts))
+            };
+            [(right, &shared.right[..]), (left, &shared.left[..])].map(held).to_vec()
+        }
+        None => {
+            let words = advice_words(left, right, asked);
+            words.lines().map(|line| line.trim().to_string()).collect()
+        }
     }
 }
 
@@ -97,19 +118,14 @@ pub fn github(left: &Side, right: &Side, asked: &Asked) -> String {
         Some(true) => ("error", "Two rules make the same label"),
         _ => ("warning", "Not decided"),
     };
-    let mut words = sentence(left, right, asked);
-    if let Some(shared) = &asked.shared {
-        for (side, texts) in [(right, &shared.right), (left, &shared.left)] {
-            words += &format!("\n{}: {}", side.title, fields_words(side, texts));
-        }
-    }
+    let words = [vec![sentence(left, right, asked)], details(left, right, asked)].concat();
     let place = right.place.as_ref().map(|Place { file, line }| {
         let line = line.map(|line| ("line", line.to_string()));
         [("file", file.to_string())].into_iter().chain(line).collect::<Vec<_>>()
     });
     let mut properties = place.unwrap_or_default();
     properties.push(("title", title.to_string()));
-    annotation(level, &properties, &words)
+    annotation(level, &properties, &words.join("\n"))
 }
 
 /// What ends a command without an answer, as annotations.

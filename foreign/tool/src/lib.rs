@@ -7,6 +7,7 @@
 pub mod catalogue;
 pub mod format;
 pub mod kinds;
+pub mod labels;
 pub mod narrow;
 pub mod near;
 pub mod overlap;
@@ -17,6 +18,7 @@ pub mod repair;
 pub mod replace;
 pub mod run;
 pub mod sarif;
+pub mod spend;
 pub mod status;
 pub mod teller;
 pub mod words;

@@ -100,9 +100,12 @@ pub fn narrowed(pattern: &Pattern, text: &[u8]) -> Vec<Pattern> {
                 changed(Kind::Repeat { part: Box::new(part), least: *least, most: *most })
             };
             let mut all: Vec<Pattern> = narrowed(part, text).into_iter().map(again).collect();
-            if most.is_none_or(|most| *least < most) {
-                let part = part.clone();
-                all.push(changed(Kind::Repeat { part, least: least + 1, most: *most }));
+            // more often than now, and more often than in any reading of the text
+            for more in [*least + 1, (*least).max(text.len() as u32) + 1] {
+                if most.is_none_or(|most| more <= most) {
+                    let part = part.clone();
+                    all.push(changed(Kind::Repeat { part, least: more, most: *most }));
+                }
             }
             all
         }
@@ -157,7 +160,7 @@ mod tests {
         };
         assert_eq!(shown("[0-2]A", &[0, 10]), ["[12]A"]);
         assert_eq!(shown("AB|[CD]", &[12]), ["AB", "[CD]", "D"]);
-        assert_eq!(shown("[AB]{1,2}", &[10]), ["B{1,2}", "[AB]{2}"]);
+        assert_eq!(shown("[AB]{1,2}", &[10]), ["B{1,2}", "[AB]{2}", "[AB]{2}"]);
         assert_eq!(shown("A{2}", &[10, 10]), [""; 0]);
     }
 }

@@ -1,11 +1,15 @@
 //! The commands.
 
+mod accept;
+mod pair;
+mod which;
+
 use std::ffi::OsString;
 use std::fmt;
-use std::fs::File;
+use std::fs::{self, File};
 use std::io::{self, Read, Write};
 use std::ops::Range;
-use std::path::Path;
+use std::path::{Path, PathBuf};
 use std::time::{Duration, Instant};
 
 use bradovusc::{
@@ -20,17 +24,17 @@ use crate::format::{problem_on_output, short_problem, Format};
 use crate::json::Object;
 use crate::kinds;
 use crate::notation::paint::Paint;
-use crate::notation::{pattern_text, read, rule_text, template_text, Rule};
+use crate::notation::{pattern_text, rule_text, template_text, Rule};
 use crate::pairs::Pairs;
 use crate::parallel::{in_order, processors, Event};
 use crate::progress::Progress;
-use crate::repair::{repair, repair_in, repair_words};
-use crate::report::{counted, grouped, pair_in, pair_object, pair_words, titled, Tally};
-use crate::sides::{find, sheet, Side, Title};
+use crate::report::{counted, grouped, pair_in, pair_words, titled, Tally, SCHEMA};
+use crate::sides::{find, same_edition, sheet, Side, Title};
 use crate::source::Source;
+use crate::spend::Spend;
 use crate::status::{problem_words, Problem, Status};
 use crate::teller::Teller;
-use crate::way::{steps_in, steps_words, way};
+
 use crate::words::{self, Command, Options};
 
 /// Where a command reads and writes.
@@ -55,7 +59,10 @@ const MOST_FILE: u64 = 16 << 20;
 
 /// Does what the words behind the program's name say.
 pub fn run(words: &[OsString], streams: Streams<'_>) -> Status {
-    let (options, command) = words::read(words);
+    let (mut options, command) = words::read(words);
+    if options.format == Format::Text {
+        options.paint = streams.paint;
+    }
     let format = options.format;
     let mut run = Run { options, streams };
     let outcome = match command {
@@ -97,18 +104,20 @@ struct Run<'a> {
 impl Run<'_> {
     fn command(&mut self, command: Command) -> Outcome {
         match command {
-            Command::Check { file } => self.check(&file),
+            Command::Check { files } => self.check(&files),
             Command::Pair { file, left, right } => self.pair(&file, &left, &right),
             Command::Add { catalogue, file, rule } => self.add(&catalogue, &file, &rule),
             Command::Withdraw { catalogue, number } => self.withdraw(&catalogue, number),
             Command::List { catalogue } => self.list(&catalogue),
             Command::Recheck { catalogue } => self.recheck(&catalogue),
+            Command::Which { file, labels } => self.which(&file, &labels),
+            Command::Accept { base, new } => self.accept(&base, &new),
             Command::Script { file, left, right } => self.script(&file, &left, &right),
             Command::Sheet { file, left, right } => self.sheet(&file, &left, &right),
             Command::Help { text } => self.say(&text, || Object::new().text("help", &text)),
             Command::Version => {
                 let version = bradovusc::VERSION;
-                let object = || Object::new().text("version", version);
+                let object = || Object::new().text("version", version).number("schema", SCHEMA);
                 self.say(&format!("bradovusc {version}\n"), object)
             }
         }
@@ -124,35 +133,50 @@ impl Run<'_> {
         Ok(Status::Good)
     }
 
-    /// The rules of a file, as the library reads them, all of them taken by it.
-    fn rules(&mut self, path: &Path) -> Result<Vec<Side>, Problem> {
-        let sides = judged(self.source(path)?)?;
-        match sides.is_empty() {
-            true => Err(Problem::no_rule(path)),
-            false => Ok(sides),
+    /// The bytes of a file, or of standard input, of which there are at most so many.
+    fn bytes_of(&mut self, path: &Path, most: u64) -> Result<Vec<u8>, Problem> {
+        let failed = |error| Problem::failed("read", path, &error);
+        let mut bytes = Vec::new();
+        if path == Path::new("-") {
+            (&mut *self.streams.input).take(most + 1).read_to_end(&mut bytes).map_err(failed)?;
+        } else {
+            let file = File::open(path).map_err(failed)?;
+            file.take(most + 1).read_to_end(&mut bytes).map_err(failed)?;
         }
+        if bytes.len() as u64 > most {
+            let words = format!("{} is above {} bytes", path.display(), grouped(most as usize));
+            return Err(Problem::Fault(words));
+        }
+        Ok(bytes)
     }
 
     /// A file of rules as it is.
     fn source(&mut self, path: &Path) -> Result<Source, Problem> {
-        let failed = |error| Problem::failed("read", path, &error);
-        let mut bytes = Vec::new();
-        let most = MOST_FILE + 1;
-        if path == Path::new("-") {
-            (&mut *self.streams.input).take(most).read_to_end(&mut bytes).map_err(failed)?;
-        } else {
-            let file = File::open(path).map_err(failed)?;
-            file.take(most).read_to_end(&mut bytes).map_err(failed)?;
+        let bytes = self.bytes_of(path, MOST_FILE)?;
+        source_of(path, &bytes)
+    }
+
+    /// The rules of a file, as the library reads them, all of them taken by it.
+    fn rules(&mut self, path: &Path) -> Result<Vec<Side>, Problem> {
+        judged_some(self.source(path)?)
+    }
+
+    /// The rules of several files, one behind the other; and how many of them are from the first `old`
+    /// files.
+    fn rules_of(&mut self, paths: &[PathBuf], old: usize) -> Result<(Vec<Side>, usize), Problem> {
+        let (mut rules, mut from_old): (Vec<Side>, usize) = (Vec::new(), 0);
+        for (index, path) in paths.iter().enumerate() {
+            if paths[..index].iter().any(|before| same_file(before, path)) {
+                return Err(Problem::Fault(format!("{} is named twice", path.display())));
+            }
+            let more = self.rules(path)?;
+            if let (Some(first), Some(new)) = (rules.first(), more.first()) {
+                same_edition(first, new).map_err(Problem::Fault)?;
+            }
+            from_old += if index < old { more.len() } else { 0 };
+            rules.extend(more);
         }
-        if bytes.len() as u64 == most {
-            let words =
-                format!("{} is above {} bytes", path.display(), grouped(MOST_FILE as usize));
-            return Err(Problem::Fault(words));
-        }
-        if kinds::is_catalogue(&bytes) {
-            return Err(Problem::Fault(kinds::a_catalogue(path)));
-        }
-        Ok(Source::new(path.display().to_string(), &bytes))
+        Ok((rules, from_old))
     }
 
     /// The two rules with these names.
@@ -172,13 +196,13 @@ impl Run<'_> {
         pairs: impl Fn(Range<usize>) -> I + Sync,
         mut tell: impl FnMut(&mut dyn Write, &'s Side, &'s Side, &Asked) -> io::Result<()>,
     ) -> Result<(), Problem> {
-        let (threads, room) = (self.threads(), self.options.room);
+        let (threads, spend) = (self.threads(), Spend::new(&self.options));
         let Streams { output, errors, terminal, .. } = &mut self.streams;
         let mut progress = Progress::new(*terminal);
         let work = |buffers: &mut Buffers, range: Range<usize>| {
-            asked_of(pairs(range), |left, right| buffers.ask(left, right, room))
+            asked_of(pairs(range), |left, right| spend.ask(buffers, left, right))
         };
-        let mut told = Vec::new();
+        let (mut told, settled) = (Vec::new(), Asked::SETTLED);
         let result = in_order(count, threads, Buffers::new, work, |event| {
             match event {
                 Event::Done(done) => {
@@ -189,7 +213,7 @@ impl Run<'_> {
                     let mut asked = asked.into_iter().peekable();
                     for (place, (left, right)) in pairs(range).enumerate() {
                         let said = asked.next_if(|(at, _)| *at == place);
-                        let said = said.as_ref().map_or(&Asked::SETTLED, |(_, said)| said);
+                        let said = said.as_ref().map_or(&settled, |(_, said)| said);
                         tell(&mut told, left.side, right.side, said)?;
                         if !told.is_empty() {
                             progress.clear(errors);
@@ -205,13 +229,23 @@ impl Run<'_> {
         Ok(result?)
     }
 
-    fn check(&mut self, path: &Path) -> Outcome {
-        let rules = self.rules(path)?;
+    fn check(&mut self, files: &[PathBuf]) -> Outcome {
+        let against = &self.options.against;
+        let (paths, old) = ([against, files].concat(), against.len());
+        let (rules, old) = self.rules_of(&paths, old)?;
+        let teller = Teller::new("check", &self.options).beside(old);
+        self.tell_pairs(teller, &rules, Pairs::with_new(rules.len(), old))
+    }
+
+    /// Asks of pairs of rules, those that are in the part which is wanted, and has them told.
+    fn tell_pairs(&mut self, teller: Teller<'_>, rules: &[Side], pairs: Pairs) -> Outcome {
         let ready: Vec<Ready> = rules.iter().map(Ready::new).collect();
-        let pairs = Pairs::of(rules.len());
-        let walk = |range| pairs.walk(range).map(|(left, right)| (&ready[left], &ready[right]));
-        let teller = Teller::new("check", &self.options);
-        self.tell(teller, rules.len(), pairs.count(), walk)
+        let part = self.options.part.range(pairs.count());
+        let walk = |range: Range<usize>| {
+            let range = part.start + range.start..part.start + range.end;
+            pairs.walk(range).map(|(left, right)| (&ready[left], &ready[right]))
+        };
+        self.tell(teller, rules.len(), part.len(), walk)
     }
 
     /// Asks of so many pairs of so many rules, and has them told.
@@ -225,36 +259,6 @@ impl Run<'_> {
         teller.begin(self.streams.output)?;
         self.ask(count, pairs, |to, left, right, asked| teller.tell(to, left, right, asked))?;
         Ok(teller.end(self.streams.output, rules)?)
-    }
-
-    fn pair(&mut self, path: &Path, left: &str, right: &str) -> Outcome {
-        let source = self.source(path)?;
-        let written = read(&source).unwrap_or_default();
-        let rules = judged(source)?;
-        let [left, right] = [named(&rules, path, left)?, named(&rules, path, right)?];
-        let asked = self.ask_one(&left, &right)?;
-        if matches!(self.options.format, Format::Short | Format::Github | Format::Sarif) {
-            let mut teller = Teller::new("pair", &self.options);
-            teller.begin(self.streams.output)?;
-            teller.tell(self.streams.output, &left, &right, &asked)?;
-            return Ok(teller.end(self.streams.output, 2)?);
-        }
-        let (mut words, mut object) =
-            (pair_words(&left, &right, &asked), pair_object(&left, &right, &asked));
-        if self.options.steps && asked.answer.clashes() == Some(true) {
-            let rows = way(&left, &right, &asked);
-            words += &steps_words(&left, &right, &asked, rows.as_deref());
-            object = steps_in(object, &left, &right, rows.as_deref());
-        }
-        if let Some(shared) = asked.shared.as_ref().filter(|_| self.options.repair) {
-            let sides = [&left, &right];
-            if let Some(found) = repair(&written, sides, shared) {
-                words += &repair_words(sides, &found);
-                object = repair_in(object, sides, &found);
-            }
-        }
-        self.say(&words, || object)?;
-        Ok(status_of(asked.answer))
     }
 
     /// Asks of one pair.
@@ -391,7 +395,7 @@ impl Run<'_> {
             }
             Added::NotApart { rule: number, pair } => match catalogue.entries.get(number) {
                 Some(entry) => {
-                    let asked = Asked { answer: pair, search: decided.search, room, shared: None };
+                    let asked = Asked::of(pair, decided.search, room);
                     self.not_added(&entry.side, &side, asked)
                 }
                 None => Err(Problem::Fault(format!("the library says: {decided}"))),
@@ -448,7 +452,11 @@ impl Run<'_> {
         if asked.answer.clashes() == Some(true) {
             asked = self.ask_one(there, new)?;
         }
-        let words = format!("{} is not added\n{}", new.title, pair_words(there, new, &asked));
+        let words = format!(
+            "{} is not added\n{}",
+            new.title,
+            pair_words(there, new, &asked, self.options.paint)
+        );
         self.say(&words, || pair_in(Object::new().truth("added", false), there, new, &asked))?;
         Ok(status_of(asked.answer))
     }
@@ -486,9 +494,33 @@ fn status_of(answer: Answer) -> Status {
     tally.into()
 }
 
+/// Whether two paths lead to the same file.
+fn same_file(one: &Path, other: &Path) -> bool {
+    let real = |path: &Path| fs::canonicalize(path).unwrap_or_else(|_| path.to_path_buf());
+    one == other || real(one) == real(other)
+}
+
+/// The bytes of a file of rules as its lines.
+fn source_of(path: &Path, bytes: &[u8]) -> Result<Source, Problem> {
+    match kinds::is_catalogue(bytes) {
+        true => Err(Problem::Fault(kinds::a_catalogue(path))),
+        false => Ok(Source::new(path.display().to_string(), bytes)),
+    }
+}
+
 /// The rules of a source as the library reads them.
 pub fn judged(source: Source) -> Result<Vec<Side>, Problem> {
     compile::judged(&source).map_err(|mistakes| Problem::Mistakes(source, mistakes))
+}
+
+/// The same of a source that must have a rule.
+fn judged_some(source: Source) -> Result<Vec<Side>, Problem> {
+    let name = source.name.clone();
+    let sides = judged(source)?;
+    match sides.is_empty() {
+        true => Err(Problem::no_rule(&name)),
+        false => Ok(sides),
+    }
 }
 
 /// The rule with this name.

@@ -4,9 +4,8 @@
 //! them.
 
 use crate::ask::Asked;
-use crate::format::sentence;
+use crate::format::{details, sentence};
 use crate::json::Object;
-use crate::report::fields_words;
 use crate::sides::{Place, Side, Title};
 use crate::source::{Mistake, Source, Span};
 use crate::status::{Problem, Status};
@@ -63,15 +62,11 @@ pub fn ended(status: Status, failed: Option<&str>, properties: Object) -> String
 
 /// A pair that clashes or is not decided, at the right rule, with the left one beside it.
 pub fn pair(left: &Side, right: &Side, asked: &Asked) -> Object {
-    let mut words = sentence(left, right, asked);
-    if let Some(shared) = &asked.shared {
-        for (side, texts) in [(right, &shared.right), (left, &shared.left)] {
-            words += &format!("; {}: {}", side.title, fields_words(side, texts));
-        }
-    }
+    let words = [vec![sentence(left, right, asked)], details(left, right, asked)].concat();
     let finding = if asked.answer.clashes() == Some(true) { CLASH } else { NOT_DECIDED };
     let other = located(left).object("message", message(&left.title.to_string()));
-    result(finding, &words, located(right)).list("relatedLocations", vec![other.number("id", 1)])
+    result(finding, &words.join("; "), located(right))
+        .list("relatedLocations", vec![other.number("id", 1)])
 }
 
 /// What ends a command without an answer, as a whole log.

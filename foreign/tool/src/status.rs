@@ -41,8 +41,8 @@ impl Problem {
     }
 
     /// A file of rules without a rule.
-    pub fn no_rule(path: &Path) -> Problem {
-        Problem::NoRule(no_rule_words(&path.display().to_string()))
+    pub fn no_rule(name: &str) -> Problem {
+        Problem::NoRule(no_rule_words(name))
     }
 }
 

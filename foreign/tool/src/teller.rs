@@ -6,7 +6,9 @@ use std::io::{self, Write};
 use crate::ask::Asked;
 use crate::format::{annotation, github, short, Format};
 use crate::json::Object;
-use crate::report::{counted, pair_object, Tally};
+use crate::notation::paint::Paint;
+use crate::pairs::Part;
+use crate::report::{counted, grouped, pair_object, summary_of, Tally};
 use crate::sarif;
 use crate::sides::Side;
 use crate::status::Status;
@@ -20,6 +22,7 @@ const MOST_HELD: usize = 5_000;
 pub struct Teller<'s> {
     command: &'static str,
     format: Format,
+    paint: Paint,
     clashes_only: bool,
     summary: bool,
     /// So many clashes are told, and so many pairs that are not decided.
@@ -31,6 +34,9 @@ pub struct Teller<'s> {
     told: Tally,
     /// What is still to be told in words.
     held: Vec<Told<'s>>,
+    /// How many of the rules are not new.
+    old: usize,
+    part: Part,
 }
 
 impl<'s> Teller<'s> {
@@ -39,6 +45,7 @@ impl<'s> Teller<'s> {
         Teller {
             command,
             format: options.format,
+            paint: options.paint,
             clashes_only: options.clashes_only,
             summary: options.summary,
             most: options.max.unwrap_or(usize::MAX),
@@ -46,7 +53,15 @@ impl<'s> Teller<'s> {
             tally: Tally::default(),
             told: Tally::default(),
             held: Vec::new(),
+            old: 0,
+            part: options.part,
         }
+    }
+
+    /// The same, where so many of the rules were there before, and only pairs with another one are
+    /// asked about.
+    pub fn beside(self, old: usize) -> Teller<'s> {
+        Teller { old, ..self }
     }
 
     /// The same, but with no word of pairs without a clash, of which so many are known already.
@@ -101,7 +116,7 @@ impl<'s> Teller<'s> {
 
     /// Tells what is held back.
     fn tell_held(&mut self, to: &mut dyn Write) -> io::Result<()> {
-        let words = told_words(&self.held);
+        let words = told_words(&self.held, self.paint);
         self.held.clear();
         to.write_all(words.as_bytes())
     }
@@ -110,7 +125,7 @@ impl<'s> Teller<'s> {
     pub fn end(mut self, to: &mut dyn Write, rules: usize) -> io::Result<Status> {
         self.tell_held(to)?;
         let status = Status::from(self.tally);
-        let words = self.tally.summary(rules);
+        let words = self.tally.summary(&self.rules_words(rules), self.paint);
         let more = self.more_words();
         match self.format {
             Format::Text => write!(to, "{more}{words}")?,
@@ -120,15 +135,42 @@ impl<'s> Teller<'s> {
                 to.write_all(annotation("notice", &[], (more + &words).trim_end()).as_bytes())?;
             }
             Format::Json if self.summary => {
-                writeln!(to, "{}", self.tally.summary_object(self.command, rules).done())?;
+                let status = usize::from(status.number());
+                let counts = self.counts(summary_of(self.command), rules);
+                writeln!(to, "{}", counts.number("status", status).done())?;
             }
             Format::Sarif => {
-                let counts = self.tally.counts(Object::new(), rules);
+                let counts = self.counts(Object::new(), rules);
                 to.write_all(sarif::ended(status, None, counts).as_bytes())?;
             }
             Format::Json | Format::Github => (),
         }
         Ok(status)
+    }
+
+    /// Of which rules, and of which part of their pairs, it is told.
+    fn rules_words(&self, rules: usize) -> String {
+        let mut words = counted(rules, "rule", "rules");
+        if self.old > 0 {
+            words += &format!(", {} of them new", grouped(rules - self.old));
+        }
+        if self.part != Part::WHOLE {
+            let Part { number, of } = self.part;
+            words += &format!(", part {} of {}", grouped(number), grouped(of));
+        }
+        words
+    }
+
+    fn counts(&self, object: Object, rules: usize) -> Object {
+        let mut object = object.number("rules", rules);
+        if self.old > 0 {
+            object = object.number("new", rules - self.old);
+        }
+        if self.part != Part::WHOLE {
+            let Part { number, of } = self.part;
+            object = object.number("part", number).number("parts", of);
+        }
+        self.tally.counts(object)
     }
 
     /// A line on what was counted and not told; none where all was.

@@ -2,19 +2,24 @@
 
 use std::ffi::OsString;
 use std::path::PathBuf;
+use std::time::Duration;
 
 use bradovusc::MOST_SITUATIONS;
 
 use crate::ask::Room;
 use crate::format::Format;
 use crate::near::nearest;
+use crate::notation::paint::Paint;
+use crate::pairs::Part;
 use crate::report::grouped;
 
 pub const USAGE: &str = "\
 bradovusc: can two label rules make the same label?
 
-    bradovusc check FILE                    every pair of the rules in FILE
+    bradovusc check FILE..                  every pair of the rules in the files
     bradovusc pair FILE A B                 the rules A and B of FILE
+    bradovusc which FILE [LABEL..]          the rules that read a label, with what their fields hold
+    bradovusc accept BASE NEW               enters the rules of the file NEW into the file BASE, if no two clash
     bradovusc add CATALOGUE FILE RULE       adds RULE of FILE, if it clashes with no rule that is there
     bradovusc withdraw CATALOGUE NUMBER     takes the rule with this number out
     bradovusc list CATALOGUE                prints the rules
@@ -30,29 +35,38 @@ FILE is a file of rules, or - for standard input. Options:
     --max N       check, recheck: tells N clashes and N pairs not decided at most, and counts the rest
     --clashes-only
                   check, recheck: tells nothing but clashes
-    --summary     check, recheck: an object or a line with the counts behind all pairs
+    --summary     check, recheck, which: an object or a line with the counts behind all else
     --steps       pair: the way to the clash, step by step
     --repair      pair: further labels, which parts overlap, and what would part the two
+    --against B   check: only pairs with a rule of the files, beside those of the file B
+    --part I/N    check: part I of N parts of the pairs
+    --seconds N   check, pair, recheck, accept: no larger room once N seconds are spent on a pair
+    --csv CSV     which: the labels are in a column of the file CSV
+    --column C    which: that column, by its name in the first row, or by its number
+    --separator S which: what stands between two values, or tab; else a comma
     --room N      room for N situations, 1 to 65,535; else it grows from 356 to 65,535
     --threads N   so many threads; else as many as there are processors
-    --new         add: the catalogue is begun; without it the file must be there
+    --new         add, accept: the file is begun; without it the file must be there
     --bytes N     the catalogue file has N bytes; else 26,016
     --help, -h    prints this
     --version, -V prints the version
 
 Exit status: 0 no clash anywhere, or done; 1 a clash; 2 something not decided, and no clash known;
-3 a fault in a file, in a catalogue or in these words; 4 something could not be read or written.
+3 a fault in a file, in a catalogue or in these words; 4 something could not be read or written;
+5 a file without a rule; 6 no rule reads a label, and no label is read by several.
 ";
 
 /// What is to be done.
 #[derive(Clone, Debug, PartialEq, Eq)]
 pub enum Command {
-    Check { file: PathBuf },
+    Check { files: Vec<PathBuf> },
     Pair { file: PathBuf, left: String, right: String },
     Add { catalogue: PathBuf, file: PathBuf, rule: String },
     Withdraw { catalogue: PathBuf, number: usize },
     List { catalogue: PathBuf },
     Recheck { catalogue: PathBuf },
+    Which { file: PathBuf, labels: Vec<String> },
+    Accept { base: PathBuf, new: PathBuf },
     Script { file: PathBuf, left: String, right: String },
     Sheet { file: PathBuf, left: String, right: String },
     Help { text: String },
@@ -65,6 +79,8 @@ pub struct Options {
     /// The form is JSON.
     pub json: bool,
     pub format: Format,
+    /// The colours of words on the output: none where it is no terminal.
+    pub paint: Paint,
     /// So many clashes are told, and so many pairs that are not decided.
     pub max: Option<usize>,
     pub clashes_only: bool,
@@ -75,6 +91,15 @@ pub struct Options {
     pub new: bool,
     pub steps: bool,
     pub bytes: Option<usize>,
+    /// The files whose rules are there already.
+    pub against: Vec<PathBuf>,
+    pub part: Part,
+    /// How long a pair may take until no larger room is tried.
+    pub seconds: Option<Duration>,
+    /// The file of values that has labels, and where in it.
+    pub values: Option<PathBuf>,
+    pub column: Option<String>,
+    pub separator: char,
 }
 
 impl Default for Options {
@@ -82,6 +107,7 @@ impl Default for Options {
         Options {
             json: false,
             format: Format::Text,
+            paint: Paint::NONE,
             max: None,
             clashes_only: false,
             summary: false,
@@ -91,6 +117,12 @@ impl Default for Options {
             new: false,
             steps: false,
             bytes: None,
+            against: Vec::new(),
+            part: Part::WHOLE,
+            seconds: None,
+            values: None,
+            column: None,
+            separator: ',',
         }
     }
 }
@@ -106,21 +138,52 @@ const fn form(name: &'static str, words: &'static str, options: &'static [&'stat
     Form { name, words, options }
 }
 
+impl Form {
+    /// Whether so many words may stand behind the name: in brackets are those that may be left out,
+    /// and before two dots one that may stand several times.
+    fn takes(&self, count: usize) -> bool {
+        let words = || self.words.split(' ');
+        let least = words().filter(|word| !word.starts_with('[')).count();
+        count >= least && (count <= words().count() || self.words.contains(".."))
+    }
+}
+
 /// All commands.
-pub const COMMANDS: [Form; 9] = [
+pub const COMMANDS: [Form; 11] = [
     form(
         "check",
-        "FILE",
-        &["--format", "--max", "--clashes-only", "--summary", "--room", "--threads"],
+        "FILE..",
+        &[
+            "--against",
+            "--part",
+            "--format",
+            "--max",
+            "--clashes-only",
+            "--summary",
+            "--room",
+            "--seconds",
+            "--threads",
+        ],
     ),
-    form("pair", "FILE A B", &["--format", "--room", "--steps", "--repair"]),
+    form("pair", "FILE A B", &["--format", "--room", "--seconds", "--steps", "--repair"]),
+    form("which", "FILE [LABEL..]", &["--csv", "--column", "--separator", "--summary"]),
+    form("accept", "BASE NEW", &["--new", "--max", "--room", "--seconds", "--threads"]),
     form("add", "CATALOGUE FILE RULE", &["--room", "--new", "--bytes"]),
     form("withdraw", "CATALOGUE NUMBER", &["--bytes"]),
     form("list", "CATALOGUE", &["--bytes"]),
     form(
         "recheck",
         "CATALOGUE",
-        &["--format", "--max", "--clashes-only", "--summary", "--room", "--threads", "--bytes"],
+        &[
+            "--format",
+            "--max",
+            "--clashes-only",
+            "--summary",
+            "--room",
+            "--seconds",
+            "--threads",
+            "--bytes",
+        ],
     ),
     form("script", "FILE A B", &[]),
     form("sheet", "FILE A B", &[]),
@@ -236,6 +299,36 @@ fn set_value(
             options.max = Some(number(0, 1_000_000_000)?);
             "--max"
         }
+        "--against" => {
+            options.against.push(value().into());
+            "--against"
+        }
+        "--part" => {
+            let value = value();
+            let wrong = || format!("--part takes I/N, part I of N from 1 on, not '{value}'");
+            options.part = Part::read(&value).ok_or_else(wrong)?;
+            "--part"
+        }
+        "--seconds" => {
+            let value = value();
+            let wrong = || format!("--seconds takes a number above 0, not '{value}'");
+            options.seconds = Some(seconds(&value).ok_or_else(wrong)?);
+            "--seconds"
+        }
+        "--csv" => {
+            options.values = Some(value().into());
+            "--csv"
+        }
+        "--column" => {
+            options.column = Some(value());
+            "--column"
+        }
+        "--separator" => {
+            let value = value();
+            let wrong = || format!("--separator takes one sign, or tab, not '{value}'");
+            options.separator = separator(&value).ok_or_else(wrong)?;
+            "--separator"
+        }
         "--format" => {
             // it is set already
             Format::named(&value())?;
@@ -243,6 +336,22 @@ fn set_value(
         }
         _ => return Ok(None),
     }))
+}
+
+/// Seconds, of which there may be a part.
+fn seconds(text: &str) -> Option<Duration> {
+    let digits = text.bytes().all(|sign| sign.is_ascii_digit() || sign == b'.');
+    let number: f64 = text.parse().ok().filter(|_| digits)?;
+    Duration::try_from_secs_f64(number).ok().filter(|duration| !duration.is_zero())
+}
+
+/// What stands between two values.
+fn separator(text: &str) -> Option<char> {
+    let mut signs = text.chars();
+    match (signs.next(), signs.next()) {
+        (Some(sign), None) if !matches!(sign, '"' | '\n' | '\r') => Some(sign),
+        _ => (text == "tab").then_some('\t'),
+    }
 }
 
 /// Sets an option that has no value; none where it is no option.
@@ -275,7 +384,7 @@ fn command(plain: &[OsString], given: &Given) -> Result<Command, String> {
     if name == "help" {
         return help(words);
     }
-    if words.len() != form.words.split(' ').count() {
+    if !form.takes(words.len()) {
         return Err(format!("the form is: bradovusc {name} {}", form.words));
     }
     let known = |option: &&str| *option == "--json" || form.options.contains(option);
@@ -283,7 +392,9 @@ fn command(plain: &[OsString], given: &Given) -> Result<Command, String> {
         return Err(format!("{name} has no option {option}"));
     }
     Ok(match &*name {
-        "check" => Command::Check { file: path(0) },
+        "check" => Command::Check { files: words.iter().map(PathBuf::from).collect() },
+        "which" => Command::Which { file: path(0), labels: (1..words.len()).map(text).collect() },
+        "accept" => Command::Accept { base: path(0), new: path(1) },
         "pair" => Command::Pair { file: path(0), left: text(1), right: text(2) },
         "add" => Command::Add { catalogue: path(0), file: path(1), rule: text(2) },
         "withdraw" => {
