@@ -20,6 +20,7 @@ pub mod json;
 pub mod matching;
 pub mod mistakes;
 pub mod paint;
+pub mod parts;
 mod pattern;
 mod places;
 pub mod plain;

@@ -106,21 +106,24 @@ impl<'a> Reading<'a> {
     /// what they must.
     fn from(&mut self, token: usize, at: usize) -> bool {
         let side = self.reader.side;
-        let Some(&code) = side.tokens.get(token) else {
-            return at == self.label.len();
+        let code = match side.tokens.get(token) {
+            Some(&code) => code,
+            None => return at == self.label.len(),
         };
-        let Some(field) = code.checked_sub(side.edition.codes()).map(usize::from) else {
-            return self.behind(at, code).is_some_and(|next| self.from(token + 1, next));
-        };
-        let Some(held) = self.held.get(field).copied() else {
-            return false;
-        };
-        match held {
-            Some(held) => {
-                let next = self.text(held).try_fold(at, |at, sign| self.behind(at, sign));
-                next.is_some_and(|next| self.from(token + 1, next))
-            }
+        let field = match code.checked_sub(side.edition.codes()) {
+            Some(field) => usize::from(field),
             None => {
+                let next = self.behind(at, code);
+                return next.map_or(false, |next| self.from(token + 1, next));
+            }
+        };
+        match self.held.get(field).copied() {
+            None => false,
+            Some(Some(held)) => {
+                let next = self.text(held).try_fold(at, |at, sign| self.behind(at, sign));
+                next.map_or(false, |next| self.from(token + 1, next))
+            }
+            Some(None) => {
                 let again = self.reader.again[token];
                 let known = std::array::from_fn(|field| self.held[field].filter(|_| again[field]));
                 if self.failed.contains(&(token, at, known)) {
@@ -139,8 +142,9 @@ impl<'a> Reading<'a> {
     /// The same where the token is a field that stands for the first time: its text is tried, the
     /// shorter before the longer.
     fn field(&mut self, token: usize, at: usize, field: usize) -> bool {
-        let Some(places) = &self.reader.places[field] else {
-            return false;
+        let places = match &self.reader.places[field] {
+            Some(places) => places,
+            None => return false,
         };
         let mut set = START;
         for end in at..=self.label.len() {
@@ -163,8 +167,9 @@ impl<'a> Reading<'a> {
     /// The same where the field also takes spaces behind the label's end: as few as will do, since
     /// whatever is behind it is made of spaces too, however many.
     fn field_and_spaces(&mut self, token: usize, at: usize, field: usize, mut set: u64) -> bool {
-        let Some(places) = &self.reader.places[field] else {
-            return false;
+        let places = match &self.reader.places[field] {
+            Some(places) => places,
+            None => return false,
         };
         let (end, space) = (self.label.len(), self.reader.side.edition.space());
         if places.may_end(set) {

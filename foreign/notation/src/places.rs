@@ -47,8 +47,9 @@ impl Places {
 
     fn part(&mut self, codes: u8, bytes: &mut impl Iterator<Item = u8>) -> Option<Part> {
         let code = bytes.next()?;
-        let Some(operator) = code.checked_sub(codes) else {
-            return self.leaf((code, code));
+        let operator = match code.checked_sub(codes) {
+            Some(operator) => operator,
+            None => return self.leaf((code, code)),
         };
         match operator {
             EMPTY => Some(Part { first: 0, last: 0, empty: true }),

@@ -1,5 +1,6 @@
 //! A rule as the library reads it: one side of a sheet, or a record of a catalogue.
 
+use std::borrow::Borrow;
 use std::fmt;
 use std::sync::Arc;
 
@@ -120,10 +121,10 @@ impl Side {
 }
 
 /// The rule with this name, among those of a file that is told so; else which ones there are.
-pub fn find<'a>(rules: &'a [Side], file: &str, name: &str) -> Result<&'a Side, String> {
+pub fn find<'a, S: Borrow<Side>>(rules: &'a [S], file: &str, name: &str) -> Result<&'a S, String> {
     let title = Title::Name(name.to_string());
-    rules.iter().find(|side| side.title == title).ok_or_else(|| {
-        let names: Vec<String> = rules.iter().map(|side| side.title.to_string()).collect();
+    rules.iter().find(|side| (*side).borrow().title == title).ok_or_else(|| {
+        let names: Vec<String> = rules.iter().map(|side| side.borrow().title.to_string()).collect();
         let names = match &names[..] {
             [] => "it has none".to_string(),
             few if few.len() <= MOST_NAMES => format!("it has {}", few.join(", ")),

@@ -13,9 +13,6 @@ use crate::status::Status;
 use crate::told::{told_words, Told};
 use crate::words::Options;
 
-/// The version of the objects: it rises where a key is taken away or changes its meaning.
-pub const SCHEMA: usize = 1;
-
 /// So many pairs are put into groups at a time.
 const MOST_HELD: usize = 5_000;
 
@@ -123,27 +120,15 @@ impl<'s> Teller<'s> {
                 to.write_all(annotation("notice", &[], (more + &words).trim_end()).as_bytes())?;
             }
             Format::Json if self.summary => {
-                let object = Object::new().text("summary", self.command).number("schema", SCHEMA);
-                let status = usize::from(status.number());
-                writeln!(to, "{}", self.counts(object, rules).number("status", status).done())?;
+                writeln!(to, "{}", self.tally.summary_object(self.command, rules).done())?;
             }
             Format::Sarif => {
-                let counts = self.counts(Object::new(), rules);
+                let counts = self.tally.counts(Object::new(), rules);
                 to.write_all(sarif::ended(status, None, counts).as_bytes())?;
             }
             Format::Json | Format::Github => (),
         }
         Ok(status)
-    }
-
-    fn counts(&self, object: Object, rules: usize) -> Object {
-        let Tally { clashes, not_decided, apart } = self.tally;
-        object
-            .number("rules", rules)
-            .number("pairs", clashes + not_decided + apart)
-            .number("clashes", clashes)
-            .number("not_decided", not_decided)
-            .number("no_clash", apart)
     }
 
     /// A line on what was counted and not told; none where all was.
