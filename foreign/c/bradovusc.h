@@ -20,11 +20,12 @@
  * Up to version 0.8 a sheet or a rule could have a stray pattern, one for a field that does not stand. Now it is refused. Strays can
  * be dropped from sheets, rules and catalogues from before: every answer about them stays as it was.
  *
- * The static library libexported.a, for x86-64 Linux, defines twenty-three functions: bradovusc_clash, bradovusc_decide,
+ * The static library libbradovusc.a, for x86-64 Linux, defines twenty-four functions: bradovusc_clash, bradovusc_decide,
  * bradovusc_steps, bradovusc_play, bradovusc_plain, bradovusc_plain_bytes, bradovusc_write, bradovusc_write_edition,
  * bradovusc_spell, bradovusc_read_spelt, bradovusc_script, bradovusc_add, bradovusc_add_decided, bradovusc_withdraw,
  * bradovusc_recheck, bradovusc_recheck_decided, bradovusc_spell_open, bradovusc_spell_open_rule, bradovusc_spell_open_catalogue,
- * bradovusc_drop_strays, bradovusc_drop_strays_rule, bradovusc_drop_strays_catalogue and bradovusc_fronts_differ.
+ * bradovusc_drop_strays, bradovusc_drop_strays_rule, bradovusc_drop_strays_catalogue, bradovusc_fronts_differ and
+ * bradovusc_version.
  * They keep nothing from one call to the next, ask for no memory, and touch nothing but what they are lent, so calls in several
  * threads don't meet. bradovusc_add_decided takes at most about 240 KiB of stack, bradovusc_recheck_decided about 225,
  * bradovusc_decide about 190, bradovusc_spell_open_catalogue, bradovusc_drop_strays_catalogue and bradovusc_recheck about 120, the
@@ -53,9 +54,15 @@
 #define BRADOVUSC_VERSION_PATCH 0
 #define BRADOVUSC_VERSION "0.8.0"
 
+/* The same as one number: 0.8.0 is 800, and 1.2.3 would be 10203. */
+#define BRADOVUSC_VERSION_NUMBER (BRADOVUSC_VERSION_MAJOR * 10000 + BRADOVUSC_VERSION_MINOR * 100 + BRADOVUSC_VERSION_PATCH)
+
 #ifdef __cplusplus
 extern "C" {
 #endif
+
+/* The version of the library that is called, as one number: BRADOVUSC_VERSION_NUMBER, unless the header is another version's. */
+uint32_t bradovusc_version(void);
 
 /*
  * The number of an answer. What is said of 11 to 17 holds for 22 too, which says that a pattern is stray, and comes behind them. Of a

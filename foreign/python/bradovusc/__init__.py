@@ -107,7 +107,7 @@ from ._catalogue import (
     withdraw,
 )
 from ._editions import MOST_CHARACTERS, Edition
-from ._library import VERSION, LibraryMissing, library
+from ._library import VERSION, LibraryMissing, library, version
 from ._plain import PLAIN_BYTES, plain, plain_bytes
 from ._sheets import (
     DEFAULT_SITUATIONS,
@@ -255,6 +255,7 @@ __all__ = [
     "texts",
     "value",
     "values",
+    "version",
     "way",
     "withdraw",
     "word",

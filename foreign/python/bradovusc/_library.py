@@ -51,6 +51,7 @@ _FUNCTIONS = {
     "bradovusc_drop_strays": _READ + _LENT + _TOLD,
     "bradovusc_drop_strays_rule": _READ + _LENT + _TOLD,
     "bradovusc_drop_strays_catalogue": _LENT,
+    "bradovusc_version": (),
 }
 
 
@@ -111,6 +112,15 @@ def library() -> str:
     Raises :class:`LibraryMissing` where there is none.
     """
     return _found()[0]
+
+
+def version() -> str:
+    """The version of the shared library that is called, as it tells it. It is :data:`VERSION`, unless another one was found.
+
+    Raises :class:`LibraryMissing` where there is none.
+    """
+    number, _ = call("bradovusc_version")
+    return f"{number // 10_000}.{number // 100 % 100}.{number % 100}"
 
 
 class Lent:

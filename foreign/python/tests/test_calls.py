@@ -46,6 +46,11 @@ DIGITS = bradovusc.many(bradovusc.between("0", "9"))
 FOUR = sheet("{0}", "{1}", {0: DIGITS, 1: bradovusc.word("4")})
 
 
+class Library(unittest.TestCase):
+    def test_its_version(self):
+        self.assertEqual(bradovusc.version(), bradovusc.VERSION)
+
+
 class Sheets(unittest.TestCase):
     def test_a_clash(self):
         answer = bradovusc.clash(FOUR)

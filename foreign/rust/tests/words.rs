@@ -2,11 +2,11 @@
 
 use bradovusc::{
     catalogue_bytes, decided_list_bytes, list_bytes, recheck, recheck_decided, sign, spelt_bytes,
-    texts, value, Added, AddedDecided, Answer, CarriedOver, DecidedPair, Edition, Fault, Mended,
-    MendedCatalogue, Pair, Plain, PlainBytes, Played, Rechecked, RecheckedDecided, Scripted, Spelt,
-    SpeltOpen, Stepped, Text, Withdrawn, Written, DECIDED_PAIR_BYTES, MOST_CHARACTERS, MOST_RULES,
-    MOST_STEPS, PAIR_BYTES, PLAIN_BYTES, RULE_BYTES, RULE_FIELDS, SCRIPT_BYTES, SHEET_BYTES, SIGNS,
-    VERSION,
+    texts, value, version, Added, AddedDecided, Answer, CarriedOver, DecidedPair, Edition, Fault,
+    Mended, MendedCatalogue, Pair, Plain, PlainBytes, Played, Rechecked, RecheckedDecided,
+    Scripted, Spelt, SpeltOpen, Stepped, Text, Withdrawn, Written, DECIDED_PAIR_BYTES,
+    MOST_CHARACTERS, MOST_RULES, MOST_STEPS, PAIR_BYTES, PLAIN_BYTES, RULE_BYTES, RULE_FIELDS,
+    SCRIPT_BYTES, SHEET_BYTES, SIGNS, VERSION,
 };
 
 const HEADER: &str = include_str!("../../c/bradovusc.h");
@@ -368,4 +368,5 @@ fn lengths_of_buffers() {
 #[test]
 fn one_version() {
     assert!(HEADER.contains(&format!("#define BRADOVUSC_VERSION \"{VERSION}\"\n")));
+    assert_eq!(version().map(|number| number.to_string()).join("."), VERSION);
 }
