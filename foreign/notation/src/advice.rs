@@ -66,7 +66,7 @@ pub fn advice<'a>(left: &'a Side, right: &'a Side, asked: &Asked) -> Vec<Advice<
 /// More room, where there was less than the most.
 fn more_room<'a>(asked: &Asked) -> Option<Advice<'a>> {
     let words = format!(
-        "more room may help: there was room for {}, and without --room it grows up to {}",
+        "more room may help: there was room for {}; without --room and --seconds it grows up to {}",
         grouped(asked.room),
         grouped(MOST_SITUATIONS)
     );
@@ -283,7 +283,8 @@ mod tests {
         assert_eq!(
             said[..2],
             [
-                "more room may help: there was room for 20, and without --room it grows up to 65,535",
+                "more room may help: there was room for 20; without --room and --seconds it \
+                 grows up to 65,535",
                 "a (f:1): n stands 3 times with the same text, has up to 2 characters and takes every \
                  character: a narrower class may help, as n = [0-9]{2}",
             ]

@@ -93,10 +93,7 @@ pub fn pair_words(left: &Side, right: &Side, asked: &Asked, paint: Paint) -> Str
                 _ => counted(count, "situation", "situations"),
             };
             let none = paint.good("no clash");
-            format!(
-                "{titles}: {none}: no label can be made by both ({how})
-"
-            )
+            format!("{titles}: {none}: no label can be made by both ({how})\n")
         }
         (_, Some(shared)) => {
             let label = paint.bold(&label_words(left.edition, &shared.label));

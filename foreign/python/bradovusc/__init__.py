@@ -120,6 +120,7 @@ from ._catalogue import (
     withdraw,
 )
 from ._editions import MOST_CHARACTERS, Edition
+from ._fronts import fronts_differ
 from ._library import VERSION, LibraryMissing, library, version
 from ._plain import PLAIN_BYTES, plain, plain_bytes
 from ._rules import Band, Checked, Mistake, RulesAnswer, RulesClash, RulesNoClash, RulesNotDecided, WrongRules, check, pair
@@ -254,6 +255,7 @@ __all__ = [
     "drop_strays",
     "drop_strays_catalogue",
     "drop_strays_rule",
+    "fronts_differ",
     "full_ascii",
     "library",
     "list_bytes",

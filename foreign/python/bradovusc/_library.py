@@ -51,6 +51,7 @@ _FUNCTIONS = {
     "bradovusc_drop_strays": _READ + _LENT + _TOLD,
     "bradovusc_drop_strays_rule": _READ + _LENT + _TOLD,
     "bradovusc_drop_strays_catalogue": _LENT,
+    "bradovusc_fronts_differ": (ctypes.c_size_t,) + _READ + _READ,
     "bradovusc_version": (),
 }
 

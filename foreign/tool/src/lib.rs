@@ -21,6 +21,7 @@ pub mod sarif;
 pub mod spend;
 pub mod status;
 pub mod teller;
+mod terminal;
 pub mod words;
 
 pub use bradovusc_notation as notation;

@@ -3,17 +3,22 @@
 use std::io::Write;
 use std::time::{Duration, Instant};
 
+use crate::terminal::columns;
+
 /// Nothing is shown before.
 const PATIENCE: Duration = Duration::from_secs(1);
 /// The bar is drawn again at most so often.
 const PAUSE: Duration = Duration::from_millis(100);
-/// How many signs the bar has between its brackets.
+/// How many signs the bar has between its brackets, at most and at least.
 const WIDTH: usize = 30;
+const NARROW: usize = 5;
 
 /// What is shown of it.
 pub struct Progress {
     /// Whether anything may be shown: on a terminal alone.
     terminal: bool,
+    /// How wide it is.
+    columns: fn() -> usize,
     begun: Instant,
     drawn: Option<Instant>,
     /// The signs of the line that stands there now.
@@ -22,7 +27,7 @@ pub struct Progress {
 
 impl Progress {
     pub fn new(terminal: bool) -> Progress {
-        Progress { terminal, begun: Instant::now(), drawn: None, shown: 0 }
+        Progress { terminal, columns, begun: Instant::now(), drawn: None, shown: 0 }
     }
 
     /// So many pairs are done.
@@ -31,7 +36,8 @@ impl Progress {
         if !self.terminal || soon || self.begun.elapsed() < PATIENCE {
             return;
         }
-        let line = line(done, all, self.begun.elapsed());
+        // in the last column a line would be wrapped
+        let line = line(done, all, self.begun.elapsed(), (self.columns)().saturating_sub(1));
         let rest = self.shown.saturating_sub(line.len());
         // what can't be shown is not missed
         let _ = write!(to, "\r{line}{:rest$}", "").and_then(|()| to.flush());
@@ -48,21 +54,34 @@ impl Progress {
     }
 }
 
-/// The bar, with how many pairs are done and about how long the rest takes.
-fn line(done: usize, all: usize, spent: Duration) -> String {
+/// The bar, with how many pairs are done and about how long the rest takes; as much of it as fits
+/// into so many columns.
+fn line(done: usize, all: usize, spent: Duration, columns: usize) -> String {
     let part = |whole: usize| (whole * done.min(all)).checked_div(all).unwrap_or(whole);
-    let (full, percent) = (part(WIDTH), part(100));
-    let mut line = format!(
-        "{percent:3} % [{}{}] {done} of {all} pairs",
-        "#".repeat(full),
-        "-".repeat(WIDTH - full)
-    );
+    let percent = format!("{:3} %", part(100));
+    let counts = format!("{done} of {all} pairs");
+    let mut left = String::new();
     if done > 0 && done < all {
-        let left = spent.as_secs_f64() * (all - done) as f64 / done as f64;
-        let left = left.ceil() as u64;
-        line += &format!(", {}:{:02} left", left / 60, left % 60);
+        let seconds = spent.as_secs_f64() * (all - done) as f64 / done as f64;
+        let seconds = seconds.ceil() as u64;
+        left = format!(", {}:{:02} left", seconds / 60, seconds % 60);
     }
-    line
+    let bar = |width: usize| {
+        let full = part(width);
+        let (full, rest) = ("#".repeat(full), "-".repeat(width - full));
+        format!("{percent} [{full}{rest}] {counts}{left}")
+    };
+    let width = columns.saturating_sub(bar(0).len()).min(WIDTH);
+    let narrower = [
+        format!("{percent} {counts}{left}"),
+        format!("{percent} {counts}"),
+        percent.clone(),
+        String::new(),
+    ];
+    match width {
+        NARROW.. => bar(width),
+        _ => narrower.into_iter().find(|line| line.len() <= columns).unwrap_or_default(),
+    }
 }
 
 #[cfg(test)]
@@ -71,11 +90,24 @@ mod tests {
 
     #[test]
     fn lines() {
-        let line = |done, all| line(done, all, Duration::from_secs(30));
+        let line = |done, all| line(done, all, Duration::from_secs(30), 80);
         assert_eq!(line(0, 3), "  0 % [------------------------------] 0 of 3 pairs");
         assert_eq!(line(1, 3), " 33 % [##########--------------------] 1 of 3 pairs, 1:00 left");
         assert_eq!(line(3, 3), "100 % [##############################] 3 of 3 pairs");
         assert_eq!(line(0, 0), "100 % [##############################] 0 of 0 pairs");
+    }
+
+    #[test]
+    fn lines_of_a_narrow_terminal() {
+        let line = |columns| line(1, 3, Duration::from_secs(30), columns);
+        assert_eq!(line(63), " 33 % [##########--------------------] 1 of 3 pairs, 1:00 left");
+        assert_eq!(line(58), " 33 % [########------------------] 1 of 3 pairs, 1:00 left");
+        assert_eq!(line(37), " 33 % [#----] 1 of 3 pairs, 1:00 left");
+        assert_eq!(line(36), " 33 % 1 of 3 pairs, 1:00 left");
+        assert_eq!(line(20), " 33 % 1 of 3 pairs");
+        assert_eq!(line(12), " 33 %");
+        assert_eq!(line(4), "");
+        assert!((0..200).all(|columns| line(columns).len() <= columns));
     }
 
     #[test]
@@ -96,7 +128,7 @@ mod tests {
             return;
         };
         let mut to = Vec::new();
-        let mut progress = Progress { begun, ..Progress::new(true) };
+        let mut progress = Progress { begun, columns: || 80, ..Progress::new(true) };
         progress.tick(1, 2, &mut to);
         progress.tick(2, 2, &mut to);
         progress.clear(&mut to);

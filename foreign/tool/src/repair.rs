@@ -168,6 +168,7 @@ impl Pair<'_> {
             };
             sets.extend([there, set_of(edition, &piece.values)]);
         }
+        sets.push(sets.iter().copied().fold(Set::none(edition), Set::or));
         let range = |low, high| Set::signs(edition, low, high);
         let (digits, letters) = (range('0', '9'), range('A', 'Z').or(range('a', 'z')));
         sets.extend([digits, letters, digits.or(letters).rest()]);

@@ -7,6 +7,7 @@ use std::fs;
 
 use bradovusc::{drop_strays, Edition, Mended};
 use bradovusc_tool::ask::{Buffers, Room};
+use bradovusc_tool::matching::Reader;
 use bradovusc_tool::notation::paint::Paint;
 use bradovusc_tool::notation::{read, rule_text};
 use bradovusc_tool::run::judged;
@@ -156,6 +157,11 @@ fn ten_thousand_files() {
                     );
                     if let Some(shared) = &asked.shared {
                         assert_eq!(shared.label, pair[1].label(&shared.right), "{number}");
+                        for side in pair {
+                            let texts = Reader::new(side).unwrap().read(&shared.label);
+                            let label = texts.map(|texts| side.label(&texts));
+                            assert_eq!(label.as_ref(), Some(&shared.label), "{number}: {side:?}");
+                        }
                     }
                     // no pattern is stray: the library has nothing to drop
                     let sheet = sheet(&pair[0], &pair[1]).unwrap();

@@ -1,4 +1,5 @@
-//! The examples of docs/NOTATION.md: its files of rules, and its commands with what they print.
+//! The examples of docs/NOTATION.md and docs/CI.md: their files of rules, and their commands with what
+//! they print.
 
 mod common;
 
@@ -7,11 +8,12 @@ use std::path::Path;
 
 use common::{program_in, Folder};
 
-/// The indented blocks of the page, without the indent.
+/// The indented blocks of the page, without the indent. What stands between fences is none of them.
 fn blocks(page: &str) -> Vec<String> {
-    let (mut blocks, mut open) = (vec![String::new()], false);
+    let (mut blocks, mut open, mut fenced) = (vec![String::new()], false, false);
     for line in page.lines() {
-        let inside = line.strip_prefix("    ");
+        fenced ^= line.starts_with("```");
+        let inside = line.strip_prefix("    ").filter(|_| !fenced);
         match inside {
             Some(text) => {
                 open = true;
@@ -29,11 +31,11 @@ fn blocks(page: &str) -> Vec<String> {
     blocks
 }
 
-#[test]
-fn examples_of_the_page() {
-    let page = Path::new(env!("CARGO_MANIFEST_DIR")).join("../../docs/NOTATION.md");
+/// Tries the examples of a page, and counts its files and its commands.
+fn tried(name: &str) -> (usize, usize) {
+    let page = Path::new(env!("CARGO_MANIFEST_DIR")).join("../../docs").join(name);
     let page = fs::read_to_string(page).unwrap();
-    let folder = Folder::new("page");
+    let folder = Folder::new(name);
     let (mut files, mut commands) = (0, 0);
     for block in blocks(&page) {
         let first = block.lines().next().unwrap_or_default();
@@ -52,5 +54,17 @@ fn examples_of_the_page() {
             commands += 1;
         }
     }
+    (files, commands)
+}
+
+#[test]
+fn examples_of_the_notation() {
+    let (files, commands) = tried("NOTATION.md");
     assert!(files >= 3 && commands >= 12, "{files} {commands}");
+}
+
+#[test]
+fn examples_of_ci() {
+    let (files, commands) = tried("CI.md");
+    assert!(files >= 1 && commands >= 4, "{files} {commands}");
 }

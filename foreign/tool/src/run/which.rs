@@ -51,8 +51,8 @@ struct Found<'a> {
 
 impl Run<'_> {
     pub(super) fn which(&mut self, file: &Path, words: &[String]) -> Outcome {
-        let rules = self.rules(file)?;
         let labels = self.labels(file, words)?;
+        let rules = self.rules(file)?;
         let readers: Option<Vec<Reader>> = rules.iter().map(Reader::new).collect();
         let readers = readers
             .ok_or_else(|| Problem::Fault(format!("{} can't be matched", file.display())))?;

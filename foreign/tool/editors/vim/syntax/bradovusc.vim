@@ -20,11 +20,11 @@ syntax match bradovuscPattern /\%(\\.\|[^\\#]\)\+/ contained contains=bradovuscC
 
 syntax match bradovuscField /{[A-Za-z0-9_-]\+}/ contained
 syntax match bradovuscEscape /\\<[A-Za-z0-9]\+>\|\\[^<]/ contained
-syntax match bradovuscEmpty /(\s*)/ contained
-syntax match bradovuscClass /\[\^\=\%(\\.\|[^]\\]\)*\]/ contained contains=bradovuscEscape
+syntax match bradovuscClass /\[\^\=\%(\\.\|[^]\\#]\)*\]\=/ contained contains=bradovuscEscape
 syntax match bradovuscCount /{\d\+\%(,\d*\)\=}/ contained
 syntax match bradovuscRepeat /[*+?]/ contained
 syntax match bradovuscOr /[|()]/ contained
+syntax match bradovuscEmpty /(\s*)/ contained
 syntax match bradovuscAny /\./ contained
 
 highlight default link bradovuscComment Comment
