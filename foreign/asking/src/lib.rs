@@ -253,10 +253,17 @@ impl Wrong {
         }
     }
 
-    /// As objects.
-    pub fn objects(&self) -> Vec<Object> {
+    /// As objects; a mistake also as it is shown, if that is wanted.
+    pub fn objects(&self, shown: bool) -> Vec<Object> {
         match self {
-            Wrong::Mistakes(source, mistakes) => mistakes_objects(source, mistakes),
+            Wrong::Mistakes(source, mistakes) => {
+                let mut objects = mistakes_objects(source, mistakes);
+                for (object, mistake) in objects.iter_mut().zip(mistakes.iter()).filter(|_| shown) {
+                    let words = source.show(mistake, Paint::NONE).to_string();
+                    *object = std::mem::take(object).text("words", &words);
+                }
+                objects
+            }
             Wrong::Fault(words) | Wrong::NoRule(words) => {
                 vec![fault_object(words, self.status())]
             }

@@ -46,13 +46,17 @@ struct Tells {
 pub fn answer(request: &[u8]) -> (Status, String) {
     let mut lines = String::new();
     let mut tell = |object: Out| lines += &(object.done() + "\n");
-    let status = match read(request).map_err(Wrong::Fault).and_then(|asked| run(asked, &mut tell)) {
-        Ok(status) => status,
-        Err(wrong) => {
-            wrong.objects().into_iter().for_each(tell);
-            wrong.status()
+    let (answered, shown) = match read(request) {
+        Ok(asked) => {
+            let shown = asked.tells.words;
+            (run(asked, &mut tell), shown)
         }
+        Err(words) => (Err(Wrong::Fault(words)), false),
     };
+    let status = answered.unwrap_or_else(|wrong| {
+        wrong.objects(shown).into_iter().for_each(tell);
+        wrong.status()
+    });
     (status, lines)
 }
 

@@ -135,6 +135,10 @@ fn mistakes_are_told_at_their_places() {
     let number = |number: &str| Value::Number(number.to_string());
     assert_eq!([place("line", &one), place("column", &one)], [number("1"), number("10")]);
     assert_eq!([place("line", &other), place("column", &other)], [number("2"), number("9")]);
+    // as they are shown, if words are wanted
+    let (_, lines) = asked(r#"{"rules":"a = A{x\n","words":true}"#);
+    let shown = "rules:1:6: a { without a } behind it\n    a = A{x\n         ^^\n";
+    assert!(text(&object(&lines[0]), "words").starts_with(shown), "{lines:?}");
     // of several files those of the first one that has some
     let file = |name: &str, text: &str| format!(r#"{{"name":"{name}","text":"{text}\n"}}"#);
     let files = |files: &[String]| asked(&format!("{{\"files\":[{}]}}", files.join(",")));

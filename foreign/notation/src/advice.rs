@@ -27,7 +27,7 @@ const SEPARATORS: &str = "-./+$%";
 /// What may help, and why.
 #[derive(Clone, Debug)]
 pub struct Advice<'a> {
-    /// What it is about: room, length, class, separator or texts.
+    /// What it is about: room, seconds, length, class, separator or texts.
     pub kind: &'static str,
     /// The rule that may be changed, if it is about one.
     pub side: Option<&'a Side>,
@@ -63,15 +63,21 @@ pub fn advice<'a>(left: &'a Side, right: &'a Side, asked: &Asked) -> Vec<Advice<
     all
 }
 
-/// More room, where there was less than the most.
+/// More room, or more time for it, where there was less than the most.
 fn more_room<'a>(asked: &Asked) -> Option<Advice<'a>> {
-    let words = format!(
-        "more room may help: there was room for {}; without --room and --seconds it grows up to {}",
-        grouped(asked.room),
-        grouped(MOST_SITUATIONS)
-    );
-    let none = Advice { kind: "room", side: None, fields: Vec::new(), stands: None, words };
-    (asked.room < MOST_SITUATIONS).then(|| none)
+    let (room, most) = (grouped(asked.room), grouped(MOST_SITUATIONS));
+    let (kind, words) = match asked.given_up {
+        true => {
+            let words = "more time may help: when the seconds were over, there was room for";
+            ("seconds", format!("{words} {room} of at most {most}"))
+        }
+        false => {
+            let words = "more room may help: there was room for";
+            ("room", format!("{words} {room}, and without --room it grows up to {most}"))
+        }
+    };
+    let advice = Advice { kind, side: None, fields: Vec::new(), stands: None, words };
+    (asked.room < MOST_SITUATIONS).then(|| advice)
 }
 
 /// What a field of a rule may hold.
@@ -255,7 +261,7 @@ mod tests {
 
     fn shown(text: &str, room: usize) -> Vec<String> {
         let sides = judged(&Source::new("f", text.as_bytes())).unwrap();
-        let asked = Asked { answer: Answer::NoRoom { count: 7 }, search: 0, room, shared: None };
+        let asked = Asked::of(Answer::NoRoom { count: 7 }, 0, room);
         let words = advice_words(&sides[0], &sides[1], &asked);
         assert_eq!(advice_objects(&sides[0], &sides[1], &asked).len(), words.lines().count());
         words.lines().map(|line| line.trim().to_string()).collect()
@@ -283,8 +289,7 @@ mod tests {
         assert_eq!(
             said[..2],
             [
-                "more room may help: there was room for 20; without --room and --seconds it \
-                 grows up to 65,535",
+                "more room may help: there was room for 20, and without --room it grows up to 65,535",
                 "a (f:1): n stands 3 times with the same text, has up to 2 characters and takes every \
                  character: a narrower class may help, as n = [0-9]{2}",
             ]
@@ -301,6 +306,16 @@ mod tests {
             ["a (f:1): n stands twice with the same text and has up to 3 characters: a shorter \
               length or a narrower class may help"]
         );
+    }
+
+    #[test]
+    fn more_time() {
+        let sides = judged(&Source::new("f", b"a = {x}\n x = A\nb = B\n")).unwrap();
+        let asked = Asked { given_up: true, ..Asked::of(Answer::NoRoom { count: 7 }, 0, 356) };
+        let words = advice_words(&sides[0], &sides[1], &asked);
+        let wanted =
+            "more time may help: when the seconds were over, there was room for 356 of at most";
+        assert_eq!(words.trim(), format!("{wanted} 65,535"));
     }
 
     #[test]

@@ -3,8 +3,8 @@
 //! A file `NAME.words` has the words of calls, one a line, done one after the other in a folder with
 //! copies of tests/golden/files; `NAME.said` has what they said: standard output as it is, standard
 //! error behind `! `, the status in brackets. Two further words change a file: `cut FILE BYTES` and
-//! `bytes FILE LENGTH HEX..`, which writes these bytes and zeros up to the length. A file
-//! `NAME.rules` has a mistake, or several of a kind; `NAME.said` has what `check` says of it.
+//! `bytes FILE LENGTH HEX..`, which writes these bytes and zeros up to the length; `show FILE` shows one.
+//! A file `NAME.rules` has a mistake, or several of a kind; `NAME.said` has what `check` says of it.
 //!
 //! `GOLDEN=write` writes the files anew.
 
@@ -52,6 +52,10 @@ fn commands() {
                     let mut bytes: Vec<u8> = digits.iter().map(byte).collect();
                     bytes.resize(length.parse().unwrap(), 0);
                     fs::write(folder.0.join(file), bytes).unwrap();
+                }
+                ["show", file] => {
+                    let text = fs::read_to_string(folder.0.join(file)).unwrap();
+                    let _ = write!(now, "$ cat {file}\n{text}");
                 }
                 ref words => {
                     let said = program_in(&folder.0, words);

@@ -8,36 +8,11 @@ use std::path::Path;
 use std::process::Command;
 use std::time::Instant;
 
-use common::{program, program_in, Folder};
+use common::{many_rules, program, program_in, Folder};
 
 fn storeroom() -> String {
     let path = Path::new(env!("CARGO_MANIFEST_DIR")).join("examples/storeroom.rules");
     fs::read_to_string(path).unwrap()
-}
-
-/// 50 families of ten rules: fixed characters in front, as labels mostly have, then numbers, finishes
-/// and open fields. In each tenth family one rule takes everything.
-fn five_hundred() -> String {
-    let mut text = String::new();
-    for family in 0..50 {
-        let letters = ["ABCDEFGHIJ", "KLMNP"];
-        let sign = |of: &str, index: usize| of.chars().nth(index).unwrap();
-        let front = format!("{}{}", sign(letters[0], family % 10), sign(letters[1], family / 10));
-        let last = if family % 10 == 0 { "{rest}" } else { "\\s{rest}" };
-        text += &format!(
-            "{front}0 = {front}{{size}}{{finish}}\n  size = [0-9]{{2}}\n  finish = BR|CH|SS|SN|PB\n\
-             {front}1 = {front}-{{n}}\n  n = [0-9]{{4}}\n\
-             {front}2 = {front}/{{colour}}/{{n}}\n  colour = [A-Z]{{2,3}}\n  n = [0-9]+\n\
-             {front}3 = {front}R{{n}}-{{n}}\n  n = [0-9]+\n\
-             {front}4 = {front}X{{rest}}\n\
-             {front}5 = {front}.{{length}}.{{part}}\n  length = [0-9]+\n  part = [05]\n\
-             {front}6 = {front}Y{{name}}{{n}}\n  name = [A-Z]{{1,8}}\n  n = [0-9]*\n\
-             {front}7 = {front}%{{serial}}\n  serial = [0-9A-F]{{6}}\n\
-             {front}8 = {front}+{{a}}+{{b}}\n  a = [0-9A-Z]+\n\
-             {front}9 = {front}{last}\n"
-        );
-    }
-    text
 }
 
 /// Does the calls, one a line, and prints both times and the last line that was said.
@@ -75,10 +50,19 @@ fn the_storeroom_s_rules_are_apart() {
 fn measure() {
     let folder = Folder::new("measure");
     fs::write(folder.0.join("storeroom.rules"), storeroom()).unwrap();
-    fs::write(folder.0.join("many.rules"), five_hundred()).unwrap();
-    fs::write(folder.0.join("none.rules"), "").unwrap();
-    for words in ["check none.rules", "check storeroom.rules", "check many.rules"] {
-        timed(&folder, words, words);
+    fs::write(folder.0.join("one.rules"), "one = ONE\n").unwrap();
+    for count in [500, 2_000, 20_000] {
+        fs::write(folder.0.join(format!("{count}.rules")), many_rules(count)).unwrap();
+    }
+    for file in ["one", "storeroom", "500", "2000", "20000"] {
+        timed(&folder, &format!("check {file}.rules"), &format!("check {file}.rules"));
+    }
+    for file in ["500", "2000"] {
+        timed(
+            &folder,
+            &format!("check --json {file}.rules"),
+            &format!("check --json {file}.rules"),
+        );
     }
     let rules = storeroom();
     let names =

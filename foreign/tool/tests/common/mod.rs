@@ -155,3 +155,33 @@ impl Dice {
         list[self.below(list.len())]
     }
 }
+
+/// Families of ten rules, so many rules in all: fixed characters in front, as labels mostly have, then
+/// numbers, finishes and open fields. In each tenth family one rule takes everything.
+pub fn many_rules(count: usize) -> String {
+    (0..count / 10).map(family).collect()
+}
+
+fn family(number: usize) -> String {
+    let sign = |of: &str, index: usize| char::from(of.as_bytes()[index % of.len()]);
+    let mut front = format!("{}{}", sign("ABCDEFGHIJ", number), sign("KLMNP", number / 10));
+    // the first 50 have two characters in front, the others three or four
+    let mut rest = number / 50;
+    while rest > 0 {
+        front.push(sign("QSTUVWXZ1234567890", rest - 1));
+        rest = (rest - 1) / 18;
+    }
+    let last = if number.is_multiple_of(10) { "{rest}" } else { "\\s{rest}" };
+    format!(
+        "{front}-0 = {front}{{size}}{{finish}}\n  size = [0-9]{{2}}\n  finish = BR|CH|SS|SN|PB\n\
+         {front}-1 = {front}-{{n}}\n  n = [0-9]{{4}}\n\
+         {front}-2 = {front}/{{colour}}/{{n}}\n  colour = [A-Z]{{2,3}}\n  n = [0-9]+\n\
+         {front}-3 = {front}R{{n}}-{{n}}\n  n = [0-9]+\n\
+         {front}-4 = {front}X{{rest}}\n\
+         {front}-5 = {front}.{{length}}.{{part}}\n  length = [0-9]+\n  part = [05]\n\
+         {front}-6 = {front}Y{{name}}{{n}}\n  name = [A-Z]{{1,8}}\n  n = [0-9]*\n\
+         {front}-7 = {front}%{{serial}}\n  serial = [0-9A-F]{{6}}\n\
+         {front}-8 = {front}+{{a}}+{{b}}\n  a = [0-9A-Z]+\n\
+         {front}-9 = {front}{last}\n"
+    )
+}
