@@ -2,8 +2,9 @@
 #
 #   bradovusc::bradovusc   the shared library, or the static one where no shared one is installed
 #   bradovusc::static      the static library
+#   bradovusc::asking      the shared library that answers about rules as text, where it is installed
 #
-# Both come with the folder of the header. What is installed may be moved as a whole: nothing here names its place.
+# All come with the folder of the headers. What is installed may be moved as a whole: nothing here names its place.
 get_filename_component(_bradovusc_lib "${CMAKE_CURRENT_LIST_DIR}/../.." ABSOLUTE)
 get_filename_component(_bradovusc_include "${_bradovusc_lib}/../include" ABSOLUTE)
 
@@ -22,4 +23,7 @@ if(EXISTS "${_bradovusc_lib}/libbradovusc.so")
   _bradovusc_target(bradovusc SHARED libbradovusc.so)
 else()
   _bradovusc_target(bradovusc STATIC libbradovusc.a)
+endif()
+if(EXISTS "${_bradovusc_lib}/libbradovusc_asking.so")
+  _bradovusc_target(asking SHARED libbradovusc_asking.so)
 endif()
