@@ -80,6 +80,10 @@ fn called() -> Vec<String> {
         assert!(!text.is_empty(), "{words:?}");
         lines.extend(text.lines().map(String::from));
     }
+    for path in files(&golden("mistakes"), "rules") {
+        let text = call(&["check", "--json", &path.display().to_string()]).text();
+        lines.extend(text.lines().map(String::from));
+    }
     lines
 }
 
@@ -171,6 +175,10 @@ fn logs() {
         );
         assert!(text.contains(&format!("\"exitCode\":{}", said.status)), "{text}");
         logs.push(text.trim_end().to_string());
+    }
+    for path in files(&golden("mistakes"), "rules") {
+        let said = call(&["check", "--format", "sarif", &path.display().to_string()]);
+        logs.push(said.text().trim_end().to_string());
     }
     let broken = logs[0].replacen("\"startLine\":10", "\"startLine\":0", 1);
     assert_ne!(broken, logs[0]);
