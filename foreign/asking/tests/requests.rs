@@ -150,6 +150,27 @@ fn mistakes_are_told_at_their_places() {
     assert_eq!(asked(r##"{"rules":"# nothing\n"}"##).0, 5);
 }
 
+/// The requests of docs/NOTATION.md, and that its table has every key.
+#[test]
+fn the_page() {
+    let page = include_str!("../../../docs/NOTATION.md");
+    let requests: Vec<&str> = page
+        .lines()
+        .filter_map(|line| line.strip_prefix("- `")?.split_once("` asks").map(|of| of.0))
+        .collect();
+    assert_eq!(requests.len(), 3);
+    for request in requests {
+        let (status, lines) = asked(request);
+        assert_eq!((status, lines.len()), (1, 1), "{request}");
+    }
+    let (_, table) = page.split_once("| Key of a request |").unwrap();
+    let (table, _) = table.split_once("\n\n").unwrap();
+    for key in include_str!("../src/request.rs").split("keys.truth(\"").skip(1) {
+        let key = key.split('"').next().unwrap();
+        assert!(table.contains(&format!("| `{key}` |")), "{key}");
+    }
+}
+
 #[test]
 fn what_is_no_request() {
     let two = |more: &str| format!("{{{TWO}{more}}}");

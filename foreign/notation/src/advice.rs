@@ -22,7 +22,7 @@ use crate::{Kind, Pattern};
 const SOME_LENGTH: u32 = 6;
 
 /// The signs that are tried as separators, in this order.
-const SEPARATORS: &str = "-./+$%";
+pub const SEPARATORS: &str = "-./+$%";
 
 /// What may help, and why.
 #[derive(Clone, Debug)]
@@ -77,7 +77,7 @@ fn more_room<'a>(asked: &Asked) -> Option<Advice<'a>> {
         }
     };
     let advice = Advice { kind, side: None, fields: Vec::new(), stands: None, words };
-    (asked.room < MOST_SITUATIONS).then(|| advice)
+    (asked.room < MOST_SITUATIONS).then_some(advice)
 }
 
 /// What a field of a rule may hold.

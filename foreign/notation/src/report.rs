@@ -154,7 +154,7 @@ pub fn label_words(edition: Edition, label: &[u8]) -> String {
 }
 
 /// The label as it stands in Code 39, if it is one of Full ASCII.
-fn spelt(edition: Edition, label: &[u8]) -> Option<String> {
+pub fn spelt(edition: Edition, label: &[u8]) -> Option<String> {
     let mut values = vec![0; spelt_bytes(label.len())];
     match edition {
         Edition::Code39 => None,

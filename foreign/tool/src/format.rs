@@ -4,7 +4,7 @@ use crate::advice::advice_words;
 use crate::ask::Asked;
 use crate::notation::mistakes::more_mistakes;
 use crate::notation::paint::Paint;
-use crate::notation::visible::visible;
+use crate::notation::visible::{visible, visible_sign};
 use crate::report::{dropped_words, fields_words, label_words, not_decided_words};
 use crate::sarif;
 use crate::sides::{Place, Side, Text};
@@ -166,7 +166,13 @@ pub fn annotation(level: &str, properties: &[(&str, String)], words: &str) -> St
 }
 
 fn escaped(text: &str) -> String {
-    text.replace('%', "%25").replace('\r', "%0D").replace('\n', "%0A")
+    let escaped = |sign: char| match sign {
+        '%' => "%25".to_string(),
+        '\r' => "%0D".to_string(),
+        '\n' => "%0A".to_string(),
+        sign => visible_sign(sign),
+    };
+    text.chars().map(escaped).collect()
 }
 
 #[cfg(test)]

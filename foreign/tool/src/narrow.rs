@@ -71,14 +71,13 @@ pub fn without_in_front(pattern: &Pattern, gone: Set) -> Option<Pattern> {
 /// Patterns that take some of the texts alone, most of them not the given one.
 pub fn narrowed(pattern: &Pattern, text: &[u8]) -> Vec<Pattern> {
     let span = pattern.span;
-    let changed = |kind| Pattern { kind, span };
     match &pattern.kind {
         Kind::Empty => Vec::new(),
         Kind::One(set) => {
             let others = |&value: &u8| set.and(Set::one(set.edition(), value).rest());
             let others = text.iter().filter(|value| set.has(**value)).map(others);
             let others = others.filter(|set| !set.is_empty());
-            others.map(|set| changed(Kind::One(set))).collect()
+            others.map(|set| Pattern { kind: Kind::One(set), span }).collect()
         }
         Kind::Then(parts) => {
             let replaced = |(place, part): (usize, &Pattern)| {
@@ -95,21 +94,27 @@ pub fn narrowed(pattern: &Pattern, text: &[u8]) -> Vec<Pattern> {
             let inside = parts.iter().flat_map(|part| narrowed(part, text));
             parts.iter().cloned().chain(inside).collect()
         }
-        Kind::Repeat { part, least, most } => {
-            let again = |part: Pattern| {
-                changed(Kind::Repeat { part: Box::new(part), least: *least, most: *most })
-            };
-            let mut all: Vec<Pattern> = narrowed(part, text).into_iter().map(again).collect();
-            // more often than now, and more often than in any reading of the text
-            for more in [*least + 1, (*least).max(text.len() as u32) + 1] {
-                if most.is_none_or(|most| more <= most) {
-                    let part = part.clone();
-                    all.push(changed(Kind::Repeat { part, least: more, most: *most }));
-                }
-            }
-            all
-        }
+        Kind::Repeat { part, least, most } => repeated(part, text, *least, *most, span),
     }
+}
+
+/// The same of a part that stands so many times.
+fn repeated(
+    part: &Pattern,
+    text: &[u8],
+    least: u32,
+    most: Option<u32>,
+    span: Span,
+) -> Vec<Pattern> {
+    let times = |part: Pattern, least| Pattern {
+        kind: Kind::Repeat { part: Box::new(part), least, most },
+        span,
+    };
+    let fewer = narrowed(part, text).into_iter().map(|part| times(part, least));
+    // more often than now, and more often than in any reading of the text
+    let often = [least + 1, least.max(text.len() as u32) + 1];
+    let often = often.into_iter().filter(|&more| most.is_none_or(|most| more <= most));
+    fewer.chain(often.map(|more| times(part.clone(), more))).collect()
 }
 
 #[cfg(test)]

@@ -7,6 +7,7 @@
 
 use bradovusc::Edition;
 
+use crate::advice::SEPARATORS;
 use crate::ask::{Asked, Buffers, Room, Shared};
 use crate::compile::judge;
 use crate::json::Object;
@@ -29,9 +30,6 @@ const MOST_TRIES: usize = 200;
 
 /// The room for each question.
 const ROOM: Room = Room::Fixed(1_424);
-
-/// The signs that are tried as separators, in this order.
-const SEPARATORS: &str = "-./+$%";
 
 /// What is found about a clash.
 pub struct Repair {

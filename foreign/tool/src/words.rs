@@ -270,72 +270,55 @@ fn format_of(words: &[OsString]) -> Format {
     format
 }
 
+/// The options that have a value.
+const VALUED: [&str; 11] = [
+    "--room",
+    "--threads",
+    "--bytes",
+    "--max",
+    "--against",
+    "--part",
+    "--seconds",
+    "--csv",
+    "--column",
+    "--separator",
+    "--format",
+];
+
 /// Sets an option that has a value; none where it is no such option.
 fn set_value(
     name: &str,
     value: &mut dyn FnMut() -> String,
     options: &mut Options,
 ) -> Result<Option<&'static str>, String> {
-    let mut number = |least: usize, most: usize| {
-        let value = value();
-        let known = value.parse().ok().filter(|number| (least..=most).contains(number));
-        let (least, most) = (grouped(least), grouped(most));
-        known.ok_or(format!("{name} takes a number from {least} to {most}, not '{value}'"))
+    let Some(name) = VALUED.into_iter().find(|known| *known == name) else {
+        return Ok(None);
     };
-    Ok(Some(match name {
-        "--room" => {
-            options.room = Room::Fixed(number(1, MOST_SITUATIONS)?);
-            "--room"
-        }
-        "--threads" => {
-            options.threads = Some(number(1, 1_024)?);
-            "--threads"
-        }
-        "--bytes" => {
-            options.bytes = Some(number(0, 1_000_000_000)?);
-            "--bytes"
-        }
-        "--max" => {
-            options.max = Some(number(0, 1_000_000_000)?);
-            "--max"
-        }
-        "--against" => {
-            options.against.push(value().into());
-            "--against"
-        }
-        "--part" => {
-            let value = value();
-            let wrong = || format!("--part takes I/N, part I of N from 1 on, not '{value}'");
-            options.part = Part::read(&value).ok_or_else(wrong)?;
-            "--part"
-        }
-        "--seconds" => {
-            let value = value();
-            let wrong = || format!("--seconds takes a number above 0, not '{value}'");
-            options.seconds = Some(seconds(&value).ok_or_else(wrong)?);
-            "--seconds"
-        }
-        "--csv" => {
-            options.values = Some(value().into());
-            "--csv"
-        }
-        "--column" => {
-            options.column = Some(value());
-            "--column"
-        }
+    let value = value();
+    let wrong = |takes: &str| format!("{name} takes {takes}, not '{value}'");
+    let number = |least: usize, most: usize| {
+        let known = value.parse().ok().filter(|number| (least..=most).contains(number));
+        let takes = || format!("a number from {} to {}", grouped(least), grouped(most));
+        known.ok_or_else(|| wrong(&takes()))
+    };
+    let (of_parts, above) = ("I/N, part I of N from 1 on", "a number above 0");
+    match name {
+        "--room" => options.room = Room::Fixed(number(1, MOST_SITUATIONS)?),
+        "--threads" => options.threads = Some(number(1, 1_024)?),
+        "--bytes" => options.bytes = Some(number(0, 1_000_000_000)?),
+        "--max" => options.max = Some(number(0, 1_000_000_000)?),
+        "--against" => options.against.push(value.into()),
+        "--part" => options.part = Part::read(&value).ok_or_else(|| wrong(of_parts))?,
+        "--seconds" => options.seconds = Some(seconds(&value).ok_or_else(|| wrong(above))?),
+        "--csv" => options.values = Some(value.into()),
+        "--column" => options.column = Some(value),
         "--separator" => {
-            let value = value();
-            let wrong = || format!("--separator takes one sign, or tab, not '{value}'");
-            options.separator = separator(&value).ok_or_else(wrong)?;
-            "--separator"
+            options.separator = separator(&value).ok_or_else(|| wrong("one sign, or tab"))?;
         }
-        "--format" => {
-            // it is set already
-            Format::named(&value())?;
-            "--format"
-        }
-        _ => return Ok(None),
-    }))
+        // the form is set already
+        _ => drop(Format::named(&value)?),
+    }
+    Ok(Some(name))
 }
 
 /// Seconds, of which there may be a part.

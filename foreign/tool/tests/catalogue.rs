@@ -143,8 +143,11 @@ fn a_crash_loses_nothing() {
         .unwrap();
     assert_ne!(status.code(), Some(0));
     assert_eq!(fs::read(&path).unwrap(), before);
+    // what is left of it is gone with the next change
+    let left = || folder.names().iter().filter(|name| name.ends_with(".new")).count();
+    assert_eq!(left(), 1);
     let said = program_in(&folder.0, &["add", "stock.cat", "apart.rules", "screw"]);
-    assert_eq!(said.status, 0, "{said:?}");
+    assert_eq!((said.status, left()), (0, 0), "{said:?}");
     assert_eq!(call(&["list", &path]).text().matches(" = S\\s{a}").count(), 1);
 }
 

@@ -22,7 +22,9 @@ impl Store {
             return None;
         };
         let folder = Folder::new(name);
-        ["bin", "store", "tmp"].map(|name| fs::create_dir(folder.0.join(name)).unwrap());
+        for name in ["bin", "store", "tmp"] {
+            fs::create_dir(folder.0.join(name)).unwrap();
+        }
         symlink(tool, folder.0.join("bin/bradovusc")).unwrap();
         let store = Store { folder };
         if !store.begin() {

@@ -8,6 +8,8 @@ use std::io::Write;
 use std::path::{Path, PathBuf};
 use std::process::{Command, Stdio};
 
+use bradovusc_asking::request::answer;
+use bradovusc_tool::json::Object;
 use common::{call, files, golden};
 
 fn here(name: &str) -> PathBuf {
@@ -51,7 +53,7 @@ fn shown() -> Vec<String> {
     let mut lines = Vec::new();
     for path in said {
         let text = fs::read_to_string(path).unwrap();
-        let objects = text.lines().map(str::trim).filter(|line| line.starts_with('{'));
+        let objects = text.lines().map(str::trim).filter(|line| line.starts_with("{\""));
         lines.extend(objects.map(String::from));
     }
     lines
@@ -78,12 +80,32 @@ fn called() -> Vec<String> {
         assert!(!text.is_empty(), "{words:?}");
         lines.extend(text.lines().map(String::from));
     }
+    for path in files(&golden("mistakes"), "rules") {
+        let text = call(&["check", "--json", &path.display().to_string()]).text();
+        lines.extend(text.lines().map(String::from));
+    }
+    lines
+}
+
+/// What requests are answered with, with all that can be told.
+fn requested() -> Vec<String> {
+    let mut lines = Vec::new();
+    for name in ["latch.rules", "open.rules", "ascii.rules", "spaces.rules", "mistake.rules"] {
+        let rules = fs::read_to_string(golden("files").join(name)).unwrap();
+        let rules = Object::new().text("rules", &rules).done();
+        let told = ["steps", "bands", "words", "summary"].map(|key| format!(",\"{key}\":true"));
+        let request = format!("{}{},\"room\":356}}", &rules[..rules.len() - 1], told.concat());
+        let (_, text) = answer(request.as_bytes());
+        assert!(text.contains("\"words\""), "{text}");
+        lines.extend(text.lines().map(String::from));
+    }
+    assert!(lines.iter().any(|line| line.contains("\"left_bands\"")));
     lines
 }
 
 #[test]
 fn objects() {
-    let lines = [shown(), called()].concat();
+    let lines = [shown(), called(), requested()].concat();
     assert!(lines.len() > 500);
     let logs: Vec<&String> = lines.iter().filter(|line| line.contains("\"$schema\"")).collect();
     let objects: Vec<String> = lines.iter().filter(|line| !logs.contains(line)).cloned().collect();
@@ -153,6 +175,10 @@ fn logs() {
         );
         assert!(text.contains(&format!("\"exitCode\":{}", said.status)), "{text}");
         logs.push(text.trim_end().to_string());
+    }
+    for path in files(&golden("mistakes"), "rules") {
+        let said = call(&["check", "--format", "sarif", &path.display().to_string()]);
+        logs.push(said.text().trim_end().to_string());
     }
     let broken = logs[0].replacen("\"startLine\":10", "\"startLine\":0", 1);
     assert_ne!(broken, logs[0]);

@@ -10,6 +10,7 @@ use crate::json::Object;
 use crate::notation::join::joined;
 use crate::notation::mistakes::Mistakes;
 use crate::notation::read;
+use crate::notation::visible::visible;
 use crate::pairs::Pairs;
 use crate::replace::Replaced;
 use crate::report::{counted, grouped};
@@ -53,13 +54,13 @@ impl Run<'_> {
 
     /// Says whether so many rules are entered, with which there are so many.
     fn accepted(&mut self, name: &str, status: Status, new: usize, all: usize) -> Outcome {
-        let are = if new == 1 { "rule is" } else { "rules are" };
+        let (are, told) = (if new == 1 { "rule is" } else { "rules are" }, visible(name));
         let (truth, words) = match status {
             Status::Good => {
                 let all = counted(all, "rule", "rules");
-                (true, format!("{} {are} entered into {name}: it has {all}\n", grouped(new)))
+                (true, format!("{} {are} entered into {told}: it has {all}\n", grouped(new)))
             }
-            _ => (false, format!("nothing is entered into {name}\n")),
+            _ => (false, format!("nothing is entered into {told}\n")),
         };
         let all = if truth { all } else { all - new };
         let object = || {

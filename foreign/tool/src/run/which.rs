@@ -10,7 +10,7 @@ use crate::labels::{from_lines, from_values, Column, Label};
 use crate::matching::{Reader, LONGEST_LABEL};
 use crate::notation::visible::{visible, visible_sign};
 use crate::report::{
-    counted, fields_object, fields_words, grouped, label_words, placed, summary_of, titled,
+    counted, fields_object, fields_words, grouped, label_words, placed, spelt, summary_of, titled,
 };
 use crate::sides::{Side, Text};
 use crate::status::{Problem, Status};
@@ -147,7 +147,8 @@ fn look_up<'a>(
 }
 
 fn place_words(label: &Label) -> String {
-    label.place.as_ref().map_or(String::new(), |(file, line)| format!("{file}:{line}: "))
+    let place = |(file, line): &(String, usize)| format!("{}:{line}: ", visible(file));
+    label.place.as_ref().map_or(String::new(), place)
 }
 
 impl Found<'_> {
@@ -188,6 +189,10 @@ impl Found<'_> {
             _ => "clash",
         };
         let mut object = Object::new().text("label", &self.label.text).text("answer", answer);
+        let spelt = self.values.as_ref().ok().and_then(|values| spelt(self.edition, values));
+        if let Some(spelt) = spelt {
+            object = object.text("spelt", &spelt);
+        }
         if let Some(wrong) = self.wrong() {
             object = object.text("reason", &wrong);
         }
