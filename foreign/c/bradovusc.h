@@ -54,7 +54,7 @@
 #define BRADOVUSC_VERSION_PATCH 0
 #define BRADOVUSC_VERSION "0.8.0"
 
-/* The same as one number: 0.8.0 is 800, and 1.2.3 would be 10203. */
+/* The same as one number: 1.2.3 would be 10203. */
 #define BRADOVUSC_VERSION_NUMBER (BRADOVUSC_VERSION_MAJOR * 10000 + BRADOVUSC_VERSION_MINOR * 100 + BRADOVUSC_VERSION_PATCH)
 
 #ifdef __cplusplus

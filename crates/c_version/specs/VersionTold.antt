@@ -1,5 +1,5 @@
--- The version of the library in its three numbers, and the one number that tells them: 0.8.0 is 800. The C header, the packages and the tool name
--- the same version.
+-- The version of the library in its three numbers, and the one number that tells them: 1.2.3 would be 10203. The C header, the packages and the
+-- tool name the same version; `tools/version` writes it.
 use Prim.Native.Nat.{ℕ, _+_, _*_}
 
 abbrev pub first : ℕ
