@@ -8,6 +8,8 @@
  * Where no field stands twice, a small engine says clash or no clash in at most 9,731 bytes. The sheet is written from the two sides
  * and the patterns; where one of them is wrong, its place is told. Most pairs of rules differ in what is fixed at their fronts or
  * ends, which is told from the two sides alone.
+ * A field has a number on the sheet. One that stands on both sides is one field, shared: it holds the same text in both rules. Two
+ * rules with a field each have two numbers. bradovusc_asking.h asks about rules as text, whose fields are their own.
  * A catalogue has up to 32 rules in one buffer. A rule is added only if it clashes with none that is there; it can be withdrawn. One
  * that was kept can be checked again, pair by pair. A pair is asked by one search, or by up to four, which enter more rules.
  * A sheet can be written out as a script for string solvers, in SMT-LIB 2.6.

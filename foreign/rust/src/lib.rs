@@ -6,6 +6,10 @@
 //! a space are the same label; a space elsewhere is a character like the others. The two rules stand
 //! on a question sheet; [`clash`] answers it in memory that the caller lends.
 //!
+//! A field has a number on the sheet. One that stands on both sides is one field, shared: it holds the
+//! same text in both rules. Two rules with a field each have two numbers. The package
+//! `bradovusc-asking` asks about rules as text, whose fields are their own.
+//!
 //! ```
 //! use bradovusc::{answer_bytes, clash, texts, SITUATION_BYTES};
 //!
