@@ -1,8 +1,8 @@
 /*
  * Tries what bradovusc.h itself defines: the texts of the numbers, the signs, the walks over records, steps and listed pairs, null
  * pointers of length 0, deciding, the steps of a clash and the player, plain rules, a sheet that is written, the script of one, the
- * calls of a catalogue, with one search and decided, what is carried over, what loses its strays, the version, the lengths of buffers;
- * and the places of faults, as it lists them.
+ * calls of a catalogue, with one search and decided, what is carried over, what loses its strays, sides told apart, the version, the
+ * lengths of buffers; and the places of faults, as it lists them.
  * C99, and C++11 too. Prints what does not hold, and how many checks there were; the exit status is 0 if all hold.
  */
 #include <stdio.h>
@@ -31,6 +31,7 @@
 #define bradovusc_drop_strays_catalogue watched_drop_strays_catalogue
 #define bradovusc_spell watched_spell
 #define bradovusc_read_spelt watched_read_spelt
+#define bradovusc_fronts_differ watched_fronts_differ
 #include "bradovusc.h"
 #undef bradovusc_clash
 #undef bradovusc_decide
@@ -53,6 +54,7 @@
 #undef bradovusc_drop_strays_catalogue
 #undef bradovusc_spell
 #undef bradovusc_read_spelt
+#undef bradovusc_fronts_differ
 
 #ifdef __cplusplus
 extern "C" {
@@ -96,6 +98,7 @@ uint32_t bradovusc_spell(const uint8_t *text, size_t text_length, uint8_t *out, 
                          size_t told_length);
 uint32_t bradovusc_read_spelt(const uint8_t *spelt, size_t spelt_length, uint8_t *out, size_t out_length, uint64_t *told,
                               size_t told_length);
+uint32_t bradovusc_fronts_differ(size_t edition, const uint8_t *left, size_t left_length, const uint8_t *right, size_t right_length);
 #ifdef __cplusplus
 }
 #endif
@@ -279,6 +282,12 @@ uint32_t watched_read_spelt(const uint8_t *spelt, size_t spelt_length, uint8_t *
     check(out != NULL, "the output buffer's pointer is not null", (long)out_length);
     check(told != NULL, "the pointer of what is told is not null", (long)told_length);
     return bradovusc_read_spelt(spelt, spelt_length, out, out_length, told, told_length);
+}
+
+uint32_t watched_fronts_differ(size_t edition, const uint8_t *left, size_t left_length, const uint8_t *right, size_t right_length) {
+    check(left != NULL, "the left side's pointer is not null", (long)left_length);
+    check(right != NULL, "the right side's pointer is not null", (long)right_length);
+    return bradovusc_fronts_differ(edition, left, left_length, right, right_length);
 }
 
 /* ---- the texts of the numbers */
@@ -1820,6 +1829,24 @@ static void try_spelt_told(void) {
     }
 }
 
+/* Sides told apart by what is fixed in them: L, T and a field, L, U and a field, and a field and 4, with a space behind it too. */
+static void try_fronts(void) {
+    static const uint8_t lt[] = {21, 29, 64}, lu[] = {21, 30, 64}, four[] = {65, 4}, five[] = {65, 5, 38}, none[] = {21, 255};
+    check(bradovusc_tell_apart(0, lt, sizeof lt, lu, sizeof lu) == 1, "fronts that differ", 1);
+    check(bradovusc_tell_apart(0, lt, sizeof lt, lt, sizeof lt) == 0, "the same side", 0);
+    check(bradovusc_tell_apart(0, lt, sizeof lt, four, sizeof four) == 0, "a field in front", 0);
+    check(bradovusc_tell_apart(0, four, 2, five, 2) == 1, "ends that differ", 2);
+    check(bradovusc_tell_apart(0, four, 2, five, 3) == 0, "a space at an end", 3);
+    check(bradovusc_tell_apart(0, lu + 1, 1, none, 1) == 1, "a token", 1);
+    check(bradovusc_tell_apart(0, lu + 1, 1, none, 2) == 0, "a byte that is no token", 2);
+    check(bradovusc_tell_apart(0, NULL, 0, NULL, 0) == 0, "nothing at all", 0);
+    check(bradovusc_tell_apart(0, NULL, 0, lt, sizeof lt) == 0, "one side", 1);
+    check(bradovusc_tell_apart(2, lt, sizeof lt, lu, sizeof lu) == 1, "Full ASCII", 2);
+    check(bradovusc_tell_apart(0, lt, sizeof lt, lt, 2) == 0, "the one goes on", 2);
+    check(bradovusc_tell_apart(1, lt, sizeof lt, lu, sizeof lu) == 0, "no edition", 1);
+    check(bradovusc_tell_apart(SIZE_MAX, lt, sizeof lt, lu, sizeof lu) == 0, "no edition", -1);
+}
+
 int main(void) {
     char version[64];
     snprintf(version, sizeof version, "%d.%d.%d", BRADOVUSC_VERSION_MAJOR, BRADOVUSC_VERSION_MINOR, BRADOVUSC_VERSION_PATCH);
@@ -1875,6 +1902,7 @@ int main(void) {
     try_carry_rule();
     try_carried_told();
     try_spell();
+    try_fronts();
     try_read_back();
     try_spelt_told();
     try_carry_catalogue();

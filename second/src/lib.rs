@@ -25,6 +25,9 @@
 //! `plain::plain` says clash or no clash where no field stands twice, with a bit
 //! for each pair of standings in place of situations.
 //!
+//! `fronts::differ` tells two sides apart by what is fixed in them, with no search
+//! at all.
+//!
 //! `steps::steps` does what `answer` does and writes the way too, step by step;
 //! `steps::play` goes any such way and gives its texts.
 //!
@@ -54,6 +57,7 @@ pub mod decide;
 pub mod drop_strays;
 pub mod edition;
 pub mod fault;
+pub mod fronts;
 pub mod full_ascii;
 pub mod make;
 pub mod pattern;

@@ -5,7 +5,7 @@
 //! rules as storerooms write them, `decided` cases to decide, `written` what is
 //! handed to the writer of sheets, `plainly` sheets for the engine for plain
 //! rules, `ascii` texts to be spelt and read back, `ways` cases of the steps and
-//! of the player. `said` says what is made in the second edition. `strays` makes
+//! of the player, `fronts` sides to be told apart. `said` says what is made in the second edition. `strays` makes
 //! sheets and rules with stray patterns.
 //!
 //! Others have some too, as they had before those were refused. What is looked up
@@ -17,6 +17,7 @@ pub mod calls;
 mod damages;
 pub mod decided;
 pub mod editions;
+pub mod fronts;
 pub mod kept;
 pub mod pairs;
 pub mod plainly;

@@ -219,7 +219,8 @@ fn two_bytes(stream: &[u8]) -> Option<(u16, &[u8])> {
     Some((u16::from_le_bytes(number), rest))
 }
 
-fn bytes(stream: &[u8]) -> Option<(Vec<u8>, &[u8])> {
+/// Bytes with their number in two before them, and what stands behind them.
+pub(crate) fn bytes(stream: &[u8]) -> Option<(Vec<u8>, &[u8])> {
     let (length, rest) = two_bytes(stream)?;
     let (bytes, rest) = rest.split_at_checked(length.into())?;
     Some((bytes.to_vec(), rest))

@@ -3,18 +3,14 @@
 --   not-apart, left-no-tokens, right-no-tokens, apart : what is told in an edition
 --   of-first, of-second, of-none                    : by the number of the edition
 -- Follows from the tests of the definitions.
-use Prim.Native.Nat.{ℕ, _≤_, _<_}
-use mathlib.Core.Path.{_≡_, refl, sym, _∙_}
-use mathlib.Core.Bool.{Bool, true, false, cond, _&&_}
-use mathlib.Core.List.{List, map, reverse}
-use lib.ListN.{length}
-use Rattle.paper.specs.Lists.{leading}
-use Rattle.paper.specs.Alphabet.{Edition, edition-1, edition-2, alphabet-of, codes}
+use Prim.Native.Nat.{ℕ}
+use mathlib.Core.Path.{_≡_}
+use mathlib.Core.Bool.{Bool, true, false, cond}
+use mathlib.Core.List.{List, reverse}
+use Rattle.paper.specs.Alphabet.{Edition, edition-1, edition-2, alphabet-of}
 use Rattle.paper.specs.Equation.{Side}
-use Rattle.paper.specs.Sheet.{is-token}
 use Rattle.paper.specs.Saying.{edition-byte}
-use Rattle.paper.proofs.base.Tests.{right-false, both-true, eq-eqb, neq-eqb}
-use Rattle.read_side.proofs.SideBytes.{fewer-lead, all-lead}
+use Rattle.paper.proofs.base.Tests.{eq-eqb, neq-eqb}
 use Rattle.paper_fronts.specs.FixedFronts.{fronts-differ, begins-solid, fixed-differ, side-said, are-tokens, bytes-differ, fronts-told}
 
 module _ (x : ℕ) (left right : Side) where
@@ -44,18 +40,18 @@ module _ (e : Edition) (left right : List ℕ) where
   not-apart h = rw h
 
   module _ (h : fixed ≡ true) where
-    pub left-no-tokens : leading is-token (codes e left) < length (codes e left) → tells ≡ 0
+    pub left-no-tokens : are-tokens e left ≡ false → tells ≡ 0
     unfolding bytes-differ
-    left-no-tokens k = rw (h, fewer-lead is-token (codes e left) k)
+    left-no-tokens k = rw (h, k)
 
-    module _ (k : length (codes e left) ≤ leading is-token (codes e left)) where
-      pub right-no-tokens : leading is-token (codes e right) < length (codes e right) → tells ≡ 0
+    module _ (k : are-tokens e left ≡ true) where
+      pub right-no-tokens : are-tokens e right ≡ false → tells ≡ 0
       unfolding bytes-differ
-      right-no-tokens l = rw (h, all-lead is-token (codes e left) k, fewer-lead is-token (codes e right) l)
+      right-no-tokens l = rw (h, k, l)
 
-      pub apart : length (codes e right) ≤ leading is-token (codes e right) → tells ≡ 1
+      pub apart : are-tokens e right ≡ true → tells ≡ 1
       unfolding bytes-differ
-      apart l = rw (h, all-lead is-token (codes e left) k, all-lead is-token (codes e right) l)
+      apart l = rw (h, k, l)
 
 module _ (n : ℕ) (left right : List ℕ) where
   pub of-first : n ≡ edition-byte edition-1 → fronts-told n left right ≡ cond (bytes-differ edition-1 left right) 1 0

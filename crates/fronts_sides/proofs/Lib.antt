@@ -2,3 +2,5 @@
 pub mod FixedWalk
 -- what is told, test by test
 pub mod FixedTold
+-- bytes that are tokens
+pub mod TokenBytes

@@ -2,17 +2,22 @@
 use base_editions::Edition;
 use base_editions::alphabet_of;
 use base_editions::code;
-use read_side::leading_tokens;
+use base_editions::codes_from;
 ghost use mathlib.Core.Path.{_≡_};
 ghost use mathlib.Core.Bool.{cond};
 ghost use mathlib.Core.List.{reverse};
+ghost use Rattle.paper.specs.Alphabet as Alphabet;
 ghost use Rattle.paper.specs.Alphabet.{alphabet-of};
+ghost use Rattle.paper.specs.Sheet.{is-token};
 ghost use Rattle.paper_fronts.specs.FixedFronts as Fixed;
-ghost use Rattle.paper_fronts.specs.FixedFronts.{begins-solid, fixed-differ, side-said, bytes-differ, fronts-told};
+ghost use Rattle.paper_fronts.specs.FixedFronts.{begins-solid, fixed-differ, side-said, are-tokens, bytes-differ, fronts-told};
 ghost use Rattle.base_editions.specs.Editions.{paper-edition};
 
 // behind the codes of characters, in either edition
 const CHARACTERS: u8 = 128;
+
+// "field byte 0 to 7"
+const FIELDS: u8 = 8;
 
 // 1 only if no texts at all make both sides the same label. 0 says nothing, also of bytes that are no tokens. The edition is 0 for none and 2 for Full
 // ASCII; of any other nothing is said.
@@ -35,10 +40,10 @@ fn told(edition: Edition, left: &[u8], right: &[u8]) -> u32
     if !fixed(edition, left, right) {
         return 0;
     }
-    if leading_tokens(left, edition) < left.len() {
+    if !are_tokens(edition, left) {
         return 0;
     }
-    if leading_tokens(right, edition) < right.len() {
+    if !are_tokens(edition, right) {
         return 0;
     }
     1
@@ -97,15 +102,15 @@ fn ends(edition: Edition, left: &[u8], right: &[u8]) -> bool
         }
         p -= 1;
         q -= 1;
-        let a = code(edition, left[p]);
-        let b = code(edition, right[q]);
-        if CHARACTERS <= a {
+        let x = code(edition, left[p]);
+        let y = code(edition, right[q]);
+        if CHARACTERS <= x {
             return false;
         }
-        if CHARACTERS <= b {
+        if CHARACTERS <= y {
             return false;
         }
-        if a != b {
+        if x != y {
             return true;
         }
     }
@@ -126,4 +131,33 @@ fn ends_solid(edition: Edition, side: &[u8]) -> bool
     }
     let own = alphabet_of(edition);
     (last as usize) != own.space
+}
+
+// Is every byte a token of the edition?
+fn are_tokens(edition: Edition, side: &[u8]) -> bool
+    ensures { λ r. ⌜ r ≡ are-tokens (paper-edition edition) (now (side .entry)) ⌝ }
+{
+    let mut i = 0;
+    while i < side.len() {
+        if !is_token(edition, side[i]) {
+            return false;
+        }
+        i += 1;
+    }
+    true
+}
+
+// By the byte itself: this is asked of every byte of a pair, and its code is not wanted.
+fn is_token(edition: Edition, b: u8) -> bool
+    ensures { λ r. ⌜ r ≡ is-token (Alphabet.code (paper-edition edition) b) ⌝ }
+{
+    let own = alphabet_of(edition);
+    if (b as usize) < own.characters {
+        return true;
+    }
+    let from = codes_from(edition);
+    if b < from {
+        return false;
+    }
+    b - from < FIELDS
 }

@@ -1,10 +1,10 @@
 // `test_sheets`: tries the library on many sheets. Standard input is a sequence of parts: a mark, the number of the cases, and so many cases. The
 // mark says what is done with each case and what is printed of it (part.rt); a case is a sheet and the lengths of its buffers, or what the writer
-// of sheets is handed, or a text to be spelt or read back. The program ends where the input does, and also before a part or a case that is cut
+// of sheets is handed, a text to be spelt or read back, or two sides to be told apart. The program ends where the input does, and also before a part or a case that is cut
 // short, has another mark or asks for more than is lent here. A read or a write that fails is told on standard error.
 //
-// The stored parts are these twenty-four, from 13 on those of the second edition (request K10), from 22 on those with stray patterns (request K13);
-// tools/part frames a part. The second program prints the same lines. tools/compare tries fresh parts.
+// The stored parts are these twenty-five, from 13 to 21 those of the second edition (request K10), from 22 to 24 those with stray patterns (request
+// K13); tools/part frames a part. The second program prints the same lines. tools/compare tries fresh parts.
 //
 // 1. `BY`: the known sheets of document 01
 //
@@ -196,7 +196,15 @@
 // 24. `WE`: sheets with stray patterns that the writer is to say
 //
 // What `sheets --strays --write` makes. `second --write-edition` prints the same.
+//
+// 25. `FR`: pairs of sides told apart
+//
+// First what the second program's `sheets --fronts` makes: in both editions every pair of sides of at most two tokens, each byte at each place of a side
+// that differs from the other in front and at its end, and sides longer than a sheet's; then numbers of editions, those that no byte holds among
+// them. Then what `sheets --fronts 51 2000` and `sheets --edition 2 --fronts 52 1000` make: sides of pairs of rules, and such with the same front and
+// the same end. `second --fronts` prints the same.
 mod ascii;
+mod fronts;
 mod part;
 mod plain;
 mod script;
@@ -276,6 +284,7 @@ fn answer_one(sheet: &mut [u8], work: &mut [u8], answer: &mut [u8], kind: Kind) 
         Kind::Written => written::show_written(),
         Kind::Edition => written::show_edition(),
         Kind::Ascii => ascii::show_ascii(),
+        Kind::Fronts => fronts::show_fronts(),
     }
 }
 

@@ -14,6 +14,8 @@ pub enum Kind {
     Edition,
     // `FA`: texts to be spelt and spelt texts to be read back (ascii.rt). A line as of `WR`
     Ascii,
+    // `FR`: pairs of sides to be told apart (fronts.rt). A line: 1 or 0
+    Fronts,
 }
 
 // What is done with a sheet, and what is printed of it.
@@ -76,6 +78,8 @@ const EDITION: usize = b'W' as usize + 256 * (b'E' as usize);
 
 const ASCII: usize = b'F' as usize + 256 * (b'A' as usize);
 
+const FRONTS: usize = b'F' as usize + 256 * (b'R' as usize);
+
 // Reads the head of the next part.
 pub fn next() -> Part {
     let mut head = [0u8; HEAD];
@@ -101,6 +105,7 @@ fn part_of(mark: usize, number: usize) -> Part {
         WRITTEN => cases(How::Going, Kind::Written, number),
         EDITION => cases(How::Going, Kind::Edition, number),
         ASCII => cases(How::Going, Kind::Ascii, number),
+        FRONTS => cases(How::Going, Kind::Fronts, number),
         _ => cases(How::Stopped, Kind::Written, 0),
     }
 }

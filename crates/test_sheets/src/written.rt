@@ -168,7 +168,7 @@ fn read_each(how: How, lengths: &mut [u64]) -> How {
 }
 
 // A number in eight bytes.
-fn read_eight(how: How) -> Number {
+pub fn read_eight(how: How) -> Number {
     let low = read_number(how, 4, FOUR_BYTES);
     let so_far = low.how;
     let high = read_number(so_far, 4, FOUR_BYTES);

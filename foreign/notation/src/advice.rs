@@ -24,6 +24,9 @@ const SOME_LENGTH: u32 = 6;
 /// The signs that are tried as separators, in this order.
 pub const SEPARATORS: &str = "-./+$%";
 
+/// Of so many fields that stand side by side it is told, in each rule.
+const MOST_SIDE_BY_SIDE: usize = 2;
+
 /// What may help, and why.
 #[derive(Clone, Debug)]
 pub struct Advice<'a> {
@@ -46,7 +49,7 @@ pub fn advice<'a>(left: &'a Side, right: &'a Side, asked: &Asked) -> Vec<Advice<
     for (side, held) in [left, right].into_iter().zip(&sides) {
         let wanted = |held: &&Held| if twice { held.stands > 1 } else { held.most.is_none() };
         all.extend(held.iter().filter(wanted).map(|held| held.advice(side)));
-        all.extend(side_by_side(side, held));
+        all.extend(side_by_side(side, held).into_iter().take(MOST_SIDE_BY_SIDE));
     }
     if all.is_empty() {
         let words =

@@ -1,8 +1,12 @@
-//! Two sides told apart by what is fixed in them: sides known by hand, bytes that are no tokens, and
-//! what a search finds of the pairs of many short sides.
+//! Two sides told apart by what is fixed in them: sides known by hand, bytes that are no tokens, what
+//! a search finds of the pairs of many short sides; and many generated cases, on which the library
+//! and the crate `second` agree.
 
 use bradovusc::{answer_bytes, clash, fronts_differ, write_edition, Edition, Written};
 use bradovusc::{SHEET_BYTES, SITUATION_BYTES};
+use second::edition::{FIRST, SECOND};
+use second::fronts::differ;
+use second::make::{fronts, Dice};
 
 const EDITIONS: [Edition; 2] = [Edition::Code39, Edition::FullAscii];
 
@@ -147,4 +151,25 @@ fn no_clash() {
         }
         assert_eq!((sides.len(), apart), (156, APART), "{edition:?}");
     }
+}
+
+#[test]
+fn many() {
+    let mut cases = fronts::each();
+    for edition in [FIRST, SECOND] {
+        let mut dice = Dice::of(40, edition);
+        cases.extend((0..4000).map(|_| fronts::made(&mut dice)));
+    }
+    let mut apart = 0;
+    for case in cases {
+        // The others are no editions.
+        let Some(edition) = EDITIONS.into_iter().find(|of| of.number() as u64 == case.edition)
+        else {
+            continue;
+        };
+        let given = told(edition, &case.left, &case.right);
+        assert_eq!(given, differ(case.edition, &case.left, &case.right), "{case:?}");
+        apart += usize::from(given);
+    }
+    assert!(apart > 4000, "{apart}");
 }

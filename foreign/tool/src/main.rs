@@ -23,7 +23,7 @@ fn main() -> ExitCode {
 /// Colours on a terminal that can show them, unless `NO_COLOR` says that none are wanted.
 fn paint(terminal: bool) -> Paint {
     let set = |name| std::env::var_os(name).filter(|value| !value.is_empty());
-    let dumb = set("TERM").map_or(true, |term| term == "dumb");
+    let dumb = set("TERM").is_none_or(|term| term == "dumb");
     match terminal && !dumb && set("NO_COLOR").is_none() {
         true => Paint::COLOURS,
         false => Paint::NONE,

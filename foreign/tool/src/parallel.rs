@@ -3,7 +3,7 @@
 use std::collections::BTreeMap;
 use std::ops::Range;
 use std::sync::atomic::{AtomicBool, AtomicUsize, Ordering};
-use std::sync::mpsc::{channel, RecvTimeoutError};
+use std::sync::mpsc::{channel, RecvTimeoutError, Sender};
 use std::thread;
 use std::time::Duration;
 
@@ -38,30 +38,13 @@ pub fn in_order<S, T: Send, E>(
 ) -> Result<(), E> {
     let threads = threads.clamp(1, count.max(1));
     let at_once = (count / (threads * 32)).clamp(1, MOST_AT_ONCE);
-    let (next, stopped) = (AtomicUsize::new(0), AtomicBool::new(false));
+    let pieces = Pieces { count, at_once, next: AtomicUsize::new(0), stopped: false.into() };
     thread::scope(|scope| {
         let (sender, receiver) = channel();
         for _ in 0..threads {
             let sender = sender.clone();
-            let (next, stopped, state, work) = (&next, &stopped, &state, &work);
-            scope.spawn(move || {
-                let mut state = state();
-                loop {
-                    let first = next.fetch_add(at_once, Ordering::Relaxed);
-                    if first >= count || stopped.load(Ordering::Relaxed) {
-                        return;
-                    }
-                    let mut pieces = first..count.min(first + at_once);
-                    while !pieces.is_empty() && !stopped.load(Ordering::Relaxed) {
-                        let (done, result) = work(&mut state, pieces.clone());
-                        let end = pieces.start + done.clamp(1, pieces.len());
-                        if sender.send((pieces.start..end, result)).is_err() {
-                            return;
-                        }
-                        pieces.start = end;
-                    }
-                }
-            });
+            let (pieces, state, work) = (&pieces, &state, &work);
+            scope.spawn(move || pieces.work_off(state(), work, &sender));
         }
         drop(sender);
         let (mut early, mut told, mut done) = (BTreeMap::new(), 0, 0);
@@ -81,9 +64,46 @@ pub fn in_order<S, T: Send, E>(
             tell(Event::Done(done))?;
         };
         let result = receive();
-        stopped.store(true, Ordering::Relaxed);
+        pieces.stopped.store(true, Ordering::Relaxed);
         result
     })
+}
+
+/// The pieces that are left for all threads.
+struct Pieces {
+    count: usize,
+    at_once: usize,
+    next: AtomicUsize,
+    stopped: AtomicBool,
+}
+
+impl Pieces {
+    /// What one thread does: it takes pieces until there are none, or all is stopped.
+    fn work_off<S, T>(
+        &self,
+        mut state: S,
+        work: impl Fn(&mut S, Range<usize>) -> (usize, T),
+        sender: &Sender<(Range<usize>, T)>,
+    ) {
+        loop {
+            let first = self.next.fetch_add(self.at_once, Ordering::Relaxed);
+            let mut pieces = first..self.count.min(first + self.at_once);
+            if pieces.is_empty() {
+                return;
+            }
+            while !pieces.is_empty() {
+                if self.stopped.load(Ordering::Relaxed) {
+                    return;
+                }
+                let (done, result) = work(&mut state, pieces.clone());
+                let end = pieces.start + done.clamp(1, pieces.len());
+                if sender.send((pieces.start..end, result)).is_err() {
+                    return;
+                }
+                pieces.start = end;
+            }
+        }
+    }
 }
 
 #[cfg(test)]

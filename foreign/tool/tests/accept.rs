@@ -83,6 +83,12 @@ fn what_clashes_or_is_not_decided_is_not_entered() {
         }
         assert_eq!(folder.names().len(), files.len(), "{words}");
     }
+}
+
+#[test]
+fn what_is_not_entered_as_objects() {
+    let files = [("base.rules", BASE), ("each.rules", "one = O{n}\ntwo = O{n}X\n")];
+    let folder = with_files("objects", &files);
     let said = program_in(&folder.0, &["accept", "--json", "base.rules", "each.rules"]);
     let lines: Vec<String> = said.text().lines().map(String::from).collect();
     assert!(lines[0].starts_with("{\"left\":\"one\",\"right\":\"two\",\"answer\":\"clash\""));

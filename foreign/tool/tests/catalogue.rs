@@ -240,8 +240,10 @@ fn serial_numbers() {
     let object = "{\"added\":false,\"left\":1,\"right\":\"ends_in_0\",\"answer\":\"clash\",\
                   \"number\":0,\"search\":2,\"situations\":520,\"room\":356,\
                   \"label\":\"KP000000/000000\",\"left_fields\":{\"a\":\"000000\"},\
-                  \"right_fields\":{\"n\":\"000000\"}}\n";
-    assert_eq!(said.text(), object);
+                  \"right_fields\":{\"n\":\"000000\"}";
+    let places =
+        format!(",\"left_file\":\"{path}\",\"right_file\":\"{rules}\",\"right_line\":41}}\n");
+    assert_eq!(said.text(), object.to_string() + &places);
 }
 
 /// Standard input as a file of rules.

@@ -37,9 +37,8 @@ fn commands(folder: &Path) -> Vec<Vec<String>> {
     let h = HIDDEN.to_string();
     let (cat, column) = (format!("s{h}.cat"), format!("label{h}"));
     let new = format!("new{h}.rules");
-    let lines: [&[&str]; 33] = [
+    let lines: [&[&str]; 31] = [
         &["check", &g],
-        &["check", &g, &n],
         &["check", &g, "--against", &n],
         &["check", &w],
         &["check", &e],
@@ -60,7 +59,6 @@ fn commands(folder: &Path) -> Vec<Vec<String>> {
         &["add", "--new", &cat, &g, "mortice"],
         &["add", &cat, &g, "latch"],
         &["add", &cat, &g, &h],
-        &["list", &cat],
         &["list", &g],
         &["check", &cat],
         &["recheck", &cat],

@@ -11,7 +11,8 @@ use common::{program, Folder};
 /// A file of rules may have so many bytes.
 const MOST_FILE: usize = 16 << 20;
 
-/// Files that are one great mistake, as large as a file may be. The program may have 100 MB.
+/// Files that are one great mistake, two of them as large as a file may be, while the program may have
+/// 100 MB.
 #[test]
 fn mistakes_in_little_room() {
     let folder = Folder::new("great");
@@ -21,8 +22,8 @@ fn mistakes_in_little_room() {
     }
     let files: [(&str, Vec<u8>); 4] = [
         ("8,388,608 mistakes", b"a\n".repeat(MOST_FILE / 2)),
-        ("2,796,201 mistakes", b"a = A\n".repeat(MOST_FILE / 6)),
-        ("4,194,304 mistakes", b"\xFF\xFF\xFF\n".repeat(MOST_FILE / 4)),
+        ("174,761 mistakes", b"a = A\n".repeat(MOST_FILE / 96)),
+        ("262,144 mistakes", b"\xFF\xFF\xFF\n".repeat(MOST_FILE / 64)),
         ("1 mistake", vec![b'a'; MOST_FILE]),
     ];
     for (count, bytes) in files {

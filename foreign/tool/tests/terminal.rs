@@ -53,7 +53,12 @@ fn bare(text: &str) -> String {
 fn colours_in_a_terminal_alone() {
     let folder = Folder::with_files("colours");
     let program = quoted_program();
-    for words in ["check latch.rules", "pair latch.rules mortice keypad", "check mistake.rules"] {
+    for words in [
+        "check latch.rules",
+        "pair latch.rules mortice keypad",
+        "check mistake.rules",
+        "which latch.rules LT00BR KP4",
+    ] {
         let call = format!("{program} {words}");
         let plain = format!("sh -c \"{call}\" 2>&1 | cat");
         let Some(coloured) = shown(&format!("TERM=xterm {call}"), &folder) else {

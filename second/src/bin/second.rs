@@ -37,6 +37,8 @@
 //! - `second --plain --lines`: a stream of cases, what `plain` prints for each
 //! - `second --ascii`: a stream of texts to be spelt and spelt texts to be read
 //!   back, a line for each
+//! - `second --fronts`: a stream of pairs of sides, a line for each: 1 where what is
+//!   fixed in them differs
 //! - `second --steps [--scan]`: a stream of cases of the steps, a line for each
 //! - `second --steps --lines`: a stream of cases of the steps, what `steps` prints
 //!   for each
@@ -51,7 +53,7 @@ use second::catalogue::{Searcher, HASHING, SCANNING};
 use second::decide::{self, SEARCHES};
 use second::fault::Fault;
 use second::smt::{self, compare, output, Told};
-use second::{drop_strays, full_ascii, sheet, shown, spell_open, steps, writer};
+use second::{drop_strays, fronts, full_ascii, sheet, shown, spell_open, steps, writer};
 use second::{ANSWER_BUFFER_TOO_SHORT, CLASH, NO_CLASH, NO_ROOM, SIDE_TOO_LONG};
 
 /// "the program's 65,520 hold 356; it reads 2,048 bytes of input", and lends
@@ -78,6 +80,7 @@ fn main() -> ExitCode {
         ["--plain"] => many(|case| case.plain_line() + "\n"),
         ["--plain", "--lines"] => many(Case::plain_lines),
         ["--ascii"] => each(full_ascii::Case::read, |case| case.line() + "\n"),
+        ["--fronts"] => each(fronts::Case::read, |case| case.line() + "\n"),
         ["--steps"] => each(steps::Case::read, |case| case.run(steps::steps).line() + "\n"),
         ["--steps", "--scan"] => {
             each(steps::Case::read, |case| case.run(second::scan::steps).line() + "\n")
@@ -122,7 +125,7 @@ fn usage() -> ExitCode {
     eprintln!("       second --spell-open | second --spell-open-rule | second --spelt");
     eprintln!("       second --drop-strays | second --drop-strays-rule | second --drop");
     eprintln!("       second --write | second --write-edition | second --ascii");
-    eprintln!("       second --plain [--lines]");
+    eprintln!("       second --plain [--lines] | second --fronts");
     eprintln!("       second --steps [--scan | --lines] | second --play");
     ExitCode::from(2)
 }

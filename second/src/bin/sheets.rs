@@ -19,6 +19,9 @@
 //! - `sheets --ascii`: texts to be spelt and spelt texts to be read back, those
 //!   that are stored
 //! - `sheets --ascii SEED NUMBER`: so many others, made from the seed
+//! - `sheets --fronts`: pairs of sides to be told apart, of both editions, those that
+//!   are made one by one
+//! - `sheets --fronts SEED NUMBER`: so many others, made from the seed
 //! - `sheets --long ROOM`: five whose search fills room for so many situations,
 //!   the last one with a pattern of 54 leaves
 //! - `sheets --long ROOM N`: the sheet alone of the N-th of these
@@ -60,7 +63,8 @@ use second::cases::Case;
 use second::edition::{Edition, FIRST, SECOND};
 use second::make::editions::Tried;
 use second::make::{
-    ascii, case, decided, editions, kept, long, pairs, plainly, spelt, strays, ways, written, Dice,
+    ascii, case, decided, editions, fronts, kept, long, pairs, plainly, spelt, strays, ways,
+    written, Dice,
 };
 use second::{printed, steps, storeroom, writer, MOST_ROOM};
 
@@ -70,14 +74,16 @@ fn main() -> ExitCode {
     let (edition, arguments) = match &arguments[..] {
         // What is the same in both editions, or of the first one alone.
         ["--edition", "2", "--long" | "--growing" | "--ascii" | "--editions", ..]
-        | ["--edition", "2", "--pairs"] => return usage(),
+        | ["--edition", "2", "--pairs" | "--fronts"] => return usage(),
         ["--edition", "2", rest @ ..] => (SECOND, rest),
         all => (FIRST, all),
     };
     let (keeps, arguments) = match arguments {
         // What has no stray patterns, or has them on purpose.
         ["--kept", "--long" | "--growing" | "--ascii" | "--editions", ..]
-        | ["--kept", "--pairs" | "--plain-pairs" | "--strays" | "--drop", ..] => return usage(),
+        | ["--kept", "--pairs" | "--plain-pairs" | "--fronts" | "--strays" | "--drop", ..] => {
+            return usage()
+        }
         ["--kept", rest @ ..] => (true, rest),
         all => (false, all),
     };
@@ -128,6 +134,13 @@ fn main() -> ExitCode {
         ["--ascii"] => return put_all(&ascii::stored(), |case, stream| case.write(stream)),
         ["--ascii", seed, number] => {
             return match made(edition, seed, number, ascii::made) {
+                Some(cases) => put_all(&cases, |case, stream| case.write(stream)),
+                None => usage(),
+            };
+        }
+        ["--fronts"] => return put_all(&fronts::each(), |case, stream| case.write(stream)),
+        ["--fronts", seed, number] => {
+            return match made(edition, seed, number, fronts::made) {
                 Some(cases) => put_all(&cases, |case, stream| case.write(stream)),
                 None => usage(),
             };
@@ -260,6 +273,7 @@ fn usage() -> ExitCode {
     eprintln!("       sheets --long ROOM [N] | sheets --printed [N] | sheets --decide SEED NUMBER");
     eprintln!("       sheets --pairs [SEED NUMBER [--twice] [--room ROOM]]");
     eprintln!("       sheets --ascii [SEED NUMBER] | sheets --editions [--few | --write]");
+    eprintln!("       sheets --fronts [SEED NUMBER]");
     eprintln!("       sheets --strays [SEED NUMBER | --write] | sheets --drop [SEED NUMBER]");
     eprintln!("       sheets --edition 2 .. | sheets --kept .. | sheets --edition 2 --kept ..");
     eprintln!("ROOM is at most 65535");

@@ -1,5 +1,6 @@
 -- `fronts` meets its contract. The loop's invariant: the answer is that for what is left of both sides.
 use Prim.Native.Nat.{ℕ, _+_, _-_, _≤_}
+use native.Mathlib.Omega.{arith}
 use mathlib.Core.Path.{_≡_, refl, sym, _∙_}
 use mathlib.Core.List.{List, _∷_}
 use lib.ListN.{length, drop}
@@ -72,7 +73,7 @@ returns-2 c =
 returns-3 : tie.Need-returns-3 Inv-loop μ-loop
 returns-3 c =
     let k = c .before .before in
-    sym (at k .loop .inv .1 ∙ right-field (k .before .before .code .result) (k .code2 .result) (left-next k) (right-next k) (c .before .if2 .left) (c .if3 .taken))
+    sym (at k .loop .inv .1 ∙ right-field (k .before .before .code .result) (k .code2 .result) (left-next k) (right-next k) (c .before .if2 .left) (omega (arith, c .if3 .taken)))
 
 returns-4 : tie.Need-returns-4 Inv-loop μ-loop
 returns-4 c =

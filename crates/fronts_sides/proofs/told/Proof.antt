@@ -1,11 +1,9 @@
 -- `told` meets its contract, by the tests in their order.
 use Prim.Native.Nat.{ℕ}
-use native.Mathlib.Omega.{arith}
 use mathlib.Core.Path.{sym, _∙_}
 use mathlib.Core.List.{List}
-use lib.ListN.{length-map}
 use borrow.Author.Needs.{needs}
-use Rattle.paper.specs.Alphabet.{Edition, code}
+use Rattle.paper.specs.Alphabet.{Edition}
 use Rattle.paper.proofs.base.Tests.{not-is-true, not-is-false}
 use Rattle.base_editions.specs.Editions.{paper-edition}
 use Rattle.fronts_sides.proofs.FixedTold.{not-apart, left-no-tokens, right-no-tokens, apart}
@@ -28,38 +26,31 @@ module _ (k : tie.After-fixed) where
 returns : tie.Need-returns
 returns c = let k = c .before in sym (not-apart (its-edition k) (its-left k) (its-right k) (sym (k .fixed .ensures) ∙ not-is-true (c .if1 .taken)))
 
-leading-tokens-requires : tie.Need-leading-tokens-requires
-leading-tokens-requires c κs = search needs
+are-tokens-requires : tie.Need-are-tokens-requires
+are-tokens-requires c κs = search needs
 
 returns-2 : tie.Need-returns-2
 returns-2 c =
     let s = c .before in
     let k = s .before .before in
-    let e = its-edition k in
-    sym (left-no-tokens e (its-left k) (its-right k) (sym (k .fixed .ensures) ∙ not-is-false (s .before .if1 .left)) (omega (arith, length-map (its-left k) (code e), s .leading-tokens .ensures, c .if2 .taken)))
+    sym (left-no-tokens (its-edition k) (its-left k) (its-right k) (sym (k .fixed .ensures) ∙ not-is-false (s .before .if1 .left)) (sym (s .are-tokens .ensures) ∙ not-is-true (c .if2 .taken)))
 
-leading-tokens-requires-2 : tie.Need-leading-tokens-requires-2
-leading-tokens-requires-2 c κs = search needs
+are-tokens-requires-2 : tie.Need-are-tokens-requires-2
+are-tokens-requires-2 c κs = search needs
 
 returns-3 : tie.Need-returns-3
 returns-3 c =
     let t = c .before in
     let s = t .before .before in
     let k = s .before .before in
-    let e = its-edition k in
-    sym (right-no-tokens e (its-left k) (its-right k) (sym (k .fixed .ensures) ∙ not-is-false (s .before .if1 .left))
-    (omega (arith, length-map (its-left k) (code e), s .leading-tokens .ensures, t .before .if2 .left))
-    (omega (arith, length-map (its-right k) (code e), t .leading-tokens2 .ensures, c .if3 .taken)))
+    sym (right-no-tokens (its-edition k) (its-left k) (its-right k) (sym (k .fixed .ensures) ∙ not-is-false (s .before .if1 .left)) (sym (s .are-tokens .ensures) ∙ not-is-false (t .before .if2 .left)) (sym (t .are-tokens2 .ensures) ∙ not-is-true (c .if3 .taken)))
 
 returns-4 : tie.Need-returns-4
 returns-4 c =
     let t = c .before in
     let s = t .before .before in
     let k = s .before .before in
-    let e = its-edition k in
-    sym (apart e (its-left k) (its-right k) (sym (k .fixed .ensures) ∙ not-is-false (s .before .if1 .left))
-    (omega (arith, length-map (its-left k) (code e), s .leading-tokens .ensures, t .before .if2 .left))
-    (omega (arith, length-map (its-right k) (code e), t .leading-tokens2 .ensures, c .if3 .left)))
+    sym (apart (its-edition k) (its-left k) (its-right k) (sym (k .fixed .ensures) ∙ not-is-false (s .before .if1 .left)) (sym (s .are-tokens .ensures) ∙ not-is-false (t .before .if2 .left)) (sym (t .are-tokens2 .ensures) ∙ not-is-false (c .if3 .left)))
 
 pub told-spec : {M : Type 1} → statement M
 told-spec =
@@ -67,8 +58,8 @@ told-spec =
     (tie.spec
     fixed-requires
     returns
-    leading-tokens-requires
+    are-tokens-requires
     returns-2
-    leading-tokens-requires-2
+    are-tokens-requires-2
     returns-3
     returns-4)

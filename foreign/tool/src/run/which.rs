@@ -8,6 +8,7 @@ use super::{Outcome, Run};
 use crate::json::Object;
 use crate::labels::{from_lines, from_values, Column, Label};
 use crate::matching::{Reader, LONGEST_LABEL};
+use crate::notation::paint::Paint;
 use crate::notation::visible::{visible, visible_sign};
 use crate::report::{
     counted, fields_object, fields_words, grouped, label_words, placed, spelt, summary_of, titled,
@@ -65,7 +66,7 @@ impl Run<'_> {
                 1 => counts.one += 1,
                 _ => counts.several += 1,
             }
-            self.say(&found.words(), || found.object())?;
+            self.say(&found.words(self.options.paint), || found.object())?;
         }
         self.summary(counts, rules.len())?;
         Ok(counts.status())
@@ -162,7 +163,7 @@ impl Found<'_> {
         Some(format!("'{}' is no character of {code}", visible_sign(*sign)))
     }
 
-    fn words(&self) -> String {
+    fn words(&self, paint: Paint) -> String {
         let label = match &self.values {
             Ok(values) => label_words(self.edition, values),
             Err(_) => format!("\"{}\"", visible(&self.label.text)),
@@ -172,12 +173,15 @@ impl Found<'_> {
             format!("{}: {}\n", side.told(), fields_words(side, texts))
         };
         match (&self.rules[..], self.wrong()) {
-            ([], Some(wrong)) => format!("{front} is read by no rule: {wrong}\n"),
-            ([], None) => format!("{front} is read by no rule\n"),
+            ([], wrong) => {
+                let wrong = wrong.map_or(String::new(), |wrong| format!(": {wrong}"));
+                format!("{front} is read by {}{wrong}\n", paint.open("no rule"))
+            }
             ([one], _) => format!("{front} is read by {}", held(one)),
             (several, _) => {
                 let rules: String = several.iter().map(|one| format!("  {}", held(one))).collect();
-                format!("{front} is read by {} rules, a clash at hand:\n{rules}", several.len())
+                let (count, clash) = (several.len(), paint.wrong("a clash at hand"));
+                format!("{front} is read by {count} rules, {clash}:\n{rules}")
             }
         }
     }
