@@ -19,7 +19,7 @@ use crate::source::Span;
 use crate::{Kind, Pattern};
 
 /// The length of an example, where a field has none.
-const SOME_LENGTH: u32 = 6;
+pub const SOME_LENGTH: u32 = 6;
 
 /// The signs that are tried as separators, in this order.
 pub const SEPARATORS: &str = "-./+$%";

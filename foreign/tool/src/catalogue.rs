@@ -64,17 +64,15 @@ impl Catalogue {
             if bytes.is_empty() && kept.is_file() {
                 let _ = file.take(LOOKED_AT).read_to_end(&mut bytes);
             }
-            if kinds::is_rules(&bytes) {
-                return Err(Problem::Fault(kinds::rules(&name)));
-            }
             let (has, wanted) = (grouped(kept.len() as usize), grouped(wanted));
-            return Err(Problem::Fault(format!(
+            let words = format!(
                 "{name} has {has} bytes, and a catalogue has {wanted}: it is cut short, or it is none \
                  (--bytes says another length)"
-            )));
+            );
+            return Err(wrong_kind(&name, &bytes, words));
         }
         let Some(mut entries) = entries(&bytes) else {
-            return Err(Problem::Fault(no_catalogue(&name, &bytes)));
+            return Err(wrong_kind(&name, &bytes, no_catalogue(&name, &bytes)));
         };
         let place = Place { file: name.into(), line: None };
         entries.iter_mut().for_each(|entry| entry.side.place = Some(place.clone()));
@@ -88,6 +86,11 @@ impl Catalogue {
             None => Err(Problem::Failure("the catalogue was only read".to_string())),
         }
     }
+}
+
+/// That a file is a file of rules, if it is one; else what is wrong with it.
+fn wrong_kind(name: &str, bytes: &[u8], otherwise: String) -> Problem {
+    Problem::Fault(if kinds::is_rules(bytes) { kinds::rules(name) } else { otherwise })
 }
 
 /// That the bytes are no catalogue; of such as versions up to 0.8 took for one, how it is mended.

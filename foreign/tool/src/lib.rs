@@ -5,6 +5,7 @@
 //! of the command. docs/NOTATION.md has the notation, the commands, the JSON and the exit statuses.
 
 pub mod catalogue;
+pub mod change;
 pub mod format;
 pub mod kinds;
 pub mod labels;
@@ -22,6 +23,7 @@ pub mod spend;
 pub mod status;
 pub mod teller;
 mod terminal;
+pub mod undecided;
 pub mod words;
 
 pub use bradovusc_notation as notation;

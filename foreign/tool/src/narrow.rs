@@ -56,6 +56,11 @@ pub fn without(pattern: &Pattern, gone: Set) -> Option<Pattern> {
     Some(Pattern { kind, span })
 }
 
+/// The texts of the pattern that have these characters alone; none where there is no such text.
+pub fn within(pattern: &Pattern, kept: Set) -> Option<Pattern> {
+    without(pattern, kept.rest())
+}
+
 /// The texts whose first character is none of these, where the pattern is some characters once or
 /// more; none of another pattern, or where there is no such text.
 pub fn without_in_front(pattern: &Pattern, gone: Set) -> Option<Pattern> {

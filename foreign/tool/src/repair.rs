@@ -7,23 +7,18 @@
 
 use bradovusc::Edition;
 
-use crate::advice::SEPARATORS;
-use crate::ask::{Asked, Buffers, Room, Shared};
-use crate::compile::judge;
+use crate::ask::{Room, Shared};
+use crate::change::{separated, with_pattern, Change, Kind, Pair};
 use crate::json::Object;
 use crate::narrow::{characters, narrowed, pattern_of, without, without_in_front};
 use crate::notation::characters::Set;
-use crate::notation::matching::Reader;
-use crate::notation::{
-    pattern_text, template_text, told_text, Field, Pattern, Rule, Stands, Token,
-};
+use crate::notation::{told_text, Field, Rule};
 use crate::overlap::{overlap_objects, overlap_words, pieces, Piece};
-use crate::report::{fields_object, titled};
-use crate::sides::{Side, Title};
-use crate::source::Span;
+use crate::report::fields_object;
+use crate::sides::Side;
 
 /// So many labels are told, the first one among them.
-const MOST_LABELS: usize = 3;
+pub const MOST_LABELS: usize = 3;
 
 /// So many narrower rules are tried to find them.
 const MOST_TRIES: usize = 200;
@@ -40,36 +35,9 @@ pub struct Repair {
     pub changes: Vec<Change>,
 }
 
-/// A change of one rule that parts the two.
-#[derive(Clone, Debug)]
-pub struct Change {
-    /// The left rule, 0, or the right one, 1.
-    pub side: usize,
-    pub kind: Kind,
-    /// The rule with the change.
-    pub rule: Rule,
-}
-
-#[derive(Clone, Copy, Debug, PartialEq, Eq)]
-pub enum Kind {
-    /// Another pattern of a field, by its place among the rule's fields.
-    Class(usize),
-    /// One more character of the template, by value.
-    Separator(u8),
-}
-
-/// Two rules, as they are written and as the library reads them.
-struct Pair<'a> {
-    rules: [&'a Rule; 2],
-    sides: [&'a Side; 2],
-    buffers: Buffers,
-}
-
 /// What can be done about a clash of two of these rules, of which a label is known.
 pub fn repair(rules: &[Rule], sides: [&Side; 2], known: &Shared) -> Option<Repair> {
-    let rule = |side: &Side| rules.iter().find(|rule| side.title == Title::Name(rule.name.clone()));
-    let rules = [rule(sides[0])?, rule(sides[1])?];
-    let mut pair = Pair { rules, sides, buffers: Buffers::new() };
+    let mut pair = Pair::new(rules, sides)?;
     let pieces = pieces(sides[0], sides[1], known);
     let labels = pair.labels(known);
     let mut changes = Vec::new();
@@ -83,12 +51,7 @@ pub fn repair(rules: &[Rule], sides: [&Side; 2], known: &Shared) -> Option<Repai
 impl Pair<'_> {
     /// Whether the library says that the two don't clash where one of them is changed.
     fn parts(&mut self, side: usize, rule: &Rule) -> bool {
-        let Ok(changed) = judge(rule) else {
-            return false;
-        };
-        let mut sides = self.sides;
-        sides[side] = &changed;
-        self.buffers.ask(sides[0], sides[1], ROOM).answer.clashes() == Some(false)
+        self.ask(side, rule, ROOM).and_then(|asked| asked.answer.clashes()) == Some(false)
     }
 
     /// Different labels, by narrowing what one field may hold, and again from what was found.
@@ -108,7 +71,8 @@ impl Pair<'_> {
                 tries += 1;
                 let mut narrowed = rules.clone();
                 narrowed[side] = rule;
-                let Some(shared) = self.ask_both(&narrowed).and_then(|asked| asked.shared) else {
+                let Some(shared) = self.ask_both(&narrowed, ROOM).and_then(|asked| asked.shared)
+                else {
                     continue;
                 };
                 let new = labels.iter().all(|known| known.label != shared.label);
@@ -119,17 +83,6 @@ impl Pair<'_> {
             }
         }
         labels
-    }
-
-    fn ask_both(&mut self, rules: &[Rule; 2]) -> Option<Asked> {
-        let (left, right) = (judge(&rules[0]).ok()?, judge(&rules[1]).ok()?);
-        Some(self.buffers.ask(&left, &right, ROOM))
-    }
-
-    /// Whether both rules, as they are, make this label.
-    fn both_read(&self, label: &[u8]) -> bool {
-        let reads = |side: &Side| Reader::new(side).and_then(|reader| reader.read(label)).is_some();
-        self.sides.into_iter().all(reads)
     }
 
     /// A narrower class of a field that parts the two: the one that keeps the most characters.
@@ -149,7 +102,14 @@ impl Pair<'_> {
         }
         candidates.sort_by_key(|(lost, ..)| *lost);
         let parts = candidates.into_iter().find(|(_, _, rule)| self.parts(side, rule));
-        parts.map(|(_, place, rule)| Change { side, kind: Kind::Class(place), rule })
+        parts.map(|(_, place, rule)| parting(side, Kind::Class(place), rule))
+    }
+
+    /// A character more in the template that parts the two.
+    fn separator(&mut self, side: usize) -> Option<Change> {
+        let mut candidates = separated(self.rules[side]);
+        let (value, rule) = candidates.find(|(_, rule)| self.parts(side, rule))?;
+        Some(parting(side, Kind::Separator(value), rule))
     }
 
     /// Characters that a field might do without: those that the other rule has where they overlap, and
@@ -178,28 +138,10 @@ impl Pair<'_> {
         });
         sets
     }
+}
 
-    /// A character more in the template that parts the two: between two fields if that will do, else
-    /// before or behind a field.
-    fn separator(&mut self, side: usize) -> Option<Change> {
-        let rule = self.rules[side];
-        let field = |token: &Token| matches!(token.stands, Stands::Field(_));
-        let beside = |gap: &usize| {
-            [gap - 1, *gap].into_iter().filter(|&token| field(&rule.template[token])).count()
-        };
-        let mut gaps: Vec<usize> = (1..rule.template.len()).filter(|gap| beside(gap) > 0).collect();
-        gaps.sort_by_key(|gap| 2 - beside(gap));
-        let signs = SEPARATORS.chars().filter_map(|sign| rule.edition.value(sign));
-        let candidates = gaps.iter().flat_map(|&gap| {
-            signs.clone().map(move |value| (value, with_separator(rule, gap, value)))
-        });
-        for (value, rule) in candidates {
-            if self.parts(side, &rule) {
-                return Some(Change { side, kind: Kind::Separator(value), rule });
-            }
-        }
-        None
-    }
+fn parting(side: usize, kind: Kind, rule: Rule) -> Change {
+    Change { side, kind, rule, clashes: false, shared: None }
 }
 
 /// The left rule, 0, or the right one, 1, with one of its fields narrowed, in several ways.
@@ -222,53 +164,8 @@ fn field_of<'a>(rule: &'a Rule, name: &str) -> Option<&'a Field> {
     rule.fields.iter().find(|field| field.name == name)
 }
 
-fn with_pattern(rule: &Rule, place: usize, pattern: Pattern) -> Rule {
-    let mut changed = rule.clone();
-    changed.fields[place].pattern = Some(pattern);
-    changed
-}
-
-fn with_separator(rule: &Rule, gap: usize, value: u8) -> Rule {
-    let mut changed = rule.clone();
-    let token = Token { stands: Stands::Character(value), span: Span::default() };
-    changed.template.insert(gap, token);
-    changed
-}
-
 fn set_of(edition: Edition, values: &[u8]) -> Set {
     values.iter().fold(Set::none(edition), |set, &value| set.or(Set::one(edition, value)))
-}
-
-impl Change {
-    /// The line of the rule that is another one.
-    fn line(&self) -> String {
-        match self.kind {
-            Kind::Class(place) => {
-                let field = &self.rule.fields[place];
-                let pattern = field.pattern.as_ref().map_or(String::new(), pattern_text);
-                format!("{} = {pattern}", field.name)
-            }
-            Kind::Separator(_) => format!("{} = {}", self.rule.name, template_text(&self.rule)),
-        }
-    }
-
-    fn object(&self, sides: [&Side; 2]) -> Object {
-        let object = match self.kind {
-            Kind::Class(_) => Object::new().text("kind", "class"),
-            Kind::Separator(_) => Object::new().text("kind", "separator"),
-        };
-        let object = titled(object, "rule", &sides[self.side].title);
-        match self.kind {
-            Kind::Class(place) => {
-                let field = &self.rule.fields[place];
-                let pattern = field.pattern.as_ref().map_or(String::new(), pattern_text);
-                object.text("field", &field.name).text("pattern", &pattern)
-            }
-            Kind::Separator(value) => object
-                .text("separator", &self.rule.edition.text(&[value]))
-                .text("template", &template_text(&self.rule)),
-        }
-    }
 }
 
 /// What is found, in words.
@@ -289,11 +186,7 @@ pub fn repair_words(sides: [&Side; 2], found: &Repair) -> String {
     }
     words += "What would part them; with each of these alone the library says: no clash.\n";
     for change in &found.changes {
-        let what = match change.kind {
-            Kind::Class(_) => "a narrower class",
-            Kind::Separator(_) => "a separator",
-        };
-        words += &format!("  {}, {what}: {}\n", sides[change.side].told(), change.line());
+        words += &format!("  {}\n", change.words(sides));
     }
     words
 }
@@ -301,14 +194,19 @@ pub fn repair_words(sides: [&Side; 2], found: &Repair) -> String {
 /// What is found, behind what an object has already.
 pub fn repair_in(object: Object, sides: [&Side; 2], found: &Repair) -> Object {
     let edition = sides[0].edition;
+    object
+        .list("labels", label_objects(sides, &found.labels))
+        .list("overlaps", overlap_objects(edition, &found.pieces))
+        .list("repairs", found.changes.iter().map(|change| change.object(sides)).collect())
+}
+
+/// Labels that both rules make, as objects.
+pub fn label_objects(sides: [&Side; 2], labels: &[Shared]) -> Vec<Object> {
     let label = |shared: &Shared| {
         Object::new()
-            .text("label", &edition.text(&shared.label))
+            .text("label", &sides[0].edition.text(&shared.label))
             .object("left_fields", fields_object(sides[0], &shared.left))
             .object("right_fields", fields_object(sides[1], &shared.right))
     };
-    object
-        .list("labels", found.labels.iter().map(label).collect())
-        .list("overlaps", overlap_objects(edition, &found.pieces))
-        .list("repairs", found.changes.iter().map(|change| change.object(sides)).collect())
+    labels.iter().map(label).collect()
 }

@@ -31,6 +31,11 @@ impl Replaced {
         let failed = |error| Problem::failed("read", path, &error);
         loop {
             let file = OpenOptions::new().read(true).write(true).open(path).map_err(failed)?;
+            if !file.metadata().map_err(failed)?.is_file() {
+                // a device or a pipe would be gone
+                let name = path.display();
+                return Err(Problem::Fault(format!("{name} is no regular file, so it stays")));
+            }
             file.lock().map_err(|error| Problem::failed("locked", path, &error))?;
             // another one may have been put there while this one waited
             let (mine, now) =
@@ -38,6 +43,7 @@ impl Replaced {
             if same(&mine, &now) {
                 let (name, path) =
                     (path.display().to_string(), fs::canonicalize(path).map_err(failed)?);
+                clear_beside(&path);
                 let locked = Some(file.try_clone().map_err(failed)?);
                 return Ok((Replaced { path, name, locked }, file));
             }
@@ -50,6 +56,7 @@ impl Replaced {
         if fs::symlink_metadata(path).is_ok() {
             return Err(there_already(&name));
         }
+        clear_beside(path);
         Ok(Replaced { path: path.to_path_buf(), name, locked: None })
     }
 
@@ -61,7 +68,6 @@ impl Replaced {
             Some(file) => Some(file.metadata().map_err(failed)?),
             None => None,
         };
-        clear_beside(&self.path);
         // the new file is open, and so locked, until it has its place
         let (file, new) = write_beside(&self.path, bytes, old.as_ref()).map_err(failed)?;
         let put = match &self.locked {

@@ -27,16 +27,21 @@ impl Spend {
 
     /// Asks of a pair, with no more than that.
     pub fn ask(self, buffers: &mut Buffers, left: &Side, right: &Side) -> Asked {
-        let Some(most) = self.most else {
-            return buffers.ask(left, right, self.room);
-        };
+        buffers.ask_while(left, right, self.room, self.clock())
+    }
+
+    /// From now on: whether there is time to go on from a room to a larger one.
+    fn clock(self) -> impl FnMut(usize, usize) -> bool {
         let (begun, mut last) = (Instant::now(), Duration::ZERO);
-        buffers.ask_while(left, right, self.room, |room, larger| {
+        move |room, larger| {
+            let Some(most) = self.most else {
+                return true;
+            };
             let spent = begun.elapsed();
             let took = spent - last;
             last = spent;
             spent + expected(took, room, larger) <= most
-        })
+        }
     }
 }
 

@@ -128,6 +128,24 @@ fn full_ascii_line_ends_and_standard_input() {
     assert_eq!(text(&folder, "begun.rules"), new.trim_start_matches('\u{FEFF}'));
 }
 
+/// A file without a rule can be begun with; what is no regular file stays.
+#[test]
+fn other_files() {
+    let folder = with_files("others", &[("base.rules", "# to come"), ("new.rules", "a = A\n")]);
+    assert_eq!(program_in(&folder.0, &["accept", "base.rules", "new.rules"]).status, 0);
+    assert_eq!(text(&folder, "base.rules"), "# to come\n\na = A\n");
+    symlink("/dev/null", folder.0.join("null")).unwrap();
+    assert!(Command::new("mkfifo").arg(folder.0.join("pipe")).status().unwrap().success());
+    for name in ["null", "pipe"] {
+        let said = program_in(&folder.0, &["accept", name, "new.rules"]);
+        let words = format!("bradovusc: {name} is no regular file, so it stays\n");
+        assert_eq!((said.status, said.errors), (3, words));
+    }
+    assert_eq!(program_in(&folder.0, &["accept", ".", "new.rules"]).status, 4);
+    assert_eq!(fs::read("/dev/null").unwrap(), b"");
+    assert_eq!(folder.names(), ["base.rules", "new.rules", "null", "pipe"]);
+}
+
 /// The file behind a link is replaced, not the link, and it keeps who may read it.
 #[test]
 fn behind_a_link() {

@@ -7,11 +7,13 @@ use std::fs;
 
 use bradovusc::{drop_strays, Edition, Mended};
 use bradovusc_tool::ask::{Buffers, Room};
+use bradovusc_tool::labels::{from_values, Column};
 use bradovusc_tool::matching::Reader;
+use bradovusc_tool::notation::join::joined;
 use bradovusc_tool::notation::paint::Paint;
 use bradovusc_tool::notation::{read, rule_text};
 use bradovusc_tool::run::judged;
-use bradovusc_tool::sides::sheet;
+use bradovusc_tool::sides::{sheet, Side};
 use bradovusc_tool::source::{Mistake, Source};
 use bradovusc_tool::status::{problem_objects, problem_words, Problem};
 use common::{files, golden, Dice};
@@ -190,4 +192,93 @@ fn ten_thousand_files() {
     }
     println!("{taken} files taken, {pairs} pairs asked, {mistakes_seen} mistakes shown");
     assert!(taken > FILES / 20 && pairs > FILES / 20 && mistakes_seen > FILES / 2);
+}
+
+/// A file whose rules have other names.
+fn renamed(text: &str) -> String {
+    let is_rule = |line: &str| line.starts_with(|sign: char| sign.is_ascii_alphanumeric());
+    let line = |line: &str| match is_rule(line) && !line.starts_with("full") {
+        true => format!("other-{line}"),
+        false => line.to_string(),
+    };
+    text.split_inclusive('\n').map(line).collect()
+}
+
+/// Two files as one have the rules of both, in their order, and all their comments.
+#[test]
+fn joined_files() {
+    let paths = files(&golden("files"), "rules");
+    let good: Vec<Vec<u8>> = paths.iter().map(|path| fs::read(path).unwrap()).collect();
+    let mut dice = Dice::new(22);
+    let (mut taken, mut texts): (usize, Vec<(String, Vec<Side>)>) = (0, Vec::new());
+    for number in 0..FILES {
+        let text = String::from_utf8_lossy(&mutated(&mut dice, &good)).into_owned();
+        let Ok(sides) = judged(Source::new("f", text.as_bytes())) else { continue };
+        let (base, base_sides) = match texts.is_empty() {
+            true => (String::new(), Vec::new()),
+            false => texts[dice.below(texts.len())].clone(),
+        };
+        let new = renamed(&text);
+        if let Ok(new_sides) = judged(Source::new("f", new.as_bytes())) {
+            let edition = |sides: &[Side]| sides.first().map(|side| side.edition);
+            let both = joined(base.as_bytes(), new.as_bytes());
+            if edition(&base_sides) == edition(&new_sides) {
+                let read = judged(Source::new("f", &both)).unwrap();
+                let wanted = [base_sides, new_sides].concat();
+                assert_eq!(read.len(), wanted.len(), "{number}: {base:?} {new:?}");
+                let same = read.iter().zip(&wanted).all(|(one, other)| one.is_as(other));
+                assert!(same, "{number}: {base:?} {new:?}");
+                taken += 1;
+            }
+            let signs = |text: &str| text.matches('#').count();
+            assert_eq!(
+                signs(&String::from_utf8_lossy(&both)),
+                signs(&base) + signs(&new),
+                "{number}"
+            );
+        }
+        texts.push((text, sides));
+    }
+    println!("{taken} files joined");
+    assert!(taken > FILES / 50, "{taken}");
+}
+
+/// Values in quotation marks or without them come back as they were written.
+#[test]
+fn columns_at_random() {
+    let mut dice = Dice::new(23);
+    let signs = ['A', 'B', ' ', ',', ';', '"', '\n', 'é'];
+    for number in 0..3_000 {
+        let (columns, separator) = (1 + dice.below(4), dice.pick(&[',', ';', '\t']));
+        let rows: Vec<Vec<String>> = (0..dice.below(6))
+            .map(|_| {
+                let mut value =
+                    || (0..dice.below(5)).map(|_| dice.pick(&signs)).collect::<String>();
+                (0..columns).map(|_| value()).collect()
+            })
+            .collect();
+        let mut text = String::new();
+        for row in &rows {
+            let written = |value: &String| {
+                let must = value.contains(['"', '\n', separator]) || value.is_empty();
+                match must || dice.one_in(3) {
+                    true => format!("\"{}\"", value.replace('"', "\"\"")),
+                    false => value.clone(),
+                }
+            };
+            let values: Vec<String> = row.iter().map(written).collect();
+            text += &values.join(&separator.to_string());
+            text += dice.pick(&["\n", "\r\n"]);
+        }
+        let column = dice.below(columns);
+        let title = (column + 1).to_string();
+        let labels = from_values("f", text.as_bytes(), &Column { title, separator }).unwrap();
+        let blank = |value: &&String| !value.trim_matches(' ').is_empty();
+        let wanted = rows.iter().map(|row| &row[column]).filter(blank);
+        assert!(labels.iter().map(|label| &label.text).eq(wanted), "{number}: {text:?}");
+        // and whatever else stands there does no harm
+        let broken: String = text.chars().filter(|_| !dice.one_in(9)).collect();
+        let column = Column { title: "1".to_string(), separator: ',' };
+        let _ = from_values("f", broken.as_bytes(), &column);
+    }
 }

@@ -106,7 +106,8 @@ fn what_was_left() {
     let before = folder.names();
     assert_eq!(call(&["list", &path]).status, 0);
     assert_eq!(folder.names(), before);
-    assert_eq!(call(&["add", &path, &rules, "keypad"]).status, 0);
+    // also by one that is refused
+    assert_eq!(call(&["add", &path, &rules, "latch"]).status, 1);
     let mut wanted = before;
     wanted.retain(|name| !gone.contains(&name.as_str()));
     assert_eq!(folder.names(), wanted);

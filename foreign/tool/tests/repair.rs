@@ -7,11 +7,13 @@ use std::fs;
 
 use bradovusc::Edition;
 use bradovusc_tool::ask::{Buffers, Room, Shared};
+use bradovusc_tool::change::{Change, Kind};
 use bradovusc_tool::compile::judge;
 use bradovusc_tool::notation::{read, rule_text, Rule, Stands, Token};
-use bradovusc_tool::repair::{repair, repair_in, repair_words, Change, Kind, Repair};
+use bradovusc_tool::repair::{repair, repair_in, repair_words, Repair};
 use bradovusc_tool::sides::{without_spaces, Side};
 use bradovusc_tool::source::{Source, Span};
+use bradovusc_tool::undecided::{helps, Helps};
 
 use common::{files, golden, Dice};
 
@@ -36,6 +38,9 @@ struct Counts {
     further: usize,
     classes: usize,
     separators: usize,
+    /// Pairs that are not decided, and those for which something helps.
+    open: usize,
+    helped: usize,
 }
 
 fn look(rules: [&Rule; 2], known: &Shared, found: &Repair, counts: &mut Counts) {
@@ -58,6 +63,7 @@ fn look(rules: [&Rule; 2], known: &Shared, found: &Repair, counts: &mut Counts) 
     without_spaces(rules[0].edition, &mut label);
     assert_eq!(label, known.label);
     for change in &found.changes {
+        assert!(!change.clashes);
         look_at(rules, &sides, change, counts);
     }
 }
@@ -72,11 +78,11 @@ fn look_at(rules: [&Rule; 2], sides: &[Side; 2], change: &Change, counts: &mut C
         0 => clashes(&changed, other),
         _ => clashes(other, &changed),
     };
-    assert_eq!(answer, Some(false), "{}", rule_text(&written));
+    assert_eq!(answer, Some(change.clashes), "{}", rule_text(&written));
     match change.kind {
-        Kind::Class(place) => {
+        Kind::Class(place) | Kind::Length(place) => {
             // some of its labels, and no other
-            assert_eq!(clashes(&changed, &sides[change.side]), Some(true));
+            assert_ne!(clashes(&changed, &sides[change.side]), Some(false));
             assert_eq!(written.template, old.template);
             assert_ne!(written.fields[place].pattern, old.fields[place].pattern);
             counts.classes += 1;
@@ -93,6 +99,32 @@ fn look_at(rules: [&Rule; 2], sides: &[Side; 2], change: &Change, counts: &mut C
     }
 }
 
+/// What was found about a pair that is not decided.
+fn look_open(rules: [&Rule; 2], sides: &[Side; 2], found: &Helps, counts: &mut Counts) {
+    counts.open += 1;
+    counts.helped += usize::from(!found.changes.is_empty() || !found.labels.is_empty());
+    for shared in &found.labels {
+        assert_eq!(sides[0].label(&shared.left), shared.label);
+        assert_eq!(sides[1].label(&shared.right), shared.label);
+        if shared.label.len() <= TOKENS {
+            let probe = probe(rules[0], &shared.label);
+            assert!(sides.iter().all(|side| clashes(&probe, side) != Some(false)), "{shared:?}");
+            counts.labels += 1;
+        }
+    }
+    match found.together {
+        false => found.changes.iter().for_each(|change| look_at(rules, sides, change, counts)),
+        true => {
+            let of = |side: usize| {
+                let changed = found.changes.iter().rev().find(|change| change.side == side);
+                changed.map_or(sides[side].clone(), |change| judge(&change.rule).unwrap())
+            };
+            let answer = found.changes.first().map(|change| change.clashes);
+            assert!(answer.is_none() || clashes(&of(0), &of(1)) == answer);
+        }
+    }
+}
+
 fn all_pairs(text: &[u8], counts: &mut Counts) {
     let source = Source::new("f", text);
     // a file with a mistake is among them
@@ -105,7 +137,18 @@ fn all_pairs(text: &[u8], counts: &mut Counts) {
         for right in left..rules.len() {
             let pair = [&sides[left], &sides[right]];
             let asked = Buffers::new().ask(pair[0], pair[1], Room::Fixed(1_000));
-            let Some(shared) = &asked.shared else { continue };
+            let Some(shared) = &asked.shared else {
+                if asked.answer.clashes().is_none() {
+                    let found = helps(&rules, pair);
+                    look_open(
+                        [&rules[left], &rules[right]],
+                        &pair.map(Side::clone),
+                        &found,
+                        counts,
+                    );
+                }
+                continue;
+            };
             let found = repair(&rules, pair, shared).unwrap();
             look([&rules[left], &rules[right]], shared, &found, counts);
             let words = repair_words(pair, &found);
@@ -166,4 +209,5 @@ fn clashes_of_many_rules() {
     }
     assert!(counts.labels > 300 && counts.further > 200, "{counts:?}");
     assert!(counts.classes > 25 && counts.separators > 100, "{counts:?}");
+    assert!(counts.open > 5 && counts.helped > 2, "{counts:?}");
 }

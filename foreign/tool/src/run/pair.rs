@@ -5,12 +5,14 @@ use std::path::Path;
 use super::{judged_some, named, status_of, Outcome, Run};
 use crate::ask::Asked;
 use crate::format::Format;
+
 use crate::notation::{read, Rule};
 use crate::repair::{repair, repair_in, repair_words};
 use crate::report::{pair_object, pair_words};
 use crate::sides::Side;
-use crate::status::Problem;
+use crate::status::{Problem, Status};
 use crate::teller::Teller;
+use crate::undecided::{helps, helps_in, helps_words};
 use crate::way::{steps_in, steps_words, way};
 
 impl Run<'_> {
@@ -35,9 +37,9 @@ impl Run<'_> {
         }
     }
 
-    /// Whatever the answer is, and of a clash the steps and the repair, if they are wanted.
+    /// Whatever the answer is, and the steps and the repair, if they are wanted.
     fn in_full(&mut self, written: &[Rule], sides: [&Side; 2], asked: &Asked) -> Outcome {
-        let [left, right] = sides;
+        let ([left, right], mut status) = (sides, status_of(asked.answer));
         let (mut words, mut object) =
             (pair_words(left, right, asked, self.options.paint), pair_object(left, right, asked));
         if self.options.steps && asked.answer.clashes() == Some(true) {
@@ -50,7 +52,15 @@ impl Run<'_> {
             words += &repair_words(sides, &found);
             object = repair_in(object, sides, &found);
         }
+        if self.options.repair && asked.answer.clashes().is_none() {
+            let found = helps(written, sides);
+            words += &helps_words(sides, &found);
+            object = helps_in(object, sides, &found);
+            if !found.labels.is_empty() {
+                status = Status::Clash;
+            }
+        }
         self.say(&words, || object)?;
-        Ok(status_of(asked.answer))
+        Ok(status)
     }
 }
