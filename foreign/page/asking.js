@@ -16,7 +16,9 @@ function asking(hear) {
         worker = new Worker(source);
         worker.onmessage = ({ data }) => {
             if (data.id === asked && busy) {
-                busy = !(data.done || data.broken);
+                busy = !data.done;
+                // what has failed once is not asked again
+                if (data.broken) stop();
                 hear(data);
             }
         };

@@ -24,13 +24,15 @@ function clashCard(clash, room, kept) {
     if (clash.label === undefined) {
         return element("article", { class: "card clash" }, titles, element("pre", {}, clash.words));
     }
-    const { drawing, cover } = drawLabel(clash, room);
+    const { drawing, cover, width } = drawLabel(clash, room);
+    const wider = width > room ? [element("p", { class: "none" }, "The label is wider than this page: it can be scrolled.")] : [];
     const spelt = clash.spelt === undefined ? [] : [" spelt ", element("code", { class: "spelt" }, clash.spelt)];
     return element("article", { class: "card clash" }, titles,
         element("p", {}, "Label: ", element("code", { class: "text" }, [...clash.label].map(shown).join("") || "the empty one"), ...spelt),
         readingLine(clash.left, clash.left_line, clash.left_bands, clash.left_fields),
         element("div", { class: "drawing", tabindex: 0, role: "group", "aria-label": "The label as a bar code" }, drawing),
         readingLine(clash.right, clash.right_line, clash.right_bands, clash.right_fields),
+        ...wider,
         ...droppedLine(clash),
         wayPanel(clash, kept, cover));
 }

@@ -3,11 +3,12 @@
  * A label as a drawing: the bar code, and above and below it in bands how each rule reads it, with the names of the fields. It is black on
  * white, whatever the colours of the page are, since a scanner is to read it.
  */
-const BAND = 20;
+const BAND = 22;
+const WIDEST_MODULE = 3;
 const NAME = 15;
 const GAP = 5;
-const BARS = 64;
-const SIGN_WIDTH = 6.7;
+const BARS = 72;
+const SIGN_WIDTH = 7.3;
 const COLOURS = 4;
 const SVG = "http://www.w3.org/2000/svg";
 
@@ -71,29 +72,30 @@ function reading(bands, text, at, width, module) {
             into.append(svg("line", { x1: middle, y1: from, x2: x, y2: side < 0 ? line + 1 : line - 10, class: "lead" }));
             into.append(svg("text", { x, y: line, class: "name" }, words));
         }
-        for (const band of bands) {
+        // a band of no character is a line between its neighbours, and so is drawn over them
+        for (const band of [...bands].sort((one, other) => (one.from === one.to) - (other.from === other.to))) {
             const [from, to] = [at[band.from], at[band.to]];
             const dropped = band.to > text.length ? " dropped" : "";
             into.append(svg("rect", {
-                x: from === to ? from - 1 : from, y, width: from === to ? 2 : to - from - module, height: BAND,
+                x: from === to ? from - 3 : from, y, width: from === to ? 4 : to - from - module, height: BAND,
                 class: `band ${colourOf(fields, band)}${dropped}`,
             }));
             for (let index = band.from; index < band.to; index += 1) {
                 const middle = (at[index] + at[index + 1] - module) / 2;
-                into.append(svg("text", { x: middle, y: y + 15, class: "sign" }, shown(text[index] ?? " ")));
+                into.append(svg("text", { x: middle, y: y + 16, class: "sign" }, shown(text[index] ?? " ")));
             }
         }
     };
     return { height: BAND + 4 + rows * NAME, draw };
 }
 
-/* The drawing of a clash, as wide as `room` allows, one or two pixels for a module. `cover(read)` dims what a way has not read yet. */
+/* The drawing of a clash, as wide as `room` allows, one to three pixels for a module. `cover(read)` dims what a way has not read yet. */
 function drawLabel(clash, room) {
     const text = [...clash.label];
     const spelt = clash.spelt ?? clash.label;
     const signs = signsOfEach(clash.label, clash.spelt);
     const modules = (spelt.length + 2) * CHARACTER_MODULES + 2 * QUIET_MODULES;
-    const module = modules * 2 <= room ? 2 : 1;
+    const module = Math.max(1, Math.min(WIDEST_MODULE, Math.floor(room / modules)));
     const count = Math.max(text.length, ...[...clash.left_bands, ...clash.right_bands].map((band) => band.to));
     const at = edges(signs, count, module);
     const width = Math.max(modules * module, at[count] + QUIET_MODULES * module);
@@ -116,7 +118,7 @@ function drawLabel(clash, room) {
         veil.setAttribute("x", from);
         veil.setAttribute("width", Math.max(0, width - from));
     };
-    return { drawing, cover };
+    return { drawing, cover, width };
 }
 
 /* The same in words, for who does not see it. */

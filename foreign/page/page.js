@@ -7,7 +7,7 @@ const WAIT = 150;
 const FRAGMENT = "rules=";
 const at = (id) => document.getElementById(id);
 const [rules, found, summary, stopButton] = [at("rules"), at("found"), at("summary"), at("stop")];
-const opened = new Map();
+const [opened, drawn] = [new Map(), new Map()];
 let [objects, how, limit, timer] = [[], "waiting", AT_FIRST, undefined];
 
 /* What is typed and not yet asked comes before what is still being said of the last question. */
@@ -45,19 +45,40 @@ function goTo({ line, column, width }) {
 }
 
 function cardOf(object) {
-    if (object.answer === "clash") return clashCard(object, found.clientWidth - 34, keptOf(object));
+    if (object.answer === "clash") return clashCard(object, found.clientWidth - 46, keptOf(object));
     if (object.answer === "not decided") return openCard(object, object.open);
     if (object.mistake !== undefined) return mistakeCard(object, goTo);
     if (object.mistakes !== undefined) return wordsCard("mistake", `There are ${object.mistakes} mistakes.`);
     return object.error === undefined ? undefined : wordsCard(object.status === 5 ? "hint" : "mistake", object.error);
 }
 
+/* The card of an object, drawn once, so that what is open or has the focus stays while other pairs are still searched. */
+function cardFor(object) {
+    if (!drawn.has(object)) {
+        drawn.set(object, cardOf(object));
+    }
+    return drawn.get(object);
+}
+
+/* Puts these where the answers are, and moves none that stands in its place already. */
+function place(cards) {
+    cards.forEach((card, index) => {
+        if (found.children[index] !== card) {
+            found.insertBefore(card, found.children[index] ?? null);
+        }
+    });
+    while (found.children.length > cards.length) {
+        found.lastChild.remove();
+    }
+}
+
 /* Shows all that is known, clashes first. */
 function show() {
     const tally = objects.find((object) => "summary" in object);
+    const mistakes = objects.filter((object) => "mistake" in object).length;
     const order = { clash: 0, "not decided": 1 };
     const sorted = [...objects].sort((one, other) => (order[one.answer] ?? 2) - (order[other.answer] ?? 2));
-    const cards = sorted.slice(0, limit).map(cardOf).filter(Boolean);
+    const cards = sorted.slice(0, limit).map(cardFor).filter(Boolean);
     if (tally !== undefined && tally.pairs > 0 && cards.length === 0) {
         cards.push(wordsCard("good", "No two rules make the same label."));
     }
@@ -66,8 +87,11 @@ function show() {
         more.addEventListener("click", () => { limit = Infinity; show(); });
         cards.push(more);
     }
-    found.replaceChildren(...cards);
+    place(cards);
     summary.textContent = tally === undefined ? "" : summaryWords(tally);
+    if (mistakes > 0) {
+        summary.textContent = `${counted(mistakes, "mistake", "mistakes")}. Nothing is asked before that is mended.`;
+    }
     stopButton.hidden = how !== "searching";
     tellState();
 }
@@ -83,6 +107,7 @@ function hear(said) {
         const key = keyOf(said.pair);
         objects = objects.map((object) => (object.answer !== undefined && keyOf(object) === key ? { ...said.pair, open: "ended" } : object));
     } else {
+        drawn.clear();
         objects = said.objects.map((object) => (object.answer === "not decided" ? { ...object, open: "searching" } : object));
     }
     show();
@@ -157,7 +182,14 @@ at("version").textContent = `Bradovusc ${BUILT.version}`;
 rules.addEventListener("input", typed);
 stopButton.addEventListener("click", stop);
 addEventListener("hashchange", () => { if (carried() !== undefined) take(carried()); });
-addEventListener("resize", () => show());
+let width = innerWidth;
+addEventListener("resize", () => {
+    if (innerWidth !== width) {
+        width = innerWidth;
+        drawn.clear();
+        show();
+    }
+});
 addEventListener("keydown", (event) => {
     if (event.key === "Escape") stop();
     if (event.key === "Enter" && (event.ctrlKey || event.metaKey)) ask();

@@ -62,7 +62,8 @@ function wayPanel(clash, kept, cover) {
         element("p", { class: "done", "aria-live": "polite" }, words),
         element("dl", {}, element("dt", {}, "Label so far"), element("dd", {}, label),
             element("dt", {}, `${clash.left} has still`), element("dd", {}, left),
-            element("dt", {}, `${clash.right} has still`), element("dd", {}, right)));
+            element("dt", {}, `${clash.right} has still`), element("dd", {}, right)),
+        element("p", { class: "none" }, element("code", {}, "\\s*"), " is any number of spaces at the end of a label, which are dropped."));
     panel.open = kept.open;
     panel.addEventListener("toggle", () => {
         kept.open = panel.open;
