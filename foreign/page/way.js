@@ -1,0 +1,74 @@
+"use strict";
+/*
+ * The way to a label, step by step, forward and back: what was done, the label read so far, and what is still to be read of the two rules.
+ */
+
+/* What was done at a step, in words. A field \s* is any number of spaces at the end of a rule, which are dropped. */
+function stepWords(step, clash) {
+    const both = step.left_field !== undefined && step.left_field === step.right_field;
+    const named = (field, rule) => {
+        if (field === "\\s*") return `the spaces behind ${rule}`;
+        return both ? `${field} of ${rule}` : field;
+    };
+    const left = step.left_field === undefined ? undefined : named(step.left_field, clash.left);
+    const right = step.right_field === undefined ? undefined : named(step.right_field, clash.right);
+    const read = step.character === undefined ? "" : `\u201c${shown(step.character)}\u201d`;
+    if (step.kind === "start") {
+        return step.label === "" ? "The two rules." : `Both begin with \u201c${step.label}\u201d.`;
+    }
+    if (step.kind !== "character") {
+        return `Here ${left ?? right} ${(step.left_field ?? step.right_field) === "\\s*" ? "end" : "ends"}.`;
+    }
+    if (left !== undefined && right !== undefined) return `Read by ${left} and by ${right}: ${read}.`;
+    if (left === undefined && right === undefined) return `Read by both: ${read}.`;
+    return `Read by ${left ?? right}: ${read}, which stands in ${left === undefined ? clash.left : clash.right}.`;
+}
+
+/* A side in words of the notation, or that nothing of it is left. */
+function sideElement(text) {
+    return text === "" ? element("span", { class: "none" }, "nothing more") : element("code", {}, text);
+}
+
+/* The panel of a clash. `kept` remembers whether it is open and at which step, and `cover` dims what is not read yet. */
+function wayPanel(clash, kept, cover) {
+    if (clash.steps === null) {
+        return element("p", { class: "none" }, `There is no way to show: search ${clash.search} has found the clash, and only search 1 writes its steps down.`);
+    }
+    const last = clash.steps.length - 1;
+    const back = element("button", { type: "button", class: "back" }, "\u2190 Back");
+    const forward = element("button", { type: "button", class: "forward" }, "Forward \u2192");
+    const slider = element("input", { type: "range", min: 0, max: last, "aria-label": "Step of the way" });
+    const [words, label, left, right] = [0, 1, 2, 3].map(() => element("span", {}));
+    const count = element("span", { class: "count" });
+    const show = (step) => {
+        kept.step = Math.max(0, Math.min(last, step));
+        const row = clash.steps[kept.step];
+        slider.value = kept.step;
+        [back.disabled, forward.disabled] = [kept.step === 0, kept.step === last];
+        count.textContent = `Step ${kept.step} of ${last}`;
+        words.textContent = stepWords(row, clash);
+        slider.setAttribute("aria-valuetext", `${count.textContent}: ${words.textContent}`);
+        label.replaceChildren(element("code", {}, [...row.label].map(shown).join("") || "\u2013"));
+        left.replaceChildren(sideElement(row.left));
+        right.replaceChildren(sideElement(row.right));
+        cover(kept.open && kept.step < last ? [...row.label].length : undefined);
+    };
+    back.addEventListener("click", () => show(kept.step - 1));
+    forward.addEventListener("click", () => show(kept.step + 1));
+    slider.addEventListener("input", () => show(Number(slider.value)));
+    const panel = element("details", { class: "way" },
+        element("summary", {}, "The way to it, step by step"),
+        element("div", { class: "buttons" }, back, slider, forward, count),
+        element("p", { class: "done", "aria-live": "polite" }, words),
+        element("dl", {}, element("dt", {}, "Label so far"), element("dd", {}, label),
+            element("dt", {}, `${clash.left} has still`), element("dd", {}, left),
+            element("dt", {}, `${clash.right} has still`), element("dd", {}, right)),
+        element("p", { class: "none" }, element("code", {}, "\\s*"), " is any number of spaces at the end of a label, which are dropped."));
+    panel.open = kept.open;
+    panel.addEventListener("toggle", () => {
+        kept.open = panel.open;
+        show(kept.step);
+    });
+    show(kept.step);
+    return panel;
+}
