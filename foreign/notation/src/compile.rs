@@ -120,8 +120,7 @@ fn byte(number: usize) -> u8 {
 
 fn compile(rule: &Rule) -> Compiled {
     let (edition, codes) = (rule.edition, rule.edition.codes());
-    let mut front = Traced::default();
-    let mut patterns = Vec::new();
+    let (mut front, mut patterns, mut tokens) = (Traced::default(), Vec::new(), Vec::new());
     front.mark(edition.record(), rule.span);
     for (index, field) in rule.fields.iter().enumerate() {
         let pattern = match &field.pattern {
@@ -145,7 +144,6 @@ fn compile(rule: &Rule) -> Compiled {
     let last = rule.template.get(TOKENS).or(rule.template.last());
     let span = last.map_or(rule.span, |token| token.span);
     front.put(byte(wanted), span, Says::SideLength(wanted));
-    let mut tokens = Vec::new();
     for token in &rule.template {
         let (code, field) = match token.stands {
             Stands::Character(value) => (value, None),
