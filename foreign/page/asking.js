@@ -7,43 +7,42 @@ function fromBase64(text) {
     return Uint8Array.from(atob(text), (sign) => sign.charCodeAt(0));
 }
 
-function asking(hear) {
-    const source = URL.createObjectURL(new Blob([fromBase64(BUILT.worker)], { type: "text/javascript" }));
-    const bytes = fromBase64(BUILT.library);
-    let [worker, asked, busy] = [undefined, 0, false];
+class Asking {
+    /* `hear` is told what the worker says of the last question. */
+    constructor(hear) {
+        this.hear = hear;
+        this.source = URL.createObjectURL(new Blob([fromBase64(BUILT.worker)], { type: "text/javascript" }));
+        this.bytes = fromBase64(BUILT.library);
+        [this.worker, this.asked, this.busy] = [undefined, 0, false];
+    }
 
-    function begin() {
-        worker = new Worker(source);
-        worker.onmessage = ({ data }) => {
-            if (data.id === asked && busy) {
-                busy = !data.done;
-                // what has failed once is not asked again
-                if (data.broken) stop();
-                hear(data);
+    begin() {
+        this.worker = new Worker(this.source);
+        this.worker.onmessage = ({ data }) => {
+            if (data.id === this.asked && this.busy) {
+                this.busy = !data.done;
+                // a library that has failed is not asked again
+                if (data.broken !== undefined) this.stop();
+                this.hear(data);
             }
         };
-        worker.onerror = (event) => {
-            stop();
-            hear({ broken: event.message });
+        this.worker.onerror = ({ message }) => {
+            this.stop();
+            this.hear({ broken: message });
         };
-        worker.postMessage({ module: bytes });
+        this.worker.postMessage({ module: this.bytes });
     }
-    function stop() {
-        if (worker !== undefined) {
-            worker.terminate();
-        }
-        [worker, busy] = [undefined, false];
+
+    stop() {
+        this.worker?.terminate();
+        [this.worker, this.busy] = [undefined, false];
     }
-    function ask(rules) {
-        if (busy) {
-            stop();
-        }
-        if (worker === undefined) {
-            begin();
-        }
-        asked += 1;
-        busy = true;
-        worker.postMessage({ id: asked, rules });
+
+    ask(rules) {
+        if (this.busy) this.stop();
+        if (this.worker === undefined) this.begin();
+        this.asked += 1;
+        this.busy = true;
+        this.worker.postMessage({ id: this.asked, rules });
     }
-    return { ask, stop };
 }

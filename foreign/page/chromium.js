@@ -34,55 +34,67 @@ function connect(program) {
     return { send, listen: (listener) => listeners.push(listener), end: () => child.kill() };
 }
 
-/* A page at this address, with what can be done to it. */
-async function openPage(connection, url) {
-    const { targetId } = await connection.send("Target.createTarget", { url: "about:blank" });
-    const { sessionId } = await connection.send("Target.attachToTarget", { targetId, flatten: true });
-    const send = (method, params) => connection.send(method, params, sessionId);
-    const requests = [];
-    connection.listen(({ method, params, sessionId: of }) => {
-        if (of === sessionId && method === "Network.requestWillBeSent") requests.push(params.request.url);
-    });
+/* A page, with what can be done to it. */
+class Page {
+    constructor(connection, sessionId) {
+        this.send = (method, params) => connection.send(method, params, sessionId);
+        this.requests = [];
+        connection.listen(({ method, params, sessionId: of }) => {
+            if (of === sessionId && method === "Network.requestWillBeSent") this.requests.push(params.request.url);
+        });
+    }
 
-    async function evaluate(expression) {
-        const { result, exceptionDetails } = await send("Runtime.evaluate", { expression, awaitPromise: true, returnByValue: true });
+    async evaluate(expression) {
+        const { result, exceptionDetails } = await this.send("Runtime.evaluate", { expression, awaitPromise: true, returnByValue: true });
         if (exceptionDetails) throw new Error(`${expression}: ${exceptionDetails.exception?.description ?? exceptionDetails.text}`);
         return result.value;
     }
-    async function until(expression, deadline = DEADLINE) {
+
+    async until(expression, deadline = DEADLINE) {
         const end = Date.now() + deadline;
-        while (!(await evaluate(expression))) {
-            if (Date.now() > end) throw new Error(`never so: ${expression}; the page has: ${await evaluate("document.body.innerText")}`);
+        while (!(await this.evaluate(expression))) {
+            if (Date.now() > end) throw new Error(`never so: ${expression}; the page has: ${await this.evaluate("document.body.innerText")}`);
             await sleep(20);
         }
     }
-    async function press(key, code = 0, text = undefined) {
+
+    async press(key, code = 0, text = undefined) {
         const event = { key, code: key, windowsVirtualKeyCode: code, text };
-        await send("Input.dispatchKeyEvent", { type: text === undefined ? "rawKeyDown" : "keyDown", ...event });
-        await send("Input.dispatchKeyEvent", { type: "keyUp", ...event });
+        await this.send("Input.dispatchKeyEvent", { type: text === undefined ? "rawKeyDown" : "keyDown", ...event });
+        await this.send("Input.dispatchKeyEvent", { type: "keyUp", ...event });
     }
-    async function type(text) {
+
+    async type(text) {
         for (const sign of text) {
-            await send("Input.dispatchKeyEvent", { type: "char", text: sign === "\n" ? "\r" : sign });
+            await this.send("Input.dispatchKeyEvent", { type: "char", text: sign === "\n" ? "\r" : sign });
         }
     }
-    const look = (width, height, scale, dark) => Promise.all([
-        send("Emulation.setDeviceMetricsOverride", { width, height, deviceScaleFactor: scale, mobile: width < 600 }),
-        send("Emulation.setEmulatedMedia", { features: [{ name: "prefers-color-scheme", value: dark ? "dark" : "light" }] }),
-    ]);
-    /* a picture of all of the page, or of the first element that a selector finds, and of all that would be scrolled to in it */
-    async function picture(selector) {
-        const box = selector === undefined ? undefined : await evaluate(`(() => {
+
+    /* A screen of so many pixels, so many of its own to each, in light or dark colours. */
+    async look(width, height, scale, dark) {
+        await this.send("Emulation.setDeviceMetricsOverride", { width, height, deviceScaleFactor: scale, mobile: width < 600 });
+        await this.send("Emulation.setEmulatedMedia", { features: [{ name: "prefers-color-scheme", value: dark ? "dark" : "light" }] });
+    }
+
+    /* A picture of all of the page, or of the first element that a selector finds. */
+    async picture(selector) {
+        const clip = selector === undefined ? undefined : await this.evaluate(`(() => {
             const box = document.querySelector(${JSON.stringify(selector)}).getBoundingClientRect();
             return { x: box.x + scrollX, y: box.y + scrollY, width: box.width, height: box.height, scale: 1 };
         })()`);
-        const { data } = await send("Page.captureScreenshot", { format: "png", captureBeyondViewport: true, clip: box });
+        const { data } = await this.send("Page.captureScreenshot", { format: "png", captureBeyondViewport: true, clip });
         return Buffer.from(data, "base64");
     }
+}
 
-    await Promise.all([send("Page.enable"), send("Runtime.enable"), send("Network.enable")]);
-    await send("Page.navigate", { url });
-    return { evaluate, until, press, type, look, picture, requests };
+/* Opens a page at this address. */
+async function openPage(connection, url) {
+    const { targetId } = await connection.send("Target.createTarget", { url: "about:blank" });
+    const { sessionId } = await connection.send("Target.attachToTarget", { targetId, flatten: true });
+    const page = new Page(connection, sessionId);
+    for (const subject of ["Page", "Runtime", "Network"]) await page.send(`${subject}.enable`, {});
+    await page.send("Page.navigate", { url });
+    return page;
 }
 
 module.exports = { connect, openPage };

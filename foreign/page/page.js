@@ -29,9 +29,14 @@ function summaryWords(tally) {
     const pairs = objects.filter((object) => "answer" in object);
     const number = (answer) => pairs.filter((pair) => pair.answer === answer).length;
     const [clashes, open] = [number("clash"), number("not decided")];
-    const searched = how === "searching" ? ", searching" : "";
+    const [searched, apart] = [how === "searching" ? ", searching" : "", tally.pairs - clashes - open];
     return `${counted(tally.rules, "rule", "rules")}, ${counted(tally.pairs, "pair", "pairs")}: ` +
-        `${counted(clashes, "clash", "clashes")}, ${open} not decided${searched}, ${(tally.pairs - clashes - open).toLocaleString("en")} without a clash`;
+        `${counted(clashes, "clash", "clashes")}, ${open.toLocaleString("en")} not decided${searched}, ${apart.toLocaleString("en")} without a clash`;
+}
+
+function mistakesWords() {
+    const all = objects.find((object) => "mistakes" in object)?.mistakes ?? objects.filter((object) => "mistake" in object).length;
+    return all === 0 ? "" : `${counted(all, "mistake", "mistakes")}. Nothing is asked before that is mended.`;
 }
 
 /* Selects a mistake's place. Columns count characters, a selection UTF-16. */
@@ -48,8 +53,8 @@ function cardOf(object) {
     if (object.answer === "clash") return clashCard(object, found.clientWidth - 46, keptOf(object));
     if (object.answer === "not decided") return openCard(object, object.open);
     if (object.mistake !== undefined) return mistakeCard(object, goTo);
-    if (object.mistakes !== undefined) return wordsCard("mistake", `There are ${object.mistakes} mistakes.`);
-    return object.error === undefined ? undefined : wordsCard(object.status === 5 ? "hint" : "mistake", object.error);
+    if (object.mistakes !== undefined) return wordsCard("mistake", `Of ${object.mistakes} mistakes the first ${object.told} are told.`);
+    return wordsCard(object.status === 5 ? "hint" : "mistake", object.error);
 }
 
 /* The card of an object, drawn once, so that what is open or has the focus stays while other pairs are still searched. */
@@ -75,10 +80,10 @@ function place(cards) {
 /* Shows all that is known, clashes first. */
 function show() {
     const tally = objects.find((object) => "summary" in object);
-    const mistakes = objects.filter((object) => "mistake" in object).length;
     const order = { clash: 0, "not decided": 1 };
-    const sorted = [...objects].sort((one, other) => (order[one.answer] ?? 2) - (order[other.answer] ?? 2));
-    const cards = sorted.slice(0, limit).map(cardFor).filter(Boolean);
+    const told = objects.filter((object) => object !== tally && object.answer !== "no clash");
+    const sorted = told.sort((one, other) => (order[one.answer] ?? 2) - (order[other.answer] ?? 2));
+    const cards = sorted.slice(0, limit).map(cardFor);
     if (tally !== undefined && tally.pairs > 0 && cards.length === 0) {
         cards.push(wordsCard("good", "No two rules make the same label."));
     }
@@ -88,10 +93,7 @@ function show() {
         cards.push(more);
     }
     place(cards);
-    summary.textContent = tally === undefined ? "" : summaryWords(tally);
-    if (mistakes > 0) {
-        summary.textContent = `${counted(mistakes, "mistake", "mistakes")}. Nothing is asked before that is mended.`;
-    }
+    summary.textContent = tally === undefined ? mistakesWords() : summaryWords(tally);
     stopButton.hidden = how !== "searching";
     tellState();
 }
@@ -112,7 +114,7 @@ function hear(said) {
     }
     show();
 }
-const library = asking(hear);
+const library = new Asking(hear);
 
 function stop() {
     if (how === "searching") {
@@ -136,13 +138,23 @@ function typed() {
     at("linked").textContent = "";
     clearTimeout(timer);
     timer = setTimeout(() => {
-        history.replaceState(null, "", linkOf(rules.value));
+        carry();
         ask();
     }, WAIT);
     tellState();
 }
 
 const linkOf = (text) => location.href.replace(/#.*$/s, "") + "#" + FRAGMENT + encodeURIComponent(text);
+
+/* Puts the rules into the link of this page. A browser may refuse a long one, or the hundredth within seconds. */
+function carry() {
+    try {
+        history.replaceState(null, "", linkOf(rules.value));
+        return true;
+    } catch {
+        return false;
+    }
+}
 
 /* The rules that the link carries, or none. */
 function carried() {
@@ -160,14 +172,14 @@ function take(text) {
 }
 
 at("link").addEventListener("click", async () => {
-    const link = linkOf(rules.value);
-    history.replaceState(null, "", link);
-    try {
-        await navigator.clipboard.writeText(link);
-        at("linked").textContent = "The link is copied. The rules stand in it, behind the #.";
-    } catch {
-        at("linked").textContent = "The link is in the address bar. The rules stand in it, behind the #.";
-    }
+    const carried = carry() ? "The link is in the address bar. The rules stand in it, behind the #." : "This browser takes no link of that length.";
+    const copied = await navigator.clipboard?.writeText(linkOf(rules.value)).then(() => true, () => false);
+    at("linked").textContent = copied ? "The link is copied. The rules stand in it, behind the #." : carried;
+});
+document.querySelector(".skip").addEventListener("click", (event) => {
+    // the fragment has the rules, so the focus goes without one
+    event.preventDefault();
+    at("answers").focus();
 });
 at("examples").append(element("option", { value: "" }, "Examples"), ...Object.keys(EXAMPLES).map((name) => element("option", {}, name)));
 at("examples").addEventListener("change", ({ target }) => {

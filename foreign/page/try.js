@@ -40,7 +40,8 @@ async function answered(page, rules) {
 async function scanned(page, name) {
     const file = join(pictures, `${name}.png`);
     writeFileSync(file, await page.picture("svg.label"));
-    return execFileSync("zbarimg", ["--quiet", "--raw", "-Sdisable", "-Scode39.enable", file], { encoding: "utf8", stdio: ["ignore", "pipe", "ignore"] }).replace(/\n$/, "");
+    const words = ["--quiet", "--raw", "-Sdisable", "-Scode39.enable", file];
+    return execFileSync("zbarimg", words, { encoding: "utf8", stdio: ["ignore", "pipe", "ignore"] }).replace(/\n$/, "");
 }
 const keep = async (page, name) => writeFileSync(join(pictures, `${name}.png`), await page.picture());
 
@@ -87,7 +88,9 @@ const tests = {
         await keep(page, "mistake");
         await page.evaluate("document.querySelector('article.mistake button').focus()");
         await page.press("Enter", 13, "\r");
-        assert.equal(await page.evaluate("document.activeElement.id + document.getElementById('rules').value.slice(0, document.getElementById('rules').selectionStart).split('\\n').length"), "rules2");
+        assert.deepEqual(await texts(page, "#summary"), ["1 mistake. Nothing is asked before that is mended."]);
+        const before = await page.evaluate("document.activeElement.value.slice(0, document.activeElement.selectionStart)");
+        assert.equal(before, "latch = LT{size}\n  size = ");
     },
 
     async "no clash, and no rule at all"(page) {
@@ -139,6 +142,18 @@ const tests = {
         const labels = await texts(page, "article.clash .text");
         assert.deepEqual(labels, Array.from({ length: 39 }, (_, index) => `R${index}-000`));
         assert.equal(await scanned(page, "forty"), labels[0]);
+    },
+
+    async "very many clashes, and very many mistakes"(page) {
+        await answered(page, Array.from({ length: 11 }, (_, index) => `r${index} = {x}\n`).join(""));
+        assert.equal(await page.evaluate("document.querySelectorAll('article.clash').length"), 40);
+        assert.deepEqual(await texts(page, ".more"), ["Show 15 more"]);
+        await page.evaluate("document.querySelector('.more').focus()");
+        await page.press("Enter", 13, "\r");
+        assert.equal(await page.evaluate("document.querySelectorAll('article.clash').length"), 55);
+        assert.equal(await page.evaluate("document.querySelectorAll('.more').length"), 0);
+        await answered(page, "a = b\n".repeat(60));
+        assert.match((await texts(page, "#summary"))[0], /^\d+ mistakes\./);
     },
 
     async "a label of 40 characters, also on a telephone"(page) {
@@ -209,7 +224,8 @@ const tests = {
         const reached = [];
         for (let number = 0; number < 6; number += 1) {
             await page.press("Tab", 9);
-            reached.push(await page.evaluate("document.activeElement.id || document.activeElement.className || document.activeElement.parentElement.className || document.activeElement.parentElement.id"));
+            const here = "[document.activeElement, document.activeElement.parentElement]";
+            reached.push(await page.evaluate(`${here}.map((at) => at.id || at.className).find(Boolean)`));
         }
         assert.deepEqual(reached, ["examples", "link", "rules", "help", "drawing", "way"]);
     },

@@ -29,41 +29,56 @@ function sideElement(text) {
     return text === "" ? element("span", { class: "none" }, "nothing more") : element("code", {}, text);
 }
 
+/* What the panel is put together from. */
+function wayParts(clash, last) {
+    return {
+        back: element("button", { type: "button", class: "back" }, "\u2190 Back"),
+        forward: element("button", { type: "button", class: "forward" }, "Forward \u2192"),
+        slider: element("input", { type: "range", min: 0, max: last, "aria-label": "Step of the way" }),
+        count: element("span", { class: "count" }),
+        words: element("p", { class: "done", "aria-live": "polite" }),
+        label: element("dd", {}),
+        left: element("dd", {}),
+        right: element("dd", {}),
+    };
+}
+
+function putTogether(clash, { back, forward, slider, count, words, label, left, right }) {
+    return element("details", { class: "way" },
+        element("summary", {}, "The way to it, step by step"),
+        element("div", { class: "buttons" }, back, slider, forward, count),
+        words,
+        element("dl", {}, element("dt", {}, "Label so far"), label,
+            element("dt", {}, `${clash.left} has still`), left,
+            element("dt", {}, `${clash.right} has still`), right),
+        element("p", { class: "none" }, element("code", {}, "\\s*"), " is any number of spaces at the end of a label, which are dropped."));
+}
+
 /* The panel of a clash. `kept` remembers whether it is open and at which step, and `cover` dims what is not read yet. */
 function wayPanel(clash, kept, cover) {
     if (clash.steps === null) {
-        return element("p", { class: "none" }, `There is no way to show: search ${clash.search} has found the clash, and only search 1 writes its steps down.`);
+        return element("p", { class: "none" },
+            `There is no way to show: search ${clash.search} has found the clash, and only search 1 writes its steps down.`);
     }
     const last = clash.steps.length - 1;
-    const back = element("button", { type: "button", class: "back" }, "\u2190 Back");
-    const forward = element("button", { type: "button", class: "forward" }, "Forward \u2192");
-    const slider = element("input", { type: "range", min: 0, max: last, "aria-label": "Step of the way" });
-    const [words, label, left, right] = [0, 1, 2, 3].map(() => element("span", {}));
-    const count = element("span", { class: "count" });
+    const parts = wayParts(clash, last);
+    const panel = putTogether(clash, parts);
     const show = (step) => {
         kept.step = Math.max(0, Math.min(last, step));
         const row = clash.steps[kept.step];
-        slider.value = kept.step;
-        [back.disabled, forward.disabled] = [kept.step === 0, kept.step === last];
-        count.textContent = `Step ${kept.step} of ${last}`;
-        words.textContent = stepWords(row, clash);
-        slider.setAttribute("aria-valuetext", `${count.textContent}: ${words.textContent}`);
-        label.replaceChildren(element("code", {}, [...row.label].map(shown).join("") || "\u2013"));
-        left.replaceChildren(sideElement(row.left));
-        right.replaceChildren(sideElement(row.right));
+        parts.slider.value = kept.step;
+        [parts.back.disabled, parts.forward.disabled] = [kept.step === 0, kept.step === last];
+        parts.count.textContent = `Step ${kept.step} of ${last}`;
+        parts.words.textContent = stepWords(row, clash);
+        parts.slider.setAttribute("aria-valuetext", `${parts.count.textContent}: ${parts.words.textContent}`);
+        parts.label.replaceChildren(element("code", {}, [...row.label].map(shown).join("") || "\u2013"));
+        parts.left.replaceChildren(sideElement(row.left));
+        parts.right.replaceChildren(sideElement(row.right));
         cover(kept.open && kept.step < last ? [...row.label].length : undefined);
     };
-    back.addEventListener("click", () => show(kept.step - 1));
-    forward.addEventListener("click", () => show(kept.step + 1));
-    slider.addEventListener("input", () => show(Number(slider.value)));
-    const panel = element("details", { class: "way" },
-        element("summary", {}, "The way to it, step by step"),
-        element("div", { class: "buttons" }, back, slider, forward, count),
-        element("p", { class: "done", "aria-live": "polite" }, words),
-        element("dl", {}, element("dt", {}, "Label so far"), element("dd", {}, label),
-            element("dt", {}, `${clash.left} has still`), element("dd", {}, left),
-            element("dt", {}, `${clash.right} has still`), element("dd", {}, right)),
-        element("p", { class: "none" }, element("code", {}, "\\s*"), " is any number of spaces at the end of a label, which are dropped."));
+    parts.back.addEventListener("click", () => show(kept.step - 1));
+    parts.forward.addEventListener("click", () => show(kept.step + 1));
+    parts.slider.addEventListener("input", () => show(Number(parts.slider.value)));
     panel.open = kept.open;
     panel.addEventListener("toggle", () => {
         kept.open = panel.open;
