@@ -133,6 +133,11 @@ const tests = {
         await answered(page, LATCHES);
         assert.deepEqual(await texts(page, "article.clash .text"), ["LT00CH"]);
         assert.equal(await page.evaluate("document.querySelectorAll('article.open').length"), 0);
+        await typeRules(page, SLOW);
+        await page.until("document.querySelector('article.open.searching') !== null");
+        await page.evaluate("document.getElementById('stop').click()");
+        await page.until("document.body.dataset.state === 'stopped'");
+        assert.equal(await page.evaluate("document.querySelectorAll('article.open.searching').length"), 0);
     },
 
     async "forty rules"(page) {
