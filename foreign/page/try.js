@@ -76,7 +76,7 @@ const tests = {
         await page.evaluate("document.querySelector('.way .back').focus()");
         for (let step = 0; step < 5; step += 1) await page.press("Enter", 13, "\r");
         assert.deepEqual(await texts(page, ".way .count"), ["Step 5 of 10"]);
-        assert.deepEqual(await texts(page, ".way .done"), ["Read by finish: \u201cC\u201d, which stands in rim."]);
+        assert.deepEqual(await texts(page, ".way .done"), ["finish reads \u201cC\u201d, which stands in rim"]);
         await keep(page, "way");
     },
 

@@ -3,25 +3,31 @@
  * The way to a label, step by step, forward and back: what was done, the label read so far, and what is still to be read of the two rules.
  */
 
-/* What was done at a step, in words. A field \s* is any number of spaces at the end of a rule, which are dropped. */
+const SPACES = "\\s*";
+const quoted = (text) => `\u201c${[...text].map(shown).join("")}\u201d`;
+
+/* A field as it is told: by its rule too, where both rules have a field of that name; the spaces at the end of a rule have none. */
+function fieldWords(field, rule, clash) {
+    if (field === SPACES) return `the spaces behind ${rule}`;
+    return field in clash.left_fields && field in clash.right_fields ? `${field} of ${rule}` : field;
+}
+
+/* What was done at a step, in the words of the rules: a field reads a character, or is struck. */
 function stepWords(step, clash) {
-    const both = step.left_field !== undefined && step.left_field === step.right_field;
-    const named = (field, rule) => {
-        if (field === "\\s*") return `the spaces behind ${rule}`;
-        return both ? `${field} of ${rule}` : field;
-    };
-    const left = step.left_field === undefined ? undefined : named(step.left_field, clash.left);
-    const right = step.right_field === undefined ? undefined : named(step.right_field, clash.right);
-    const read = step.character === undefined ? "" : `\u201c${shown(step.character)}\u201d`;
+    const [left, right] = [[step.left_field, clash.left], [step.right_field, clash.right]]
+        .map(([field, rule]) => (field === undefined ? undefined : fieldWords(field, rule, clash)));
+    const one = left ?? right;
+    const spaces = (step.left_field ?? step.right_field) === SPACES;
     if (step.kind === "start") {
-        return step.label === "" ? "The two rules." : `Both begin with \u201c${step.label}\u201d.`;
+        return step.label === "" ? "the two rules" : `both begin with ${quoted(step.label)}`;
     }
     if (step.kind !== "character") {
-        return `Here ${left ?? right} ${(step.left_field ?? step.right_field) === "\\s*" ? "end" : "ends"}.`;
+        return `${one} ${spaces ? "are" : "is"} struck`;
     }
-    if (left !== undefined && right !== undefined) return `Read by ${left} and by ${right}: ${read}.`;
-    if (left === undefined && right === undefined) return `Read by both: ${read}.`;
-    return `Read by ${left ?? right}: ${read}, which stands in ${left === undefined ? clash.left : clash.right}.`;
+    const read = quoted(step.character);
+    if (one === undefined) return `both read ${read}`;
+    if (left !== undefined && right !== undefined) return `${left} and ${right} read ${read}`;
+    return `${one} ${spaces ? "read" : "reads"} ${read}, which stands in ${left === undefined ? clash.left : clash.right}`;
 }
 
 /* A side in words of the notation, or that nothing of it is left. */
