@@ -9,6 +9,8 @@
  * Where no field stands twice, a small engine says clash or no clash in at most 9,731 bytes. The sheet is written from the two sides
  * and the patterns; where one of them is wrong, its place is told. Most pairs of rules differ in what is fixed at their fronts or
  * ends, which is told from the two sides alone.
+ * A field has a number on the sheet. One that stands on both sides is one field, shared: it holds the same text in both rules. Two
+ * rules with a field each have two numbers. bradovusc_asking.h asks about rules as text, whose fields are their own.
  * A catalogue has up to 32 rules in one buffer. A rule is added only if it clashes with none that is there; it can be withdrawn. One
  * that was kept can be checked again, pair by pair. A pair is asked by one search, or by up to seven attempts, which enter more
  * rules.
@@ -22,11 +24,12 @@
  * Up to version 0.8 a sheet or a rule could have a stray pattern, one for a field that does not stand. Now it is refused. Strays can
  * be dropped from sheets, rules and catalogues from before: every answer about them stays as it was.
  *
- * The static library libexported.a, for x86-64 Linux, defines twenty-three functions: bradovusc_clash, bradovusc_decide,
+ * The static library libbradovusc.a, for x86-64 Linux, defines twenty-four functions: bradovusc_clash, bradovusc_decide,
  * bradovusc_steps, bradovusc_play, bradovusc_plain, bradovusc_plain_bytes, bradovusc_write, bradovusc_write_edition,
  * bradovusc_spell, bradovusc_read_spelt, bradovusc_script, bradovusc_add, bradovusc_add_decided, bradovusc_withdraw,
  * bradovusc_recheck, bradovusc_recheck_decided, bradovusc_spell_open, bradovusc_spell_open_rule, bradovusc_spell_open_catalogue,
- * bradovusc_drop_strays, bradovusc_drop_strays_rule, bradovusc_drop_strays_catalogue and bradovusc_fronts_differ.
+ * bradovusc_drop_strays, bradovusc_drop_strays_rule, bradovusc_drop_strays_catalogue, bradovusc_fronts_differ and
+ * bradovusc_version.
  * They keep nothing from one call to the next, ask for no memory, and touch nothing but what they are lent, so calls in several
  * threads don't meet. bradovusc_recheck_decided, bradovusc_add_decided and bradovusc_recheck take at most about 140 KiB of stack,
  * bradovusc_spell_open_catalogue and bradovusc_drop_strays_catalogue about 120, the others about 105; 135, 132, 127, 112, 112 and 99
@@ -55,9 +58,15 @@
 #define BRADOVUSC_VERSION_PATCH 0
 #define BRADOVUSC_VERSION "0.8.0"
 
+/* The same as one number: 1.2.3 would be 10203. */
+#define BRADOVUSC_VERSION_NUMBER (BRADOVUSC_VERSION_MAJOR * 10000 + BRADOVUSC_VERSION_MINOR * 100 + BRADOVUSC_VERSION_PATCH)
+
 #ifdef __cplusplus
 extern "C" {
 #endif
+
+/* The version of the library that is called, as one number: BRADOVUSC_VERSION_NUMBER, unless the header is another version's. */
+uint32_t bradovusc_version(void);
 
 /*
  * The number of an answer. What is said of 11 to 17 holds for 22 too, which says that a pattern is stray, and comes behind them. Of a

@@ -1873,6 +1873,7 @@ int main(void) {
     char version[64];
     snprintf(version, sizeof version, "%d.%d.%d", BRADOVUSC_VERSION_MAJOR, BRADOVUSC_VERSION_MINOR, BRADOVUSC_VERSION_PATCH);
     check(strcmp(version, BRADOVUSC_VERSION) == 0, "the version's string", 0);
+    check(bradovusc_version() == BRADOVUSC_VERSION_NUMBER, "the version that the library tells", bradovusc_version());
     check(BRADOVUSC_WORK_BYTES(356) == 65504, "356 situations of work", 356);
     check(BRADOVUSC_ANSWER_BYTES(356) == 2888, "an answer buffer for them", 356);
     check(BRADOVUSC_CATALOGUE_BYTES(32) == 26016, "a catalogue of 32 rules", 32);

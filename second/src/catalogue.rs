@@ -320,7 +320,7 @@ pub struct DecidedPair {
     pub lower: u8,
     pub higher: u8,
     pub answer: u8,
-    /// Of up to four searches, so that two bytes don't hold it.
+    /// Of up to seven attempts, so that two bytes don't hold it.
     pub count: u32,
     /// 1, 2 or 3 with a clash, else 0.
     pub search: u8,

@@ -220,7 +220,7 @@ fn known_decisions() {
     // `A` and x`4`x: 6, 6, 1 and 6
     let apart = "45 44 02 4C 45 01 41 52 49 03 C0 34 C0";
     assert_eq!(decided(apart, 6, 8), "1 19 0 4\n");
-    // `AA` and x: the third search uses all up after 1
+    // `AA` and x: the search over few characters uses all up after 1
     assert_eq!(decided("45 44 02 4C 45 02 41 41 52 49 01 C0", 3, 8), "18 10 0 0\n");
 }
 

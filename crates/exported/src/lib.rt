@@ -23,6 +23,7 @@ ghost use Rattle.c_write.specs.WrittenNumbers.{telling-written};
 ghost use Rattle.c_plain.specs.EngineTelling.{telling-plain, telling-needs};
 ghost use Rattle.write_sheet.specs.SheetWritten.{given};
 ghost use Rattle.c_spell.specs.SpellNumbers.{telling-spell};
+ghost use Rattle.c_version.specs.VersionTold.{version-told};
 ghost use Rattle.c_script.specs.Scripted.{telling-scripted};
 ghost use Rattle.c_catalogue.specs.Catalogued.{telling-added, telling-rechecked};
 ghost use Rattle.c_catalogue_decide.specs.CatalogueDecided.{telling-added-by};
@@ -331,4 +332,12 @@ pub extern "C" fn bradovusc_fronts_differ(edition: usize, left: &[u8], right: &[
     ensures { λ r. ⌜ r ≡ fronts-told edition (now (left .entry)) (now (right .entry)) ⌝ }
 {
     fronts_sides::fronts_differ(edition, left, right)
+}
+
+// Which version of the library it is: 10,000 times its first number, 100 times its second, and its third.
+#[no_mangle]
+pub extern "C" fn bradovusc_version() -> u32
+    ensures { λ r. ⌜ r ≡ version-told ⌝ }
+{
+    c_version::version()
 }

@@ -13,9 +13,10 @@ pub const FIRST_ROOM: usize = 356;
 const GROWTH: usize = 4;
 
 /// How much room a search has, in situations.
-#[derive(Clone, Copy, Debug, PartialEq, Eq)]
+#[derive(Clone, Copy, Debug, Default, PartialEq, Eq)]
 pub enum Room {
     /// From [`FIRST_ROOM`] to the most there can be.
+    #[default]
     Growing,
     /// From there to so much.
     UpTo(usize),
@@ -152,6 +153,14 @@ impl Buffers {
             debug_assert_eq!(shared.label, right.label(&shared.right));
         }
         asked
+    }
+
+    /// Asks, unless the library settles it by the fronts alone.
+    pub fn settle(&mut self, left: &Ready, right: &Ready, room: Room) -> Asked {
+        match left.differs(right) {
+            true => Asked::SETTLED,
+            false => self.ask(left.side, right.side, room),
+        }
     }
 
     /// The way to a clash that the library's first search finds in this room; none where it does not.

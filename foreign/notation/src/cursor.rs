@@ -19,7 +19,7 @@ pub fn is_blank(sign: char) -> bool {
     sign == ' ' || sign == '\t'
 }
 
-fn is_name(sign: char) -> bool {
+pub fn is_name(sign: char) -> bool {
     sign.is_ascii_alphanumeric() || sign == '_' || sign == '-'
 }
 

@@ -22,6 +22,7 @@ pub mod matching;
 mod merging;
 pub mod mistakes;
 pub mod paint;
+pub mod parts;
 mod pattern;
 mod places;
 pub mod plain;

@@ -1,74 +1,96 @@
-//! Colours for a terminal, or none.
+//! Parts of what is told, marked by their kind if the caller wants it: by colours, say, on a terminal.
 
-/// What stands before a part in a colour, and behind every such part.
-const BOLD: &str = "\u{1B}[1m";
-const RED: &str = "\u{1B}[1;31m";
-const GREEN: &str = "\u{1B}[32m";
-const YELLOW: &str = "\u{1B}[1;33m";
-const CYAN: &str = "\u{1B}[36m";
-const PLAIN: &str = "\u{1B}[0m";
+/// What stands before a part of each kind, and behind every part.
+#[derive(Clone, Copy, Debug, PartialEq, Eq)]
+pub struct Marks {
+    /// What is the matter.
+    pub bold: &'static str,
+    /// A clash, and what is wrong.
+    pub wrong: &'static str,
+    /// What is not decided.
+    pub open: &'static str,
+    /// What is as it should be.
+    pub good: &'static str,
+    /// Where it is.
+    pub place: &'static str,
+    pub end: &'static str,
+}
 
-/// Whether parts of what is told are coloured. A text is the same in both cases but for the colours.
+/// Whether parts are marked. A text is the same in both cases but for the marks.
 #[derive(Clone, Copy, Debug, Default, PartialEq, Eq)]
 pub struct Paint {
-    colours: bool,
+    marks: Option<&'static Marks>,
 }
 
 impl Paint {
-    pub const NONE: Paint = Paint { colours: false };
-    pub const COLOURS: Paint = Paint { colours: true };
+    pub const NONE: Paint = Paint { marks: None };
 
-    fn put(self, colour: &str, text: &str) -> String {
-        match self {
-            Paint { colours: true } => format!("{colour}{text}{PLAIN}"),
-            Paint { colours: false } => text.to_string(),
+    /// By these marks.
+    pub const fn by(marks: &'static Marks) -> Paint {
+        Paint { marks: Some(marks) }
+    }
+
+    fn put(self, mark: fn(&Marks) -> &'static str, text: &str) -> String {
+        match self.marks {
+            Some(marks) => format!("{}{text}{}", mark(marks), marks.end),
+            None => text.to_string(),
         }
     }
 
     /// What is the matter.
     pub fn bold(self, text: &str) -> String {
-        self.put(BOLD, text)
+        self.put(|marks| marks.bold, text)
     }
 
     /// A clash, and what is wrong.
     pub fn wrong(self, text: &str) -> String {
-        self.put(RED, text)
+        self.put(|marks| marks.wrong, text)
     }
 
     /// What is not decided.
     pub fn open(self, text: &str) -> String {
-        self.put(YELLOW, text)
+        self.put(|marks| marks.open, text)
     }
 
     /// What is as it should be.
     pub fn good(self, text: &str) -> String {
-        self.put(GREEN, text)
+        self.put(|marks| marks.good, text)
     }
 
     /// Where it is.
     pub fn place(self, text: &str) -> String {
-        self.put(CYAN, text)
+        self.put(|marks| marks.place, text)
     }
 }
 
-/// A text without its colours.
+/// Marks of tests, and a text without them.
 #[cfg(test)]
-pub(crate) fn bare(text: &str) -> String {
-    let mut parts = text.split("\u{1B}[");
-    let first = parts.next().unwrap_or_default().to_string();
-    parts.fold(first, |bare, part| bare + part.split_once('m').map_or(part, |(_, rest)| rest))
+pub(crate) mod marked {
+    use super::{Marks, Paint};
+
+    const MARKS: Marks =
+        Marks { bold: "<b>", wrong: "<w>", open: "<o>", good: "<g>", place: "<p>", end: "</>" };
+    pub const MARKED: Paint = Paint::by(&MARKS);
+
+    pub fn bare(text: &str) -> String {
+        let Marks { bold, wrong, open, good, place, end } = MARKS;
+        [bold, wrong, open, good, place, end]
+            .iter()
+            .fold(text.to_string(), |text, mark| text.replace(mark, ""))
+    }
 }
 
 #[cfg(test)]
 mod tests {
+    use super::marked::{bare, MARKED};
     use super::*;
 
     #[test]
-    fn colours_and_none() {
+    fn marks_and_none() {
         assert_eq!(Paint::NONE.wrong("LT4"), "LT4");
-        assert_eq!(Paint::COLOURS.wrong("LT4"), "\u{1B}[1;31mLT4\u{1B}[0m");
-        let paint = Paint::COLOURS;
-        let texts = [paint.bold("a"), paint.open("b"), paint.good("c"), paint.place("d")];
+        assert_eq!(MARKED.wrong("LT4"), "<w>LT4</>");
+        let texts = [MARKED.bold("a"), MARKED.open("b"), MARKED.good("c"), MARKED.place("d")];
+        assert_eq!(texts.concat(), "<b>a</><o>b</><g>c</><p>d</>");
         assert_eq!(bare(&texts.concat()), "abcd");
     }
 }

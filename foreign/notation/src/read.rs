@@ -30,10 +30,10 @@ pub fn read(source: &Source) -> Result<Vec<Rule>, Mistakes> {
 }
 
 /// The line that says that a file is Full ASCII.
-const FULL_ASCII: [&str; 2] = ["full", "ascii"];
+pub const FULL_ASCII: [&str; 2] = ["full", "ascii"];
 
 /// A line up to its comment. In Full ASCII a # behind a \ is a character.
-fn without_comment(edition: Edition, signs: &[char]) -> &[char] {
+pub fn without_comment(edition: Edition, signs: &[char]) -> &[char] {
     let mut escaped = false;
     let begins = |&sign: &char| {
         let comment = sign == '#' && !escaped;

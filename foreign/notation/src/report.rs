@@ -11,6 +11,14 @@ use crate::sides::{Side, Text, Title};
 use crate::source::{Mistake, Source};
 use crate::status::Status;
 
+/// The version of the objects: it rises where a key is taken away or changes its meaning.
+pub const SCHEMA: usize = 1;
+
+/// What is told at the end of a command that is called so, begun as an object.
+pub fn summary_of(command: &str) -> Object {
+    Object::new().text("summary", command).number("schema", SCHEMA)
+}
+
 /// A side of a situation has at most so many tokens.
 const LONGEST_SIDE: usize = 48;
 
@@ -50,6 +58,15 @@ impl Tally {
             Some(false) => self.apart += 1,
             None => self.not_decided += 1,
         }
+    }
+
+    /// The counts, behind what an object has already.
+    pub fn counts(self, object: Object) -> Object {
+        object
+            .number("pairs", self.clashes + self.not_decided + self.apart)
+            .number("clashes", self.clashes)
+            .number("not_decided", self.not_decided)
+            .number("no_clash", self.apart)
     }
 
     /// The last line of what is told about these rules.
@@ -264,6 +281,11 @@ pub fn fields_object(side: &Side, texts: &[Text]) -> Object {
 /// What ends a question without an answer, as an object.
 pub fn fault_object(words: &str, status: Status) -> Object {
     Object::new().text("error", words).number("status", usize::from(status.number()))
+}
+
+/// That a file of rules has none.
+pub fn no_rule_words(file: &str) -> String {
+    format!("{file} has no rule; a rule is NAME = TEMPLATE")
 }
 
 /// A mistake in a source, as an object.

@@ -1,5 +1,6 @@
 //! A rule as the library reads it: one side of a sheet, or a record of a catalogue.
 
+use std::borrow::Borrow;
 use std::fmt;
 use std::sync::Arc;
 
@@ -135,10 +136,10 @@ impl Side {
 }
 
 /// The rule with this name, among those of a file that is told so; else which ones there are.
-pub fn find<'a>(rules: &'a [Side], file: &str, name: &str) -> Result<&'a Side, String> {
+pub fn find<'a, S: Borrow<Side>>(rules: &'a [S], file: &str, name: &str) -> Result<&'a S, String> {
     let title = Title::Name(name.to_string());
-    rules.iter().find(|side| side.title == title).ok_or_else(|| {
-        let names: Vec<String> = rules.iter().map(|side| side.title.to_string()).collect();
+    rules.iter().find(|side| (*side).borrow().title == title).ok_or_else(|| {
+        let names: Vec<String> = rules.iter().map(|side| side.borrow().title.to_string()).collect();
         let names = match &names[..] {
             [] => "it has none".to_string(),
             few if few.len() <= MOST_NAMES => format!("it has {}", few.join(", ")),
@@ -146,6 +147,21 @@ pub fn find<'a>(rules: &'a [Side], file: &str, name: &str) -> Result<&'a Side, S
         };
         format!("{file} has no rule '{name}'; {names}")
     })
+}
+
+/// Rules are asked about together only if they have the same characters. Those of a file have.
+pub fn same_edition(one: &Side, other: &Side) -> Result<(), String> {
+    if one.edition == other.edition {
+        return Ok(());
+    }
+    let (full, plain) = if one.edition == Edition::FullAscii { (one, other) } else { (other, one) };
+    let file =
+        |side: &Side| side.place.as_ref().map_or(side.title.to_string(), |at| at.file.to_string());
+    Err(format!(
+        "{} is Full ASCII and {} is not: only rules with the same characters are asked about together",
+        file(full),
+        file(plain)
+    ))
 }
 
 /// Drops the spaces at the end of a label.

@@ -175,6 +175,7 @@ fn width(sign: char) -> usize {
 #[cfg(test)]
 mod tests {
     use super::*;
+    use crate::paint::marked::{bare, MARKED};
 
     #[test]
     fn lines_end_with_a_newline_or_with_the_file() {
@@ -225,12 +226,12 @@ mod tests {
     }
 
     #[test]
-    fn colours_take_no_place() {
+    fn marks_take_no_place() {
         let source = Source::new("f", b"A\n");
         let mistake = Mistake::new(Span { line: 1, column: 1, width: 1 }, "wrong").hint("so");
-        let shown = source.show(&mistake, Paint::COLOURS).to_string();
-        assert!(shown.contains("\u{1B}["));
-        let bare = crate::paint::bare(&shown);
+        let shown = source.show(&mistake, MARKED).to_string();
+        assert!(shown.contains("<p>f:1:1:</>"), "{shown}");
+        let bare = bare(&shown);
         assert_eq!(bare, source.show(&mistake, Paint::NONE).to_string());
     }
 }

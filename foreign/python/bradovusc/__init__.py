@@ -1,7 +1,19 @@
 """Bradovusc: can two part-label rules make the same label?
 
 A rule is fixed Code 39 characters with fields between them; a field may have a pattern. Two rules clash when one label can be read by
-both. Spaces at the end of a label are dropped before it is read. The two rules stand on a question sheet:
+both. Spaces at the end of a label are dropped before it is read. Rules are written in the notation of the tool:
+
+    >>> import bradovusc
+    >>> print(bradovusc.pair("LT{size}{finish}", "LT{set}C{turn}", left={"size": "[0-9]{2}", "finish": "BR|CH|SS"}))
+    left and right clash: "LT00CH"
+      left (pair:1): size = "00", finish = "CH"
+      right (pair:4): set = "00", turn = "H"
+
+:func:`pair` asks of two rules, :func:`check` of all rules of a text. A field belongs to its rule, whatever those of another rule are called.
+The answer to a pair has the label and the texts by name.
+
+Below that are the sheets, bytes with numbered fields, for who wants to go without the notation. There a number that stands on both sides is
+one field, shared by both rules:
 
     >>> from bradovusc import Clash, NoClash, between, choice, decide, sheet, word
     >>> asked = sheet("LT{0}{0}{1}", "LT{2}", {0: between("0", "9"), 1: choice(word("BR"), word("CH"))})
@@ -89,6 +101,7 @@ from ._answers import (
     Written,
     WrongStep,
 )
+from ._asking import asking_library, request
 from ._build import ANY, Patterns, between, choice, full_ascii, many, row, rule, word
 from ._catalogue import (
     DECIDED_PAIR_BYTES,
@@ -108,8 +121,9 @@ from ._catalogue import (
 )
 from ._editions import MOST_CHARACTERS, Edition
 from ._fronts import fronts_differ
-from ._library import VERSION, LibraryMissing, library
+from ._library import VERSION, LibraryMissing, library, version
 from ._plain import PLAIN_BYTES, plain, plain_bytes
+from ._rules import Band, Checked, Mistake, RulesAnswer, RulesClash, RulesNoClash, RulesNotDecided, WrongRules, check, pair
 from ._sheets import (
     DEFAULT_SITUATIONS,
     FIELDS,
@@ -125,6 +139,7 @@ from ._sheets import (
     drop_strays,
     drop_strays_rule,
     script,
+    shared_fields,
     spell_open,
     spell_open_rule,
     texts,
@@ -133,7 +148,7 @@ from ._sheets import (
 from ._signs import CHARACTERS, SIGNS, SPACE, sign, signs, value, values
 from ._spelling import read_spelt, spell, spelt_bytes
 from ._steps import MOST_STEPS, STEP_RECORD, Kind, Step, play, step_records, steps, steps_bytes, way
-from ._written import sheet, write
+from ._written import Sheet, sheet, write
 
 __version__ = VERSION
 
@@ -143,9 +158,11 @@ __all__ = [
     "AddedDecided",
     "Answer",
     "AnswerTooShort",
+    "Band",
     "BitsTooShort",
     "CHARACTERS",
     "CarriedOver",
+    "Checked",
     "Clash",
     "DECIDED_PAIR_BYTES",
     "DEFAULT_SITUATIONS",
@@ -168,6 +185,7 @@ __all__ = [
     "MOST_STEPS",
     "Mended",
     "MendedCatalogue",
+    "Mistake",
     "Needed",
     "NoCatalogue",
     "NoClash",
@@ -193,6 +211,10 @@ __all__ = [
     "Rechecked",
     "RecheckedDecided",
     "Refused",
+    "RulesAnswer",
+    "RulesClash",
+    "RulesNoClash",
+    "RulesNotDecided",
     "SCRIPT_BYTES",
     "SHEET_BYTES",
     "SIGNS",
@@ -201,6 +223,7 @@ __all__ = [
     "STEP_RECORD",
     "ScriptTooShort",
     "Scripted",
+    "Sheet",
     "SheetWritten",
     "SideTooLong",
     "Spelt",
@@ -216,12 +239,15 @@ __all__ = [
     "VERSION",
     "Withdrawn",
     "Written",
+    "WrongRules",
     "WrongStep",
     "add",
     "add_decided",
     "answer_bytes",
+    "asking_library",
     "between",
     "catalogue_bytes",
+    "check",
     "choice",
     "clash",
     "decide",
@@ -234,15 +260,18 @@ __all__ = [
     "library",
     "list_bytes",
     "many",
+    "pair",
     "plain",
     "plain_bytes",
     "play",
     "read_spelt",
     "recheck",
     "recheck_decided",
+    "request",
     "row",
     "rule",
     "script",
+    "shared_fields",
     "sheet",
     "sign",
     "signs",
@@ -257,6 +286,7 @@ __all__ = [
     "texts",
     "value",
     "values",
+    "version",
     "way",
     "withdraw",
     "word",

@@ -2,6 +2,7 @@
 
 from __future__ import annotations
 
+import dataclasses
 import enum
 from dataclasses import dataclass
 from typing import ClassVar, NoReturn, Tuple, Union
@@ -80,6 +81,15 @@ class NotWritten(ValueError):
         self.answer = answer
 
 
+def shared_words(fields: Tuple[int, ...]) -> str:
+    """That these fields are shared, behind what is told of a sheet."""
+    if not fields:
+        return ""
+    if len(fields) == 1:
+        return f", with field {fields[0]} shared: it holds the same text in both rules"
+    return f", with fields {', '.join(map(str, fields))} shared: each holds the same text in both rules"
+
+
 class Told:
     """An answer of any kind. It is no truth value, so that "not decided" is never taken for "no"."""
 
@@ -88,8 +98,11 @@ class Told:
     #: Its number, as in the tables of the rules.
     number: int
 
+    #: The fields that stand on both sides of the sheet that was asked about: each holds one text in both rules.
+    shared: Tuple[int, ...] = ()
+
     def __str__(self) -> str:
-        return self._words
+        return self._words + shared_words(self.shared)
 
     def __bool__(self) -> NoReturn:
         raise TypeError("an answer is neither true nor false: look at its class, its number, or clashes")
@@ -140,6 +153,7 @@ class Clash(_Yes):
     texts: Tuple[Text, ...] = ()
     #: The bytes that were written to the answer buffer.
     written: int = 0
+    shared: Tuple[int, ...] = dataclasses.field(default=(), compare=False, repr=False)
     number = 0
     _words = "clash"
 
@@ -150,6 +164,7 @@ class NoClash(Told):
 
     #: The situations that were entered.
     count: int
+    shared: Tuple[int, ...] = dataclasses.field(default=(), compare=False, repr=False)
     number = 1
     _words = "no clash"
 
@@ -182,6 +197,7 @@ class NoRoom(_Open):
 
     #: The situations that were entered.
     count: int
+    shared: Tuple[int, ...] = dataclasses.field(default=(), compare=False, repr=False)
     number = 18
     _words = "not decided: no room for a situation"
 
@@ -192,6 +208,7 @@ class SideTooLong(_Open):
 
     #: The situations that were entered.
     count: int
+    shared: Tuple[int, ...] = dataclasses.field(default=(), compare=False, repr=False)
     number = 19
     _words = "not decided: a side grew too long"
 
@@ -202,6 +219,7 @@ class AnswerTooShort(_Yes):
 
     #: The situations that were entered.
     count: int
+    shared: Tuple[int, ...] = dataclasses.field(default=(), compare=False, repr=False)
     number = 20
     _words = "clash, but the answer buffer is too short for the texts"
 
@@ -239,6 +257,7 @@ class StepsTooShort(_Yes):
 
     #: The situations that were entered.
     count: int
+    shared: Tuple[int, ...] = dataclasses.field(default=(), compare=False, repr=False)
     number = 51
     _words = "clash, but the steps buffer is too short for the way"
 
@@ -540,16 +559,16 @@ def refused(number: int, place: int) -> Refused:
     return Refused(Fault(number), place)
 
 
-def answer(number: int, count: int, place: int, written: int = 0, texts: Tuple[Text, ...] = ()) -> Answer:
-    """The answer with these numbers."""
+def answer(number: int, count: int, place: int, written: int = 0, texts: Tuple[Text, ...] = (), shared: Tuple[int, ...] = ()) -> Answer:
+    """The answer with these numbers, to a sheet with these shared fields."""
     if number == Clash.number:
-        return Clash(count, texts, written)
+        return Clash(count, texts, written, shared)
     if number == NoClash.number:
-        return NoClash(count)
+        return NoClash(count, shared)
     if number == NoRoom.number:
-        return NoRoom(count)
+        return NoRoom(count, shared)
     if number == SideTooLong.number:
-        return SideTooLong(count)
+        return SideTooLong(count, shared)
     if number == AnswerTooShort.number:
-        return AnswerTooShort(count)
+        return AnswerTooShort(count, shared)
     return refused(number, place)

@@ -66,6 +66,12 @@ def tokens(template: str, edition: Edition = Edition.CODE_39) -> bytes:
     return bytes(said)
 
 
+def template(side: bytes, edition: Edition = Edition.CODE_39) -> str:
+    """The template that these tokens are of a good side: :func:`tokens` gives them back."""
+    field = "{{{}}}".format
+    return "".join(field(one - edition.codes) if one >= edition.codes else edition.sign(one).replace("{", "{{").replace("}", "}}") for one in side)
+
+
 def rule(template: str, patterns: Optional[Mapping[int, bytes]] = None) -> bytes:
     """A rule of a catalogue: a template as for :func:`sheet`, with fields ``{0}`` to ``{3}`` of its own.
 

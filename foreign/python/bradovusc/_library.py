@@ -8,7 +8,7 @@ import ctypes.util
 import functools
 import os
 from pathlib import Path
-from typing import Iterable, Iterator, List, Tuple, Union
+from typing import Any, Iterable, Iterator, List, Mapping, Tuple, Union
 
 #: The version of this package, of the library and of the C header.
 VERSION = "0.8.0"
@@ -52,6 +52,7 @@ _FUNCTIONS = {
     "bradovusc_drop_strays_rule": _READ + _LENT + _TOLD,
     "bradovusc_drop_strays_catalogue": _LENT,
     "bradovusc_fronts_differ": (ctypes.c_size_t,) + _READ + _READ,
+    "bradovusc_version": (),
 }
 
 
@@ -59,34 +60,35 @@ class LibraryMissing(OSError):
     """The shared library was not found, could not be loaded, or has not all the functions."""
 
 
-def candidates(package: Path) -> Iterator[str]:
-    """Names and files by which the library is looked for, in this order, for a package in this folder.
+def candidates(package: Path, soname: str = SONAME, variable: str = VARIABLE) -> Iterator[str]:
+    """Names and files by which a library is looked for, in this order, for a package in this folder.
 
-    The file that BRADOVUSC_LIBRARY names, and then nothing else; a file in the package; one in the nearest folder above it that is called
-    ``lib``; the name, by the dynamic linker; what :func:`ctypes.util.find_library` finds.
+    The file that the environment variable names, and then nothing else; a file in the package; one in the nearest folder above it that is
+    called ``lib``; the name, by the dynamic linker; what :func:`ctypes.util.find_library` finds.
     """
-    named = os.environ.get(VARIABLE)
+    named = os.environ.get(variable)
     if named:
         yield named
         return
+    bare = soname.partition(".so")[0]
     above = [folder for folder in package.parents if folder.name == "lib"][:1]
     for folder in [package, *above]:
-        for name in (SONAME, "libbradovusc.so"):
+        for name in (soname, f"{bare}.so"):
             if (folder / name).is_file():
                 yield str(folder / name)
-    yield SONAME
-    found = ctypes.util.find_library("bradovusc")
+    yield soname
+    found = ctypes.util.find_library(bare[len("lib") :])
     if found:
         yield found
 
 
-def load(path: str) -> ctypes.CDLL:
+def load(path: str, functions: Mapping[str, Tuple[Any, ...]] = _FUNCTIONS) -> ctypes.CDLL:
     """Loads the library of this name and declares its functions."""
     try:
         loaded = ctypes.CDLL(path)
     except OSError as why:
         raise LibraryMissing(f"{path} can't be loaded: {why}") from why
-    for name, types in _FUNCTIONS.items():
+    for name, types in functions.items():
         try:
             function = getattr(loaded, name)
         except AttributeError:
@@ -95,15 +97,20 @@ def load(path: str) -> ctypes.CDLL:
     return loaded
 
 
-@functools.lru_cache(maxsize=None)
-def _found() -> Tuple[str, ctypes.CDLL]:
+def found(soname: str, variable: str, functions: Mapping[str, Tuple[Any, ...]]) -> Tuple[str, ctypes.CDLL]:
+    """The first library that can be loaded, and by which name. Raises :class:`LibraryMissing` where there is none."""
     tried = []
-    for path in candidates(Path(__file__).resolve().parent):
+    for path in candidates(Path(__file__).resolve().parent, soname, variable):
         try:
-            return path, load(path)
+            return path, load(path, functions)
         except LibraryMissing as why:
             tried.append(str(why))
-    raise LibraryMissing("; ".join(tried) + f"; {VARIABLE} can name the file")
+    raise LibraryMissing("; ".join(tried) + f"; {variable} can name the file")
+
+
+@functools.lru_cache(maxsize=None)
+def _found() -> Tuple[str, ctypes.CDLL]:
+    return found(SONAME, VARIABLE, _FUNCTIONS)
 
 
 def library() -> str:
@@ -112,6 +119,15 @@ def library() -> str:
     Raises :class:`LibraryMissing` where there is none.
     """
     return _found()[0]
+
+
+def version() -> str:
+    """The version of the shared library that is called, as it tells it. It is :data:`VERSION`, unless another one was found.
+
+    Raises :class:`LibraryMissing` where there is none.
+    """
+    number, _ = call("bradovusc_version")
+    return f"{number // 10_000}.{number // 100 % 100}.{number % 100}"
 
 
 class Lent:

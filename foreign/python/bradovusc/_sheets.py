@@ -70,6 +70,25 @@ def texts(written: Readable, edition: Edition = Edition.CODE_39) -> Iterator[Tex
         rest = rest[end:]
 
 
+def sides(sheet: Readable) -> Optional[Tuple[bytes, bytes]]:
+    """The tokens of the two sides of a good sheet."""
+    rest = bytes(sheet)
+    if Edition.of(rest) == Edition.FULL_ASCII:
+        rest = rest[3:]
+    while rest.startswith(b"PA") and len(rest) > 3:
+        rest = rest[4 + rest[3] :]
+    if not rest.startswith(b"LE") or len(rest) < 3:
+        return None
+    left, rest = rest[3 : 3 + rest[2]], rest[3 + rest[2] :]
+    return (left, rest[3:]) if rest.startswith(b"RI") else None
+
+
+def shared_fields(sheet: Readable) -> Tuple[int, ...]:
+    """The fields that stand on both sides of a good sheet. Each holds the same text in both rules."""
+    codes, both = Edition.of(bytes(sheet)).codes, sides(sheet)
+    return tuple(sorted({one - codes for one in set(both[0]) & set(both[1]) if one >= codes})) if both else ()
+
+
 def _asked(name: str, told: int, sheet: Readable, work: Optional[Writable], into: Optional[Writable]) -> Tuple[Answer, int]:
     """Asks by this function: the answer, and the last number told."""
     lent = lent_work(work)
@@ -78,7 +97,7 @@ def _asked(name: str, told: int, sheet: Readable, work: Optional[Writable], into
     number, numbers = call(name, bytes(sheet), lent, records, told=told)
     count, place, written = numbers[:3]
     found = tuple(texts(records.front(written), Edition.of(bytes(sheet)))) if number == Clash.number else ()
-    return answer(number, count, place, written, found), numbers[-1]
+    return answer(number, count, place, written, found, shared_fields(sheet)), numbers[-1]
 
 
 def clash(sheet: Readable, work: Optional[Writable] = None, answer: Optional[Writable] = None) -> Answer:

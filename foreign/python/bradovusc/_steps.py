@@ -22,7 +22,7 @@ from ._answers import (
 )
 from ._editions import Edition
 from ._library import Lent, Readable, Writable, call
-from ._sheets import MOST_SITUATIONS, SITUATION_BYTES, answer_bytes, lent_work, texts
+from ._sheets import MOST_SITUATIONS, SITUATION_BYTES, answer_bytes, lent_work, shared_fields, texts
 
 #: The longest record of a step, that of a character, has so many bytes.
 STEP_RECORD = 4
@@ -98,9 +98,9 @@ def steps(
     written_way = Lent(bytearray(steps_bytes(room)) if steps is None else steps)
     number, (count, place, written, length) = call("bradovusc_steps", bytes(sheet), lent, records, written_way, told=4)
     if number == StepsTooShort.number:
-        return Stepped(StepsTooShort(count), b"")
+        return Stepped(StepsTooShort(count, shared_fields(sheet)), b"")
     found = tuple(texts(records.front(written), Edition.of(bytes(sheet)))) if number == Clash.number else ()
-    return Stepped(answered(number, count, place, written, found), bytes(written_way.front(length)))
+    return Stepped(answered(number, count, place, written, found, shared_fields(sheet)), bytes(written_way.front(length)))
 
 
 def play(sheet: Readable, steps: Readable, answer: Optional[Writable] = None) -> Played:
@@ -120,11 +120,11 @@ def play(sheet: Readable, steps: Readable, answer: Optional[Writable] = None) ->
     lent = Lent(bytearray(answer_bytes(len(records) // 3)) if answer is None else answer)
     number, (count, place, written) = call("bradovusc_play", bytes(sheet), records, lent, told=3)
     if number == Clash.number:
-        return Clash(count, tuple(texts(lent.front(written), Edition.of(bytes(sheet)))), written)
+        return Clash(count, tuple(texts(lent.front(written), Edition.of(bytes(sheet)))), written, shared_fields(sheet))
     if number == SideTooLong.number:
-        return SideTooLong(count)
+        return SideTooLong(count, shared_fields(sheet))
     if number == AnswerTooShort.number:
-        return AnswerTooShort(count)
+        return AnswerTooShort(count, shared_fields(sheet))
     for kind in (WrongStep, StepNotAllowed, NotFinished, TooManySteps):
         if number == kind.number:
             return kind()

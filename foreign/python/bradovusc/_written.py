@@ -2,13 +2,13 @@
 
 from __future__ import annotations
 
-from typing import Iterable, List, Mapping, Optional
+from typing import Iterable, List, Mapping, Optional, Tuple
 
-from ._answers import NotWritten, OutputTooShort, SheetWritten, Written, refused
-from ._build import tokens
+from ._answers import NotWritten, OutputTooShort, SheetWritten, Written, refused, shared_words
+from ._build import template, tokens
 from ._editions import Edition
 from ._library import Lent, Numbers, Readable, Writable, call
-from ._sheets import FIELDS, SHEET_BYTES
+from ._sheets import FIELDS, SHEET_BYTES, shared_fields, sides
 
 
 def write(
@@ -41,12 +41,28 @@ def write(
     return refused(number, place)
 
 
-def sheet(left: str, right: str, patterns: Optional[Mapping[int, bytes]] = None, edition: Edition = Edition.CODE_39) -> bytes:
+class Sheet(bytes):
+    """The bytes of a sheet. As a string it is the two rules, with the fields that both share."""
+
+    @property
+    def shared(self) -> Tuple[int, ...]:
+        """The fields that stand on both sides. Each is one field, and holds the same text in both rules."""
+        return shared_fields(self)
+
+    def __str__(self) -> str:
+        edition = Edition.of(self)
+        left, right = (template(tokens, edition) for tokens in sides(self) or (b"", b""))
+        return f"{left} and {right}{shared_words(self.shared)}"
+
+
+def sheet(left: str, right: str, patterns: Optional[Mapping[int, bytes]] = None, edition: Edition = Edition.CODE_39) -> Sheet:
     """The sheet of two rules, with the patterns of their fields, as :func:`write` writes it.
 
     A template has the signs of the fixed characters, and ``{0}`` to ``{7}`` for the fields. A field without a pattern holds one character
-    or more. A field of the one rule and a field of the other should have different numbers, unless they are to hold the same text. In a
-    sheet of Full ASCII the characters ``{`` and ``}`` are written twice, and the patterns are put together by :data:`full_ascii`.
+    or more. **A number that stands on both sides is one field, shared by both rules:** ``sheet("A{0}", "{0}B")`` asks for one text that
+    makes both the same label. Two rules with a field each have two numbers, ``sheet("A{0}", "{1}B")``; or ask by :func:`pair`, where the
+    fields of a rule are its own. ``shared`` of the sheet names the fields of both sides, and so do the sheet and its answers as strings. In
+    a sheet of Full ASCII the characters ``{`` and ``}`` are written twice, and the patterns are put together by :data:`full_ascii`.
 
     Raises :class:`NotWritten`, with the place of the fault, where no sheet says these rules, also where a field with a pattern stands in
     neither, and :class:`ValueError` for a sign that is no character, a field below 0, and a pattern of no byte.
@@ -54,6 +70,11 @@ def sheet(left: str, right: str, patterns: Optional[Mapping[int, bytes]] = None,
     >>> from bradovusc import between, many
     >>> sheet("LT{0}", "{1}4", {0: many(between("0", "9"))}).hex(" ")
     '50 41 00 04 44 41 00 09 4c 45 03 15 1d 40 52 49 02 41 04'
+    >>> from bradovusc import decide
+    >>> print(decide(sheet("A{0}", "{0}B")))
+    no clash, with field 0 shared: it holds the same text in both rules
+    >>> print(decide(sheet("A{0}", "{1}B")))
+    clash
     >>> from bradovusc import Edition, full_ascii
     >>> sheet("Box {0}", "{1}!", {0: full_ascii.word("ok!")}, Edition.FULL_ASCII)
     b'ED\\x02PA\\x00\\x05\\xc2o\\xc2k!LE\\x05Box \\xc0RI\\x02\\xc1!'
@@ -68,5 +89,5 @@ def sheet(left: str, right: str, patterns: Optional[Mapping[int, bytes]] = None,
         lengths.append(len(pattern))
     answer = write(b"".join(pattern for _, pattern in rising), lengths, tokens(left, edition), tokens(right, edition), edition=edition)
     if isinstance(answer, Written):
-        return answer.data
+        return Sheet(answer.data)
     raise NotWritten(answer)

@@ -46,6 +46,11 @@ DIGITS = bradovusc.many(bradovusc.between("0", "9"))
 FOUR = sheet("{0}", "{1}", {0: DIGITS, 1: bradovusc.word("4")})
 
 
+class Library(unittest.TestCase):
+    def test_its_version(self):
+        self.assertEqual(bradovusc.version(), bradovusc.VERSION)
+
+
 class Sheets(unittest.TestCase):
     def test_a_clash(self):
         answer = bradovusc.clash(FOUR)
@@ -276,10 +281,12 @@ class Examples(unittest.TestCase):
 
     def test_of_the_page(self):
         page = (TOP / "foreign/README.md").read_text().partition("\n## Python\n")[2]
-        code, prints = re.match(r"\n((?:    .*\n|\n)+)prints `(.*?)`", page).groups()
-        with contextlib.redirect_stdout(io.StringIO()) as printed:
-            exec(textwrap.dedent(code), {})
-        self.assertEqual(printed.getvalue(), prints + "\n")
+        examples = re.findall(r"((?:^    .*\n|^\n)+)prints(?: `(.*?)`|\n\n((?:    .*\n)+))", page, re.M)
+        self.assertEqual(len(examples), 2)
+        for code, line, lines in examples:
+            with contextlib.redirect_stdout(io.StringIO()) as printed:
+                exec(textwrap.dedent(code), {})
+            self.assertEqual(printed.getvalue(), textwrap.dedent(lines) or line + "\n")
 
 
 if __name__ == "__main__":

@@ -18,11 +18,11 @@ pub fn fronts_differ(edition: Edition, left: &[u8], right: &[u8]) -> bool {
     // no pointer.
     let number = unsafe {
         bradovusc_fronts_differ(
-            edition.number(),
+            edition.number() as u64,
             left.as_ptr(),
-            left.len(),
+            left.len() as u64,
             right.as_ptr(),
-            right.len(),
+            right.len() as u64,
         )
     };
     number == 1
@@ -30,10 +30,10 @@ pub fn fronts_differ(edition: Edition, left: &[u8], right: &[u8]) -> bool {
 
 extern "C" {
     fn bradovusc_fronts_differ(
-        edition: usize,
+        edition: u64,
         left: *const u8,
-        left_length: usize,
+        left_length: u64,
         right: *const u8,
-        right_length: usize,
+        right_length: u64,
     ) -> u32;
 }

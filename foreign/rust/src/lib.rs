@@ -6,6 +6,10 @@
 //! a space are the same label; a space elsewhere is a character like the others. The two rules stand
 //! on a question sheet; [`clash`] answers it in memory that the caller lends.
 //!
+//! A field has a number on the sheet. One that stands on both sides is one field, shared: it holds the
+//! same text in both rules. Two rules with a field each have two numbers. The package
+//! `bradovusc-asking` asks about rules as text, whose fields are their own.
+//!
 //! ```
 //! use bradovusc::{answer_bytes, clash, texts, SITUATION_BYTES};
 //!
@@ -322,6 +326,14 @@ use std::iter::FusedIterator;
 /// The version of this package, of the C header and of the library.
 pub const VERSION: &str = env!("CARGO_PKG_VERSION");
 
+/// The version of the library that is called, in its three numbers. It is [`VERSION`], unless another
+/// library was linked than the one that belongs to this package.
+pub fn version() -> [u32; 3] {
+    // SAFETY: the function takes nothing, and keeps nothing.
+    let number = unsafe { bradovusc_version() };
+    [number / 10_000, number / 100 % 100, number % 100]
+}
+
 /// A situation of the search takes so many bytes of the working buffer.
 pub const SITUATION_BYTES: usize = 184;
 
@@ -570,6 +582,8 @@ pub fn clash(sheet: &[u8], work: &mut [u8], answer: &mut [u8]) -> Answer {
 
 // In the library a length has 64 bits whatever the processor, so no block of these says `usize`.
 extern "C" {
+    fn bradovusc_version() -> u32;
+
     fn bradovusc_clash(
         sheet: *const u8,
         sheet_length: u64,

@@ -1,12 +1,15 @@
 //! Numbers in words, signs, texts of records cut short, the version: as the C header has them.
 
+use std::fs;
+use std::path::Path;
+
 use bradovusc::{
     catalogue_bytes, decided_list_bytes, list_bytes, recheck, recheck_decided, sign, spelt_bytes,
-    texts, value, Added, AddedDecided, Answer, CarriedOver, DecidedPair, Edition, Fault, Mended,
-    MendedCatalogue, Pair, Plain, PlainBytes, Played, Rechecked, RecheckedDecided, Scripted, Spelt,
-    SpeltOpen, Stepped, Text, Withdrawn, Written, DECIDED_PAIR_BYTES, MOST_CHARACTERS, MOST_RULES,
-    MOST_STEPS, PAIR_BYTES, PLAIN_BYTES, RULE_BYTES, RULE_FIELDS, SCRIPT_BYTES, SHEET_BYTES, SIGNS,
-    VERSION,
+    texts, value, version, Added, AddedDecided, Answer, CarriedOver, DecidedPair, Edition, Fault,
+    Mended, MendedCatalogue, Pair, Plain, PlainBytes, Played, Rechecked, RecheckedDecided,
+    Scripted, Spelt, SpeltOpen, Stepped, Text, Withdrawn, Written, DECIDED_PAIR_BYTES,
+    MOST_CHARACTERS, MOST_RULES, MOST_STEPS, PAIR_BYTES, PLAIN_BYTES, RULE_BYTES, RULE_FIELDS,
+    SCRIPT_BYTES, SHEET_BYTES, SIGNS, VERSION,
 };
 
 const HEADER: &str = include_str!("../../c/bradovusc.h");
@@ -368,4 +371,21 @@ fn lengths_of_buffers() {
 #[test]
 fn one_version() {
     assert!(HEADER.contains(&format!("#define BRADOVUSC_VERSION \"{VERSION}\"\n")));
+    assert_eq!(version().map(|number| number.to_string()).join("."), VERSION);
+}
+
+/// In the library a length has 64 bits whatever the processor, so where `usize` has fewer it is wrong.
+#[test]
+fn lengths_of_64_bits() {
+    let folder = Path::new(env!("CARGO_MANIFEST_DIR")).join("src");
+    let mut blocks = 0;
+    for entry in fs::read_dir(folder).unwrap() {
+        let text = fs::read_to_string(entry.unwrap().path()).unwrap();
+        for block in text.split("extern \"C\"").skip(1) {
+            let end = block.find("\n}").or(block.find(';')).unwrap();
+            assert!(!block[..end].contains("usize"), "{}", &block[..end]);
+            blocks += 1;
+        }
+    }
+    assert!(blocks >= 12, "{blocks}");
 }

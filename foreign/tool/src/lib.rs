@@ -6,6 +6,7 @@
 
 pub mod catalogue;
 pub mod change;
+pub mod colours;
 pub mod format;
 pub mod kinds;
 pub mod labels;

@@ -4,6 +4,7 @@ use std::ffi::OsString;
 use std::io::{stderr, stdin, stdout, BufWriter, IsTerminal};
 use std::process::ExitCode;
 
+use bradovusc_tool::colours::COLOURS;
 use bradovusc_tool::notation::paint::Paint;
 use bradovusc_tool::run::{run, Streams};
 
@@ -25,7 +26,7 @@ fn paint(terminal: bool) -> Paint {
     let set = |name| std::env::var_os(name).filter(|value| !value.is_empty());
     let dumb = set("TERM").is_none_or(|term| term == "dumb");
     match terminal && !dumb && set("NO_COLOR").is_none() {
-        true => Paint::COLOURS,
+        true => COLOURS,
         false => Paint::NONE,
     }
 }

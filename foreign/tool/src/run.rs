@@ -28,12 +28,12 @@ use crate::notation::{pattern_text, rule_text, template_text, Rule};
 use crate::pairs::Pairs;
 use crate::parallel::{in_order, processors, Event};
 use crate::progress::Progress;
-use crate::report::{counted, grouped, pair_in, pair_words, titled, Tally};
-use crate::sides::{find, sheet, Side, Title};
+use crate::report::{counted, grouped, pair_in, pair_words, titled, Tally, SCHEMA};
+use crate::sides::{find, same_edition, sheet, Side, Title};
 use crate::source::Source;
 use crate::spend::Spend;
 use crate::status::{problem_words, Problem, Status};
-use crate::teller::{Teller, SCHEMA};
+use crate::teller::Teller;
 
 use crate::words::{self, Command, Options};
 
@@ -171,7 +171,7 @@ impl Run<'_> {
             }
             let more = self.rules(path)?;
             if let (Some(first), Some(new)) = (rules.first(), more.first()) {
-                same_edition((&paths[0], first.edition), (path, new.edition))?;
+                same_edition(first, new).map_err(Problem::Fault)?;
             }
             from_old += if index < old { more.len() } else { 0 };
             rules.extend(more);
@@ -498,19 +498,6 @@ fn status_of(answer: Answer) -> Status {
 fn same_file(one: &Path, other: &Path) -> bool {
     let real = |path: &Path| fs::canonicalize(path).unwrap_or_else(|_| path.to_path_buf());
     one == other || real(one) == real(other)
-}
-
-/// Rules are asked about together only if they have the same characters.
-fn same_edition(one: (&Path, Edition), other: (&Path, Edition)) -> Result<(), Problem> {
-    if one.1 == other.1 {
-        return Ok(());
-    }
-    let (full, plain) = if one.1 == Edition::FullAscii { (one, other) } else { (other, one) };
-    Err(Problem::Fault(format!(
-        "{} is Full ASCII and {} is not: only rules with the same characters are asked about together",
-        full.0.display(),
-        plain.0.display()
-    )))
 }
 
 /// The bytes of a file of rules as its lines.

@@ -6,7 +6,7 @@ use std::path::Path;
 use crate::notation::mistakes::{mistakes_objects, mistakes_words, Mistakes};
 use crate::notation::paint::Paint;
 use crate::notation::visible::visible;
-use crate::report::fault_object;
+use crate::report::{fault_object, no_rule_words};
 use crate::source::Source;
 
 pub use crate::notation::status::Status;
@@ -42,7 +42,7 @@ impl Problem {
 
     /// A file of rules without a rule.
     pub fn no_rule(name: &str) -> Problem {
-        Problem::NoRule(format!("{name} has no rule; a rule is NAME = TEMPLATE"))
+        Problem::NoRule(no_rule_words(name))
     }
 }
 

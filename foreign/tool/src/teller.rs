@@ -8,15 +8,12 @@ use crate::format::{annotation, github, short, Format};
 use crate::json::Object;
 use crate::notation::paint::Paint;
 use crate::pairs::Part;
-use crate::report::{counted, grouped, pair_object, Tally};
+use crate::report::{counted, grouped, pair_object, summary_of, Tally};
 use crate::sarif;
 use crate::sides::Side;
 use crate::status::Status;
 use crate::told::{told_words, Told};
 use crate::words::Options;
-
-/// The version of the objects: it rises where a key is taken away or changes its meaning.
-pub const SCHEMA: usize = 1;
 
 /// So many pairs are put into groups at a time.
 const MOST_HELD: usize = 5_000;
@@ -138,9 +135,9 @@ impl<'s> Teller<'s> {
                 to.write_all(annotation("notice", &[], (more + &words).trim_end()).as_bytes())?;
             }
             Format::Json if self.summary => {
-                let object = Object::new().text("summary", self.command).number("schema", SCHEMA);
                 let status = usize::from(status.number());
-                writeln!(to, "{}", self.counts(object, rules).number("status", status).done())?;
+                let counts = self.counts(summary_of(self.command), rules);
+                writeln!(to, "{}", counts.number("status", status).done())?;
             }
             Format::Sarif => {
                 let counts = self.counts(Object::new(), rules);
@@ -165,7 +162,6 @@ impl<'s> Teller<'s> {
     }
 
     fn counts(&self, object: Object, rules: usize) -> Object {
-        let Tally { clashes, not_decided, apart } = self.tally;
         let mut object = object.number("rules", rules);
         if self.old > 0 {
             object = object.number("new", rules - self.old);
@@ -174,11 +170,7 @@ impl<'s> Teller<'s> {
             let Part { number, of } = self.part;
             object = object.number("part", number).number("parts", of);
         }
-        object
-            .number("pairs", clashes + not_decided + apart)
-            .number("clashes", clashes)
-            .number("not_decided", not_decided)
-            .number("no_clash", apart)
+        self.tally.counts(object)
     }
 
     /// A line on what was counted and not told; none where all was.

@@ -8,6 +8,8 @@ use std::io::Write;
 use std::path::{Path, PathBuf};
 use std::process::{Command, Stdio};
 
+use bradovusc_asking::request::answer;
+use bradovusc_tool::json::Object;
 use common::{call, files, golden};
 
 fn here(name: &str) -> PathBuf {
@@ -85,9 +87,25 @@ fn called() -> Vec<String> {
     lines
 }
 
+/// What requests are answered with, with all that can be told.
+fn requested() -> Vec<String> {
+    let mut lines = Vec::new();
+    for name in ["latch.rules", "open.rules", "ascii.rules", "spaces.rules", "mistake.rules"] {
+        let rules = fs::read_to_string(golden("files").join(name)).unwrap();
+        let rules = Object::new().text("rules", &rules).done();
+        let told = ["steps", "bands", "words", "summary"].map(|key| format!(",\"{key}\":true"));
+        let request = format!("{}{},\"room\":356}}", &rules[..rules.len() - 1], told.concat());
+        let (_, text) = answer(request.as_bytes());
+        assert!(text.contains("\"words\""), "{text}");
+        lines.extend(text.lines().map(String::from));
+    }
+    assert!(lines.iter().any(|line| line.contains("\"left_bands\"")));
+    lines
+}
+
 #[test]
 fn objects() {
-    let lines = [shown(), called()].concat();
+    let lines = [shown(), called(), requested()].concat();
     assert!(lines.len() > 500);
     let logs: Vec<&String> = lines.iter().filter(|line| line.contains("\"$schema\"")).collect();
     let objects: Vec<String> = lines.iter().filter(|line| !logs.contains(line)).cloned().collect();

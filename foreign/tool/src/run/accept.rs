@@ -36,7 +36,7 @@ impl Run<'_> {
         };
         let base_rules = judged(source_of(path, &bytes)?)?;
         if let (Some(old), Some(new)) = (base_rules.first(), new_rules.first()) {
-            same_edition((path, old.edition), (new_path, new.edition))?;
+            same_edition(old, new).map_err(Problem::Fault)?;
         }
         names_are_new(&base_rules, new_path, &new)?;
         let text = joined(&bytes, &new);

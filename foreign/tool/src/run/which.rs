@@ -11,11 +11,10 @@ use crate::matching::{Reader, LONGEST_LABEL};
 use crate::notation::paint::Paint;
 use crate::notation::visible::{visible, visible_sign};
 use crate::report::{
-    counted, fields_object, fields_words, grouped, label_words, placed, spelt, titled,
+    counted, fields_object, fields_words, grouped, label_words, placed, spelt, summary_of, titled,
 };
 use crate::sides::{Side, Text};
 use crate::status::{Problem, Status};
-use crate::teller::SCHEMA;
 
 /// A file of labels may have so many bytes.
 const MOST_LABELS: u64 = 256 << 20;
@@ -103,7 +102,7 @@ impl Run<'_> {
     fn summary(&mut self, counts: Counts, rules: usize) -> Result<(), Problem> {
         let Counts { one, several, none } = counts;
         if self.options.json && self.options.summary {
-            let object = Object::new().text("summary", "which").number("schema", SCHEMA);
+            let object = summary_of("which");
             let object = object.number("rules", rules).number("labels", counts.all());
             let object = object.number("one", one).number("several", several).number("none", none);
             let status = usize::from(counts.status().number());
