@@ -210,18 +210,22 @@ fn known_decisions() {
         assert_eq!(case.decide(decide::HASHING), case.decide(decide::SCANNING));
         case.decide(decide::HASHING).lines()
     };
-    // x`4` and xx, x one of `A` to `G`: 2 and 2 situations
+    // x`4` and xx, x one of `A` to `G`: 2 situations, and no 4 on the right
     let range = "45 44 02 50 41 00 03 C1 41 47 4C 45 02 C0 34 52 49 02 C0 C0";
-    assert_eq!(decided(range, 2, 8), "1 4 0 2\n");
-    // x`A` and xx: 8 and 8
+    assert_eq!(decided(range, 2, 8), "1 2 0 2\n");
+    // x`A` and xx: 8, and 7 with an A alone: the start, the A read, x struck, and the
+    // two hidden fields with a space, either of them struck, and both
     let clash = "45 44 02 50 41 00 03 C1 41 47 4C 45 02 C0 41 52 49 02 C0 C0";
-    assert_eq!(decided(clash, 8, 8), "0 16 0 2\n0 A\n");
-    assert_eq!(decided(clash, 8, 5), "20 16 0 2\n");
-    // `A` and x`4`x: 6, 6, 1 and 6
-    let apart = "45 44 02 4C 45 01 41 52 49 03 C0 34 C0";
-    assert_eq!(decided(apart, 6, 8), "1 19 0 4\n");
-    // `AA` and x: the search over few characters uses all up after 1
-    assert_eq!(decided("45 44 02 4C 45 02 41 41 52 49 01 C0", 3, 8), "18 10 0 0\n");
+    assert_eq!(decided(clash, 8, 8), "0 15 0 4\n0 A\n");
+    assert_eq!(decided(clash, 8, 5), "20 15 0 4\n");
+    // `A` and x`4`x: no 4 on the left
+    let letters = "45 44 02 4C 45 01 41 52 49 03 C0 34 C0";
+    assert_eq!(decided(letters, 6, 8), "1 6 0 2\n");
+    // xx`A` and y`B`: each standing apart
+    let apart = "45 44 02 4C 45 03 C0 C0 41 52 49 02 C1 42";
+    assert_eq!(decided(apart, 1, 8), "1 1 0 3\n");
+    // `AA` and x: 3, 3, 3, 3 and 1
+    assert_eq!(decided("45 44 02 4C 45 02 41 41 52 49 01 C0", 3, 8), "18 13 0 0\n");
 }
 
 // ------------------------------------------------------------------ faults
