@@ -124,9 +124,7 @@ pub fn decide_by(
     by: By,
 ) -> Decided {
     match reading.sheet(sheet) {
-        Ok(question) => {
-            attempted(&question, room(work.len()), |asked| by(asked, work, answer))
-        }
+        Ok(question) => attempted(&question, room(work.len()), |asked| by(asked, work, answer)),
         Err(fault) => {
             Decided { outcome: Outcome::of_fault(fault), search: 0, spent: Default::default() }
         }

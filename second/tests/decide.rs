@@ -455,7 +455,10 @@ fn the_texts_solve_the_question() {
         }
     }
     let finds = [1, 4, 5, 6, 7];
-    assert!(finds.iter().all(|search| seen.get(search).is_some_and(|&times| times > 30)), "{seen:?}");
+    assert!(
+        finds.iter().all(|search| seen.get(search).is_some_and(|&times| times > 30)),
+        "{seen:?}"
+    );
 }
 
 /// Where the first search has room enough to answer, a later one in less room

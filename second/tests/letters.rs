@@ -111,9 +111,10 @@ fn where_letters_differ_there_is_no_label() {
         for _ in 0..2500 {
             let case = decided::uneven_case(&mut dice);
             let question = Reading::New.sheet(&case.sheet).unwrap();
-            let found = tried(&question).into_iter().enumerate().find_map(|(number, heavy)| {
-                Some((number.min(1), uneven(&question, heavy)?))
-            });
+            let found = tried(&question)
+                .into_iter()
+                .enumerate()
+                .find_map(|(number, heavy)| Some((number.min(1), uneven(&question, heavy)?)));
             *seen.entry(found).or_insert(0) += 1;
             assert_eq!(differ(&question), found.is_some());
             if found.is_some() {
