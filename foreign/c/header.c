@@ -1,8 +1,8 @@
 /*
  * Tries what bradovusc.h itself defines: the texts of the numbers, the signs, the walks over records, steps and listed pairs, null
- * pointers of length 0, deciding, the steps of a clash and the player, plain rules, a sheet that is written, the script of one, the
- * calls of a catalogue, with one search and decided, what is carried over, what loses its strays, sides told apart, the version, the
- * lengths of buffers; and the places of faults, as it lists them.
+ * pointers of length 0, deciding, the steps of a clash, the player, the way of given texts, plain rules, a sheet that is written, the
+ * script of one, the calls of a catalogue, with one search and decided, what is carried over, what loses its strays, sides told apart,
+ * the version, the lengths of buffers; and the places of faults, as it lists them.
  * C99, and C++11 too. Prints what does not hold, and how many checks there were; the exit status is 0 if all hold.
  */
 #include <stdio.h>
@@ -32,11 +32,14 @@
 #define bradovusc_spell watched_spell
 #define bradovusc_read_spelt watched_read_spelt
 #define bradovusc_fronts_differ watched_fronts_differ
+/* the name of a struct too, which stays */
+#define bradovusc_way(...) watched_way(__VA_ARGS__)
 #include "bradovusc.h"
 #undef bradovusc_clash
 #undef bradovusc_decide
 #undef bradovusc_steps
 #undef bradovusc_play
+#undef bradovusc_way
 #undef bradovusc_plain
 #undef bradovusc_plain_bytes
 #undef bradovusc_write_edition
@@ -67,6 +70,8 @@ uint32_t bradovusc_steps(const uint8_t *sheet, size_t sheet_length, uint8_t *wor
                          size_t answer_length, uint8_t *steps, size_t steps_length, uint64_t *told, size_t told_length);
 uint32_t bradovusc_play(const uint8_t *sheet, size_t sheet_length, const uint8_t *steps, size_t steps_length, uint8_t *answer,
                         size_t answer_length, uint64_t *told, size_t told_length);
+uint32_t bradovusc_way(const uint8_t *sheet, size_t sheet_length, const uint8_t *texts, size_t texts_length, uint8_t *steps,
+                       size_t steps_length, uint64_t *told, size_t told_length);
 uint32_t bradovusc_plain(const uint8_t *sheet, size_t sheet_length, uint8_t *bits, size_t bits_length, uint64_t *told,
                          size_t told_length);
 uint32_t bradovusc_plain_bytes(const uint8_t *sheet, size_t sheet_length, uint64_t *told, size_t told_length);
@@ -148,6 +153,15 @@ uint32_t watched_play(const uint8_t *sheet, size_t sheet_length, const uint8_t *
     check(answer != NULL, "the answer buffer's pointer is not null", (long)answer_length);
     check(told != NULL, "the pointer of what is told is not null", (long)told_length);
     return bradovusc_play(sheet, sheet_length, steps, steps_length, answer, answer_length, told, told_length);
+}
+
+uint32_t watched_way(const uint8_t *sheet, size_t sheet_length, const uint8_t *texts, size_t texts_length, uint8_t *steps,
+                     size_t steps_length, uint64_t *told, size_t told_length) {
+    check(sheet != NULL, "the sheet's pointer is not null", (long)sheet_length);
+    check(texts != NULL, "the texts' pointer is not null", (long)texts_length);
+    check(steps != NULL, "the steps buffer's pointer is not null", (long)steps_length);
+    check(told != NULL, "the pointer of what is told is not null", (long)told_length);
+    return bradovusc_way(sheet, sheet_length, texts, texts_length, steps, steps_length, told, told_length);
 }
 
 uint32_t watched_plain(const uint8_t *sheet, size_t sheet_length, uint8_t *bits, size_t bits_length, uint64_t *told,
@@ -1318,8 +1332,8 @@ static void try_steps(void) {
 static void try_steps_told(void) {
     size_t told_length, i;
     for (told_length = 0; told_length <= 5; told_length++) {
-        uint64_t told[] = {7, 7, 7, 7, 7}, told_play[] = {7, 7, 7, 7, 7};
-        const uint64_t expected[] = {13, 0, 12, 16, 7}, expected_play[] = {0, 0, 12, 7, 7};
+        uint64_t told[] = {7, 7, 7, 7, 7}, told_play[] = {7, 7, 7, 7, 7}, told_way[] = {7, 7, 7, 7, 7};
+        const uint64_t expected[] = {13, 0, 12, 16, 7}, expected_play[] = {0, 0, 12, 7, 7}, expected_way[] = {0, 0, 16, 7, 7};
         uint8_t answer[12], steps[16];
         check(bradovusc_steps(stepped_sheet, sizeof stepped_sheet, stepped_work, sizeof stepped_work, answer, sizeof answer, steps,
                               sizeof steps, told, told_length) == 0,
@@ -1327,9 +1341,13 @@ static void try_steps_told(void) {
         check(bradovusc_play(stepped_sheet, sizeof stepped_sheet, steps, sizeof steps, answer, sizeof answer, told_play,
                              told_length) == 0,
               "it is played", (long)told_length);
+        check(bradovusc_way(stepped_sheet, sizeof stepped_sheet, answer, sizeof answer, steps, sizeof steps, told_way, told_length) ==
+                  0,
+              "its texts have a way", (long)told_length);
         for (i = 0; i < 5; i++) {
             check(told[i] == (i < told_length ? expected[i] : 7), "an element of what is told", (long)i);
             check(told_play[i] == (i < told_length ? expected_play[i] : 7), "an element of what the player tells", (long)i);
+            check(told_way[i] == (i < told_length ? expected_way[i] : 7), "an element of what is told of a way", (long)i);
         }
     }
 }
@@ -1377,6 +1395,50 @@ static void try_play(void) {
     check(given.number == 11 && given.place == 0, "no sheet", 11);
 }
 
+/* The way of these texts on the sheet, with a steps buffer of so many bytes, all of them 7 before. */
+static int is_way(const uint8_t *texts, size_t texts_length, size_t steps_length, uint32_t number) {
+    uint8_t steps[20];
+    size_t written = number == 0 ? sizeof stepped_way : 0;
+    struct bradovusc_played given;
+    memset(steps, 7, sizeof steps);
+    given = bradovusc_find_way(stepped_sheet, sizeof stepped_sheet, texts, texts_length, steps_length > 0 ? steps : NULL,
+                               steps_length);
+    return given.number == number && given.place == 0 && given.written == written && memcmp(steps, stepped_way, written) == 0 &&
+           all_are(steps + written, sizeof steps - written, 7);
+}
+
+static void try_way(void) {
+    static const uint8_t one_more[] = {'L', 'E', 0, 'R', 'I', 0, 0}, empty[] = {'L', 'E', 0, 'R', 'I', 0};
+    static const uint8_t strikes[] = {'S', 'T', 0, 'S', 'T', 1};
+    uint8_t texts[sizeof stepped_texts + 1], steps[8];
+    struct bradovusc_played given;
+    size_t i;
+    check(is_way(stepped_texts, sizeof stepped_texts, sizeof stepped_way, 0), "the way in just enough", 16);
+    check(is_way(stepped_texts, sizeof stepped_texts, 20, 0), "the way in plenty", 20);
+    for (i = 0; i < sizeof stepped_way; i++) {
+        check(is_way(stepped_texts, sizeof stepped_texts, i, 51), "too few bytes of steps", (long)i);
+    }
+    for (i = 0; i < sizeof stepped_texts; i++) {
+        check(is_way(i > 0 ? stepped_texts : NULL, i, 20, 47), "texts cut short", (long)i);
+        memcpy(texts, stepped_texts, sizeof stepped_texts);
+        texts[i] = 43;
+        check(is_way(texts, sizeof stepped_texts, 20, 47), "a byte that is another one", (long)i);
+    }
+    memcpy(texts, stepped_texts, sizeof stepped_texts);
+    texts[sizeof stepped_texts] = 0;
+    check(is_way(texts, sizeof texts, 20, 47), "a byte behind the records", 47);
+    texts[5] = 5;
+    check(is_way(texts, sizeof stepped_texts, 20, 48), "labels that differ", 48);
+    texts[11] = 5;
+    check(is_way(texts, sizeof stepped_texts, 20, 48), "a text that its field may not hold", 48);
+    given = bradovusc_find_way(empty, sizeof empty, NULL, 0, steps, sizeof steps);
+    check(given.number == 0 && given.written == 6 && memcmp(steps, strikes, sizeof strikes) == 0, "the hidden fields alone", 6);
+    given = bradovusc_find_way(one_more, sizeof one_more, stepped_texts, 1, NULL, 0);
+    check(given.number == 12 && given.place == 6 && given.written == 0, "the sheet's own fault is first", 12);
+    given = bradovusc_find_way(NULL, 0, NULL, 0, NULL, 0);
+    check(given.number == 11 && given.place == 0, "no sheet", 11);
+}
+
 /* x and y without patterns, and so many times the character A: the same situation again and again. */
 static void try_most_steps(void) {
     static const uint8_t endless[] = {'L', 'E', 1, 64, 'R', 'I', 1, 65};
@@ -1398,6 +1460,8 @@ static void try_most_steps(void) {
     given = bradovusc_play_steps(endless, sizeof endless, steps, 4 * (most - 4) + sizeof end, texts, sizeof texts);
     check(given.number == 0 && given.written == 2 * (5 + most - 4), "the longest way", (long)most);
     check(texts[3] == 250 && texts[4] == 255, "a text of 65,530 characters", 65530);
+    given = bradovusc_find_way(endless, sizeof endless, texts, 2 * (5 + most - 4), steps, sizeof steps);
+    check(given.number == 0 && given.written == 4 * (most - 4) + sizeof end, "the longest way, by its texts", (long)most);
 }
 
 /* A walk over steps, and over what is none. */
@@ -1916,6 +1980,7 @@ int main(void) {
     try_steps();
     try_steps_told();
     try_play();
+    try_way();
     try_most_steps();
     try_walk_over_steps();
     try_plain();

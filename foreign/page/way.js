@@ -64,7 +64,7 @@ function putTogether(clash, { back, forward, slider, count, words, label, left, 
 function wayPanel(clash, kept, cover) {
     if (clash.steps === null) {
         return element("p", { class: "none" },
-            `There is no way to show: search ${clash.search} has found the clash, and only search 1 writes its steps down.`);
+            "There is no way to show: on the way a side would grow above 48 tokens.");
     }
     const last = clash.steps.length - 1;
     const parts = wayParts(clash, last);

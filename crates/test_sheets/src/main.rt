@@ -335,6 +335,7 @@ fn answer_case(sheet: &[u8], work: &mut [u8], answer: &mut [u8], shown: Shown) -
         Shown::Plain => plain::show_plain(sheet, work),
         Shown::Steps => steps::show_steps(sheet, work, answer),
         Shown::Played => steps::show_played(sheet, answer),
+        Shown::WayOfTexts => steps::show_way_of_texts(sheet, answer),
     }
 }
 

@@ -1,7 +1,7 @@
 //! The way to a clash as a person follows it: both sides with what is still to be read, the label
 //! read so far, and each step in words.
 
-use bradovusc::{Edition, Step};
+use bradovusc::{Edition, Step, WayFound};
 
 use crate::ask::{Asked, Buffers};
 use crate::json::Object;
@@ -38,16 +38,13 @@ pub enum Done {
     Read { character: u8, fields: [Option<u8>; 2] },
 }
 
-/// The one of the library's attempts, a search, that writes its steps.
-const FIRST_SEARCH: u8 = 1;
+/// The rows of a way, or why the library has none.
+pub type Way = Result<Vec<Row>, WayFound>;
 
-/// The way to a clash, if the library's first search has found it.
-pub fn way(left: &Side, right: &Side, asked: &Asked) -> Option<Vec<Row>> {
-    if asked.search != FIRST_SEARCH {
-        return None;
-    }
-    let steps = Buffers::new().way(left, right, asked.room)?;
-    follow(left, right, &steps)
+/// The way to a clash that was found.
+pub fn way(left: &Side, right: &Side, asked: &Asked) -> Way {
+    let steps = Buffers::new().way(left, right, asked)?;
+    follow(left, right, &steps).ok_or(WayFound::NoSolution)
 }
 
 /// The rows of a way, the start and then one for each step; none where a step can't be made there,
@@ -213,23 +210,21 @@ pub fn way_words(left: &Side, right: &Side, rows: &[Row]) -> String {
     words + &format!("{SPACES} is any number of spaces at the end of a label, which are dropped.\n")
 }
 
-/// The way to a clash in words, or that there is none to show.
-pub fn steps_words(left: &Side, right: &Side, asked: &Asked, rows: Option<&[Row]>) -> String {
-    match rows {
-        Some(rows) => way_words(left, right, rows),
-        None => format!(
-            "There is no way to show: attempt {} has found the clash, and only attempt \
-             {FIRST_SEARCH} writes its steps down.\n",
-            asked.search
-        ),
-    }
+/// The way to a clash in words, or why there is none to show.
+pub fn steps_words(left: &Side, right: &Side, way: &Way) -> String {
+    let why = match way {
+        Ok(rows) => return way_words(left, right, rows),
+        Err(WayFound::SideTooLong) => "on the way a side would grow above 48 tokens".to_string(),
+        Err(other) => other.to_string(),
+    };
+    format!("There is no way to show: {why}.\n")
 }
 
 /// The same behind what an object has already.
-pub fn steps_in(object: Object, left: &Side, right: &Side, rows: Option<&[Row]>) -> Object {
-    match rows {
-        Some(rows) => object.list("steps", way_objects(left, right, rows)),
-        None => object.nothing("steps"),
+pub fn steps_in(object: Object, left: &Side, right: &Side, way: &Way) -> Object {
+    match way {
+        Ok(rows) => object.list("steps", way_objects(left, right, rows)),
+        Err(_) => object.nothing("steps"),
     }
 }
 
@@ -368,6 +363,18 @@ mod tests {
         let names = Names { sides: [&left, &left] };
         let words = "the spaces on the right read \" \", which stands on the left";
         assert_eq!(names.done(&rows[1]), words);
+    }
+
+    #[test]
+    fn why_there_is_none_to_show() {
+        let [left, right] = latches();
+        let words = |why| steps_words(&left, &right, &Err(why));
+        let none = "There is no way to show: ";
+        let grown = format!("{none}on the way a side would grow above 48 tokens.\n");
+        assert_eq!(words(WayFound::SideTooLong), grown);
+        assert_eq!(words(WayFound::TooManySteps), format!("{none}too many steps.\n"));
+        let object = steps_in(Object::new(), &left, &right, &Err(WayFound::SideTooLong));
+        assert_eq!(object.done(), r#"{"steps":null}"#);
     }
 
     #[test]

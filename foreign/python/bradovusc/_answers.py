@@ -323,6 +323,37 @@ Played = Union[Clash, Refused, SideTooLong, AnswerTooShort, WrongStep, StepNotAl
 
 
 @dataclass(frozen=True)
+class WayFound(_Yes):
+    """0: the texts solve the question, and this is their way."""
+
+    #: The records of the way, of which :func:`way` gives the steps.
+    records: bytes
+    number = 0
+    _words = "clash"
+
+
+@dataclass(frozen=True)
+class WrongTexts(_Open):
+    """47: the texts are no records, one for each field that stands, by rising number, or a value is no character."""
+
+    number = 47
+    _words = "no records of the texts"
+
+
+@dataclass(frozen=True)
+class NoSolution(_Open):
+    """48: the texts don't make both sides the same label, or one is none that its field may hold."""
+
+    number = 48
+    _words = "the texts solve nothing"
+
+
+#: What :func:`find_way` answers. Each has ``clashes``: true, or :class:`NotAnswered` is raised, since texts without a way say nothing. The
+#: counts are 0.
+Found = Union[WayFound, Refused, SideTooLong, WrongTexts, NoSolution, TooManySteps, StepsTooShort]
+
+
+@dataclass(frozen=True)
 class NotPlain(_Open):
     """42: a field stands more than once in the two sides together. Ask by :func:`clash` or :func:`decide`."""
 

@@ -11,6 +11,7 @@ from bradovusc import (
     Kind,
     NoClash,
     NoRoom,
+    NoSolution,
     NotAnswered,
     NotFinished,
     Refused,
@@ -21,14 +22,18 @@ from bradovusc import (
     StepsTooShort,
     Text,
     TooManySteps,
+    WayFound,
     WrongStep,
+    WrongTexts,
     between,
+    find_way,
     many,
     play,
     sheet,
     step_records,
     steps,
     steps_bytes,
+    text_records,
     way,
     word,
 )
@@ -149,6 +154,49 @@ class Player(unittest.TestCase):
             if isinstance(said.answer, Clash):
                 self.assertEqual(play(asked, said.records), Clash(0, said.answer.texts, said.answer.written))
                 self.assertLessEqual(len(said.records), steps_bytes(said.answer.count))
+                found += 1
+        self.assertGreater(found, 60)
+
+
+class WayOfTexts(unittest.TestCase):
+    def test_a_way(self):
+        self.assertEqual(find_way(FOUR, text_records(TEXTS)), WayFound(RECORDS))
+        self.assertTrue(find_way(FOUR, text_records(TEXTS)).clashes)
+        for length in range(len(RECORDS)):
+            lent = bytearray([FILL]) * length
+            self.assertEqual(find_way(FOUR, text_records(TEXTS), lent), StepsTooShort(0))
+            self.assertEqual(lent, bytearray([FILL]) * length)
+
+    def refused(self, asked, records, answer):
+        lent = bytearray([FILL]) * 40
+        self.assertEqual(find_way(asked, records, lent), answer)
+        self.assertEqual(lent, bytearray([FILL]) * 40)
+        self.assertEqual(find_way(asked, records), answer)
+        with self.assertRaises(NotAnswered):
+            answer.clashes
+
+    def test_refusals(self):
+        records = text_records(TEXTS)
+        for length in range(len(records)):
+            self.refused(FOUR, records[:length], WrongTexts())
+            self.refused(FOUR, records[:length] + b"\x2b" + records[length + 1 :], WrongTexts())
+        self.refused(FOUR, records + b"\0", WrongTexts())
+        self.refused(FOUR, b"VA\0\1\0\5VA\1\1\0\4", NoSolution())
+        self.refused(FOUR, b"VA\0\1\0\5VA\1\1\0\5", NoSolution())
+        self.refused(b"", records, Refused(Fault.CUT_SHORT, 0))
+        self.refused(sheet("{0}" * 24, "{1}"), b"VA\0\2\0\x0a\x0aVA\1\2\0\x0a\x0a", SideTooLong(0))
+
+    def test_what_is_decided_has_a_way(self):
+        dice = random.Random(8)
+        found = 0
+        for _ in range(300):
+            sides = ["".join(dice.choices(["{0}", "{1}", "A", "B", " "], k=dice.randrange(1, 6))) for _ in range(2)]
+            asked = sheet(*sides)
+            answer = bradovusc.decide(asked).answer
+            if isinstance(answer, Clash):
+                said = find_way(asked, text_records(answer.texts))
+                self.assertIsInstance(said, WayFound)
+                self.assertEqual(play(asked, said.records), Clash(0, answer.texts, answer.written))
                 found += 1
         self.assertGreater(found, 60)
 
