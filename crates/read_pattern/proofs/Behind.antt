@@ -13,10 +13,10 @@ use Rattle.paper.specs.Pattern.{Pattern}
 use Rattle.paper.specs.Places.{leaves}
 use Rattle.paper.specs.Written.{no-pattern, part}
 use Rattle.paper.specs.Saying.{pattern-code}
-use Rattle.paper.proofs.places.Reader.{Reads, runs-out, a-character, empty-text, lo-missing, lo-wrong, hi-missing, hi-wrong, a-range}
-use Rattle.paper.proofs.places.Reader.{first-wrong, second-wrong, both-parts, starred-wrong, starred, no-code, shorter}
-use Rattle.paper.proofs.places.Judged.{both-leaves}
-use Rattle.paper.proofs.saying.Code.{read-says}
+use Rattle.paper_laws.proofs.places.Reader.{Reads, runs-out, a-character, empty-text, lo-missing, lo-wrong, hi-missing, hi-wrong, a-range}
+use Rattle.paper_laws.proofs.places.Reader.{first-wrong, second-wrong, both-parts, starred-wrong, starred, no-code, shorter}
+use Rattle.paper_laws.proofs.places.Judged.{both-leaves}
+use Rattle.paper_laws.proofs.saying.Code.{read-says}
 
 pub fault-within : {s : List ℕ} {left : ℕ} → Reads s (no-pattern left) → left ≤ length s
 fault-within runs-out = omega arith

@@ -14,7 +14,7 @@ use Rattle.paper.specs.Alphabet.{Edition, code, codes}
 use Rattle.paper.specs.Pattern.{Pattern}
 use Rattle.paper.specs.Written.{part, judged, judge}
 use Rattle.paper.proofs.base.Tests.{lt-leb, le-ltb, neq-eqb}
-use Rattle.paper.proofs.places.Reader.{is-then, is-or, Reads, a-character, empty-text, a-range, both-parts, starred, Judges, as-pattern, judges, shorter}
+use Rattle.paper_laws.proofs.places.Reader.{is-then, is-or, Reads, a-character, empty-text, a-range, both-parts, starred, Judges, as-pattern, judges, shorter}
 use Rattle.paper_script.specs.Script.{expression}
 use Rattle.script_terms.specs.Spelt.{Term-spelling, spelt-at, term-spelt}
 
