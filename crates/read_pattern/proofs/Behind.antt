@@ -2,7 +2,7 @@
 --   fault-within  : no more bytes are left from the one at fault on than there are
 --   leaves-within : the pattern's leaves are no more than the bytes before those left behind it
 --   rest-behind   : what is left behind the pattern stands where so many bytes are left
--- Follows from the ways through the reader (`Reader` of `paper`), and from what it reads being the pattern's code (`read-says`).
+-- Follows from the ways through the reader (`Reader` of `paper_laws`), and from what it reads being the pattern's code (`read-says`).
 use Prim.Native.Nat.{ℕ, _+_, _-_, _≤_}
 use native.Mathlib.Omega.{arith}
 use mathlib.Core.Path.{_≡_, ap, _∙_}

@@ -1,7 +1,7 @@
 -- The spelling of the bytes of a good pattern is the pattern's expression.
 --   spelt-reads  : where a pattern is read from an offset on, its expression is spelt there, and what is left is the same
 --   spelt-judged : judge (codes e s) ≡ judged p → term-spelt e s ≡ expression e p
--- By induction on how the pattern is read (`Reader` of `paper`).
+-- By induction on how the pattern is read (`Reader` of `paper_laws`).
 use Prim.Native.Nat.{ℕ, zero, suc, _+_, _≤_, _<_}
 use native.Mathlib.Nat.{add-zero}
 use native.Mathlib.Omega.{arith}
