@@ -20,10 +20,10 @@ use Rattle.paper.specs.Decides.{Decides}
 use Rattle.paper.specs.Way.{given}
 use Rattle.paper.proofs.base.Tests.{by-bool, cond-by, not-true, true-false, left-true, right-true, false-not, eqb-true, eqb-same, eq-eqb, neq-eqb}
 use Rattle.paper.proofs.base.Lists.{any-true, any-append, member-true}
-use Rattle.paper.proofs.equations.Standing.{stands, strike-stands, put-stands}
-use Rattle.paper.proofs.equations.Solution.{Takes, Solution, takes-rest, takes-not-empty}
-use Rattle.paper.proofs.equations.Steps.{Puts, solution-struck, solution-put-all}
-use Rattle.paper.proofs.equations.Moves.{other-front, other-is-front, front-fields-stand, front-fields-different, Opened, puts, open-strike-left, open-strike-right, open-put}
+use Rattle.paper_laws.proofs.equations.Standing.{stands, strike-stands, put-stands}
+use Rattle.paper_laws.proofs.equations.Solution.{Takes, Solution, takes-rest, takes-not-empty}
+use Rattle.paper_laws.proofs.equations.Steps.{Puts, solution-struck, solution-put-all}
+use Rattle.paper_laws.proofs.equations.Moves.{other-front, other-is-front, front-fields-stand, front-fields-different, Opened, puts, open-strike-left, open-strike-right, open-put}
 use Rattle.paper_way.specs.TextSteps.{used-up, no-character, next-character, Next, no-step, next, next-step, texts-behind}
 
 never : _≡_ {A = ℕ} 0 1 → ⊥

@@ -16,10 +16,10 @@ use Rattle.paper.specs.Equation.{Side, is-field, stands-in, Texts, label, Same,
 use Rattle.paper.specs.Question.{Question, held-by, Solution, hidden, Equated}
 use Rattle.paper.proofs.base.Tests.{by-bool, left-true, right-true, eqb-same, neq-eqb, leb-true, leb-false}
 use Rattle.paper.proofs.base.Lists.{any-append}
-use Rattle.paper.proofs.equations.Labels.{label-same, label-with}
-use Rattle.paper.proofs.equations.TrailingSpaces.{same-padded}
-use Rattle.paper.proofs.sheets.Asked.{GoodQuestion, fields-known, good-space}
-use Rattle.paper.proofs.sheets.Hidden.{held-own, by-standing}
+use Rattle.paper_laws.proofs.equations.Labels.{label-same, label-with}
+use Rattle.paper_laws.proofs.equations.TrailingSpaces.{same-padded}
+use Rattle.paper_laws.proofs.sheets.Asked.{GoodQuestion, fields-known, good-space}
+use Rattle.paper_laws.proofs.sheets.Hidden.{held-own, by-standing}
 use Rattle.paper_way.specs.TextSteps.{spaced}
 
 -- the longer label is the shorter with spaces behind it

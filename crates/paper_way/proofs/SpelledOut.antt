@@ -17,7 +17,7 @@ use Rattle.paper.specs.Situation.{Acceptor, Situation, Kind, is-finished, is-de
 use Rattle.paper.specs.Children.{ChildOf}
 use Rattle.paper.specs.Question.{Question, hidden, acceptor}
 use Rattle.paper.proofs.base.Tests.{by-bool, cond-by, true-false}
-use Rattle.paper.proofs.equations.Children.{child-of}
+use Rattle.paper_laws.proofs.equations.Children.{child-of}
 use Rattle.paper_steps.specs.Player.{most-steps, Made, step-made, Played, stopped, arrived, made-on, first-entry}
 use Rattle.paper_steps.proofs.StepChildren.{StepTold, no-child, long-child, its-child, step-told, told-child, told-long, told-none}
 use Rattle.paper_way.specs.TextSteps.{spaced, Next, no-step, next, texts-behind, next-on, spell-from, spelled}

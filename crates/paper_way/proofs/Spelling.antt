@@ -18,15 +18,15 @@ use Rattle.paper.specs.Way.{given, text-along, texts-of}
 use Rattle.paper.specs.Question.{Question, Solution as Solves-question, hidden, acceptor}
 use Rattle.paper.specs.Demands.{texts-spelt}
 use Rattle.paper.proofs.base.Tests.{by-bool, true-false}
-use Rattle.paper.proofs.places.Accepts.{question-decides}
-use Rattle.paper.proofs.equations.Standing.{stands, stands-trimmed}
-use Rattle.paper.proofs.equations.Solution.{Solution, solution-trimmed}
-use Rattle.paper.proofs.equations.Question.{solves-asked}
-use Rattle.paper.proofs.equations.Question as Equations
-use Rattle.paper.proofs.equations.Moves.{child-opened, child-made}
-use Rattle.paper.proofs.equations.Children.{child-of}
-use Rattle.paper.proofs.sheets.Asked.{GoodQuestion}
-use Rattle.paper.proofs.sheets.Hidden.{hidden-known}
+use Rattle.paper_laws.proofs.places.Accepts.{question-decides}
+use Rattle.paper_laws.proofs.equations.Standing.{stands, stands-trimmed}
+use Rattle.paper_laws.proofs.equations.Solution.{Solution, solution-trimmed}
+use Rattle.paper_laws.proofs.equations.Question.{solves-asked}
+use Rattle.paper_laws.proofs.equations.Question as Equations
+use Rattle.paper_laws.proofs.equations.Moves.{child-opened, child-made}
+use Rattle.paper_laws.proofs.equations.Children.{child-of}
+use Rattle.paper_laws.proofs.sheets.Asked.{GoodQuestion}
+use Rattle.paper_laws.proofs.sheets.Hidden.{hidden-known}
 use Rattle.paper_steps.specs.PlayPromised.{WayTo}
 use Rattle.paper_way.specs.TextSteps.{spaced, next, texts-behind}
 use Rattle.paper_way.specs.WayPromised.{At, next-at, Spells, begins, goes-on}

@@ -24,15 +24,15 @@ use Rattle.paper.specs.Demands.{texts-spelt, records-of}
 use Rattle.paper.proofs.base.Tests.{by-bool, true-false, eqb-true, eqb-same, left-true, right-true, or-is-true}
 use Rattle.paper.proofs.base.Lists.{keep-mem, mem-keep, mem-upto, upto-mem, any-append}
 use Rattle.paper.proofs.base.Listed.{each-same}
-use Rattle.paper.proofs.places.Accepts.{question-decides}
-use Rattle.paper.proofs.equations.Labels.{label-same}
-use Rattle.paper.proofs.equations.Standing.{stands, stands-trimmed}
-use Rattle.paper.proofs.equations.Solution.{solution-trimmed}
-use Rattle.paper.proofs.equations.Solution as Solving
-use Rattle.paper.proofs.equations.Progress.{dead-unsolved}
-use Rattle.paper.proofs.equations.Moves.{move-opened}
-use Rattle.paper.proofs.equations.Question as Equations
-use Rattle.paper.proofs.sheets.Asked.{GoodQuestion, fields-known}
+use Rattle.paper_laws.proofs.places.Accepts.{question-decides}
+use Rattle.paper_laws.proofs.equations.Labels.{label-same}
+use Rattle.paper_laws.proofs.equations.Standing.{stands, stands-trimmed}
+use Rattle.paper_laws.proofs.equations.Solution.{solution-trimmed}
+use Rattle.paper_laws.proofs.equations.Solution as Solving
+use Rattle.paper_laws.proofs.equations.Progress.{dead-unsolved}
+use Rattle.paper_laws.proofs.equations.Moves.{move-opened}
+use Rattle.paper_laws.proofs.equations.Question as Equations
+use Rattle.paper_laws.proofs.sheets.Asked.{GoodQuestion, fields-known}
 use Rattle.paper_steps.specs.StepRecords.{step-records}
 use Rattle.paper_steps.specs.PlayPromised.{Accepted, way-answer}
 use Rattle.paper_steps.proofs.PlayRight.{own-way-solves}

@@ -19,9 +19,9 @@ use Rattle.paper.specs.Children.{ChildOf}
 use Rattle.paper.specs.Question.{Question, Solution, hidden, acceptor}
 use Rattle.paper.specs.Sheet.{Reading, refused, asked, read-sheet}
 use Rattle.paper.proofs.base.Tests.{by-bool, cond-by, ltb-true, ltb-false, le-leb, lt-leb}
-use Rattle.paper.proofs.equations.Children.{child-of}
-use Rattle.paper.proofs.sheets.Asked.{GoodQuestion, AsksGood, sheet-good}
-use Rattle.paper.proofs.sheets.Rows.{fault-above}
+use Rattle.paper_laws.proofs.equations.Children.{child-of}
+use Rattle.paper_laws.proofs.sheets.Asked.{GoodQuestion, AsksGood, sheet-good}
+use Rattle.paper_laws.proofs.sheets.Rows.{fault-above}
 use Rattle.paper_steps.specs.StepRecords.{step-records}
 use Rattle.paper_steps.specs.Player.{most-steps, Made, Played, stopped, arrived, play-told, play-of}
 use Rattle.paper_steps.proofs.StepChildren.{StepTold, no-child, long-child, its-child, step-told}

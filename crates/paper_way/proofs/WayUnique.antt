@@ -12,7 +12,7 @@ use Rattle.paper.specs.Question.{Question}
 use Rattle.paper.specs.Sheet.{Reading, asked}
 use Rattle.paper.specs.Equation.{Texts}
 use Rattle.paper.proofs.base.Tests.{by-bool, leb-true, leb-false}
-use Rattle.paper.proofs.sheets.Rows.{fault-above, by-reading}
+use Rattle.paper_laws.proofs.sheets.Rows.{fault-above, by-reading}
 use Rattle.paper_steps.specs.StepRecords.{step-records}
 use Rattle.paper_way.specs.WayOutcome.{Way}
 use Rattle.paper_way.specs.WayPromised.{Says, At, Spelt, WayPromised}

@@ -13,8 +13,8 @@ use Rattle.paper.specs.Numbers.{most-characters, fields, hidden-left, hidden-ri
 use Rattle.paper.specs.Equation.{chr, fld, Side, Texts, label}
 use Rattle.paper.specs.Question.{Question}
 use Rattle.paper.proofs.base.Tests.{by-bool, eqb-true, eqb-symmetric, neq-eqb, lt-ltb, le-ltb}
-use Rattle.paper.proofs.sheets.Asked.{GoodSide, GoodQuestion, good-most}
-use Rattle.paper.proofs.sheets.Hidden.{in-range-has-set}
+use Rattle.paper_laws.proofs.sheets.Asked.{GoodSide, GoodQuestion, good-most}
+use Rattle.paper_laws.proofs.sheets.Hidden.{in-range-has-set}
 use Rattle.paper_way.specs.TextSteps.{spaced}
 use Rattle.base_codes.specs.Inner.{field-code, side-code, field-of}
 use Rattle.search_children.proofs.CodedSides.{Known-side, known-side, field-of-code}

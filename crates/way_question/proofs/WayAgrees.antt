@@ -12,8 +12,8 @@ use Rattle.paper.specs.Equation.{Texts}
 use Rattle.paper.specs.Question.{Question, hidden}
 use Rattle.paper.specs.Outcome.{standing}
 use Rattle.paper.proofs.base.Tests.{by-bool}
-use Rattle.paper.proofs.sheets.Asked.{GoodQuestion, good-most}
-use Rattle.paper.proofs.sheets.Hidden.{Searchable, hidden-searchable, standing-hidden}
+use Rattle.paper_laws.proofs.sheets.Asked.{GoodQuestion, good-most}
+use Rattle.paper_laws.proofs.sheets.Hidden.{Searchable, hidden-searchable, standing-hidden}
 use Rattle.paper_steps.specs.StepRecords.{step-records}
 use Rattle.paper_steps.specs.Player.{Played, stopped, arrived}
 use Rattle.paper_way.specs.TextRecords.{TextsRead, no-texts, texts-read, texts-from, no-texts-yet, read-texts}

@@ -16,8 +16,8 @@ use Rattle.paper.specs.Equation.{Texts}
 use Rattle.paper.specs.Situation.{Situation, Move, strike-left, strike-right, put, finished, question}
 use Rattle.paper.specs.Question.{Question, held-by, acceptor}
 use Rattle.paper.proofs.base.Tests.{by-bool, neq-eqb}
-use Rattle.paper.proofs.sheets.Asked.{GoodHeld}
-use Rattle.paper.proofs.sheets.Hidden.{Searchable}
+use Rattle.paper_laws.proofs.sheets.Asked.{GoodHeld}
+use Rattle.paper_laws.proofs.sheets.Hidden.{Searchable}
 use Rattle.paper_chosen.specs.Chosen.{every}
 use Rattle.paper_steps.specs.StepRecords.{IsStep, step-record, step-records}
 use Rattle.paper_steps.specs.Player.{most-steps, Made, not-allowed, long-side, made, step-made, Played, stopped, arrived, made-on, first-entry}
