@@ -16,6 +16,9 @@ use print_out::read_number;
 // more than the longest way in the program's room
 const STEPS: usize = 2048;
 
+// as many bytes of texts as two bytes say
+const TEXTS: usize = 65535;
+
 // The byte with which the steps buffer is filled before each case.
 const STEPS_FILL: u8 = 195;
 
@@ -70,7 +73,7 @@ fn play(sheet: &[u8], steps: &[u8], answer: &mut [u8]) -> How {
 }
 
 pub fn show_way_of_texts(sheet: &[u8], steps: &mut [u8]) -> How {
-    let mut texts = [0u8; STEPS];
+    let mut texts = [0u8; TEXTS];
     let first = read_bytes(How::Going, &mut texts);
     let n = first.number;
     let how = first.how;
