@@ -21,8 +21,8 @@ use Rattle.paper.specs.Places.{leaves, leaf-takes, follows, ends-at, PlaceSet, 
 use Rattle.paper.proofs.base.Listed.{any-same, keep-same, keep-none}
 use Rattle.paper.proofs.base.Tests.{by-bool, same-tests, and-left, and-right, both-true, eqb-true, eqb-false, neq-eqb}
 use Rattle.paper.proofs.base.Lists.{cons-eq, mem-cons-by, any-true, mem-any, none-any, mem-keep, keep-mem, mem-from, from-mem, mem-upto, upto-mem, member-true, mem-member}
-use Rattle.paper.proofs.places.Parts.{takes-within}
-use Rattle.paper.proofs.places.Rising.{Rising, none, more, rising-first, rising-after, leaf-after}
+use Rattle.paper_laws.proofs.places.Parts.{takes-within}
+use Rattle.paper_laws.proofs.places.Rising.{Rising, none, more, rising-first, rising-after, leaf-after}
 use Rattle.base_places.specs.Masks.{places, mask, mask-of, in-mask, comes-next, takes-at, follow-masks, taking-mask, taking-masks, last-mask, followers-of}
 use Rattle.base_places.proofs.MaskOf.{in-mask-of, mask-of-same, mask-of-and}
 use Rattle.base_places.proofs.Filling.{getD-table}

@@ -15,7 +15,7 @@ use Rattle.paper.specs.Numbers.{set-fields}
 use Rattle.paper.specs.Equation.{Token, chr, fld, Side, is-field, stands-in}
 use Rattle.paper.proofs.base.Tests.{by-bool, eqb-true, eqb-false, eq-eqb, neq-eqb, true-false}
 use Rattle.paper.proofs.base.Listed.{getD-map-upto}
-use Rattle.paper.proofs.sheets.Hidden.{HasSet}
+use Rattle.paper_laws.proofs.sheets.Hidden.{HasSet}
 use Rattle.base_codes.specs.Inner.{field-code, token-code, side-code, tokens}
 use Rattle.base_question.specs.Standings.{times, count, standing-times}
 

@@ -14,8 +14,8 @@ use Rattle.paper.specs.Numbers.{most-characters}
 use Rattle.paper.specs.Equation.{Token, chr, fld, Side}
 use Rattle.paper.proofs.base.Tests.{neq-eqb, false-not, both-true}
 use Rattle.paper.proofs.base.Lists.{map-append}
-use Rattle.paper.proofs.sheets.Asked.{GoodSide}
-use Rattle.paper.proofs.sheets.Hidden.{HasSet, in-range-has-set}
+use Rattle.paper_laws.proofs.sheets.Asked.{GoodSide}
+use Rattle.paper_laws.proofs.sheets.Hidden.{HasSet, in-range-has-set}
 use Rattle.base_codes.specs.Inner.{no-token, is-code, token-code, side-code, tokens, padded}
 use Rattle.base_codes.proofs.Tokens.{tokens-padded}
 

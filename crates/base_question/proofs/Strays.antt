@@ -20,7 +20,7 @@ use Rattle.paper.specs.Sheet.{has-pattern, is-stray, strays-of}
 use Rattle.paper.proofs.base.Tests.{and-left, lt-ltb, ltb-true}
 use Rattle.paper.proofs.base.Lists.{mem-keep, mem-upto}
 use Rattle.paper.proofs.base.Listed.{keep-same}
-use Rattle.paper.proofs.sheets.Asked.{GoodSide}
+use Rattle.paper_laws.proofs.sheets.Asked.{GoodSide}
 use Rattle.base_codes.specs.Inner.{field-code, side-code, tokens, padded}
 use Rattle.base_question.specs.Bodies.{nowhere}
 use Rattle.base_question.specs.Standings.{times, count}

@@ -16,8 +16,8 @@ use Rattle.paper.specs.Rule.{Rule, read-rule, foreign-field}
 use Rattle.paper.specs.Saying.{sheet-saying}
 use Rattle.paper_catalogue.specs.Catalogue.{Present, no-catalogue, rules, unfit, form, with-record}
 use Rattle.paper.proofs.base.Tests.{lt-ltb, le-ltb}
-use Rattle.paper.proofs.sheets.Asked.{sheet-good}
-use Rattle.paper.proofs.sheets.LastChecked.{asked-before}
+use Rattle.paper_laws.proofs.sheets.Asked.{sheet-good}
+use Rattle.paper_laws.proofs.sheets.LastChecked.{asked-before}
 use Rattle.paper_catalogue.proofs.Local.{rule-before}
 use Rattle.paper_catalogue.proofs.Form.{LaidOut, stands-by}
 use Rattle.paper_carry.specs.Opened.{with-open, question-changed, rule-open}

@@ -21,11 +21,11 @@ use Rattle.paper.specs.Question.{Question}
 use Rattle.paper.specs.Sheet.{LE, RI, body, asked, read-before}
 use Rattle.paper.specs.Rule.{Rule}
 use Rattle.paper.specs.Saying.{edition-laid, edition-byte, patterns-saying, side-saying, sheet-saying}
-use Rattle.paper.proofs.sheets.Asked.{GoodSide, GoodQuestion, good-most, good-space}
-use Rattle.paper.proofs.saying.Code.{judged-code}
-use Rattle.paper.proofs.saying.SaidParts.{behind-edition, said-parts}
-use Rattle.paper.proofs.saying.Saying.{Sayable}
-use Rattle.paper.proofs.saying.Sayable.{before-sayable}
+use Rattle.paper_laws.proofs.sheets.Asked.{GoodSide, GoodQuestion, good-most, good-space}
+use Rattle.paper_laws.proofs.saying.Code.{judged-code}
+use Rattle.paper_laws.proofs.saying.SaidParts.{behind-edition, said-parts}
+use Rattle.paper_laws.proofs.saying.Saying.{Sayable}
+use Rattle.paper_laws.proofs.saying.Sayable.{before-sayable}
 use Rattle.paper_catalogue.proofs.GoodRule.{GoodRule, own-in-range}
 use Rattle.base_codes.specs.Inner.{side-code, padded}
 use Rattle.base_editions.specs.Editions.{paper-edition}

@@ -18,7 +18,7 @@ use Rattle.paper.specs.Alphabet as Alphabet
 use Rattle.paper.specs.Sheet.{PA}
 use Rattle.paper.specs.Saying.{mark-bytes, pattern-code, pattern-saying, patterns-saying}
 use Rattle.paper.proofs.base.Tests.{by-bool, neq-eqb, le-ltb}
-use Rattle.paper.proofs.saying.Saying.{left-there, record-behind}
+use Rattle.paper_laws.proofs.saying.Saying.{left-there, record-behind}
 use Rattle.paper_carry.specs.Opened.{written-out, with-open, changed}
 use Rattle.base_editions.specs.Editions.{paper-edition}
 use Rattle.base_question.specs.Standings.{is-counted}

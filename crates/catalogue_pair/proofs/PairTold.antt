@@ -21,7 +21,7 @@ use Rattle.paper_catalogue.specs.PairAsking.{pair-number, pair-answer, pair-cou
 use Rattle.paper_catalogue.proofs.GoodRule.{GoodRule}
 use Rattle.paper_catalogue_decide.specs.DecidedPairs.{pair-decided, by-deciding}
 use Rattle.paper.proofs.base.Tests.{by-bool}
-use Rattle.paper.proofs.sheets.Hidden.{hidden-searchable}
+use Rattle.paper_laws.proofs.sheets.Hidden.{hidden-searchable}
 use Rattle.paper_chosen.specs.Chosen.{every}
 use Rattle.base_question.specs.Asked.{question-of}
 use Rattle.base_question.specs.declared.Body.{Body}

@@ -10,7 +10,7 @@ use Rattle.paper.specs.Equation.{Token, chr, fld, Side}
 use Rattle.paper.specs.Rule.{Rule, moved-up, pair}
 use Rattle.paper.proofs.base.Tests.{le-leb, lt-leb, lt-ltb}
 use Rattle.paper.proofs.base.Lists.{map-append}
-use Rattle.paper.proofs.sheets.Asked.{GoodQuestion}
+use Rattle.paper_laws.proofs.sheets.Asked.{GoodQuestion}
 use Rattle.paper_catalogue.proofs.GoodRule.{GoodRule, OwnToken, pair-asks}
 use Rattle.base_places.specs.WorkedOut.{worked-out}
 use Rattle.base_places.specs.declared.PlaceTables.{PlaceTables}

@@ -10,8 +10,8 @@ use lib.ListN.{getD}
 use Rattle.paper.specs.Numbers.{most-characters}
 use Rattle.paper.specs.Question.{Question, hidden}
 use Rattle.paper.proofs.base.Tests.{le-leb}
-use Rattle.paper.proofs.sheets.Asked.{GoodSide}
-use Rattle.paper.proofs.sheets.Hidden.{Searchable}
+use Rattle.paper_laws.proofs.sheets.Asked.{GoodSide}
+use Rattle.paper_laws.proofs.sheets.Hidden.{Searchable}
 use Rattle.paper_decide.specs.Alike.{is-least}
 use Rattle.paper_decide.specs.Few.{is-few}
 use Rattle.base_places.specs.Masks.{within}

@@ -18,8 +18,8 @@ use Rattle.paper.specs.Question.{Question, held-by}
 use Rattle.paper.proofs.base.Tests.{by-bool, cond-true, cond-false, same-tests, and-left, and-right, both-true, ltb-true, eqb-true, eqb-false}
 use Rattle.paper.proofs.base.Lists.{any-true, mem-any, none-any, any-append, upto-mem, mem-upto, member-true, mem-member}
 use Rattle.paper.proofs.base.Listed.{upto-snoc}
-use Rattle.paper.proofs.sheets.Asked.{GoodHeld}
-use Rattle.paper.proofs.sheets.Hidden.{Searchable}
+use Rattle.paper_laws.proofs.sheets.Asked.{GoodHeld}
+use Rattle.paper_laws.proofs.sheets.Hidden.{Searchable}
 use Rattle.paper_decide.specs.Alike.{leaves-of, leaf-takes-it, fixed, fields-standing, is-least, least-ones}
 use Rattle.paper_decide.specs.Few.{leaf-choice, chosen-for, chosen-in, chosen-by, some-chosen, few, is-few}
 use Rattle.base_places.specs.Masks.{places, in-mask, taking-mask}

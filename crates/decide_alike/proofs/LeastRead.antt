@@ -19,9 +19,9 @@ use Rattle.paper.specs.Question.{Question, held-by}
 use Rattle.paper.proofs.base.Tests.{same-tests, eqb-true, eqb-same, eq-eqb, neq-eqb}
 use Rattle.paper.proofs.base.Lists.{every-all, all-true, mem-from, from-mem, mem-upto, map-append}
 use Rattle.paper.proofs.base.Listed.{any-same}
-use Rattle.paper.proofs.places.Parts.{takes-within}
-use Rattle.paper.proofs.sheets.Asked.{GoodHeld}
-use Rattle.paper.proofs.sheets.Hidden.{Searchable}
+use Rattle.paper_laws.proofs.places.Parts.{takes-within}
+use Rattle.paper_laws.proofs.sheets.Asked.{GoodHeld}
+use Rattle.paper_laws.proofs.sheets.Hidden.{Searchable}
 use Rattle.paper_decide.specs.Alike.{leaf-takes-it, both-or-neither, alike-in, is-character, fixed, fields-standing, alike, is-least}
 use Rattle.base_places.specs.Masks.{places, mask-of, in-mask, taking-mask}
 use Rattle.base_places.proofs.MaskOf.{in-mask-of, mask-of-same}

@@ -16,8 +16,8 @@ use Rattle.paper.specs.Question.{Question}
 use Rattle.paper.proofs.base.Tests.{not-true, left-false}
 use Rattle.paper.proofs.base.Lists.{cons-eq, none-any, mem-from}
 use Rattle.paper.proofs.base.Listed.{keep-none}
-use Rattle.paper.proofs.places.Parts.{Within, takes-within}
-use Rattle.paper.proofs.sheets.Asked.{GoodHeld}
+use Rattle.paper_laws.proofs.places.Parts.{Within, takes-within}
+use Rattle.paper_laws.proofs.sheets.Asked.{GoodHeld}
 use Rattle.paper_decide.specs.Alike.{leaves-of, leaf-takes-it, fixed, is-least, least-ones}
 use Rattle.paper_decide.specs.Few.{leaf-choice, chosen-for, chosen-in}
 use Rattle.base_places.specs.Masks.{places}

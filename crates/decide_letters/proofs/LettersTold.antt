@@ -19,8 +19,8 @@ use Rattle.paper.specs.Question.{Question, held-by}
 use Rattle.paper.proofs.base.Tests.{by-bool, cond-by, eqb-true, eqb-false, eq-eqb, neq-eqb, ltb-true, ltb-false, lt-ltb, le-ltb}
 use Rattle.paper.proofs.base.Lists.{mem-upto, map-append}
 use Rattle.paper.proofs.base.Listed.{any-same}
-use Rattle.paper.proofs.sheets.Asked.{GoodSide, GoodQuestion, good-most}
-use Rattle.paper.proofs.sheets.Hidden.{HasSet, in-range-has-set}
+use Rattle.paper_laws.proofs.sheets.Asked.{GoodSide, GoodQuestion, good-most}
+use Rattle.paper_laws.proofs.sheets.Hidden.{HasSet, in-range-has-set}
 use Rattle.paper_decide.specs.Letters.{one-if, divisor, between, Weights, held-weights, side-weight, times, sum-of, divisor-of, uneven, this-one, all-but, chars-of, letters-differ}
 use Rattle.base_codes.specs.Inner.{field-code, token-code, side-code, tokens, padded}
 use Rattle.base_question.specs.Bodies.{nowhere}

@@ -19,8 +19,8 @@ use Rattle.paper.specs.Taken.{LeafTakes, leaves-take}
 use Rattle.paper.specs.Written.{judged, judge}
 use Rattle.paper.proofs.base.Tests.{eq-eqb, neq-eqb, both-true, and-left, and-right, le-leb, leb-true, eqb-same}
 use Rattle.paper.proofs.base.Lists.{cons-eq}
-use Rattle.paper.proofs.saying.Code.{judged-code, takes-more}
-use Rattle.paper.proofs.sheets.Asked.{GoodHeld}
+use Rattle.paper_laws.proofs.saying.Code.{judged-code, takes-more}
+use Rattle.paper_laws.proofs.sheets.Asked.{GoodHeld}
 use Rattle.paper_decide.specs.Letters.{one-if, Weights, fixed-weight, weights-then, weights-either, weights-many, pattern-weights, held-weights}
 use Rattle.base_question.specs.declared.Body.{Body}
 use Rattle.decide_letters.specs.PatternStack.{weightless, uses, made, stack-of}

@@ -20,8 +20,8 @@ use Rattle.paper.specs.Question.{Question, held-by, hidden, acceptor}
 use Rattle.paper.specs.Sheet.{asked}
 use Rattle.paper.specs.Outcome.{room-of, searched, standing, value-record, records, cleared, clash, answered, count-of, how-of}
 use Rattle.paper.proofs.base.Tests.{by-bool}
-use Rattle.paper.proofs.sheets.Asked.{GoodQuestion}
-use Rattle.paper.proofs.sheets.Hidden.{hidden-searchable}
+use Rattle.paper_laws.proofs.sheets.Asked.{GoodQuestion}
+use Rattle.paper_laws.proofs.sheets.Hidden.{hidden-searchable}
 use Rattle.paper_chosen.specs.Chosen.{every}
 use Rattle.paper_chosen.proofs.Over.{searched-every}
 use Rattle.paper_chosen.proofs.Likewise.{same-texts}

@@ -8,7 +8,7 @@ use mathlib.Core.List.{List}
 use lib.ListN.{length, replicate}
 use Rattle.paper.specs.Question as Paper
 use Rattle.paper.specs.Sheet.{Reading, asked, read-sheet}
-use Rattle.paper.proofs.sheets.Asked.{sheet-good}
+use Rattle.paper_laws.proofs.sheets.Asked.{sheet-good}
 use Rattle.paper_decide.specs.Deciding.{Decision, decision-of, decision}
 use Rattle.paper_decide.specs.DecidePromised.{Decided}
 use Rattle.paper_decide.proofs.Decided.{sheet-decided}

@@ -18,8 +18,8 @@ use Rattle.paper.specs.Question.{Question, held-by}
 use Rattle.paper.proofs.base.Tests.{le-leb}
 use Rattle.paper.proofs.base.Lists.{cons-eq, map-append, mem-upto}
 use Rattle.paper.proofs.base.Listed.{getD-map-upto}
-use Rattle.paper.proofs.sheets.Asked.{GoodHeld, GoodQuestion, good-most}
-use Rattle.paper.proofs.sheets.Hidden.{in-range-has-set}
+use Rattle.paper_laws.proofs.sheets.Asked.{GoodHeld, GoodQuestion, good-most}
+use Rattle.paper_laws.proofs.sheets.Hidden.{in-range-has-set}
 use Rattle.paper_decide.specs.Letters.{one-if, times}
 use Rattle.paper_decide.specs.OneText.{text-held, with-texts}
 use Rattle.base_places.specs.Masks.{within}

@@ -15,7 +15,7 @@ use Rattle.paper.specs.Numbers.{most-characters, fields, field-token}
 use Rattle.paper.specs.Alphabet.{Edition, alphabet-of, codes-from, code}
 use Rattle.paper.specs.Sheet.{is-token}
 use Rattle.paper.proofs.base.Tests.{by-bool, ltb-true, ltb-false, lt-ltb, le-ltb, le-leb, left-true}
-use Rattle.paper.proofs.sheets.Editions.{most-of, code-character}
+use Rattle.paper_laws.proofs.sheets.Editions.{most-of, code-character}
 use Rattle.paper_fronts.specs.FixedFronts.{are-tokens}
 use Rattle.base_editions.proofs.Codes.{before-codes, among-codes, behind-codes}
 

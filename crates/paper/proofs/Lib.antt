@@ -1,18 +1,4 @@
 -- what every layer uses
 pub mod base
--- what a known sheet is, and those that an edit needs: the checker computes them
+-- what a known sheet is, and what an edit of a definition meets: the checker computes them
 pub mod known
--- the search over any situations
-pub mod search
--- places decide the language; reachable place sets
-pub mod places
--- word equations: situations, their children and solutions
-pub mod equations
--- plain questions
-pub mod plain
--- good sheets and the whole outcome
-pub mod sheets
--- what is promised of the whole
-pub mod demands
--- a pattern's code, and the sheet that says a question
-pub mod saying

@@ -24,12 +24,12 @@ use Rattle.paper.specs.Rule.{Rule, Makes, rule-front, rule-strays, read-rule, f
 use Rattle.paper.specs.Saying.{patterns-saying, side-saying, sheet-saying}
 use Rattle.paper_catalogue.specs.Catalogue.{Present, rules, unfit, form, all-zero, used}
 use Rattle.paper.proofs.base.Tests.{by-bool, cond-by, true-false, ltb-true, ltb-false}
-use Rattle.paper.proofs.places.Judged.{range-takes}
-use Rattle.paper.proofs.sheets.Asked.{GoodHeld, sheet-good, good-space}
-use Rattle.paper.proofs.sheets.Strays.{free-stands}
-use Rattle.paper.proofs.sheets.LastChecked.{asked-before, asked-free}
-use Rattle.paper.proofs.saying.Saying.{ShortCode, Sayable, reads-back}
-use Rattle.paper.proofs.saying.Sayable.{sheet-sayable}
+use Rattle.paper_laws.proofs.places.Judged.{range-takes}
+use Rattle.paper_laws.proofs.sheets.Asked.{GoodHeld, sheet-good, good-space}
+use Rattle.paper_laws.proofs.sheets.Strays.{free-stands}
+use Rattle.paper_laws.proofs.sheets.LastChecked.{asked-before, asked-free}
+use Rattle.paper_laws.proofs.saying.Saying.{ShortCode, Sayable, reads-back}
+use Rattle.paper_laws.proofs.saying.Sayable.{sheet-sayable}
 use Rattle.paper_catalogue.proofs.Local.{rule-bounds, rule-whole, rule-before, rule-unstray, rule-since}
 use Rattle.paper_catalogue.proofs.Form.{LaidOut, zeros, rule, fit-own, fit-strays, is-fit, form-stands, rules-at-most, stands-form, zero-drop}
 use Rattle.paper_catalogue.proofs.GoodRule.{GoodRule, rule-good}

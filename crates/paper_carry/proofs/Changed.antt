@@ -24,9 +24,9 @@ use Rattle.paper.specs.Rule.{Rule, rule-holds, read-rule-before, foreign-token,
 use Rattle.paper_catalogue.specs.Catalogue.{Present, unfit, all-zero}
 use Rattle.paper_catalogue.specs.Calls.{rule-at}
 use Rattle.paper.proofs.base.Tests.{by-bool, le-ltb, or-right-false}
-use Rattle.paper.proofs.sheets.Asked.{GoodHeld, GoodFields, GoodSide}
-use Rattle.paper.proofs.sheets.Strays.{stray-free}
-use Rattle.paper.proofs.saying.Saying.{ShortCode, Sayable}
+use Rattle.paper_laws.proofs.sheets.Asked.{GoodHeld, GoodFields, GoodSide}
+use Rattle.paper_laws.proofs.sheets.Strays.{stray-free}
+use Rattle.paper_laws.proofs.saying.Saying.{ShortCode, Sayable}
 use Rattle.paper_catalogue.proofs.Local.{rule-whole, rule-in-front}
 use Rattle.paper_catalogue.proofs.Form.{LaidOut, zeros, rule}
 use Rattle.paper_catalogue.proofs.GoodRule.{GoodRule, rule-good, own-field, own-in-range}

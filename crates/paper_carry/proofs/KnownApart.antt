@@ -11,7 +11,7 @@ use Rattle.paper.specs.Pattern.{Held}
 use Rattle.paper.specs.Equation.{chr, fld, Side, label, without-trailing, Same}
 use Rattle.paper.specs.Sheet.{open-fields}
 use Rattle.paper_catalogue.specs.Catalogue.{Present}
-use Rattle.paper.proofs.sheets.Asked.{open-by}
+use Rattle.paper_laws.proofs.sheets.Asked.{open-by}
 use Rattle.paper_carry.specs.Opened.{HeldBefore, MadeBefore}
 use Rattle.paper_carry.specs.Spelling.{ApartBefore}
 

@@ -19,8 +19,8 @@ use Rattle.paper.specs.Question.{Question}
 use Rattle.paper.specs.Sheet.{Mark, LE, RI}
 use Rattle.paper.specs.Saying.{edition-laid, edition-byte, pattern-code, token-byte, pattern-saying, patterns-saying, side-saying, sheet-saying}
 use Rattle.paper.proofs.base.Tests.{cond-by}
-use Rattle.paper.proofs.saying.SaidParts.{said-parts}
-use Rattle.paper.proofs.saying.Saying.{ShortCode, Sayable}
+use Rattle.paper_laws.proofs.saying.SaidParts.{said-parts}
+use Rattle.paper_laws.proofs.saying.Saying.{ShortCode, Sayable}
 use Rattle.paper_carry.specs.Opened.{spelt-held, opened, rule-saying}
 use Rattle.paper_carry.specs.Spelling.{longest-sheet, longest-rule}
 

@@ -14,8 +14,8 @@ use Rattle.paper.specs.Sheet.{LE, marked, records, open-fields, read-patterns}
 use Rattle.paper.specs.Rule.{Rule, rule-front, read-rule-before}
 use Rattle.paper.specs.Saying.{patterns-saying, side-saying}
 use Rattle.paper.proofs.base.Tests.{le-ltb}
-use Rattle.paper.proofs.sheets.Asked.{GoodSide, GoodFields}
-use Rattle.paper.proofs.saying.Saying.{ShortCode, Said, left-there, side-said, side-behind, not-marked, patterns-said}
+use Rattle.paper_laws.proofs.sheets.Asked.{GoodSide, GoodFields}
+use Rattle.paper_laws.proofs.saying.Saying.{ShortCode, Said, left-there, side-said, side-behind, not-marked, patterns-said}
 use Rattle.paper_catalogue.proofs.Local.{rule-whole}
 use Rattle.paper_carry.specs.Opened.{rule-saying}
 

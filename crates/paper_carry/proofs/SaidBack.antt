@@ -30,10 +30,10 @@ use Rattle.paper.specs.Saying.{edition-laid, edition-byte, pattern-code, token-
 use Rattle.paper.proofs.base.Tests.{cond-by, by-bool, true-false, and-left, and-right, or-left-false, or-right-false}
 use Rattle.paper.proofs.base.Tests.{leb-true, leb-false, ltb-false, le-ltb, lt-ltb, eqb-true}
 use Rattle.paper.proofs.base.Lists.{cons-eq}
-use Rattle.paper.proofs.saying.Code.{judged-code, judged-bytes}
-use Rattle.paper.proofs.saying.SaidParts.{said-parts}
-use Rattle.paper.proofs.sheets.Asked.{open-by}
-use Rattle.paper.proofs.sheets.Editions.{most-of, Byte, of-character, of-sign, of-none, byte-by}
+use Rattle.paper_laws.proofs.saying.Code.{judged-code, judged-bytes}
+use Rattle.paper_laws.proofs.saying.SaidParts.{said-parts}
+use Rattle.paper_laws.proofs.sheets.Asked.{open-by}
+use Rattle.paper_laws.proofs.sheets.Editions.{most-of, Byte, of-character, of-sign, of-none, byte-by}
 use Rattle.paper_carry.specs.Opened.{rule-saying}
 
 -- A record's bytes, by its first three or four.

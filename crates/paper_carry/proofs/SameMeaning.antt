@@ -16,7 +16,7 @@ use Rattle.paper.specs.Equation.{Side, Texts, label, Over}
 use Rattle.paper.specs.Question.{Question, held-by, Solution}
 use Rattle.paper.specs.Rule.{Rule, rule-holds, Makes}
 use Rattle.paper.proofs.base.Tests.{both-true, le-leb}
-use Rattle.paper.proofs.sheets.Asked.{GoodQuestion, fields-known}
+use Rattle.paper_laws.proofs.sheets.Asked.{GoodQuestion, fields-known}
 use Rattle.paper_catalogue.proofs.GoodRule.{GoodRule, own-field}
 use Rattle.paper_carry.specs.Opened.{written-out, spelt-held, with-open, opened, stands-asked, spelt-open, stands-ruled, held-open, HeldBefore, SolutionBefore, MadeBefore}
 use Rattle.paper_carry.proofs.Opening.{changed-at}

@@ -26,7 +26,7 @@ use Rattle.paper_catalogue.specs.Catalogue.{pairs-by, AddedBy, not-asked
 use Rattle.paper_catalogue.specs.Catalogue.{added-rule, added-to, adding-by}
 use Rattle.paper_catalogue.specs.Calls.{rule-at}
 use Rattle.paper.proofs.base.Tests.{cond-by, true-false, eqb-true, eqb-false}
-use Rattle.paper.proofs.sheets.Rows.{fault-numbered, fault-above}
+use Rattle.paper_laws.proofs.sheets.Rows.{fault-numbered, fault-above}
 use Rattle.paper_catalogue.proofs.Form.{length-with, rule-fits, form-with}
 use Rattle.paper_catalogue.proofs.RightAsking.{AsksRight}
 

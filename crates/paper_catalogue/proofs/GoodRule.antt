@@ -28,10 +28,10 @@ use Rattle.paper.specs.Sheet.{Checked, fault, read, FieldPattern, byte-at, body
 use Rattle.paper.specs.Sheet.{Records, faulty, records, Fields, open-fields, with-pattern, read-patterns, asked}
 use Rattle.paper.specs.Rule.{Rule, rule-holds, with-side, side-read, rule-front, read-rule-before, read-rule, foreign-token, foreign-field, moved-up, pair}
 use Rattle.paper_catalogue.specs.Catalogue.{Present, rules, form}
-use Rattle.paper.proofs.sheets.Asked.{InRange, GoodSide, GoodHeld, GoodFields, GoodQuestion, AsksGood, Found, PatternRead, set-by, open-by}
-use Rattle.paper.proofs.sheets.Asked.{fields-with, opens-good, Listed, patterns-by, marked-good}
-use Rattle.paper.proofs.saying.Code.{judged-code}
-use Rattle.paper.proofs.saying.Saying.{ShortCode, Sayable}
+use Rattle.paper_laws.proofs.sheets.Asked.{InRange, GoodSide, GoodHeld, GoodFields, GoodQuestion, AsksGood, Found, PatternRead, set-by, open-by}
+use Rattle.paper_laws.proofs.sheets.Asked.{fields-with, opens-good, Listed, patterns-by, marked-good}
+use Rattle.paper_laws.proofs.saying.Code.{judged-code}
+use Rattle.paper_laws.proofs.saying.Saying.{ShortCode, Sayable}
 use Rattle.paper_catalogue.proofs.Local.{rule-whole, rule-before}
 use Rattle.paper_catalogue.proofs.Form.{LaidOut, zeros, rule, fit-own, form-stands}
 

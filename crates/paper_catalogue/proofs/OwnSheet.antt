@@ -20,11 +20,11 @@ use Rattle.paper_catalogue.specs.PairAsking.{pair-number, pair-answer, p
 use Rattle.paper.specs.Saying.{sheet-saying}
 use Rattle.paper_catalogue.specs.Calls.{without-20, OwnSheet}
 use Rattle.paper.proofs.base.Tests.{cond-by}
-use Rattle.paper.proofs.sheets.Rows.{found-records, good-outcome}
-use Rattle.paper.proofs.demands.Demand1.{demand-1}
-use Rattle.paper.proofs.demands.Demand2.{demand-2}
-use Rattle.paper.proofs.demands.Demand3.{demand-3}
-use Rattle.paper.proofs.saying.Saying.{reads-back}
+use Rattle.paper_laws.proofs.sheets.Rows.{found-records, good-outcome}
+use Rattle.paper_laws.proofs.demands.Demand1.{demand-1}
+use Rattle.paper_laws.proofs.demands.Demand2.{demand-2}
+use Rattle.paper_laws.proofs.demands.Demand3.{demand-3}
+use Rattle.paper_laws.proofs.saying.Saying.{reads-back}
 use Rattle.paper_catalogue.proofs.GoodRule.{GoodRule, pair-sayable, pair-asks}
 use Rattle.paper_catalogue.proofs.Pair.{pair-free}
 

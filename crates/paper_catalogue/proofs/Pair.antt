@@ -26,11 +26,11 @@ use Rattle.paper.specs.Outcome.{searched, how-of}
 use Rattle.paper_catalogue.specs.PairAsking.{pair-number, pair-answer}
 use Rattle.paper.proofs.base.Tests.{by-bool, true-false, ltb-true, ltb-false, or-is-true, left-true, right-true, lt-ltb, le-ltb, eqb-true, eqb-same, eq-eqb}
 use Rattle.paper.proofs.base.Lists.{cons-eq, any-true, mem-any, any-append, mem-map, map-mem}
-use Rattle.paper.proofs.equations.Labels.{label-same}
-use Rattle.paper.proofs.sheets.Asked.{GoodQuestion}
-use Rattle.paper.proofs.sheets.Strays.{AllStand, stray-free, free-stands}
-use Rattle.paper.proofs.sheets.Hidden.{hidden-known, own-solves, with-spaces, hidden-solves}
-use Rattle.paper.proofs.sheets.QuestionSearched.{found-solves, used-up-unsolved}
+use Rattle.paper_laws.proofs.equations.Labels.{label-same}
+use Rattle.paper_laws.proofs.sheets.Asked.{GoodQuestion}
+use Rattle.paper_laws.proofs.sheets.Strays.{AllStand, stray-free, free-stands}
+use Rattle.paper_laws.proofs.sheets.Hidden.{hidden-known, own-solves, with-spaces, hidden-solves}
+use Rattle.paper_laws.proofs.sheets.QuestionSearched.{found-solves, used-up-unsolved}
 use Rattle.paper_catalogue.proofs.GoodRule.{GoodRule, own-field, own-held, pair-sayable}
 
 -- The side moved up.

@@ -27,7 +27,7 @@ use Rattle.paper_catalogue.specs.Calls.{rule-at, Apart}
 use Rattle.paper_catalogue.specs.Recheck.{pair-listed-by, listed-with-by, listed-from-by, Rechecked, rechecked-of, rechecking-by}
 use Rattle.paper_catalogue.specs.Recheck.{pair-bytes, listed-from}
 use Rattle.paper.proofs.base.Tests.{cond-by, by-bool, eqb-true, eqb-false, neq-eqb}
-use Rattle.paper.proofs.sheets.QuestionSearched.{count-in-room}
+use Rattle.paper_laws.proofs.sheets.QuestionSearched.{count-in-room}
 use Rattle.paper_catalogue.proofs.Form.{rules-at-most}
 use Rattle.paper_catalogue.proofs.GoodRule.{GoodRule, present-good}
 use Rattle.paper_catalogue.proofs.RightAsking.{AsksRight, search-right}

@@ -26,7 +26,7 @@ use Rattle.paper.specs.Rule.{Rule, Makes, rule-strays, pair}
 use Rattle.paper.specs.Saying.{sheet-saying}
 use Rattle.paper.specs.Outcome.{Outcome, room-of, searched, records, clash, answered, count-of, how-of}
 use Rattle.paper.proofs.base.Tests.{cond-by, eqb-true}
-use Rattle.paper.proofs.saying.Saying.{reads-back}
+use Rattle.paper_laws.proofs.saying.Saying.{reads-back}
 use Rattle.paper_chosen.proofs.Over.{searched-every}
 use Rattle.paper_decide.specs.Deciding.{most-attempts, end-decides, concluded, Decision, decision-of, decision}
 use Rattle.paper_decide.specs.DecidePromised.{Decided}

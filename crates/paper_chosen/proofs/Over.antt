@@ -28,15 +28,15 @@ use Rattle.paper.specs.Plain.{plain, plain-bound, Reaches}
 use Rattle.paper.specs.Question.{Question, held-by, Equated, acceptor}
 use Rattle.paper.specs.Outcome.{searched, count-of, how-of}
 use Rattle.paper.proofs.base.Tests.{by-bool, cond-true, cond-false, true-false, and-left, and-right, both-true}
-use Rattle.paper.proofs.search.Searched
-use Rattle.paper.proofs.places.PlacesDecide.{only-held, all-held}
-use Rattle.paper.proofs.places.PlaceSets.{empty-ends, empty-after, same-equal, equal-same}
-use Rattle.paper.proofs.places.Reachable.{reachable-first, reachable-after}
-use Rattle.paper.proofs.equations.Same.{situation-equal, situation-same}
-use Rattle.paper.proofs.equations.Sound.{sound}
-use Rattle.paper.proofs.equations.Complete.{complete}
-use Rattle.paper.proofs.plain.Plain as Any
-use Rattle.paper.proofs.sheets.TextLength.{short-ways, found-way}
+use Rattle.paper_laws.proofs.search.Searched
+use Rattle.paper_laws.proofs.places.PlacesDecide.{only-held, all-held}
+use Rattle.paper_laws.proofs.places.PlaceSets.{empty-ends, empty-after, same-equal, equal-same}
+use Rattle.paper_laws.proofs.places.Reachable.{reachable-first, reachable-after}
+use Rattle.paper_laws.proofs.equations.Same.{situation-equal, situation-same}
+use Rattle.paper_laws.proofs.equations.Sound.{sound}
+use Rattle.paper_laws.proofs.equations.Complete.{complete}
+use Rattle.paper_laws.proofs.plain.Plain as Any
+use Rattle.paper_laws.proofs.sheets.TextLength.{short-ways, found-way}
 use Rattle.paper_chosen.specs.Chosen.{every, acceptor-over, searched-over}
 use Rattle.paper_chosen.proofs.Likewise.{same-texts}
 

@@ -24,7 +24,7 @@ use Rattle.paper.specs.Outcome.{how-of}
 use Rattle.paper.proofs.base.Tests.{by-bool, cond-by, true-false, not-true, not-is-true, false-not, and-left, and-right, both-true, or-is-true, left-true, right-true, eqb-true, eqb-false, eqb-same, eq-eqb}
 use Rattle.paper.proofs.base.Lists.{cons-eq, none-any, mem-any, all-true, every-all, mem-map, map-append, keep-mem, mem-upto, upto-mem}
 use Rattle.paper.proofs.base.Listed.{keep-same}
-use Rattle.paper.proofs.places.PlacesDecide.{only-held, all-held}
+use Rattle.paper_laws.proofs.places.PlacesDecide.{only-held, all-held}
 use Rattle.paper_chosen.specs.Chosen.{searched-over}
 use Rattle.paper_chosen.proofs.Over.{used-up-over}
 use Rattle.paper_decide.specs.Alike.{leaves-of, leaf-takes-it, both-or-neither, alike-in, is-character, fixed, fields-standing, alike, is-least}

@@ -27,10 +27,10 @@ use Rattle.paper.specs.Outcome.{Outcome, room-of, searched, standing, cleared, 
 use Rattle.paper.specs.Demands.{texts-spelt}
 use Rattle.paper.proofs.base.Tests.{cond-by, true-false, and-right, not-is-true, not-is-false, false-not, leb-true, leb-false, neq-eqb}
 use Rattle.paper.proofs.base.Lists.{mem-length, mem-cons-by, keep-mem, upto-mem}
-use Rattle.paper.proofs.sheets.Asked.{GoodQuestion, AsksGood, sheet-good, fields-known}
-use Rattle.paper.proofs.sheets.Hidden.{hidden-known, own-solves, with-spaces, hidden-solves}
-use Rattle.paper.proofs.sheets.Rows.{fault-above, found-records, records-hidden}
-use Rattle.paper.proofs.demands.Demand1.{demand-1, answered-met}
+use Rattle.paper_laws.proofs.sheets.Asked.{GoodQuestion, AsksGood, sheet-good, fields-known}
+use Rattle.paper_laws.proofs.sheets.Hidden.{hidden-known, own-solves, with-spaces, hidden-solves}
+use Rattle.paper_laws.proofs.sheets.Rows.{fault-above, found-records, records-hidden}
+use Rattle.paper_laws.proofs.demands.Demand1.{demand-1, answered-met}
 use Rattle.paper_chosen.specs.Chosen.{every, searched-over}
 use Rattle.paper_chosen.proofs.Likewise.{same-texts}
 use Rattle.paper_chosen.proofs.Over.{searched-every, found-over, used-up-over, count-over, short-over}

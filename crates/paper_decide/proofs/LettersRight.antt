@@ -16,7 +16,7 @@ use Rattle.paper.specs.Numbers.{fields}
 use Rattle.paper.specs.Pattern.{char, range, Pattern, leaf, empty, then, either, many, takes, Fits, one, nothing, both, first, second, none, more, Held, some-text, pattern, Holds}
 use Rattle.paper.specs.Equation.{chr, fld, Side, is-field, stands-in, Texts, label, without-trailing, before-dropped, Same}
 use Rattle.paper.specs.Question.{Question, held-by, Solution}
-use Rattle.paper.proofs.sheets.Asked.{GoodQuestion, fields-known}
+use Rattle.paper_laws.proofs.sheets.Asked.{GoodQuestion, fields-known}
 use Rattle.paper_decide.specs.Letters.{one-if, weight, divisor-within, divisor, between, Weights, weights-then, weights-either, weights-many, weights-range, pattern-weights, held-weights, side-weight, times, sum-of, divisor-of, surplus, at-least, no-end, at-most, always-lighter, uneven, this-one, all-but, chars-of, letters-differ}
 use Rattle.paper.proofs.base.Tests.{by-bool, cond-by, true-false, eqb-true, eqb-false, eqb-same, neq-eqb, leb-true, ltb-true, ltb-false, le-ltb, and-left, and-right, or-is-true, left-true, right-true}
 use Rattle.paper.proofs.base.Lists.{from-mem, mem-from, mem-any, mem-upto, mem-keep, any-true, any-false, any-append}

@@ -7,5 +7,6 @@ pub mod TextsGood
 -- every decision is as promised
 pub mod Decided
 -- known questions and sheets: the checker computes them
-pub mod KnownDecisions
+pub mod KnownChoices
+pub mod KnownDecision
 pub mod KnownLetters

@@ -20,9 +20,9 @@ use Rattle.paper_decide.specs.OneText.{can-end, least-text, lengths-belo
 use Rattle.paper.proofs.base.Tests.{cond-by, eqb-true, ltb-true}
 use Rattle.paper.proofs.base.Lists.{any-true, keep-mem, mem-keep, cons-eq}
 use Rattle.paper.proofs.base.Listed.{getD-map-upto}
-use Rattle.paper.proofs.places.PlacesDecide.{only-held}
-use Rattle.paper.proofs.sheets.Asked.{GoodQuestion}
-use Rattle.paper.proofs.sheets.Hidden.{held-own, by-standing}
+use Rattle.paper_laws.proofs.places.PlacesDecide.{only-held}
+use Rattle.paper_laws.proofs.sheets.Asked.{GoodQuestion}
+use Rattle.paper_laws.proofs.sheets.Hidden.{held-own, by-standing}
 
 -- the first of a list that has one
 head-in : (l : List ℕ) {x : ℕ} → List·Memᴰ x l → List·Memᴰ (getD l 0 0) l

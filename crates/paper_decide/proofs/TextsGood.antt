@@ -19,7 +19,7 @@ use Rattle.paper_decide.specs.OneText.{can-end, least-text, lengths-belo
 use Rattle.paper.proofs.base.Tests.{by-bool, cond-by, eqb-true, eqb-same, leb-true, leb-false, ltb-true}
 use Rattle.paper.proofs.base.Lists.{mem-keep, mem-upto, length-from}
 use Rattle.paper.proofs.base.Listed.{getD-map-upto}
-use Rattle.paper.proofs.sheets.Asked.{GoodHeld, GoodQuestion, good-space}
+use Rattle.paper_laws.proofs.sheets.Asked.{GoodHeld, GoodQuestion, good-space}
 
 -- Each character of a text is below n.
 abbrev AllBelow : ℕ → List ℕ → Type 0

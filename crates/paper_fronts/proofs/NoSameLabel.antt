@@ -12,7 +12,7 @@ use lib.ListN.{replicate}
 use Rattle.paper.specs.Equation.{chr, fld, Side, Texts, label, before-dropped, without-trailing, Same}
 use Rattle.paper.proofs.base.Tests.{true-false, not-is-true, eqb-false, and-left, and-right, or-is-true}
 use Rattle.paper.proofs.base.Lists.{cons-eq}
-use Rattle.paper.proofs.equations.TrailingSpaces.{same-padded}
+use Rattle.paper_laws.proofs.equations.TrailingSpaces.{same-padded}
 use Rattle.paper_fronts.specs.FixedFronts.{fronts-differ, begins-solid, ends-differ, fixed-differ}
 
 -- Fronts that differ: whatever is put behind the labels, they are not equal.

@@ -22,7 +22,7 @@ use Rattle.paper.specs.Outcome.{room-of, searched, how-of, outcome-of, outcome}
 use Rattle.paper.specs.Demands.{Good, NoClash}
 use Rattle.paper.proofs.base.Tests.{by-bool, true-false, both-true, and-left, and-right, leb-true, le-leb, not-is-true, false-not, eqb-false, neq-eqb}
 use Rattle.paper.proofs.base.Lists.{mem-cons-by, member-true}
-use Rattle.paper.proofs.sheets.Asked.{AsksGood, sheet-good}
+use Rattle.paper_laws.proofs.sheets.Asked.{AsksGood, sheet-good}
 use Rattle.paper_chosen.specs.Chosen.{searched-over}
 use Rattle.paper_decide.specs.Deciding.{Attempt, searching, testing, apart-test, attempts, end-decides, tried, concluded-from, concluded, Decision, decision-of, decision}
 use Rattle.paper_plain.specs.Engine.{bits-of, clashes-apart}

@@ -10,8 +10,8 @@ use Rattle.paper.specs.Situation.{question}
 use Rattle.paper.specs.Way.{search-from}
 use Rattle.paper.specs.Question.{Question}
 use Rattle.paper.specs.Outcome.{searched, how-of}
-use Rattle.paper.proofs.search.Searched
-use Rattle.paper.proofs.equations.Same.{situation-equal, situation-same}
+use Rattle.paper_laws.proofs.search.Searched
+use Rattle.paper_laws.proofs.equations.Same.{situation-equal, situation-same}
 use Rattle.paper_chosen.specs.Chosen.{every, acceptor-over, searched-over}
 use Rattle.paper_chosen.proofs.Over.{over-decides, searched-every}
 

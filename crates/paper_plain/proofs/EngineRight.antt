@@ -16,9 +16,9 @@ use Rattle.paper.specs.Sheet.{Reading, asked, read-sheet}
 use Rattle.paper.specs.Outcome.{outcome-of}
 use Rattle.paper.specs.Demands.{Demand2}
 use Rattle.paper.proofs.base.Tests.{cond-by, true-false, not-is-true, not-is-false, leb-true, leb-false}
-use Rattle.paper.proofs.sheets.Asked.{GoodQuestion, AsksGood, sheet-good}
-use Rattle.paper.proofs.sheets.Rows.{by-reading}
-use Rattle.paper.proofs.demands.Demand2.{demand-2}
+use Rattle.paper_laws.proofs.sheets.Asked.{GoodQuestion, AsksGood, sheet-good}
+use Rattle.paper_laws.proofs.sheets.Rows.{by-reading}
+use Rattle.paper_laws.proofs.demands.Demand2.{demand-2}
 use Rattle.paper_plain.specs.Engine.{Engine, bits-of, bits-fit, clashes-apart, engine-told, engine-of, engine, Needs, needs-of, needs}
 use Rattle.paper_plain.specs.EnginePromised.{Solvable, Answers, enough-bytes, EnginePromised, NeedsPromised}
 use Rattle.paper_plain.proofs.Solved.{solvable-clashes, clashes-solvable}

@@ -14,7 +14,7 @@ use Rattle.paper.specs.Plain.{plain}
 use Rattle.paper.specs.Question.{Question}
 use Rattle.paper.specs.Sheet.{Reading, asked}
 use Rattle.paper.proofs.base.Tests.{by-bool, leb-true, leb-false}
-use Rattle.paper.proofs.sheets.Rows.{by-reading}
+use Rattle.paper_laws.proofs.sheets.Rows.{by-reading}
 use Rattle.paper_plain.specs.Engine.{Engine, bits-of, Needs}
 use Rattle.paper_plain.specs.EnginePromised.{Answers, EnginePromised, NeedsPromised}
 

@@ -18,9 +18,9 @@ use Rattle.paper.specs.Plain.{each-once, plain}
 use Rattle.paper.specs.Question.{Question, held-by, hidden}
 use Rattle.paper.proofs.base.Tests.{true-false, left-true, right-true, leb-true, eq-eqb}
 use Rattle.paper.proofs.base.Lists.{all-true, upto-mem, length-from, NoDup, none, more, pigeonhole}
-use Rattle.paper.proofs.plain.Tails.{once-rest, front-once}
-use Rattle.paper.proofs.sheets.Asked.{GoodHeld, GoodQuestion, fields-known}
-use Rattle.paper.proofs.sheets.Hidden.{hidden-searchable}
+use Rattle.paper_laws.proofs.plain.Tails.{once-rest, front-once}
+use Rattle.paper_laws.proofs.sheets.Asked.{GoodHeld, GoodQuestion, fields-known}
+use Rattle.paper_laws.proofs.sheets.Hidden.{hidden-searchable}
 use Rattle.paper_plain.specs.Standing.{places-of, standings}
 use Rattle.paper_plain.specs.Engine.{bits-of}
 use Rattle.paper_plain.specs.EnginePromised.{enough-bytes}

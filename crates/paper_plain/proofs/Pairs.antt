@@ -23,9 +23,9 @@ use Rattle.paper.specs.Situation.{Move, strike-left, strike-right, put, same-to
 use Rattle.paper.specs.Question.{Question, held-by, hidden}
 use Rattle.paper.proofs.base.Tests.{true-false, and-left, and-right, both-true, eqb-true, eq-eqb, eqb-same}
 use Rattle.paper.proofs.base.Lists.{mem-only, only-mem, mem-keep, keep-mem, mem-each, each-mem, mem-map, map-mem, mem-upto, upto-mem, same-by-equal, same-by-same, length-from}
-use Rattle.paper.proofs.search.Searched.{way-leads, found-entered, found-finished, used-up-reaches, used-up-unfinished, within-has-room, within-not-long}
-use Rattle.paper.proofs.equations.Same.{token-equal, token-same}
-use Rattle.paper.proofs.plain.Tails.{Tail, whole, behind, tail-rest}
+use Rattle.paper_laws.proofs.search.Searched.{way-leads, found-entered, found-finished, used-up-reaches, used-up-unfinished, within-has-room, within-not-long}
+use Rattle.paper_laws.proofs.equations.Same.{token-equal, token-same}
+use Rattle.paper_laws.proofs.plain.Tails.{Tail, whole, behind, tail-rest}
 use Rattle.paper_plain.specs.Standing.{places-of, comes-by, Standing, begins, Pair, standings, left-at, read-at, next-pairs, finished-pair, same-standing, same-pair, pairs-of, pairs-searched}
 use Rattle.paper_plain.specs.Meeting.{Meeting}
 use Rattle.paper_plain.specs.Engine.{is-found, clashes-apart}

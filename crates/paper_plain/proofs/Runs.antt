@@ -13,8 +13,8 @@ use Rattle.paper.specs.Pattern.{Held, some-text, pattern, Holds}
 use Rattle.paper.specs.Places.{leaf-takes, follows, ends-at, PlaceSet, first-set, set-after, may-end, set-along}
 use Rattle.paper.proofs.base.Tests.{and-left, and-right, both-true, eqb-true, eq-eqb}
 use Rattle.paper.proofs.base.Lists.{any-true, mem-any}
-use Rattle.paper.proofs.places.Parts.{takes-within}
-use Rattle.paper.proofs.places.PlacesDecide.{mem-after, after-mem, only-held, all-held}
+use Rattle.paper_laws.proofs.places.Parts.{takes-within}
+use Rattle.paper_laws.proofs.places.PlacesDecide.{mem-after, after-mem, only-held, all-held}
 use Rattle.paper_plain.specs.Standing.{places-of, comes-by}
 use Rattle.paper_plain.specs.Run.{Run, stays, goes, along, SteppedBy}
 

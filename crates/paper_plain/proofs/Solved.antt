@@ -16,10 +16,10 @@ use Rattle.paper.specs.Plain.{each-once, plain}
 use Rattle.paper.specs.Question.{Question, held-by, hidden}
 use Rattle.paper.proofs.base.Tests.{cond-true, cond-false, true-false, not-true, or-is-true, right-true, eqb-true, eqb-same, neq-eqb}
 use Rattle.paper.proofs.base.Lists.{cons-eq, mem-cons-by, any-append}
-use Rattle.paper.proofs.equations.Labels.{label-same}
-use Rattle.paper.proofs.plain.Tails.{stands-front, stands-left, stands-right, once-rest, front-once, once-left, once-right, once-apart}
-use Rattle.paper.proofs.sheets.Asked.{GoodQuestion}
-use Rattle.paper.proofs.sheets.Hidden.{own-solves, with-spaces, hidden-solves, hidden-plain}
+use Rattle.paper_laws.proofs.equations.Labels.{label-same}
+use Rattle.paper_laws.proofs.plain.Tails.{stands-front, stands-left, stands-right, once-rest, front-once, once-left, once-right, once-apart}
+use Rattle.paper_laws.proofs.sheets.Asked.{GoodQuestion}
+use Rattle.paper_laws.proofs.sheets.Hidden.{own-solves, with-spaces, hidden-solves, hidden-plain}
 use Rattle.paper_plain.specs.Apart.{Spells, nothing, character, field, SpellAlike}
 use Rattle.paper_plain.specs.Engine.{clashes-apart}
 use Rattle.paper_plain.specs.EnginePromised.{Solvable}

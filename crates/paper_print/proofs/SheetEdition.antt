@@ -11,7 +11,7 @@ use Rattle.paper.specs.Equation.{Side}
 use Rattle.paper.specs.Question.{Question}
 use Rattle.paper.specs.Sheet.{LE, RI, Checked, fault, read, Records, faulty, records, Fields, open-fields, Reading, refused, asked, marked-side, read-patterns, no-check, read-end, right-read, left-read, sides-read, edition-front, edition-read, read-by, read-sheet}
 use Rattle.paper.proofs.base.Tests.{cond-by}
-use Rattle.paper.proofs.sheets.LastChecked.{asked-before}
+use Rattle.paper_laws.proofs.sheets.LastChecked.{asked-before}
 use Rattle.paper_print.specs.TextLines.{edition-told, sheet-edition}
 
 abbrev Asks-in : Edition → Reading → Type 0

@@ -25,14 +25,14 @@ use Rattle.paper.specs.Saying.{pattern-code}
 use Rattle.paper.proofs.base.Tests.{by-bool, cond-by, both-true, leb-false, le-leb, ltb-true, ltb-false, eqb-true, eqb-false}
 use Rattle.paper.proofs.base.Lists.{length-from, mem-upto}
 use Rattle.paper.proofs.base.Listed.{getD-map-upto}
-use Rattle.paper.proofs.sheets.Asked.{GoodHeld}
-use Rattle.paper.proofs.saying.Saying.{ShortCode, Sayable}
+use Rattle.paper_laws.proofs.sheets.Asked.{GoodHeld}
+use Rattle.paper_laws.proofs.saying.Saying.{ShortCode, Sayable}
 use Rattle.paper_script.specs.Bytes.{bytes}
 use Rattle.paper_script.specs.Lexemes.{quotation-mark}
 use Rattle.paper_script.specs.Script.{hexadecimal, escaped, is-plain, character, one-character, next-character, several, range-expression}
 use Rattle.paper_script.specs.Script.{expression, some-characters, expression-of, digit, field-lines}
 use Rattle.paper_script.specs.Script.{arguments-of, side-term, heading, all-standing, equation, script, longest-script}
-use Rattle.paper.proofs.saying.Sayable.{sheet-sayable}
+use Rattle.paper_laws.proofs.saying.Sayable.{sheet-sayable}
 use Rattle.paper_script.proofs.SameTexts.{all-taken}
 
 -- A character, in a literal and as an expression.

@@ -13,7 +13,7 @@ use Rattle.paper.specs.Alphabet.{Edition, edition-1, edition-2, alphabet-of}
 use Rattle.paper.specs.Printed.{blank-sign}
 use Rattle.paper.proofs.base.Tests.{both-true, le-leb, lt-leb, eqb-same}
 use Rattle.paper.proofs.base.Lists.{cons-eq, mem-from}
-use Rattle.paper.proofs.sheets.Asked.{GoodHeld}
+use Rattle.paper_laws.proofs.sheets.Asked.{GoodHeld}
 use Rattle.paper_script.specs.Bytes.{bytes}
 use Rattle.paper_script.specs.Lexemes.{Lexeme, opening, closing, word, text, between, in-text, lexemes}
 use Rattle.paper_script.specs.Script.{point, character, one-character, next-character, several, range-expression, expression, some-characters, expression-of}

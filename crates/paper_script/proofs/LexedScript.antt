@@ -21,8 +21,8 @@ use Rattle.paper.specs.Question.{Question, held-by, hidden}
 use Rattle.paper.specs.Printed.{blank-sign}
 use Rattle.paper.proofs.base.Tests.{not-is-true}
 use Rattle.paper.proofs.base.Lists.{all-true, cons-eq, mem-keep, mem-upto, upto-mem}
-use Rattle.paper.proofs.sheets.Asked.{InRange, GoodHeld, GoodSide, GoodQuestion}
-use Rattle.paper.proofs.sheets.Hidden.{hidden-searchable}
+use Rattle.paper_laws.proofs.sheets.Asked.{InRange, GoodHeld, GoodSide, GoodQuestion}
+use Rattle.paper_laws.proofs.sheets.Hidden.{hidden-searchable}
 use Rattle.paper_script.specs.Bytes.{bytes}
 use Rattle.paper_script.specs.Lexemes.{Lexeme, opening, closing, word, text, Within, between, in-word, in-text, ends-line, ends-word, lexemes}
 use Rattle.paper_script.specs.Escapes.{meaning}

@@ -22,8 +22,8 @@ use Rattle.paper.specs.Question.{Question, held-by, Solution, hidden, Equated}
 use Rattle.paper.specs.Printed.{signs, sign}
 use Rattle.paper.proofs.base.Tests.{left-true, right-true, eqb-true, eqb-same}
 use Rattle.paper.proofs.base.Lists.{cons-eq, mem-cons-by, all-true, any-append, mem-keep, keep-mem, upto-mem, map-append}
-use Rattle.paper.proofs.sheets.Asked.{InRange, GoodSide, GoodQuestion}
-use Rattle.paper.proofs.sheets.Hidden.{hidden-known, own-solves, with-spaces, hidden-solves}
+use Rattle.paper_laws.proofs.sheets.Asked.{InRange, GoodSide, GoodQuestion}
+use Rattle.paper_laws.proofs.sheets.Hidden.{hidden-known, own-solves, with-spaces, hidden-solves}
 use Rattle.paper_script.specs.Reader.{Command, read-script}
 use Rattle.paper_script.specs.Script.{point, digit, name, all-standing, script}
 use Rattle.paper_script.specs.Means.{said, Says, sides, field, Assignment, text-of, Satisfied, Satisfies}

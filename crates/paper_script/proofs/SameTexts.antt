@@ -19,10 +19,10 @@ use Rattle.paper.specs.Alphabet.{Edition, edition-1, edition-2, alphabet-of}
 use Rattle.paper.specs.Equation.{Over}
 use Rattle.paper.proofs.base.Tests.{by-bool, and-left, and-right, both-true, leb-true, le-leb, eqb-true, eqb-false, eqb-same}
 use Rattle.paper.proofs.base.Lists.{map-append, mem-from, from-mem}
-use Rattle.paper.proofs.places.NotStuck.{fits-over}
-use Rattle.paper.proofs.places.Judged.{range-takes}
-use Rattle.paper.proofs.sheets.Asked.{GoodHeld}
-use Rattle.paper.proofs.sheets.Editions.{space-of}
+use Rattle.paper_laws.proofs.places.NotStuck.{fits-over}
+use Rattle.paper_laws.proofs.places.Judged.{range-takes}
+use Rattle.paper_laws.proofs.sheets.Asked.{GoodHeld}
+use Rattle.paper_laws.proofs.sheets.Editions.{space-of}
 use Rattle.paper_script.specs.Language.{Expression, to-re, span, union, star, Matches, itself, within, one-then-other, of-first, of-second, no-time, once-more}
 use Rattle.paper_script.specs.Script.{point, one-character-of-all, some-characters}
 use Rattle.paper_script.specs.Means.{SameTexts}

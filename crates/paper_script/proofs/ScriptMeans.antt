@@ -12,7 +12,7 @@ use Rattle.paper.specs.Pattern.{Held}
 use Rattle.paper.specs.Equation.{fld, Side}
 use Rattle.paper.specs.Alphabet.{Edition, edition-of}
 use Rattle.paper.specs.Question.{Question, held-by, hidden}
-use Rattle.paper.proofs.sheets.Asked.{GoodQuestion}
+use Rattle.paper_laws.proofs.sheets.Asked.{GoodQuestion}
 use Rattle.paper_script.specs.Bytes.{bytes}
 use Rattle.paper_script.specs.Lexemes.{Lexeme, opening, closing, word}
 use Rattle.paper_script.specs.Reader.{Command, declare-const, in-re, equal, check-sat, understood, read-command}

@@ -14,8 +14,8 @@ use Rattle.paper.specs.Question.{Question, Solution}
 use Rattle.paper.specs.Sheet.{Fault, cut-short, wrong-mark, wrong-field, wrong-length, not-one-pattern, too-many-leaves, wrong-token, wrong-edition, stray-pattern, fault-number}
 use Rattle.paper.specs.Sheet.{Reading, refused, asked, read-sheet}
 use Rattle.paper.proofs.base.Tests.{cond-by, leb-true, leb-false}
-use Rattle.paper.proofs.sheets.Asked.{GoodQuestion, sheet-good}
-use Rattle.paper.proofs.sheets.Rows.{fault-above}
+use Rattle.paper_laws.proofs.sheets.Asked.{GoodQuestion, sheet-good}
+use Rattle.paper_laws.proofs.sheets.Rows.{fault-above}
 use Rattle.paper_script.specs.Reader.{read-script}
 use Rattle.paper_script.specs.Script.{script, longest-script}
 use Rattle.paper_script.specs.Means.{Means, Assignment, Satisfies}

@@ -19,13 +19,13 @@ use Rattle.paper.specs.Question.{Question, Solution, hidden, Equated, acceptor}
 use Rattle.paper.specs.Sheet.{Reading, refused, asked, read-sheet}
 use Rattle.paper.specs.Demands.{texts-spelt}
 use Rattle.paper.proofs.base.Tests.{cond-by, le-leb, lt-leb}
-use Rattle.paper.proofs.places.Accepts.{question-decides}
-use Rattle.paper.proofs.equations.Question.{asked-solves}
-use Rattle.paper.proofs.equations.Question as Equations
-use Rattle.paper.proofs.equations.Spelled.{spelled-trimmed, way-spelled}
-use Rattle.paper.proofs.sheets.Asked.{GoodQuestion, AsksGood, sheet-good}
-use Rattle.paper.proofs.sheets.Hidden.{own-solves}
-use Rattle.paper.proofs.sheets.TextLength.{ways-short}
+use Rattle.paper_laws.proofs.places.Accepts.{question-decides}
+use Rattle.paper_laws.proofs.equations.Question.{asked-solves}
+use Rattle.paper_laws.proofs.equations.Question as Equations
+use Rattle.paper_laws.proofs.equations.Spelled.{spelled-trimmed, way-spelled}
+use Rattle.paper_laws.proofs.sheets.Asked.{GoodQuestion, AsksGood, sheet-good}
+use Rattle.paper_laws.proofs.sheets.Hidden.{own-solves}
+use Rattle.paper_laws.proofs.sheets.TextLength.{ways-short}
 use Rattle.paper_steps.specs.Player.{most-steps, Played, stopped, arrived, play-from, first-entry, Play, play-told, play-ended, play-of, play}
 use Rattle.paper_steps.specs.PlayPromised.{WayTo, Accepted, Stops, past-most, is-no-record, makes-no-child, makes-long, ends-early, way-answer, Carries, PlayPromised}
 use Rattle.paper_steps.proofs.Playing.{PlayTold, is-accepted, is-stopped, plays-stops, plays-accepted}

@@ -14,7 +14,7 @@ use Rattle.paper.specs.Situation.{Situation, Move}
 use Rattle.paper.specs.Question.{Question}
 use Rattle.paper.specs.Sheet.{Reading, asked}
 use Rattle.paper.proofs.base.Tests.{by-bool, leb-true, leb-false}
-use Rattle.paper.proofs.sheets.Rows.{fault-above, by-reading}
+use Rattle.paper_laws.proofs.sheets.Rows.{fault-above, by-reading}
 use Rattle.paper_steps.specs.Player.{Play, Played}
 use Rattle.paper_steps.specs.PlayPromised.{Accepted, way-answer, PlayPromised}
 use Rattle.paper_steps.proofs.Playing.{PlayTold, is-accepted, is-stopped, play-told}

@@ -15,7 +15,7 @@ use Rattle.paper.specs.Leads.{start, step}
 use Rattle.paper.specs.Situation.{Situation, Move, strike-left, strike-right, put, finished, children}
 use Rattle.paper.specs.Question.{Question, hidden, acceptor}
 use Rattle.paper.proofs.base.Tests.{cond-by, lt-ltb}
-use Rattle.paper.proofs.equations.Children.{child-of}
+use Rattle.paper_laws.proofs.equations.Children.{child-of}
 use Rattle.paper_steps.specs.StepRecords.{step-record, step-records, IsStep, Front, no-record, front, front-of}
 use Rattle.paper_steps.specs.Player.{most-steps, Made, step-made, Played, stopped, arrived, ended, made-on, front-on, play-from, first-entry}
 use Rattle.paper_steps.specs.PlayPromised.{WayTo, Begins, Accepted, Stops, past-most, is-no-record, makes-no-child, makes-long, ends-early}

@@ -20,8 +20,8 @@ use Rattle.paper.specs.Children.{ChildOf}
 use Rattle.paper.specs.Question.{Question, acceptor}
 use Rattle.paper.proofs.base.Tests.{cond-by, true-false, not-is-true, not-is-false, false-not, and-left, and-right, both-true, or-is-true, left-true, right-true, leb-false, lt-leb, eqb-true, eqb-same}
 use Rattle.paper.proofs.base.Lists.{any-true, mem-any, mem-each, each-mem}
-use Rattle.paper.proofs.equations.Children.{child-of}
-use Rattle.paper.proofs.equations.Moves.{Opened, strikes-left, strikes-right, puts, child-opened}
+use Rattle.paper_laws.proofs.equations.Children.{child-of}
+use Rattle.paper_laws.proofs.equations.Moves.{Opened, strikes-left, strikes-right, puts, child-opened}
 use Rattle.paper_steps.specs.StepRecords.{IsStep}
 use Rattle.paper_steps.specs.Player.{same-move, kind-dead, Made, not-allowed, long-side, made, allowed, stepped, alive, step-made}
 

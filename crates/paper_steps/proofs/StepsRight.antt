@@ -20,15 +20,15 @@ use Rattle.paper.specs.Sheet.{Reading, read-sheet}
 use Rattle.paper.specs.Outcome.{Outcome, room-of, searched, how-of, outcome-of}
 use Rattle.paper.specs.Demands.{end-of, Solved}
 use Rattle.paper.proofs.base.Tests.{cond-by, true-false, not-is-true, not-is-false, leb-true, leb-false, eqb-true, eqb-false}
-use Rattle.paper.proofs.places.Accepts.{question-decides}
-use Rattle.paper.proofs.equations.Answered.{found-way}
-use Rattle.paper.proofs.sheets.Asked.{AsksGood, sheet-good}
-use Rattle.paper.proofs.sheets.QuestionSearched.{equal, same}
-use Rattle.paper.proofs.sheets.TextLength.{ways-short}
-use Rattle.paper.proofs.sheets.TextLength as TextLength
-use Rattle.paper.proofs.sheets.Rows.{Row, faulty, clashes, in-row}
-use Rattle.paper.proofs.demands.Demand1.{demand-1}
-use Rattle.paper.proofs.demands.Demand2.{demand-2}
+use Rattle.paper_laws.proofs.places.Accepts.{question-decides}
+use Rattle.paper_laws.proofs.equations.Answered.{found-way}
+use Rattle.paper_laws.proofs.sheets.Asked.{AsksGood, sheet-good}
+use Rattle.paper_laws.proofs.sheets.QuestionSearched.{equal, same}
+use Rattle.paper_laws.proofs.sheets.TextLength.{ways-short}
+use Rattle.paper_laws.proofs.sheets.TextLength as TextLength
+use Rattle.paper_laws.proofs.sheets.Rows.{Row, faulty, clashes, in-row}
+use Rattle.paper_laws.proofs.demands.Demand1.{demand-1}
+use Rattle.paper_laws.proofs.demands.Demand2.{demand-2}
 use Rattle.paper_steps.specs.StepRecords.{step-records}
 use Rattle.paper_steps.specs.StepsOutcome.{StepsOutcome, end-steps, steps-found, without-steps, is-clash, steps-too-short, steps-written, with-steps, steps-outcome-of, steps-outcome}
 use Rattle.paper_steps.specs.Player.{play-of, play}

@@ -19,9 +19,9 @@ use Rattle.paper.specs.Sheet.{Fault, cut-short, wrong-mark, wrong-field, wrong-
 use Rattle.paper.specs.Sheet.{fault-number, Reading, refused, asked, read-sheet}
 use Rattle.paper.specs.Outcome.{room-of, searched, records, cleared, clash, answered, count-of, how-of}
 use Rattle.paper.proofs.base.Tests.{by-bool, cond-by, true-false, neq-eqb}
-use Rattle.paper.proofs.search.Searched
-use Rattle.paper.proofs.sheets.QuestionSearched.{equal, same}
-use Rattle.paper.proofs.sheets.Rows.{fault-above}
+use Rattle.paper_laws.proofs.search.Searched
+use Rattle.paper_laws.proofs.sheets.QuestionSearched.{equal, same}
+use Rattle.paper_laws.proofs.sheets.Rows.{fault-above}
 use Rattle.paper_steps.specs.StepsOutcome.{StepsOutcome, end-steps, with-steps, steps-outcome-of, steps-outcome}
 use Rattle.paper_steps.specs.StepsPromised.{steps-settle, SameSteps, StepsStand}
 

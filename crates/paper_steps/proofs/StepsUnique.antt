@@ -10,8 +10,8 @@ use lib.ListN.{length}
 use Rattle.paper.specs.Sheet.{Reading}
 use Rattle.paper.specs.Outcome.{outcome-of}
 use Rattle.paper.proofs.base.Tests.{by-bool, leb-true, leb-false, eqb-true, eqb-false}
-use Rattle.paper.proofs.sheets.Asked.{AsksGood}
-use Rattle.paper.proofs.demands.Demand2.{demand-2}
+use Rattle.paper_laws.proofs.sheets.Asked.{AsksGood}
+use Rattle.paper_laws.proofs.demands.Demand2.{demand-2}
 use Rattle.paper_steps.specs.StepsOutcome.{StepsOutcome}
 use Rattle.paper_steps.specs.StepsPromised.{way-bytes, StepsPromised}
 

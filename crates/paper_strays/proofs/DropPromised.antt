@@ -20,7 +20,7 @@ use Rattle.paper_strays.specs.Dropping.{dropping-of, dropping, rule-drop
 use Rattle.paper_strays.specs.Dropping.{DroppedSheet, DroppedRule, DroppedCatalogue, AllApart, DropPromised, RuleDropPromised, CatalogueDropPromised}
 use Rattle.paper_strays.specs.Dropping.{AnyCall, call, drop-strays, after-any, after-any-calls}
 use Rattle.paper.proofs.base.Tests.{cond-by}
-use Rattle.paper.proofs.sheets.LastChecked.{asked-before, asked-free}
+use Rattle.paper_laws.proofs.sheets.LastChecked.{asked-before, asked-free}
 use Rattle.paper_catalogue.proofs.RightAsking.{AsksRight}
 use Rattle.paper_catalogue.proofs.Apart.{apart-empty, apart-call}
 use Rattle.paper_catalogue.proofs.Local.{rule-whole, rule-before, rule-unstray}

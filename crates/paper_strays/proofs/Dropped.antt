@@ -36,13 +36,13 @@ use Rattle.paper_carry.specs.Opened.{changed, stands-asked, rule-saying, stands
 use Rattle.paper_strays.specs.Kept.{if-it-stands, without-strays, held-kept, rule-kept, rules-kept}
 use Rattle.paper_strays.specs.Dropping.{DroppedSheet, DroppedRule, DroppedCatalogue}
 use Rattle.paper.proofs.base.Tests.{by-bool, cond-by, true-false, ltb-true, ltb-false}
-use Rattle.paper.proofs.sheets.Asked.{GoodHeld, GoodQuestion, fields-known, before-good}
-use Rattle.paper.proofs.sheets.Strays.{free-stands}
-use Rattle.paper.proofs.sheets.SameAnswers.{hidden-agree, outcome-same}
-use Rattle.paper.proofs.equations.SameHeld.{with-held, searched-same}
-use Rattle.paper.proofs.saying.SaidParts.{said-parts}
-use Rattle.paper.proofs.saying.Saying.{ShortCode, Sayable, reads-back}
-use Rattle.paper.proofs.saying.Sayable.{before-sayable}
+use Rattle.paper_laws.proofs.sheets.Asked.{GoodHeld, GoodQuestion, fields-known, before-good}
+use Rattle.paper_laws.proofs.sheets.Strays.{free-stands}
+use Rattle.paper_laws.proofs.sheets.SameAnswers.{hidden-agree, outcome-same}
+use Rattle.paper_laws.proofs.equations.SameHeld.{with-held, searched-same}
+use Rattle.paper_laws.proofs.saying.SaidParts.{said-parts}
+use Rattle.paper_laws.proofs.saying.Saying.{ShortCode, Sayable, reads-back}
+use Rattle.paper_laws.proofs.saying.Sayable.{before-sayable}
 use Rattle.paper_catalogue.proofs.Local.{rule-bounds, rule-whole, rule-since}
 use Rattle.paper_catalogue.proofs.Form.{LaidOut, zeros, rule, fit-own, fit-strays, is-fit, stands-by, stands-form, zero-bytes, inside, rest}
 use Rattle.paper_catalogue.proofs.GoodRule.{GoodRule, rule-good, own-field, pair-sayable}

@@ -32,10 +32,10 @@ use Rattle.paper_decide.specs.Deciding.{Attempt, searching, letters-test, apart
 use Rattle.paper.proofs.base.Tests.{by-bool, true-false, left-true, or-left-false, or-right-false}
 use Rattle.paper.proofs.base.Lists.{mem-keep, any-append}
 use Rattle.paper.proofs.base.Listed.{getD-map-upto}
-use Rattle.paper.proofs.sheets.Asked.{GoodQuestion, fields-known}
-use Rattle.paper.proofs.sheets.Hidden.{held-own, by-standing}
-use Rattle.paper.proofs.sheets.SameAnswers.{hidden-agree}
-use Rattle.paper.proofs.equations.SameHeld.{with-held, search-same, searched-same, answered-same}
+use Rattle.paper_laws.proofs.sheets.Asked.{GoodQuestion, fields-known}
+use Rattle.paper_laws.proofs.sheets.Hidden.{held-own, by-standing}
+use Rattle.paper_laws.proofs.sheets.SameAnswers.{hidden-agree}
+use Rattle.paper_laws.proofs.equations.SameHeld.{with-held, search-same, searched-same, answered-same}
 use Rattle.paper_decide.proofs.LettersRight.{sum-same}
 use Rattle.paper_strays.proofs.SameEngine.{bits-same, clashes-same}
 

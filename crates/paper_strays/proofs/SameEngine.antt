@@ -17,9 +17,9 @@ use Rattle.paper_plain.specs.Standing.{places-of, standings}
 use Rattle.paper_plain.specs.Engine.{bits-of, clashes-apart, engine-told, engine-of, needs-of}
 use Rattle.paper.proofs.base.Tests.{by-bool, true-false, left-true, right-true, eqb-same}
 use Rattle.paper.proofs.base.Lists.{any-append}
-use Rattle.paper.proofs.sheets.Asked.{GoodQuestion}
-use Rattle.paper.proofs.sheets.SameAnswers.{hidden-agree}
-use Rattle.paper.proofs.equations.SameHeld.{with-held}
+use Rattle.paper_laws.proofs.sheets.Asked.{GoodQuestion}
+use Rattle.paper_laws.proofs.sheets.SameAnswers.{hidden-agree}
+use Rattle.paper_laws.proofs.equations.SameHeld.{with-held}
 use Rattle.paper_plain.proofs.Solved.{apart-alike, alike-apart}
 
 -- by what the fields of a side may hold

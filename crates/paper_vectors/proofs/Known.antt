@@ -5,7 +5,7 @@
 -- The buffers are lent full of other bytes. Where 01 says nothing else it lends 356 situations; a row here lends a few more than are entered,
 -- since a larger room gives the same (`Searched.larger-room`), and most working buffers have bytes behind the last whole situation.
 --
--- Six rows more stand in `paper`, where an edit needs them (`KnownFew`).
+-- Some rows more stand in `paper`, where an edit needs them (`KnownFew`).
 use Prim.Native.Nat.{ℕ, zero, suc}
 use mathlib.Core.Path.{_≡_, refl}
 use mathlib.Core.List.{List, [], _∷_, _++_, map}
@@ -339,9 +339,8 @@ known-records =
     -- bytes behind `RI`
     fault-row (LE (A ∷ []) ++ RI (B ∷ []) ++ 0 ∷ []) 12 8 ∷
     fault-row (LE [] ++ RI (B ∷ []) ++ PA 0 (0 ∷ [])) 12 7 ∷
-    -- no field byte; a field byte above 7, and no length byte
+    -- no field byte
     fault-row (80 ∷ 65 ∷ []) 11 2 ∷
-    fault-row (80 ∷ 65 ∷ 9 ∷ []) 11 3 ∷
     -- field 8; a field number that stays, that falls
     fault-row (PA 8 (0 ∷ [])) 13 2 ∷
     fault-row (PA 1 (0 ∷ []) ++ PA 1 (0 ∷ [])) 13 7 ∷
@@ -362,8 +361,7 @@ known-records =
     -- a side's length byte missing
     fault-row (76 ∷ 69 ∷ []) 11 2 ∷
     fault-row (LE (A ∷ []) ++ 82 ∷ 73 ∷ []) 11 6 ∷
-    -- a side of 25 tokens, none of which is there
-    fault-row (76 ∷ 69 ∷ 25 ∷ []) 14 2 ∷
+    -- a right side of 25 tokens, none of which is there
     fault-row (LE (A ∷ []) ++ 82 ∷ 73 ∷ 25 ∷ []) 14 6 ∷
     -- a side's body cut short, whatever its tokens
     fault-row (76 ∷ 69 ∷ 1 ∷ []) 11 3 ∷

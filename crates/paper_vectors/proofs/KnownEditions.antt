@@ -3,7 +3,7 @@
 -- one list; the checker computes it. A sheet that says the same as one of `Known` in the other edition's bytes has the same count: a hidden field takes
 -- its edition's space alone.
 --
--- Three rows more stand in `paper`, where an edit needs them (`KnownFew`); rules with `ED` in `KnownCatalogue`.
+-- Some rows more stand in `paper`, where an edit needs them (`KnownFew`); rules with `ED` in `KnownCatalogue`.
 use Prim.Native.Nat.{ℕ}
 use mathlib.Core.Path.{_≡_, refl}
 use mathlib.Core.List.{List, [], _∷_, _++_, map}
@@ -35,8 +35,7 @@ space = 32
 -- "11 for the missing byte, then 44 for an edition byte other than 2, its place that byte"; where `ED` may stand
 abbrev known-marks : List Known
 known-marks =
-    -- the byte is missing; half of the mark alone
-    fault-row (69 ∷ 68 ∷ []) 11 2 ∷
+    -- half of the mark alone
     fault-row (69 ∷ []) 11 1 ∷
     -- other bytes than 2, with nothing behind them and with all of a sheet
     fault-row (69 ∷ 68 ∷ 0 ∷ []) 44 2 ∷

@@ -28,7 +28,7 @@ use Rattle.paper_spell.specs.FullAscii.{table}
 use Rattle.paper_print.specs.TextLines.{sheet-edition}
 use Rattle.paper_print.specs.ClashProgram.{printed-of, printed}
 use Rattle.paper_vectors.proofs.KnownLengths.{program-room}
-use Rattle.paper.proofs.sheets.AnswerRoom.{answer-enough}
+use Rattle.paper_laws.proofs.sheets.AnswerRoom.{answer-enough}
 
 abbrev ascii : String → List ℕ
 ascii []ₜ = []

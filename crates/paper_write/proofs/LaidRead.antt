@@ -29,9 +29,9 @@ use Rattle.paper.specs.Sheet.{with-pattern, pattern-read, read-patterns, Readin
 use Rattle.paper.specs.Sheet.{strays-of, strays, at-stray, read-by}
 use Rattle.paper.proofs.base.Tests.{by-bool, cond-by, cond-true, cond-false, leb-true, leb-false, lt-leb, le-leb, ltb-true, ltb-false, le-ltb, lt-ltb}
 use Rattle.paper.proofs.base.Tests.{eqb-true, eqb-false, eqb-same, neq-eqb}
-use Rattle.paper.proofs.sheets.Asked.{open-by}
-use Rattle.paper.proofs.saying.Code.{judged-bytes}
-use Rattle.paper.proofs.saying.Saying.{left-there, byte-there, behind-there, none-next, edition-said, not-next}
+use Rattle.paper_laws.proofs.sheets.Asked.{open-by}
+use Rattle.paper_laws.proofs.saying.Code.{judged-bytes}
+use Rattle.paper_laws.proofs.saying.Saying.{left-there, byte-there, behind-there, none-next, edition-said, not-next}
 use Rattle.paper.specs.Saying.{ToSay, mark-bytes, pattern-laid, side-laid, edition-laid, edition-byte, laid-from, sheet-laid, held-code}
 use Rattle.paper_write.specs.Writing.{field-bytes}
 use Rattle.paper_write.specs.Writing.{Says}

@@ -10,8 +10,8 @@ use mathlib.Core.List.{List, []}
 use Rattle.paper.specs.Question.{Question}
 use Rattle.paper.specs.Sheet.{asked, strays, read-sheet}
 use Rattle.paper.specs.Saying.{sheet-laid, to-say, sheet-saying}
-use Rattle.paper.proofs.sheets.LastChecked.{asked-before}
-use Rattle.paper.proofs.saying.Saying.{Sayable, reads-back}
+use Rattle.paper_laws.proofs.sheets.LastChecked.{asked-before}
+use Rattle.paper_laws.proofs.saying.Saying.{Sayable, reads-back}
 use Rattle.paper_carry.specs.Opened.{spelt-open}
 use Rattle.paper_carry.specs.Spelling.{put-into, spelling}
 use Rattle.paper_carry.proofs.Carried.{sheet-carried}

@@ -18,9 +18,9 @@ use Rattle.paper.specs.Written.{Judged, judged, judge}
 use Rattle.paper.specs.Written as Written
 use Rattle.paper.specs.Sheet.{Mark, LE, RI, is-token}
 use Rattle.paper.proofs.base.Tests.{cond-by, leb-false, ltb-true, ltb-false, eqb-true}
-use Rattle.paper.proofs.places.Judged.{within-not-one, within-too-many}
+use Rattle.paper_laws.proofs.places.Judged.{within-not-one, within-too-many}
 use Rattle.paper_write.specs.Laying.{Laying, at-fault, laid-out, judged-laid, record-laid, side-record-laid, then-laid, fields-laid, then-side}
-use Rattle.paper.proofs.sheets.FaultPlaces.{leading-below}
+use Rattle.paper_laws.proofs.sheets.FaultPlaces.{leading-below}
 
 -- a field's record
 abbrev pub RecordShort : ℕ → ℕ → List ℕ → Laying → Type 0

@@ -21,10 +21,10 @@ use Rattle.paper.specs.Written.{Judged, judged, judge}
 use Rattle.paper.specs.Written as Written
 use Rattle.paper.specs.Sheet.{Fault, wrong-field, wrong-length, wrong-edition, byte-at, Mark, PA, LE, RI, ED, first-letter, second-letter, is-token, refused, read-sheet}
 use Rattle.paper.proofs.base.Tests.{by-bool, cond-by, cond-true, cond-false, true-false, leb-true, leb-false, ltb-true, ltb-false, eqb-true}
-use Rattle.paper.proofs.places.Judged.{within-not-one, within-too-many}
+use Rattle.paper_laws.proofs.places.Judged.{within-not-one, within-too-many}
 use Rattle.paper.specs.Saying.{ToSay, mark-bytes, pattern-laid, side-laid, edition-laid, edition-byte, laid-from, sheet-laid}
 use Rattle.paper_write.specs.Laying.{Laying, at-fault, laid-out, judged-laid, record-laid, side-record-laid, then-laid, fields-laid, then-side, then-strays, both-sides, laying-in, laying}
-use Rattle.paper.proofs.sheets.FaultPlaces.{leading-below}
+use Rattle.paper_laws.proofs.sheets.FaultPlaces.{leading-below}
 use Rattle.paper_write.proofs.LaidRead.{Whole, laying-reads}
 
 -- numbers that bytes hold

@@ -12,8 +12,8 @@ use lib.Seq.{take-append-seam, drop-append-seam}
 use Rattle.paper.specs.Question.{Question}
 use Rattle.paper.specs.Sheet.{Fault, fault-number, Reading, refused, asked, read-sheet}
 use Rattle.paper.proofs.base.Tests.{cond-by, ltb-true}
-use Rattle.paper.proofs.sheets.LastChecked.{asked-before}
-use Rattle.paper.proofs.saying.Sayable.{sheet-sayable}
+use Rattle.paper_laws.proofs.sheets.LastChecked.{asked-before}
+use Rattle.paper_laws.proofs.saying.Sayable.{sheet-sayable}
 use Rattle.paper_carry.specs.Spelling.{Spelling, put-into, longest-sheet}
 use Rattle.paper_carry.proofs.SaidBack.{said-back}
 use Rattle.paper_carry.proofs.Lengths.{sheet-length}

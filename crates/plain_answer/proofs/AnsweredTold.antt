@@ -13,7 +13,7 @@ use Rattle.paper.specs.Plain.{plain}
 use Rattle.paper.specs.Question.{Question}
 use Rattle.paper.specs.Sheet.{asked}
 use Rattle.paper.proofs.base.Tests.{le-leb, lt-leb}
-use Rattle.paper.proofs.sheets.Asked.{GoodQuestion, good-most}
+use Rattle.paper_laws.proofs.sheets.Asked.{GoodQuestion, good-most}
 use Rattle.paper_plain.specs.Engine.{bits-of, clashes-apart, engine-of, needs-of}
 use Rattle.base_question.specs.Asked.{question-of}
 use Rattle.base_question.specs.declared.Body.{Body}

@@ -14,7 +14,7 @@ use Rattle.paper.specs.Question.{Question, held-by, any-spaces, hidden}
 use Rattle.paper.proofs.base.Tests.{le-leb, lt-ltb, le-ltb}
 use Rattle.paper.proofs.base.Lists.{length-from}
 use Rattle.paper.proofs.base.Listed.{getD-map-upto}
-use Rattle.paper.proofs.sheets.Asked.{InRange, GoodSide, GoodQuestion, good-most, good-space}
+use Rattle.paper_laws.proofs.sheets.Asked.{InRange, GoodSide, GoodQuestion, good-most, good-space}
 use Rattle.paper_plain.specs.Standing.{places-of, standings}
 use Rattle.paper_plain.specs.Engine.{bits-of}
 use Rattle.base_places.specs.Masks.{within}

@@ -19,8 +19,8 @@ use Rattle.paper.specs.Places.{leaves, leaf-takes}
 use Rattle.paper.specs.Taken.{leaves-take}
 use Rattle.paper.proofs.base.Tests.{true-false, both-true, left-true, right-true, not-true, eq-eqb, neq-eqb}
 use Rattle.paper.proofs.base.Lists.{cons-eq, any-true, mem-any, upto-mem}
-use Rattle.paper.proofs.places.Parts.{Within, one-part, takes-within}
-use Rattle.paper.proofs.sheets.Asked.{GoodHeld}
+use Rattle.paper_laws.proofs.places.Parts.{Within, one-part, takes-within}
+use Rattle.paper_laws.proofs.sheets.Asked.{GoodHeld}
 use Rattle.paper_plain.specs.Standing.{places-of}
 use Rattle.base_places.specs.Masks.{places, mask, mask-of, in-mask, table, takes-at, taking-mask, taking-masks}
 use Rattle.base_places.proofs.MaskOf.{in-mask-of, mask-of-same, mask-of-or, mask-of-none}

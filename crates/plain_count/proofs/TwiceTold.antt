@@ -16,8 +16,8 @@ use Rattle.paper.specs.Plain.{each-once, plain}
 use Rattle.paper.proofs.base.Tests.{by-bool, true-false, same-tests, not-is-true, false-not, true-not, left-false, right-false, leb-true, leb-false, eqb-true, eqb-false, eqb-same, neq-eqb, ltb-true, lt-ltb}
 use Rattle.paper.proofs.base.Lists.{any-true, mem-any, mem-map, map-mem, mem-upto, upto-mem, map-append}
 use Rattle.paper.proofs.base.Listed.{getD-map-upto}
-use Rattle.paper.proofs.sheets.Asked.{GoodSide}
-use Rattle.paper.proofs.sheets.Hidden.{HasSet, in-range-has-set}
+use Rattle.paper_laws.proofs.sheets.Asked.{GoodSide}
+use Rattle.paper_laws.proofs.sheets.Hidden.{HasSet, in-range-has-set}
 use Rattle.base_codes.specs.Inner.{field-code, token-code, side-code, tokens, padded}
 use Rattle.base_question.specs.Standings.{times, count, standing-times}
 use Rattle.base_question.proofs.HowOften.{standings-are, stands-times}

@@ -23,8 +23,8 @@ use Rattle.paper.specs.Question.{Question, held-by, hidden}
 use Rattle.paper.proofs.base.Tests.{true-false, same-tests, and-left, and-right, both-true, lt-ltb, le-ltb}
 use Rattle.paper.proofs.base.Lists.{mem-cons-by}
 use Rattle.paper.proofs.base.Listed.{getD-map-upto}
-use Rattle.paper.proofs.sheets.Asked.{InRange, GoodSide, GoodHeld, GoodQuestion, good-most}
-use Rattle.paper.proofs.sheets.Hidden.{Searchable, hidden-searchable}
+use Rattle.paper_laws.proofs.sheets.Asked.{InRange, GoodSide, GoodHeld, GoodQuestion, good-most}
+use Rattle.paper_laws.proofs.sheets.Hidden.{Searchable, hidden-searchable}
 use Rattle.paper_plain.specs.Standing.{places-of, Standing, begins, Pair, next-pairs, is-read}
 use Rattle.paper_plain.specs.Meeting.{Meeting}
 use Rattle.paper_plain.specs.Engine.{clashes-apart}

@@ -14,7 +14,7 @@ use Rattle.paper.specs.Numbers.{most-characters, most-leaves}
 use Rattle.paper.specs.Pattern.{Held, some-text, pattern}
 use Rattle.paper.specs.Places.{leaf-takes, follows, ends-at}
 use Rattle.paper.proofs.base.Tests.{true-false, and-left, and-right, both-true, lt-ltb, ltb-true, eqb-true}
-use Rattle.paper.proofs.places.Parts.{takes-within}
+use Rattle.paper_laws.proofs.places.Parts.{takes-within}
 use Rattle.paper_plain.specs.Standing as Paper
 use Rattle.paper_plain.specs.Standing.{places-of}
 use Rattle.base_places.specs.Masks.{places, mask-of, in-mask, comes-next, takes-at, follow-masks, taking-mask, last-mask}

@@ -6,7 +6,7 @@ use mathlib.Core.Path.{_≡_, sym, ap, _∙_, subst}
 use mathlib.Core.List.{List}
 use lib.ListN.{length, replicate}
 use Rattle.paper.specs.Sheet.{Reading, read-sheet}
-use Rattle.paper.proofs.sheets.Asked.{sheet-good}
+use Rattle.paper_laws.proofs.sheets.Asked.{sheet-good}
 use Rattle.paper_plain.specs.Engine.{Engine, engine-of, engine, Needs, needs-of, needs}
 use Rattle.paper_plain.specs.EnginePromised.{EnginePromised, NeedsPromised}
 use Rattle.paper_plain.proofs.EngineRight.{engine-promised, needs-promised}

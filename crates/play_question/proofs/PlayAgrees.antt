@@ -22,8 +22,8 @@ use Rattle.paper.specs.Demands.{texts-spelt, records-of}
 use Rattle.paper.proofs.base.Tests.{by-bool}
 use Rattle.paper.proofs.base.Lists.{mem-keep, mem-upto, map-append}
 use Rattle.paper.proofs.base.Listed.{keep-same, each-same}
-use Rattle.paper.proofs.sheets.Asked.{GoodQuestion, good-most}
-use Rattle.paper.proofs.sheets.Hidden.{Searchable, hidden-searchable, standing-hidden}
+use Rattle.paper_laws.proofs.sheets.Asked.{GoodQuestion, good-most}
+use Rattle.paper_laws.proofs.sheets.Hidden.{Searchable, hidden-searchable, standing-hidden}
 use Rattle.paper_steps.specs.Player.{most-steps, Played, play-from, first-entry, play-told, play-ended}
 use Rattle.base_codes.specs.Inner.{token-code}
 use Rattle.base_question.specs.Asked.{question-of}

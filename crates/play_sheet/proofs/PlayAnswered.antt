@@ -4,7 +4,7 @@ use Prim.Native.Nat.{ℕ}
 use mathlib.Core.Path.{_≡_, refl, sym, subst, _∙_}
 use mathlib.Core.List.{List}
 use Rattle.paper.specs.Sheet.{read-sheet}
-use Rattle.paper.proofs.sheets.Asked.{sheet-good}
+use Rattle.paper_laws.proofs.sheets.Asked.{sheet-good}
 use Rattle.paper_steps.specs.Player.{Play, play}
 use Rattle.paper_steps.specs.PlayPromised.{PlayPromised}
 use Rattle.paper_steps.proofs.PlayRight.{sheet-play-promised}

@@ -17,7 +17,7 @@ use Rattle.paper.specs.Situation.{Acceptor, Situation, Kind, is-finished, is-de
 use Rattle.paper.specs.Question.{Question, held-by, acceptor}
 use Rattle.paper.proofs.base.Tests.{by-bool, eqb-true, eqb-same, lt-ltb}
 use Rattle.paper.proofs.base.Lists.{any-append, mem-any, upto-mem}
-use Rattle.paper.proofs.equations.Moves.{other-front}
+use Rattle.paper_laws.proofs.equations.Moves.{other-front}
 use Rattle.paper_chosen.specs.Chosen.{every, acceptor-over}
 use Rattle.paper_steps.specs.StepRecords.{IsStep}
 use Rattle.paper_steps.specs.Player.{same-move, kind-dead, Made, not-allowed, long-side, made, allowed, stepped, alive, step-made}

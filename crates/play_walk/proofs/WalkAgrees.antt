@@ -19,8 +19,8 @@ use Rattle.paper.specs.Situation.{Situation, Move, strike-left, strike-right, p
 use Rattle.paper.specs.Way.{given, text-along}
 use Rattle.paper.specs.Question.{Question, held-by, acceptor}
 use Rattle.paper.proofs.base.Tests.{by-bool}
-use Rattle.paper.proofs.sheets.Asked.{GoodHeld}
-use Rattle.paper.proofs.sheets.Hidden.{Searchable}
+use Rattle.paper_laws.proofs.sheets.Asked.{GoodHeld}
+use Rattle.paper_laws.proofs.sheets.Hidden.{Searchable}
 use Rattle.paper_chosen.specs.Chosen.{every}
 use Rattle.paper_steps.specs.StepRecords.{IsStep, Front, no-record, front, front-of}
 use Rattle.paper_steps.specs.Player.{most-steps, Made, not-allowed, long-side, made, step-made, Played, stopped, arrived, ended, made-on, front-on, play-from, first-entry}

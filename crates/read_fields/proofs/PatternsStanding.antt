@@ -22,7 +22,7 @@ use Rattle.paper.specs.Alphabet.{Edition}
 use Rattle.paper.specs.Sheet.{Checked, fault, read, FieldPattern, byte-at, bytes-left, body-codes, PA, pattern-judged, pattern-record}
 use Rattle.paper.specs.Sheet.{next-is, records, Fields, open-fields, with-pattern, pattern-read, read-patterns, has-pattern}
 use Rattle.paper.proofs.base.Tests.{cond-by, by-bool, or-left-false, or-right-false, lt-ltb, ltb-false, eqb-true, eqb-false}
-use Rattle.paper.proofs.sheets.Asked.{Listed}
+use Rattle.paper_laws.proofs.sheets.Asked.{Listed}
 use Rattle.base_question.specs.Bodies.{nowhere, no-bodies}
 use Rattle.base_question.specs.declared.Body.{Body}
 use Rattle.read_fields.specs.Bodies.{body-at, bodies-from, bodies-in}

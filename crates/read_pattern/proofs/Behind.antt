@@ -2,7 +2,7 @@
 --   fault-within  : no more bytes are left from the one at fault on than there are
 --   leaves-within : the pattern's leaves are no more than the bytes before those left behind it
 --   rest-behind   : what is left behind the pattern stands where so many bytes are left
--- Follows from the ways through the reader (`Reader` of `paper`), and from what it reads being the pattern's code (`read-says`).
+-- Follows from the ways through the reader (`Reader` of `paper_laws`), and from what it reads being the pattern's code (`read-says`).
 use Prim.Native.Nat.{ℕ, _+_, _-_, _≤_}
 use native.Mathlib.Omega.{arith}
 use mathlib.Core.Path.{_≡_, ap, _∙_}
@@ -13,10 +13,10 @@ use Rattle.paper.specs.Pattern.{Pattern}
 use Rattle.paper.specs.Places.{leaves}
 use Rattle.paper.specs.Written.{no-pattern, part}
 use Rattle.paper.specs.Saying.{pattern-code}
-use Rattle.paper.proofs.places.Reader.{Reads, runs-out, a-character, empty-text, lo-missing, lo-wrong, hi-missing, hi-wrong, a-range}
-use Rattle.paper.proofs.places.Reader.{first-wrong, second-wrong, both-parts, starred-wrong, starred, no-code, shorter}
-use Rattle.paper.proofs.places.Judged.{both-leaves}
-use Rattle.paper.proofs.saying.Code.{read-says}
+use Rattle.paper_laws.proofs.places.Reader.{Reads, runs-out, a-character, empty-text, lo-missing, lo-wrong, hi-missing, hi-wrong, a-range}
+use Rattle.paper_laws.proofs.places.Reader.{first-wrong, second-wrong, both-parts, starred-wrong, starred, no-code, shorter}
+use Rattle.paper_laws.proofs.places.Judged.{both-leaves}
+use Rattle.paper_laws.proofs.saying.Code.{read-says}
 
 pub fault-within : {s : List ℕ} {left : ℕ} → Reads s (no-pattern left) → left ≤ length s
 fault-within runs-out = omega arith

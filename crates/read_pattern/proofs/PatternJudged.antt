@@ -9,7 +9,7 @@ use lib.Bits.{bitOr}
 use lib.ListN.{length, set, replicate}
 use Rattle.paper.specs.Numbers.{most-characters, most-leaves}
 use Rattle.paper.proofs.base.Tests.{true-false, not-true, le-leb, lt-leb}
-use Rattle.paper.proofs.places.Parts.{last-within}
+use Rattle.paper_laws.proofs.places.Parts.{last-within}
 use Rattle.paper.specs.Pattern.{Pattern, pattern}
 use Rattle.paper.specs.Places.{leaves, takes-empty, may-be-last, ends-at}
 use Rattle.paper.specs.Written.{Part, no-pattern, part, read-part, not-one-pattern, too-many-leaves, judged, judge-part, judge}
@@ -20,8 +20,8 @@ use Rattle.read_pattern.specs.declared.Worked.{Worked}
 use Rattle.read_pattern.specs.declared.Verdict.the-variants.{OnePattern}
 use Rattle.read_pattern.specs.declared.reader.ReadPart.{ReadPart}
 use Rattle.base_places.proofs.MaskOf.{mask-of-same, mask-of-or, mask-of-cond}
-use Rattle.paper.proofs.places.Reader as Reader
-use Rattle.paper.proofs.places.Judged.{starts-inside}
+use Rattle.paper_laws.proofs.places.Reader as Reader
+use Rattle.paper_laws.proofs.places.Judged.{starts-inside}
 use Rattle.read_pattern.proofs.Behind.{fault-within}
 use Rattle.read_pattern.proofs.Surplus.{surplus-within}
 use Rattle.read_pattern.proofs.Joining.{joins-all}

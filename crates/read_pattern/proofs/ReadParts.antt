@@ -19,7 +19,7 @@ use Rattle.paper.proofs.base.Tests.{leb-true, le-leb, lt-leb, lt-ltb, le-ltb, e
 use Rattle.base_places.specs.Masks.{places, in-mask}
 use Rattle.read_pattern.specs.ReadPart.{Adds, Not-read, Reads, Working, working, Joins, Works, Read-as, Reading-of, Single, Leaf-read, Joined, Repeated}
 use Rattle.read_pattern.specs.declared.reader.ReadPart.{ReadPart}
-use Rattle.paper.proofs.places.Reader as Reader
+use Rattle.paper_laws.proofs.places.Reader as Reader
 use Rattle.read_pattern.proofs.Behind.{rest-behind, leaves-within}
 use Rattle.read_pattern.proofs.Joining.{joins-none, joins-more, joins-same, joins-linked}
 

@@ -15,7 +15,7 @@ use Rattle.paper.specs.Rule.{foreign-token, foreign-field, rule-front}
 use Rattle.paper.specs.Sheet.{Fault, fault, read, cut-short, wrong-mark, LE, RU, bytes-left, next-is, marked, marked-side, Records, faulty, records, Fields, open-fields, read-patterns}
 use Rattle.paper.proofs.base.Tests.{by-bool, lt-ltb, le-ltb, le-leb, lt-leb, leb-true, leb-false, neq-eqb}
 use Rattle.paper.proofs.base.Lists.{any-append}
-use Rattle.paper.proofs.sheets.Asked.{InRange, GoodSide, marked-good}
+use Rattle.paper_laws.proofs.sheets.Asked.{InRange, GoodSide, marked-good}
 use Rattle.base_codes.specs.Inner.{field-code, no-token, token-code, side-code, padded}
 use Rattle.base_places.specs.WorkedOut.{worked-out}
 use Rattle.base_places.specs.declared.PlaceTables.{PlaceTables}

@@ -16,7 +16,7 @@ use Rattle.paper.specs.Rule.{Rule, with-side, side-read, rule-front, rule-stray
 use Rattle.paper.specs.Sheet.{Checked, fault, read, LE, RU, marked, marked-side, Records, faulty, records, strays-of}
 use Rattle.paper.specs.Sheet as Sheet
 use Rattle.paper.proofs.base.Tests.{cond-by}
-use Rattle.paper.proofs.sheets.Asked.{GoodSide, Found, marked-good}
+use Rattle.paper_laws.proofs.sheets.Asked.{GoodSide, Found, marked-good}
 use Rattle.base_codes.specs.Inner.{side-code, padded}
 use Rattle.base_question.proofs.Strays.{strays-are}
 use Rattle.read_fields.proofs.PatternsStanding.{stands-held, AllStand, AllMarked, patterns-stand, patterns-marked}

@@ -13,8 +13,8 @@ use Rattle.paper.specs.Pattern.{some-text}
 use Rattle.paper.specs.Question.{Question}
 use Rattle.paper.specs.Sheet.{asked, has-pattern, strays, no-check, at-stray, stray-check, read-by, read-before, read-sheet}
 use Rattle.paper.proofs.base.Tests.{lt-ltb}
-use Rattle.paper.proofs.sheets.Asked.{GoodQuestion, before-good, good-most}
-use Rattle.paper.proofs.sheets.LastChecked.{ByLast, fails, ends, by-last}
+use Rattle.paper_laws.proofs.sheets.Asked.{GoodQuestion, before-good, good-most}
+use Rattle.paper_laws.proofs.sheets.LastChecked.{ByLast, fails, ends, by-last}
 use Rattle.base_answers.specs.declared.Fault.{Fault}
 use Rattle.base_answers.specs.declared.Found.{Found}
 use Rattle.base_answers.specs.declared.Found.the-variants.{NoFault, Refused}

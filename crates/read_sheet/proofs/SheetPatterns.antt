@@ -17,8 +17,8 @@ use Rattle.paper.specs.Question.{Question}
 use Rattle.paper.specs.Sheet.{Checked, fault, read, LE, RI, marked-side, Records, faulty, records, Fields}
 use Rattle.paper.specs.Sheet.{Reading, refused, asked, no-check, read-end, right-read, left-read, sides-read, edition-front, edition-read, read-by, read-before, read-sheet}
 use Rattle.paper.proofs.base.Tests.{cond-by}
-use Rattle.paper.proofs.sheets.Editions.{known-edition}
-use Rattle.paper.proofs.sheets.LastChecked.{asked-before}
+use Rattle.paper_laws.proofs.sheets.Editions.{known-edition}
+use Rattle.paper_laws.proofs.sheets.LastChecked.{asked-before}
 use Rattle.base_question.specs.Bodies.{nowhere}
 use Rattle.base_question.specs.declared.Body.{Body}
 use Rattle.read_fields.proofs.PatternsStanding.{Stands, no-pattern, its-pattern, AllStand, patterns-stand}

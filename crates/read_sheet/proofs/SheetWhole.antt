@@ -8,8 +8,8 @@ use Rattle.paper.specs.Alphabet.{Edition, alphabet-of}
 use Rattle.paper.specs.Question.{Question}
 use Rattle.paper.specs.Sheet.{Fault, fault, read, wrong-mark, LE, RI, marked-side, Records, faulty, records, Fields, open-fields, read-patterns, refused, asked, read-end, edition-front, read-by, read-before}
 use Rattle.paper.proofs.base.Tests.{lt-ltb, le-ltb}
-use Rattle.paper.proofs.sheets.Asked.{before-good}
-use Rattle.paper.proofs.sheets.Editions.{known-edition}
+use Rattle.paper_laws.proofs.sheets.Asked.{before-good}
+use Rattle.paper_laws.proofs.sheets.Editions.{known-edition}
 use Rattle.base_editions.specs.Editions.{paper-edition, edition-code}
 use Rattle.base_editions.specs.declared.Edition.the-variants.{First, Second}
 use Rattle.base_editions.specs.declared.Edition as Code-edition

@@ -14,8 +14,8 @@ use Rattle.paper.specs.Alphabet.{Edition, alphabet-of}
 use Rattle.paper.specs.Equation.{Token, chr, fld, Side}
 use Rattle.paper.specs.Printed.{blank-sign}
 use Rattle.paper.proofs.base.Tests.{lt-ltb, le-ltb}
-use Rattle.paper.proofs.sheets.Asked.{InRange}
-use Rattle.paper.proofs.sheets.Editions.{most-of}
+use Rattle.paper_laws.proofs.sheets.Asked.{InRange}
+use Rattle.paper_laws.proofs.sheets.Editions.{most-of}
 use Rattle.paper_script.specs.Bytes.{bytes}
 use Rattle.paper_script.specs.Script.{digit, arguments-of, side-term, equation}
 use Rattle.base_codes.specs.Inner.{field-code, side-code}

@@ -14,7 +14,7 @@ use Rattle.paper.specs.Numbers.{fields, set-fields}
 use Rattle.paper.specs.Pattern.{some-text}
 use Rattle.paper.specs.Alphabet.{Alphabet, Edition, edition-1, edition-2, alphabet-of, edition-of, code}
 use Rattle.paper.specs.Question.{Question, held-by, any-spaces, hidden}
-use Rattle.paper.proofs.sheets.Asked.{sheet-good}
+use Rattle.paper_laws.proofs.sheets.Asked.{sheet-good}
 use Rattle.paper.proofs.base.Tests.{cond-by, cond-true, lt-ltb, ltb-true}
 use Rattle.paper_script.specs.Script.{expression-of}
 use Rattle.paper_script.proofs.Length.{held-own, held-hidden}

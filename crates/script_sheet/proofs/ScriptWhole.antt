@@ -16,8 +16,8 @@ use Rattle.paper.specs.Equation.{Token, Side, stands-in}
 use Rattle.paper.specs.Question.{Question, hidden}
 use Rattle.paper.proofs.base.Lists.{mem-upto, map-append}
 use Rattle.paper.proofs.base.Listed.{keep-same}
-use Rattle.paper.proofs.sheets.Asked.{InRange, GoodSide, GoodQuestion, good-most, sheet-good}
-use Rattle.paper.proofs.sheets.Hidden.{HasSet, hidden-searchable}
+use Rattle.paper_laws.proofs.sheets.Asked.{InRange, GoodSide, GoodQuestion, good-most, sheet-good}
+use Rattle.paper_laws.proofs.sheets.Hidden.{HasSet, hidden-searchable}
 use Rattle.paper_script.specs.Script.{all-standing, equation}
 use Rattle.base_codes.specs.Inner.{field-code, token-code, side-code, tokens, padded}
 use Rattle.base_question.specs.Standings.{standing-times, is-counted}

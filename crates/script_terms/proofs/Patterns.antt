@@ -1,7 +1,7 @@
 -- The spelling of the bytes of a good pattern is the pattern's expression.
 --   spelt-reads  : where a pattern is read from an offset on, its expression is spelt there, and what is left is the same
 --   spelt-judged : judge (codes e s) ≡ judged p → term-spelt e s ≡ expression e p
--- By induction on how the pattern is read (`Reader` of `paper`).
+-- By induction on how the pattern is read (`Reader` of `paper_laws`).
 use Prim.Native.Nat.{ℕ, zero, suc, _+_, _≤_, _<_}
 use native.Mathlib.Nat.{add-zero}
 use native.Mathlib.Omega.{arith}
@@ -14,7 +14,7 @@ use Rattle.paper.specs.Alphabet.{Edition, code, codes}
 use Rattle.paper.specs.Pattern.{Pattern}
 use Rattle.paper.specs.Written.{part, judged, judge}
 use Rattle.paper.proofs.base.Tests.{lt-leb, le-ltb, neq-eqb}
-use Rattle.paper.proofs.places.Reader.{is-then, is-or, Reads, a-character, empty-text, a-range, both-parts, starred, Judges, as-pattern, judges, shorter}
+use Rattle.paper_laws.proofs.places.Reader.{is-then, is-or, Reads, a-character, empty-text, a-range, both-parts, starred, Judges, as-pattern, judges, shorter}
 use Rattle.paper_script.specs.Script.{expression}
 use Rattle.script_terms.specs.Spelt.{Term-spelling, spelt-at, term-spelt}
 

@@ -25,8 +25,8 @@ use Rattle.paper_chosen.specs.Chosen.{every, acceptor-over}
 use Rattle.paper.proofs.base.Listed.{each-append, each-same, keep-none}
 use Rattle.paper.proofs.base.Tests.{by-bool, true-false, not-true, and-left, and-right, eqb-true, eqb-same, eqb-false}
 use Rattle.paper.proofs.base.Lists.{map-append, mem-upto}
-use Rattle.paper.proofs.equations.Moves.{other-front}
-use Rattle.paper.proofs.search.Mapped.{code-child}
+use Rattle.paper_laws.proofs.equations.Moves.{other-front}
+use Rattle.paper_laws.proofs.search.Mapped.{code-child}
 use Rattle.base_places.specs.Masks.{mask, follow-masks, followers-of}
 use Rattle.base_places.proofs.Masks.{Few}
 use Rattle.base_codes.specs.Inner.{field-code, left-struck, right-struck, token-code, side-code, move-code, field-of, front}

@@ -21,7 +21,7 @@ use Rattle.paper.specs.Question.{Question, held-by}
 use Rattle.paper_chosen.specs.Chosen.{every, acceptor-over}
 use Rattle.paper.proofs.base.Tests.{by-bool, cond-by, ltb-true, same-tests, lt-ltb, neq-eqb, eq-eqb, eqb-true, eqb-false}
 use Rattle.paper.proofs.base.Lists.{cons-eq}
-use Rattle.paper.proofs.places.PlaceSets.{same-equal, equal-same}
+use Rattle.paper_laws.proofs.places.PlaceSets.{same-equal, equal-same}
 use Rattle.paper.proofs.base.Listed.{getD-map-upto}
 use Rattle.base_places.proofs.Masks.{taking-at, Masked, Few, mask-same, mask-empty, mask-may-end, mask-after}
 use Rattle.base_places.proofs.Filling.{getD-table}

@@ -15,8 +15,8 @@ use Rattle.paper.specs.Equation.{Token, chr, fld, Side, is-field}
 use Rattle.paper.specs.Situation.{Acceptor, Sides, trim, same-token, Kind, is-finished, is-dead, is-open, kind-of, strike-in, put-in, front-field, front-fields, kind-finished}
 use Rattle.paper.proofs.base.Tests.{by-bool, cond-by, true-false, not-true, same-tests, neq-eqb, eq-eqb, eqb-true, eqb-symmetric, lt-leb, le-leb, lt-ltb, le-ltb}
 use Rattle.paper.proofs.base.Lists.{cons-eq, map-append, any-append, NoDup, none, more, member-true}
-use Rattle.paper.proofs.sheets.Hidden.{HasSet}
-use Rattle.paper.proofs.equations.Moves.{front-fields-different}
+use Rattle.paper_laws.proofs.sheets.Hidden.{HasSet}
+use Rattle.paper_laws.proofs.equations.Moves.{front-fields-different}
 use Rattle.base_codes.specs.Inner as Inner
 use Rattle.base_codes.specs.Inner.{field-code, no-token, token-code, side-code, is-char, field-of, front}
 use Rattle.base_codes.specs.Coded.{none as no-tokens}

@@ -19,8 +19,8 @@ use Rattle.paper_chosen.specs.Chosen.{acceptor-over}
 use Rattle.paper.proofs.base.Tests.{by-bool, cond-by, ltb-true, ltb-false}
 use Rattle.paper.proofs.base.Lists.{length-from}
 use Rattle.paper.proofs.base.Listed.{getD-map-upto}
-use Rattle.paper.proofs.equations.Moves.{other-is-front, Opened, strikes-left, strikes-right, puts, move-opened, child-made}
-use Rattle.paper.proofs.equations.Question.{asked}
+use Rattle.paper_laws.proofs.equations.Moves.{other-is-front, Opened, strikes-left, strikes-right, puts, move-opened, child-made}
+use Rattle.paper_laws.proofs.equations.Question.{asked}
 use Rattle.base_places.proofs.Masks.{Masked, Few, masked-first, masked-none, masked-after}
 use Rattle.search_children.proofs.CodedSides.{Known-side, known-strike, known-put, known-trim}
 use Rattle.search_children.proofs.CodedSets.{Codable, masked-set}

@@ -15,7 +15,7 @@ use Rattle.paper_chosen.specs.Chosen.{acceptor-over}
 use Rattle.paper.specs.Way.{given, text-along}
 use Rattle.paper.proofs.base.Tests.{lt-ltb, eqb-symmetric}
 use Rattle.paper.proofs.base.Lists.{cons-eq}
-use Rattle.paper.proofs.equations.Moves.{Opened, strikes-left, strikes-right, puts, move-opened, child-made}
+use Rattle.paper_laws.proofs.equations.Moves.{Opened, strikes-left, strikes-right, puts, move-opened, child-made}
 use Rattle.base_codes.specs.Inner.{field-code, side-code, move-code, front}
 use Rattle.search_children.specs.Children.{given-coded}
 use Rattle.search_children.specs.Coding.{situation-code}

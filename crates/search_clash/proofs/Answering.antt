@@ -9,11 +9,11 @@ use Rattle.paper.specs.Buffers.{Demand1}
 use Rattle.paper.specs.Demands.{Demand2, Demand3}
 use Rattle.paper.specs.Outcome.{Outcome, outcome}
 use Rattle.paper.specs.Sheet.{read-sheet}
-use Rattle.paper.proofs.sheets.Asked.{sheet-good}
-use Rattle.paper.proofs.sheets.Hidden.{hidden-searchable}
-use Rattle.paper.proofs.demands.Demand1.{sheet-demand-1}
-use Rattle.paper.proofs.demands.Demand2.{sheet-demand-2}
-use Rattle.paper.proofs.demands.Demand3.{sheet-demand-3}
+use Rattle.paper_laws.proofs.sheets.Asked.{sheet-good}
+use Rattle.paper_laws.proofs.sheets.Hidden.{hidden-searchable}
+use Rattle.paper_laws.proofs.demands.Demand1.{sheet-demand-1}
+use Rattle.paper_laws.proofs.demands.Demand2.{sheet-demand-2}
+use Rattle.paper_laws.proofs.demands.Demand3.{sheet-demand-3}
 use Rattle.paper_chosen.specs.Chosen.{every}
 use Rattle.base_answers.specs.AnswerNumbers.{told}
 use Rattle.base_answers.specs.declared.Answer.the-variants as Answer-as

@@ -15,8 +15,8 @@ use Rattle.paper.specs.Numbers.{most-characters, fields, set-fields, longest-si
 use Rattle.paper.specs.Equation.{fld, Side}
 use Rattle.paper.specs.Question.{Question, held-by, any-spaces, hidden}
 use Rattle.paper.proofs.base.Lists.{map-append}
-use Rattle.paper.proofs.sheets.Asked.{GoodSide}
-use Rattle.paper.proofs.sheets.Hidden.{has-sets-with}
+use Rattle.paper_laws.proofs.sheets.Asked.{GoodSide}
+use Rattle.paper_laws.proofs.sheets.Hidden.{has-sets-with}
 use Rattle.base_places.specs.WorkedOut.{worked-out}
 use Rattle.base_codes.specs.Inner.{field-code, token-code, side-code, tokens, padded}
 use Rattle.base_codes.proofs.Tokens.{tokens-padded}

@@ -13,8 +13,8 @@ use lib.ListN.{length, getD, replicate}
 use Rattle.paper.specs.Numbers.{most-characters}
 use Rattle.paper.specs.Question.{Question, held-by, hidden}
 use Rattle.paper.specs.Outcome.{room-of, searched, answered, count-of, how-of}
-use Rattle.paper.proofs.sheets.Asked.{GoodSide}
-use Rattle.paper.proofs.sheets.Hidden.{Searchable}
+use Rattle.paper_laws.proofs.sheets.Asked.{GoodSide}
+use Rattle.paper_laws.proofs.sheets.Hidden.{Searchable}
 use Rattle.paper_steps.specs.StepsOutcome.{end-steps, with-steps}
 use Rattle.paper_chosen.specs.Chosen.{every, searched-over}
 use Rattle.paper_chosen.proofs.Over.{searched-every}

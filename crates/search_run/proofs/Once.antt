@@ -9,7 +9,7 @@ use mathlib.Core.List.{List, [], _∷_, List·Memᴰ}
 use lib.ListN.{length, getD, length-map, List·getD-map}
 use Rattle.paper.proofs.base.Lists.{NoDup, more, mem-any}
 use Rattle.paper.proofs.base.Listed.{getD-mem}
-use Rattle.paper.proofs.search.Searched.{entries-different}
+use Rattle.paper_laws.proofs.search.Searched.{entries-different}
 use Rattle.paper.proofs.base.Tests.{true-false}
 use Rattle.search_buckets.specs.Buckets.{Entered-at}
 use Rattle.base_codes.specs.Coded.{Coded, same-coded, finished-coded}

@@ -22,7 +22,7 @@ use Rattle.paper.specs.Situation.{Situation, Move}
 use Rattle.paper.specs.Way.{texts-of}
 use Rattle.paper.specs.Question.{Question, acceptor}
 use Rattle.paper.specs.Outcome.{searched, standing, value-record, records, cleared, without-bytes, clash, answered, count-of, how-of}
-use Rattle.paper.proofs.sheets.Hidden.{Searchable}
+use Rattle.paper_laws.proofs.sheets.Hidden.{Searchable}
 use Rattle.paper.proofs.base.Lists.{mem-keep, mem-upto, map-append}
 use Rattle.paper.proofs.base.Listed.{getD-map-upto, keep-same, each-same}
 use Rattle.paper_chosen.specs.Chosen.{every, searched-over}

@@ -15,8 +15,8 @@ use Rattle.paper.specs.Search.{Child, long, child, Entry, End, found, used-up, 
 use Rattle.paper.specs.Leads.{situations}
 use Rattle.paper.proofs.base.Tests.{by-bool, ltb-true, ltb-false, lt-ltb, le-ltb}
 use Rattle.paper.proofs.base.Lists.{map-append}
-use Rattle.paper.proofs.search.Room.{ended-turns}
-use Rattle.paper.proofs.search.Searched.{settled, found-is-last}
+use Rattle.paper_laws.proofs.search.Room.{ended-turns}
+use Rattle.paper_laws.proofs.search.Searched.{settled, found-is-last}
 use Rattle.base_codes.specs.Coded.{Coded, finished-coded, same-coded}
 use Rattle.search_children.specs.Children.{Tables, children-coded}
 use Rattle.search_slots.specs.Slots.{Slot, no-slot, slot-at}

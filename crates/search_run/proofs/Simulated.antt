@@ -24,12 +24,12 @@ use Rattle.paper.specs.Way.{text-along, texts-of, search-from}
 use Rattle.paper.specs.Question.{Question, held-by}
 use Rattle.paper.specs.Outcome.{count-of, how-of}
 use Rattle.paper.proofs.base.Listed.{getD-mem}
-use Rattle.paper.proofs.sheets.Asked.{GoodHeld}
-use Rattle.paper.proofs.sheets.Hidden.{Searchable}
-use Rattle.paper.proofs.equations.Same.{situation-equal, situation-same}
-use Rattle.paper.proofs.places.PlaceSets.{same-equal, equal-same}
-use Rattle.paper.proofs.search.Searched as Searched
-use Rattle.paper.proofs.search.Mapped.{code-entry, code-end, Simulates, search-how, search-entries, search-count}
+use Rattle.paper_laws.proofs.sheets.Asked.{GoodHeld}
+use Rattle.paper_laws.proofs.sheets.Hidden.{Searchable}
+use Rattle.paper_laws.proofs.equations.Same.{situation-equal, situation-same}
+use Rattle.paper_laws.proofs.places.PlaceSets.{same-equal, equal-same}
+use Rattle.paper_laws.proofs.search.Searched as Searched
+use Rattle.paper_laws.proofs.search.Mapped.{code-entry, code-end, Simulates, search-how, search-entries, search-count}
 use Rattle.paper_chosen.specs.Chosen.{acceptor-over, searched-over}
 use Rattle.base_places.proofs.Masks.{Few}
 use Rattle.base_codes.specs.Inner.{side-code, move-code, left-struck, right-struck}

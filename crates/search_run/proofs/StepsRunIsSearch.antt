@@ -15,7 +15,7 @@ use Rattle.paper.specs.Search.{Entry, End, found, used-up, no-room, too-long}
 use Rattle.paper.specs.Situation.{Situation, Move}
 use Rattle.paper.specs.Question.{Question}
 use Rattle.paper.specs.Outcome.{records, cleared, without-bytes, clash, answered, count-of, how-of}
-use Rattle.paper.proofs.sheets.Hidden.{Searchable}
+use Rattle.paper_laws.proofs.sheets.Hidden.{Searchable}
 use Rattle.paper_chosen.specs.Chosen.{searched-over}
 use Rattle.paper_steps.specs.StepRecords.{step-records}
 use Rattle.paper_steps.specs.StepsOutcome.{end-steps, without-steps, steps-too-short, steps-written, with-steps}

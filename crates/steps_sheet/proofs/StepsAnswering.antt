@@ -8,8 +8,8 @@ use lib.Dec.{eqb}
 use Rattle.paper.specs.Numbers.{most-characters}
 use Rattle.paper.specs.Sheet as Paper
 use Rattle.paper.specs.Outcome.{Outcome, outcome-of}
-use Rattle.paper.proofs.sheets.Asked.{sheet-good}
-use Rattle.paper.proofs.sheets.Hidden.{hidden-searchable}
+use Rattle.paper_laws.proofs.sheets.Asked.{sheet-good}
+use Rattle.paper_laws.proofs.sheets.Hidden.{hidden-searchable}
 use Rattle.paper_chosen.specs.Chosen.{every}
 use Rattle.paper_steps.specs.StepsOutcome.{StepsOutcome, without-steps, with-steps, steps-outcome}
 use Rattle.paper_steps.specs.StepsPromised.{StepsPromised}

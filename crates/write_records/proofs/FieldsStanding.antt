@@ -15,7 +15,7 @@ use Rattle.paper.specs.Alphabet.{Edition, edition-1, edition-2, codes-from, cod
 use Rattle.paper.specs.Sheet.{token}
 use Rattle.paper.proofs.base.Tests.{by-bool, le-ltb, lt-ltb, eqb-true, eqb-false, eqb-same, neq-eqb}
 use Rattle.paper.proofs.base.Lists.{any-append}
-use Rattle.paper.proofs.sheets.Editions.{most-of, code-sign, Byte, of-character, of-sign, of-none, byte-by}
+use Rattle.paper_laws.proofs.sheets.Editions.{most-of, code-sign, Byte, of-character, of-sign, of-none, byte-by}
 use Rattle.paper_write.specs.Laying.{both-sides}
 
 -- a byte holds every field's token

@@ -5,7 +5,7 @@ use borrow.Author.Needs.{needs}
 use mathlib.Core.Path.{_≡_, sym, ap}
 use Rattle.paper.specs.Alphabet.{Edition, alphabet-of, codes-from}
 use Rattle.base_editions.specs.declared.Alphabet.{Alphabet}
-use Rattle.paper.proofs.sheets.Editions.{code-character}
+use Rattle.paper_laws.proofs.sheets.Editions.{code-character}
 use Rattle.base_editions.specs.Editions.{paper-edition}
 use Rattle.base_editions.proofs.Codes.{before-codes, among-codes, behind-codes}
 use Rattle.base_editions.proofs.code.Statement.{statement}

@@ -9,7 +9,7 @@ use lib.ListN.{length, take, length-map}
 use lib.Seq.{length-take-le}
 use Rattle.paper.specs.Alphabet.{Edition, code, codes}
 use Rattle.paper.specs.Written.{not-one-pattern, too-many-leaves, judge}
-use Rattle.paper.proofs.places.Judged.{within-not-one, within-too-many}
+use Rattle.paper_laws.proofs.places.Judged.{within-not-one, within-too-many}
 use Rattle.base_editions.specs.Editions.{paper-edition}
 use Rattle.read_codes.proofs.Laying.{codes-front}
 use Rattle.read_pattern.specs.Worked.{worked-of}

@@ -18,7 +18,7 @@ use Rattle.paper.specs.Pattern.{Pattern}
 use Rattle.paper.specs.Written.{Judged, not-one-pattern, too-many-leaves, judge, judged}
 use Rattle.paper.specs.Sheet.{read, body, byte-at, pattern-judged, pattern-record}
 use Rattle.paper.proofs.base.Tests.{or-left-false, or-right-false, leb-false, ltb-false}
-use Rattle.paper.proofs.places.Judged.{within-not-one, within-too-many}
+use Rattle.paper_laws.proofs.places.Judged.{within-not-one, within-too-many}
 use Rattle.base_editions.specs.Editions.{paper-edition}
 use Rattle.read_codes.proofs.Laying.{codes-front}
 use Rattle.read_pattern.specs.Worked.{worked-of}
