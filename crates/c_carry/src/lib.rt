@@ -34,7 +34,7 @@ pub fn catalogue(catalogue: &mut [u8]) -> u32
     ensures catalogue { λ _. ⌜ now (catalogue .exit) ≡ carrying-over (now (catalogue .entry)) .catalogue ⌝ }
 {
     let carried = carry_open::catalogue(catalogue);
-    carry_open::number(carried) as u32
+    carry_numbers::carried(carried) as u32
 }
 
 // What a sheet or a rule that was written anew is told as: the number, and the three elements.
@@ -42,7 +42,7 @@ pub fn tell_spelt(spelt: Rewritten, told: &mut [u64]) -> u32
     ensures number { λ r. ⌜ r ≡ spelt-numbers spelt .number ⌝ }
     ensures told { λ _. ⌜ now (told .exit) ≡ with-numbers (now (told .entry)) 0 (spelt-numbers spelt .place) (spelt-numbers spelt .written) ⌝ }
 {
-    let numbers = carry_anew::in_numbers(spelt);
+    let numbers = carry_numbers::in_numbers(spelt);
     tell(told, 0, numbers.place, numbers.written);
     numbers.number as u32
 }

@@ -31,5 +31,5 @@ pub fn catalogue(catalogue: &mut [u8]) -> u32
     ensures catalogue { λ _. ⌜ now (catalogue .exit) ≡ catalogue-dropping (now (catalogue .entry)) .catalogue ⌝ }
 {
     let dropped = carry_strays::catalogue(catalogue);
-    carry_strays::number(dropped) as u32
+    carry_numbers::dropped(dropped) as u32
 }

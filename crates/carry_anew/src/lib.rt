@@ -1,10 +1,6 @@
-// A sheet and a rule written anew into a lent buffer, each record changed by whether its field stands, by what was read of them; and the answer in
-// numbers.
-use base_answers::FOREIGN_FIELD;
+// A sheet and a rule written anew into a lent buffer, each record changed by whether its field stands, by what was read of them.
 use base_answers::Fault;
 use base_answers::Found;
-use base_answers::Numbers;
-use base_answers::SHEET_TOO_SHORT;
 use base_codes::FIELDS;
 use base_codes::SHEET_FIELDS;
 use base_editions::Edition;
@@ -24,7 +20,7 @@ ghost use Rattle.paper_carry.specs.Spelling.{put-into};
 ghost use Rattle.base_editions.specs.Editions.{paper-edition};
 ghost use Rattle.base_put.specs.Counted.{last-place};
 ghost use Rattle.carry_put.specs.Putting.{records-from, put-whole};
-ghost use Rattle.carry_anew.specs.Anew.{spelt-numbers, told-spelt, sheet-rewritten, SheetRead, rule-rewritten, RuleRead};
+ghost use Rattle.carry_anew.specs.Anew.{told-spelt, sheet-rewritten, SheetRead, rule-rewritten, RuleRead};
 
 // The answer to a sheet or a rule that is to be written anew. specs/Anew.antt gives each its numbers.
 pub enum Rewritten {
@@ -107,37 +103,4 @@ fn write_out(
     }
     let bytes = put_whole(out, 0, s, from, bodies, counts, change);
     Rewritten::Written { bytes }
-}
-
-// An answer in numbers.
-pub fn in_numbers(s: Rewritten) -> Numbers
-    ensures { λ r. ⌜ r ≡ spelt-numbers s ⌝ }
-{
-    match s {
-        Rewritten::Written { bytes } => Numbers {
-            number: 0,
-            count: 0,
-            place: 0,
-            written: bytes,
-        },
-        Rewritten::Refused { fault, place } => Numbers {
-            number: base_answers::number(fault) as usize,
-            count: 0,
-            place,
-            written: 0,
-        },
-        Rewritten::ForeignField => only(FOREIGN_FIELD),
-        Rewritten::TooShort => only(SHEET_TOO_SHORT),
-    }
-}
-
-fn only(number: usize) -> Numbers
-    ensures { λ r. ⌜ r ≡ record { number = number; count = 0; place = 0; written = 0 } ⌝ }
-{
-    Numbers {
-        number,
-        count: 0,
-        place: 0,
-        written: 0,
-    }
 }

@@ -1,7 +1,5 @@
 // Old sheets, rules and catalogues carried over: "Sheets and catalogue rules that relied on the old meaning must carry 68 65 0 42 written out", behind
 // `ED` "196 193 0 127" (request K10).
-use base_answers::CATALOGUE_FULL;
-use base_answers::NO_CATALOGUE;
 use base_editions::Edition;
 use carry_anew::Rewritten;
 use carry_put::no_bytes;
@@ -10,7 +8,7 @@ use carry_records::Change;
 ghost use mathlib.Core.Path.{_≡_};
 ghost use Rattle.paper_carry.specs.Spelling.{spelling, rule-spelling, carrying-over, CarryPromised, RulePromised, CataloguePromised};
 ghost use Rattle.carry_anew.specs.Anew.{told-spelt};
-ghost use Rattle.carry_open.specs.CarriedOver.{carried-number, told-carried};
+ghost use Rattle.carry_open.specs.CarriedOver.{told-carried};
 
 // The answer to a catalogue that is to be carried over in its own buffer.
 pub enum CarriedOver {
@@ -62,15 +60,4 @@ pub fn catalogue(catalogue: &mut [u8]) -> CarriedOver
     }
     catalogue_bytes::put(catalogue, 0, &bytes[0..n]);
     CarriedOver::Done
-}
-
-// The number of an answer to a catalogue.
-pub fn number(c: CarriedOver) -> usize
-    ensures { λ r. ⌜ r ≡ carried-number c ⌝ }
-{
-    match c {
-        CarriedOver::Done => 0,
-        CarriedOver::Full => CATALOGUE_FULL,
-        CarriedOver::NoCatalogue => NO_CATALOGUE,
-    }
 }

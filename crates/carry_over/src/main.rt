@@ -71,7 +71,7 @@ fn carry_catalogue(catalogue: &mut [u8], fault: Fault, place: usize) {
 
 // What was written, or why nothing was.
 fn show(spelt: Rewritten, out: &[u8]) {
-    let told = carry_anew::in_numbers(spelt);
+    let told = carry_numbers::in_numbers(spelt);
     let n = told.written;
     if told.number == 31 {
         tell(b"carry_over: 31: the rule names a field above 3\n");

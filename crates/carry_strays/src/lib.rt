@@ -1,6 +1,5 @@
 // Stray patterns taken out of old sheets, rules and catalogues (request K13): read "by the old rule", and written without the patterns of fields that
 // stand in neither side, "`ED` and everything else byte for byte as it was".
-use base_answers::NO_CATALOGUE;
 use carry_anew::Rewritten;
 use carry_put::no_bytes;
 use carry_put::put_rules;
@@ -8,7 +7,7 @@ use carry_records::Change;
 ghost use mathlib.Core.Path.{_≡_};
 ghost use Rattle.paper_strays.specs.Dropping.{dropping, rule-dropping, catalogue-dropping, DropPromised, RuleDropPromised, CatalogueDropPromised};
 ghost use Rattle.carry_anew.specs.Anew.{told-spelt};
-ghost use Rattle.carry_strays.specs.StraysDropped.{dropped-number, told-dropped};
+ghost use Rattle.carry_strays.specs.StraysDropped.{told-dropped};
 
 // The answer to a catalogue whose strays are to be taken out in its own buffer.
 pub enum StraysDropped {
@@ -51,14 +50,4 @@ pub fn catalogue(catalogue: &mut [u8]) -> StraysDropped
     let used = kept.used;
     catalogue_bytes::put(catalogue, 0, &bytes[0..used]);
     StraysDropped::Done
-}
-
-// The number of an answer to a catalogue.
-pub fn number(d: StraysDropped) -> usize
-    ensures { λ r. ⌜ r ≡ dropped-number d ⌝ }
-{
-    match d {
-        StraysDropped::Done => 0,
-        StraysDropped::NoCatalogue => NO_CATALOGUE,
-    }
 }

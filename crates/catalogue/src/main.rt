@@ -372,12 +372,12 @@ fn rechecked(decide: bool, catalogue: &[u8], work: &mut [u8], list: &mut [u8]) -
 
 // `SO`
 fn carry(catalogue: &mut [u8], bytes: bool) -> How {
-    let told = carry_open::number(carry_open::catalogue(catalogue));
+    let told = carry_numbers::carried(carry_open::catalogue(catalogue));
     print_changed(b"carry", told, catalogue, bytes)
 }
 
 // `DS`
 fn drop_strays(catalogue: &mut [u8], bytes: bool) -> How {
-    let told = carry_strays::number(carry_strays::catalogue(catalogue));
+    let told = carry_numbers::dropped(carry_strays::catalogue(catalogue));
     print_changed(b"drop", told, catalogue, bytes)
 }

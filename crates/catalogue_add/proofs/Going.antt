@@ -4,8 +4,9 @@ use Prim.Native.Nat.{ℕ, suc, _+_, _≤_, _<_}
 use native.Mathlib.Numerals.{add-one}
 use native.Mathlib.Omega.{arith}
 use mathlib.Core.Path.{_≡_, refl, sym, ap, _∙_, subst}
-use mathlib.Core.Bool.{Bool}
+use mathlib.Core.Bool.{Bool, true, false}
 use mathlib.Core.List.{List, [], _∷_}
+use lib.Dec.{eqb}
 use lib.ListN.{length, take, drop, replicate, length-replicate, drop-of-length-le}
 use lib.Seq.{take-all}
 use Rattle.paper.specs.Alphabet.{edition-1}
@@ -14,7 +15,6 @@ use Rattle.paper.specs.Outcome.{room-of, cleared}
 use Rattle.paper_catalogue.specs.PairAsking.{PairAsking}
 use Rattle.paper_catalogue.specs.Catalogue.{Present, pairs-by, work-behind}
 use Rattle.paper_catalogue.specs.Calls.{rule-at}
-use Rattle.paper.proofs.base.Tests.{eq-eqb, neq-eqb}
 use Rattle.paper_catalogue.proofs.Local.{rule-whole, rule-before}
 use Rattle.paper_catalogue.proofs.GoodRule.{new-good}
 use Rattle.base_places.specs.declared.PlaceTables.{PlaceTables}
@@ -75,18 +75,18 @@ module _ {a : PairAsking} {l : List Present} {new : Rule} where
       cleared-lent : after ≡ cleared lent
       cleared-lent = w ∙ rw same-length
 
-      pub going-more : pair .answer ≡ 1 → Going a l new lent after (i + 1)
+      pub going-more : eqb (pair .answer) 1 ≡ true → Going a l new lent after (i + 1)
       going-more e =
           record {
             below = omega arith;
-            pairs = g .pairs ∙ rw (in-front l i h, ← told, eq-eqb (pair .answer) 1 e, add-one i);
+            pairs = g .pairs ∙ rw (in-front l i h, ← told, e, add-one i);
             behind = cleared-lent ∙ sym (rw (add-one i) (some-behind l i lent h));
           }
 
-      pub going-stops : (pair .answer ≡ 1 → ⊥) → Pairs-asked a l new lent after (NotApart i pair)
+      pub going-stops : eqb (pair .answer) 1 ≡ false → Pairs-asked a l new lent after (NotApart i pair)
       going-stops d =
           record {
-            pairs = sym (g .pairs ∙ rw (in-front l i h, ← told, neq-eqb (pair .answer) 1 d));
+            pairs = sym (g .pairs ∙ rw (in-front l i h, ← told, d));
             after-work = cleared-lent ∙ sym (all-behind l i lent h);
           }
 

@@ -153,7 +153,7 @@ fn ask_all(
             bytes,
             work,
         );
-        if pair.answer != 1 {
+        if !catalogue_question::is_apart(pair) {
             return Asked::NotApart { rule: i, pair };
         }
         i += 1;

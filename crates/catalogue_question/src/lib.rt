@@ -12,6 +12,7 @@ use base_question::Question;
 use read_rule::RULE_FIELDS;
 ghost use mathlib.Core.Path.{_≡_};
 ghost use mathlib.Core.List.{map};
+ghost use lib.Dec.{eqb};
 ghost use Prim.Native.Nat.{_<_};
 ghost use Rattle.paper.specs.Numbers.{fields};
 ghost use Rattle.base_answers.specs.AnswerNumbers.{number-in-pair};
@@ -92,6 +93,13 @@ pub fn answered(how: How, count: usize, search: u8) -> Pair
         count,
         search,
     }
+}
+
+// Whether it is answered 1. Given up, or not decided, is not apart.
+pub fn is_apart(pair: Pair) -> bool
+    ensures { λ r. ⌜ r ≡ eqb (pair .answer) 1 ⌝ }
+{
+    pair.answer == 1
 }
 
 // The side with its fields as 4 to 7.

@@ -2,12 +2,12 @@
 use Prim.Native.Nat.{ℕ, suc, _+_, _/_, _%_, _≤_}
 use native.Mathlib.Omega.{arith}
 use mathlib.Core.Path.{_≡_, refl, ap}
+use mathlib.Core.Bool.{true, false}
 use mathlib.Core.List.{List, []}
-use lib.Dec.{lit≤}
+use lib.Dec.{eqb, lit≤}
 use lib.ListN.{length, set}
 use Rattle.paper_catalogue.specs.PairAsking.{PairAsking, record-by, by-search}
 use Rattle.paper_catalogue_decide.specs.DecidedPairs.{by-deciding}
-use Rattle.paper.proofs.base.Tests.{eq-eqb, neq-eqb}
 use Rattle.catalogue_question.specs.AskedBy.{asking-coded, told-pair}
 use Rattle.catalogue_question.specs.declared.Asking.{Asking}
 use Rattle.catalogue_question.specs.declared.Asking.the-variants.{Search, Decide}
@@ -21,18 +21,18 @@ five-at-least Search = lit≤ tt
 five-at-least Decide = lit≤ tt
 
 module _ (lower higher : ℕ) (p : Pair) where
-  pub its-record : (a : PairAsking) → (p .answer ≡ 1 → ⊥) → pair-bytes-of a lower higher p ≡ record-by a lower higher (told-pair p)
-  its-record a d = rw (neq-eqb (p .answer) 1 d)
+  pub its-record : (a : PairAsking) → eqb (p .answer) 1 ≡ false → pair-bytes-of a lower higher p ≡ record-by a lower higher (told-pair p)
+  its-record a d = rw d
 
-  pub its-length : (how : Asking) → (p .answer ≡ 1 → ⊥) → length (pair-bytes-of (asking-coded how) lower higher p) ≡ asking-coded how .pair-bytes
+  pub its-length : (how : Asking) → eqb (p .answer) 1 ≡ false → length (pair-bytes-of (asking-coded how) lower higher p) ≡ asking-coded how .pair-bytes
   its-length Search d = ap length (its-record by-search d)
   its-length Decide d = ap length (its-record by-deciding d)
 
   -- put behind the first n
-  pub puts-no-bytes : (a : PairAsking) (bytes : List ℕ) (n : ℕ) → p .answer ≡ 1 → Puts bytes bytes n n (pair-bytes-of a lower higher p)
-  puts-no-bytes a bytes n e = rw (eq-eqb (p .answer) 1 e) puts-none
+  pub puts-no-bytes : (a : PairAsking) (bytes : List ℕ) (n : ℕ) → eqb (p .answer) 1 ≡ true → Puts bytes bytes n n (pair-bytes-of a lower higher p)
+  puts-no-bytes a bytes n e = rw e puts-none
 
-  module _ (bytes : List ℕ) (n : ℕ) (d : p .answer ≡ 1 → ⊥) where
+  module _ (bytes : List ℕ) (n : ℕ) (d : eqb (p .answer) 1 ≡ false) where
     -- the first four
     abbrev front : List ℕ
     front = set (set (set (set bytes n lower) (n + 1) higher) (n + 2) (p .answer)) (n + 3) (p .count % 256)

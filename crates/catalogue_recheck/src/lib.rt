@@ -153,10 +153,10 @@ fn put_pair(
     requires { ⌜ Pair-fits how (now bytes) n lower higher pair ⌝ }
     ensures { λ r. ⌜ Puts (now (bytes .entry)) (now (bytes .exit)) n r (pair-bytes-of (asking-coded how) lower higher pair) ⌝ }
 {
-    let answer = pair.answer;
-    if answer == 1 {
+    if catalogue_question::is_apart(pair) {
         return n;
     }
+    let answer = pair.answer;
     let count = pair.count;
     let search = pair.search;
     bytes[n] = lower as u8;

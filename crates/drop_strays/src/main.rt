@@ -69,7 +69,7 @@ fn drop_in_catalogue(catalogue: &mut [u8], fault: Fault, place: usize) {
 
 // What was written, or why nothing was.
 fn show(kept: Rewritten, out: &[u8]) {
-    let told = carry_anew::in_numbers(kept);
+    let told = carry_numbers::in_numbers(kept);
     let n = told.written;
     if told.number == 31 {
         tell(b"drop_strays: 31: the rule names a field above 3\n");

@@ -3,7 +3,7 @@ use crate::ANSWER_FILL;
 use crate::print_told;
 use base_answers::Numbers;
 use carry_anew::Rewritten;
-use carry_anew::in_numbers;
+use carry_numbers::in_numbers;
 use print_out::How;
 use print_out::print;
 use print_out::print_answer;

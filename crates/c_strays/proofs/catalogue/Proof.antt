@@ -13,8 +13,8 @@ use Rattle.c_strays.proofs.catalogue.Tie as tie
 catalogue-requires : tie.Need-catalogue-requires
 catalogue-requires c κs = search needs
 
-number-requires : tie.Need-number-requires
-number-requires c κs = search needs
+dropped-requires : tie.Need-dropped-requires
+dropped-requires c κs = search needs
 
 dropped-below : (d : StraysDropped) → dropped-number d < 35
 dropped-below Done = lit< tt
@@ -23,7 +23,7 @@ dropped-below NoCatalogue = lit< tt
 cast-result : tie.Need-cast-result
 cast-result c =
     let dropped = c .before .before .before .catalogue .result in
-    record { fits = omega (arith, dropped-below dropped, c .number .ensures) }
+    record { fits = omega (arith, dropped-below dropped, c .dropped .ensures) }
 
 same-length : tie.Need-same-length
 same-length c = search needs
@@ -31,7 +31,7 @@ same-length c = search needs
 returns : tie.Need-returns
 returns c =
     let at-dropped = c .before .before .before in
-    carried-promised _ (c .number .result) (at-dropped .catalogue .ensures .0) (c .number .ensures)
+    carried-promised _ (c .dropped .result) (at-dropped .catalogue .ensures .0) (c .dropped .ensures)
 
 pub catalogue-spec : {M : Type 1} → statement M
-catalogue-spec = tie.close (tie.spec catalogue-requires number-requires cast-result same-length returns)
+catalogue-spec = tie.close (tie.spec catalogue-requires dropped-requires cast-result same-length returns)

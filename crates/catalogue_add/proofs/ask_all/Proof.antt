@@ -1,9 +1,10 @@
 -- `ask_all` meets its contract. The loop's invariant: the pairs before number `i` are all answered 1 (`Going`). Assumes nothing.
 use Prim.Native.Nat.{_-_, _≤_}
 use native.Mathlib.Omega.{arith}
-use mathlib.Core.Path.{_≡_, refl, ap, _∙_}
+use mathlib.Core.Path.{_≡_, refl, sym, ap, _∙_}
 use denote.Ref.{now}
 use borrow.Author.Needs.{needs}
+use borrow.Author.Tests.{not-true, not-false}
 use borrow.Rule.Slice.PartAt.{part-to-end}
 use lib.ListN.{length, length-replicate}
 use Rattle.paper.specs.Outcome.{room-of}
@@ -64,6 +65,9 @@ part-ask-end c = search needs
 ask-requires : tie.Need-ask-requires Inv-loop μ-loop
 ask-requires c κs = search needs
 
+is-apart-requires : tie.Need-is-apart-requires Inv-loop μ-loop
+is-apart-requires c κs = search needs
+
 -- where the loop is, behind a pair that was asked
 abbrev in-loop : tie.After-ask Inv-loop μ-loop → tie.In-loop Inv-loop μ-loop
 in-loop k = k .before .before .before .before .before .before .before .before .before
@@ -93,7 +97,8 @@ returns c =
     let k = c .before .before .before .before in
     let l = in-loop k .before in
     λ x.
-    going-stops (l .loop .inv .1 x) (omega (arith, x .standing .counted, in-loop k .loop-test .taken)) (told k x) (k .ask .ensures .1) (c .if1 .taken)
+    going-stops (l .loop .inv .1 x) (omega (arith, x .standing .counted, in-loop k .loop-test .taken)) (told k x) (k .ask .ensures .1)
+    (sym (c .before .is-apart .ensures) ∙ not-true (c .before .is-apart .result) (c .if1 .taken))
 
 add-i : tie.Need-add-i Inv-loop μ-loop
 add-i c =
@@ -109,7 +114,8 @@ loop-again c =
     let l = in-loop k .before in (
       ap length (k .ask .ensures .1) ∙ length-replicate _ 0 ∙ l .loop .inv .0,
       λ x.
-          going-more (l .loop .inv .1 x) (omega (arith, x .standing .counted, in-loop k .loop-test .taken)) (told k x) (k .ask .ensures .1) (c .if1 .left),
+          going-more (l .loop .inv .1 x) (omega (arith, x .standing .counted, in-loop k .loop-test .taken)) (told k x) (k .ask .ensures .1)
+          (sym (c .before .is-apart .ensures) ∙ not-false (c .before .is-apart .result) (c .if1 .left)),
     )
 
 same-length-2 : tie.Need-same-length-2 Inv-loop μ-loop
@@ -133,6 +139,7 @@ ask-all-spec =
     part-ask-start
     part-ask-end
     ask-requires
+    is-apart-requires
     same-length
     returns
     add-i

@@ -1,9 +1,11 @@
 -- `put_pair` meets its contract: no byte, or five or seven one behind the other (`PairBytes`). Assumes nothing.
 use Prim.Native.Nat.{_+_, _≤_}
 use native.Mathlib.Omega.{arith}
-use mathlib.Core.Path.{ap}
+use mathlib.Core.Path.{_≡_, sym, ap, _∙_}
+use mathlib.Core.Bool.{false}
 use denote.Ref.{now}
 use borrow.Author.Needs.{needs}
+use lib.Dec.{eqb}
 use lib.ListN.{length, length-set}
 use Rattle.catalogue_question.specs.AskedBy.{asking-coded}
 use Rattle.catalogue_question.specs.declared.Asking.{Asking}
@@ -12,24 +14,35 @@ use Rattle.catalogue_recheck.proofs.PairBytes.{its-length, five-at-leas
 use Rattle.catalogue_recheck.proofs.put_pair.Statement.{statement}
 use Rattle.catalogue_recheck.proofs.put_pair.Tie as tie
 
+is-apart-requires : tie.Need-is-apart-requires
+is-apart-requires c κs = search needs
+
 returns : tie.Need-returns
 returns c =
-    let a = c .before .args in
-    puts-no-bytes (a .lower) (a .higher) (a .pair) (asking-coded (a .how)) (now (a .bytes)) (a .n) (c .if1 .taken)
+    let p = c .before in
+    let a = p .before .before .args in
+    puts-no-bytes (a .lower) (a .higher) (a .pair) (asking-coded (a .how)) (now (a .bytes)) (a .n) (sym (p .is-apart .ensures) ∙ c .if1 .taken)
 
 cast-bytes : tie.Need-cast-bytes
 cast-bytes c = search needs
 
+-- where it begins, from behind the test
+abbrev start : tie.Else1 → tie.Start
+start c = c .before .before .before
+
+not-apart : (c : tie.Else1) → eqb (start c .args .pair .answer) 1 ≡ false
+not-apart c = sym (c .before .is-apart .ensures) ∙ c .if1 .left
+
 -- its bytes fit
 its-fit : (c : tie.Else1) →
-    let a = c .before .args in a .n + asking-coded (a .how) .pair-bytes ≤ length (now (a .bytes))
+    let a = start c .args in a .n + asking-coded (a .how) .pair-bytes ≤ length (now (a .bytes))
 its-fit c =
-    let s = c .before in
-    omega (arith, s .pre .room, its-length (s .args .lower) (s .args .higher) (s .args .pair) (s .args .how) (c .if1 .left))
+    let s = start c in
+    omega (arith, s .pre .room, its-length (s .args .lower) (s .args .higher) (s .args .pair) (s .args .how) (not-apart c))
 
 five-fit : (c : tie.Else1) →
-    let a = c .before .args in a .n + 5 ≤ length (now (a .bytes))
-five-fit c = omega (arith, its-fit c, five-at-least (c .before .args .how))
+    let a = start c .args in a .n + 5 ≤ length (now (a .bytes))
+five-fit c = omega (arith, its-fit c, five-at-least (start c .args .how))
 
 slice-write-bytes : tie.Need-slice-write-bytes
 slice-write-bytes c = omega (arith, five-fit c)
@@ -44,7 +57,7 @@ slice-write-bytes-2 : tie.Need-slice-write-bytes-2
 slice-write-bytes-2 c = simp length-set (omega (arith, five-fit c))
 
 cast-bytes-3 : tie.Need-cast-bytes-3
-cast-bytes-3 c = omega (arith, c .before .pre .answer-byte)
+cast-bytes-3 c = omega (arith, start c .pre .answer-byte)
 
 add-bytes-2 : tie.Need-add-bytes-2
 add-bytes-2 c = search needs
@@ -66,7 +79,7 @@ enum-told : tie.Need-enum-told
 enum-told c = search needs
 
 cast-bytes-5 : tie.Need-cast-bytes-5
-cast-bytes-5 c = omega (arith, c .before .before .before .pre .count-bytes, ap above-count (c .enum-told .given .1))
+cast-bytes-5 c = omega (arith, start (c .before .before) .pre .count-bytes, ap above-count (c .enum-told .given .1))
 
 add-bytes-4 : tie.Need-add-bytes-4
 add-bytes-4 c = search needs
@@ -85,7 +98,7 @@ cast-bytes-6 : tie.Need-cast-bytes-6
 cast-bytes-6 c = search needs
 
 seven-fit : (c : tie.After-enum-told2) →
-    let a = c .before .before .before .args in a .n + 7 ≤ length (now (a .bytes))
+    let a = start (c .before .before) .args in a .n + 7 ≤ length (now (a .bytes))
 seven-fit c = omega (arith, its-fit (c .before .before), ap (λ (h : Asking). asking-coded h .pair-bytes) (c .enum-told2 .given .1))
 
 add-bytes-5 : tie.Need-add-bytes-5
@@ -95,7 +108,7 @@ slice-write-bytes-6 : tie.Need-slice-write-bytes-6
 slice-write-bytes-6 c = simp length-set (omega (arith, seven-fit c))
 
 cast-bytes-7 : tie.Need-cast-bytes-7
-cast-bytes-7 c = omega (arith, c .before .before .before .pre .count-bytes, ap above-count (c .enum-told2 .given .1))
+cast-bytes-7 c = omega (arith, start (c .before .before) .pre .count-bytes, ap above-count (c .enum-told2 .given .1))
 
 add-bytes-6 : tie.Need-add-bytes-6
 add-bytes-6 c = search needs
@@ -117,21 +130,22 @@ same-length c = search needs
 
 returns-2 : tie.Need-returns-2
 returns-2 c =
-    let a = c .before .before .before .args in
-    rw (c .enum-told .given .1) (puts-five-bytes (a .lower) (a .higher) (a .pair) (now (a .bytes)) (a .n) (c .before .before .if1 .left))
+    let a = start (c .before .before) .args in
+    rw (c .enum-told .given .1) (puts-five-bytes (a .lower) (a .higher) (a .pair) (now (a .bytes)) (a .n) (not-apart (c .before .before)))
 
 same-length-2 : tie.Need-same-length-2
 same-length-2 c = simp length-set
 
 returns-3 : tie.Need-returns-3
 returns-3 c =
-    let a = c .before .before .before .args in
-    rw (c .enum-told2 .given .1) (puts-seven-bytes (a .lower) (a .higher) (a .pair) (now (a .bytes)) (a .n) (c .before .before .if1 .left))
+    let a = start (c .before .before) .args in
+    rw (c .enum-told2 .given .1) (puts-seven-bytes (a .lower) (a .higher) (a .pair) (now (a .bytes)) (a .n) (not-apart (c .before .before)))
 
 pub put-pair-spec : {M : Type 1} → statement M
 put-pair-spec =
     tie.close
     (tie.spec
+    is-apart-requires
     returns
     cast-bytes
     slice-write-bytes

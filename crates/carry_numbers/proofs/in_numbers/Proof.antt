@@ -2,10 +2,10 @@
 use Prim.Native.Nat.{ℕ}
 use mathlib.Core.Path.{sym, ap, _∙_}
 use Rattle.base_answers.specs.declared.Numbers.{Numbers}
 use Rattle.carry_anew.specs.Anew.{spelt-numbers}
 use borrow.Author.Needs.{needs}
-use Rattle.carry_anew.proofs.in_numbers.Statement.{statement}
-use Rattle.carry_anew.proofs.in_numbers.Tie as tie
+use Rattle.carry_numbers.proofs.in_numbers.Statement.{statement}
+use Rattle.carry_numbers.proofs.in_numbers.Tie as tie
 
 enum-known-s : tie.Need-enum-known-s
 enum-known-s c = search needs
