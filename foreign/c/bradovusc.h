@@ -4,8 +4,8 @@
  * A rule is fixed Code 39 characters with fields between them; a field may have a pattern. Two rules clash when one label can be
  * read by both. Spaces at the end of a label are dropped before it is read, so LT4 and LT4 with a space are the same label. The two
  * rules stand on a question sheet; the answer is a number, and after a clash a text for each field. One search answers it, or up to
- * seven attempts, which decide more. The one search can write the way to its clash too, step by step; so can be the way of any texts
- * of a clash, and any such way can be played again.
+ * seven attempts, which decide more. The one search can write the way to its clash too, step by step; texts of a clash from anywhere
+ * get their way too, unless a side grows too long on it; and any such way can be played again.
  * Where no field stands twice, a small engine says clash or no clash in at most 9,731 bytes. The sheet is written from the two sides
  * and the patterns; where one of them is wrong, its place is told. Most pairs of rules differ in what is fixed at their fronts or
  * ends, which is told from the two sides alone.
@@ -32,16 +32,17 @@
  * They keep nothing from one call to the next, ask for no memory, and touch nothing but what they are lent, so calls in several
  * threads don't meet. bradovusc_recheck_decided, bradovusc_add_decided and bradovusc_recheck take at most about 140 KiB of stack,
  * bradovusc_spell_open_catalogue and bradovusc_drop_strays_catalogue about 120, the others about 105; 135, 132, 127, 112, 112 and 99
- * were measured, 82 of bradovusc_decide. So a thread with 128 KiB is enough for all but the first three, and one with 256 KiB for
- * these.
+ * were measured, 94 of bradovusc_way, 82 of bradovusc_decide. So a thread with 128 KiB is enough for all but the first three, and
+ * one with 256 KiB for these.
  * All else is in this header:
  * bradovusc_ask, bradovusc_settle, bradovusc_find_steps, bradovusc_play_steps, bradovusc_find_way, bradovusc_ask_plain,
  * bradovusc_measure_plain, bradovusc_write_sheet, bradovusc_write_sheet_edition, bradovusc_spell_text, bradovusc_read_back,
  * bradovusc_write_script, bradovusc_enter, bradovusc_enter_decided, bradovusc_remove, bradovusc_check_again,
  * bradovusc_check_again_decided, bradovusc_carry_sheet, bradovusc_carry_rule, bradovusc_carry_catalogue, bradovusc_mend_sheet,
- * bradovusc_mend_rule, bradovusc_mend_catalogue and bradovusc_tell_apart call them with any buffers, bradovusc_text and
- * bradovusc_catalogue_text say a number in words, bradovusc_next walks the texts of a clash, bradovusc_next_step the steps of its
- * way, bradovusc_next_pair the pairs that were listed, bradovusc_sign and bradovusc_value go between values and signs.
+ * bradovusc_mend_rule, bradovusc_mend_catalogue and bradovusc_tell_apart call them with any buffers, bradovusc_text,
+ * bradovusc_catalogue_text and bradovusc_way_text say a number in words, bradovusc_next walks the texts of a clash,
+ * bradovusc_next_step the steps of its way, bradovusc_next_pair the pairs that were listed, bradovusc_sign and bradovusc_value go
+ * between values and signs.
  *
  * The header is C99 and C++11. The rules in full: docs/RULES.md.
  */
@@ -120,7 +121,7 @@ enum bradovusc_number {
 
     /* Given up: the working buffer is full. Lend a longer one, though some questions fill any. */
     BRADOVUSC_NO_ROOM = 18,
-    /* Given up: a side grew above 48 tokens, its hidden field counted. */
+    /* Given up: a side grew above 48 tokens, its hidden field counted. Of texts whose way is written: it did on the way. */
     BRADOVUSC_SIDE_TOO_LONG = 19,
     /* The rules clash, but the answer buffer is too short for the texts. Lend a longer one. */
     BRADOVUSC_ANSWER_TOO_SHORT = 20,
@@ -170,10 +171,16 @@ enum bradovusc_number {
     BRADOVUSC_STEP_NOT_ALLOWED = 48,
     /* The records end before the finish. */
     BRADOVUSC_NOT_FINISHED = 49,
-    /* There are more than 65,534 records. */
+    /* There are more than 65,534 records, or the way of given texts has more steps. */
     BRADOVUSC_TOO_MANY_STEPS = 50,
     /* The rules clash, but the steps buffer is too short for the way. Lend a longer one. The texts are not written either. */
-    BRADOVUSC_STEPS_TOO_SHORT = 51
+    BRADOVUSC_STEPS_TOO_SHORT = 51,
+
+    /* Of texts whose way is written: they are no records, one for each field that stands, by rising number, and nothing else, or a value
+     * is no character. */
+    BRADOVUSC_WRONG_TEXTS = 47,
+    /* The texts don't make both sides the same label, or one is none that its field may hold. */
+    BRADOVUSC_NO_SOLUTION = 48
 };
 
 /* The number in words, 0 as the answer of a sheet or a pair. Never null. */
@@ -250,6 +257,13 @@ static inline const char *bradovusc_text(uint32_t number) {
  * of the bytes that a sheet needs, or of a text that is spelt or read back: 0 is "done". */
 static inline const char *bradovusc_catalogue_text(uint32_t number) {
     return number == BRADOVUSC_DONE ? "done" : bradovusc_text(number);
+}
+
+/* The same for what is answered about the way of given texts: 47 and 48 are about these. */
+static inline const char *bradovusc_way_text(uint32_t number) {
+    return number == BRADOVUSC_WRONG_TEXTS   ? "no records of the texts"
+           : number == BRADOVUSC_NO_SOLUTION ? "the texts solve nothing"
+                                             : bradovusc_text(number);
 }
 
 /* The signs of the 43 characters of Code 39, by value. */

@@ -355,6 +355,10 @@ static void try_texts(void) {
         check(strcmp(bradovusc_text(number), expected) == 0, "the text of a number", (long)number);
         expected = number == 0 ? "done" : expected;
         check(strcmp(bradovusc_catalogue_text(number), expected) == 0, "the text of a catalogue's number", (long)number);
+        expected = number == 47   ? "no records of the texts"
+                   : number == 48 ? "the texts solve nothing"
+                                  : bradovusc_text(number);
+        check(strcmp(bradovusc_way_text(number), expected) == 0, "the text of a number of a way", (long)number);
     }
     check(next == 31, "31 numbers have a text", (long)next);
     check(strcmp(bradovusc_text(UINT32_MAX), none) == 0, "the greatest number has no text", -1);
@@ -1439,6 +1443,38 @@ static void try_way(void) {
     check(given.number == 11 && given.place == 0, "no sheet", 11);
 }
 
+/* 24 times x, and y, without patterns: the second A, put before each x, makes a long side. */
+static void try_long_way(void) {
+    static const uint8_t texts[] = {'V', 'A', 0, 2, 0, 10, 10, 'V', 'A', 1, 2, 0, 10, 10}, right[] = {'R', 'I', 1, 65};
+    uint8_t sheet[3 + 24 + sizeof right] = {'L', 'E', 24}, steps[8];
+    struct bradovusc_played given;
+    memset(sheet + 3, 64, 24);
+    memcpy(sheet + 3 + 24, right, sizeof right);
+    memset(steps, 7, sizeof steps);
+    given = bradovusc_find_way(sheet, sizeof sheet, texts, sizeof texts, steps, sizeof steps);
+    check(given.number == 19 && given.place == 0 && given.written == 0, "a side that grows too long", 19);
+    check(all_are(steps, sizeof steps, 7), "it changes nothing", 19);
+}
+
+/* KP, a number, - and the number again; the same, but the number ends in 0: one search gives up, and what is decided has a way. */
+static void try_way_of_decided(void) {
+    static const uint8_t twice[] = {'P', 'A', 0, 8, 66, 65, 0, 9, 68, 65, 0, 9, 'P', 'A', 1, 6, 66, 68, 65, 0, 9, 0,
+                                    'L', 'E', 5, 20, 25, 64, 36, 64, 'R', 'I', 5, 20, 25, 65, 36, 65};
+    static const uint8_t expected[] = {'S', 'T', 2, 0, 'S', 'T', 0, 'S', 'T', 1, 'S', 'T', 0, 'S', 'T', 1};
+    static uint8_t room[BRADOVUSC_WORK_BYTES(356)];
+    uint8_t texts[12], steps[20], again[12];
+    struct bradovusc_decision decided = bradovusc_settle(twice, sizeof twice, room, sizeof room, texts, sizeof texts);
+    struct bradovusc_played given;
+    check(decided.number == 0 && decided.search == 4 && decided.written == sizeof texts, "a clash by 4", (long)decided.search);
+    memset(steps, 7, sizeof steps);
+    given = bradovusc_find_way(twice, sizeof twice, texts, sizeof texts, steps, sizeof steps);
+    check(given.number == 0 && given.written == sizeof expected && memcmp(steps, expected, sizeof expected) == 0, "its way", 16);
+    check(all_are(steps + sizeof expected, sizeof steps - sizeof expected, 7), "no byte behind it", 16);
+    given = bradovusc_play_steps(twice, sizeof twice, steps, sizeof expected, again, sizeof again);
+    check(given.number == 0 && given.written == sizeof texts && memcmp(again, texts, sizeof texts) == 0, "the player gives the texts back",
+          12);
+}
+
 /* x and y without patterns, and so many times the character A: the same situation again and again. */
 static void try_most_steps(void) {
     static const uint8_t endless[] = {'L', 'E', 1, 64, 'R', 'I', 1, 65};
@@ -1462,6 +1498,12 @@ static void try_most_steps(void) {
     check(texts[3] == 250 && texts[4] == 255, "a text of 65,530 characters", 65530);
     given = bradovusc_find_way(endless, sizeof endless, texts, 2 * (5 + most - 4), steps, sizeof steps);
     check(given.number == 0 && given.written == 4 * (most - 4) + sizeof end, "the longest way, by its texts", (long)most);
+    /* a character more in each */
+    memmove(texts + 6 + most - 4, texts + 5 + most - 4, 5 + most - 4);
+    texts[5 + most - 4] = texts[2 * (5 + most - 4) + 1] = 10;
+    texts[3] = texts[9 + most - 4] = 251;
+    given = bradovusc_find_way(endless, sizeof endless, texts, 2 * (6 + most - 4), steps, sizeof steps);
+    check(given.number == 50 && given.written == 0, "a step too many, by its texts", (long)most + 1);
 }
 
 /* A walk over steps, and over what is none. */
@@ -1726,6 +1768,8 @@ static void try_strays(void) {
     check(stepped.number == 22 && stepped.count == 0 && stepped.place == 5 && stepped.written == 0 && stepped.steps == 0, "its steps", 22);
     played = bradovusc_play_steps(sheet, length, before, 1, buffer, 32);
     check(played.number == 22 && played.place == 5 && played.written == 0, "22 is before 47", 22);
+    played = bradovusc_find_way(sheet, length, before, 1, buffer, 32);
+    check(played.number == 22 && played.place == 5 && played.written == 0, "22 is before 47, of texts", 22);
     check(is_plain(sheet, length, 1, 22, 5) && needs(sheet, length, 22, 5, 0), "plain rules", 22);
     check(is_scripted(bradovusc_write_script(sheet, length, buffer, 32), 22, 5, 0), "a script", 22);
     check(memcmp(buffer, before, sizeof buffer) == 0, "no byte changed", 22);
@@ -1981,6 +2025,8 @@ int main(void) {
     try_steps_told();
     try_play();
     try_way();
+    try_long_way();
+    try_way_of_decided();
     try_most_steps();
     try_walk_over_steps();
     try_plain();

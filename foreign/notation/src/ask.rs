@@ -12,7 +12,7 @@ pub const FIRST_ROOM: usize = 356;
 /// While nothing is decided, the room becomes so many times what it was.
 const GROWTH: usize = 4;
 
-/// The one of the library's attempts, 01's search, that writes its own steps.
+/// The one of the library's attempts that writes its own steps.
 pub const FIRST_SEARCH: u8 = 1;
 
 /// How much room a search has, in situations.
@@ -171,20 +171,15 @@ impl Buffers {
     pub fn way(&mut self, left: &Side, right: &Side, asked: &Asked) -> Result<Vec<Step>, WayFound> {
         // a sheet that can't be written has no clash, and an empty one is refused
         let sheet = sheet(left, right).unwrap_or_default();
-        // enough for every way
-        let mut records = vec![0; steps_bytes(MOST_SITUATIONS)];
-        let written = if asked.search == FIRST_SEARCH {
+        if asked.search == FIRST_SEARCH {
             let mut answer = vec![0; answer_bytes(asked.room)];
-            bradovusc::steps(&sheet, self.work(asked.room), &mut answer, &mut records).steps()
-        } else {
-            let written = self.ask_once(&sheet, asked.room).answer.written();
-            let texts = self.answer.get(..written).unwrap_or_default();
-            match bradovusc::find_way(&sheet, texts, &mut records) {
-                WayFound::Steps { written } => written,
-                none => return Err(none),
-            }
-        };
-        Ok(bradovusc::way(records.get(..written).unwrap_or_default()).collect())
+            let mut records = vec![0; steps_bytes(asked.room)];
+            let stepped =
+                bradovusc::steps(&sheet, self.work(asked.room), &mut answer, &mut records);
+            return Ok(steps_of(&records, stepped.steps()));
+        }
+        let written = self.ask_once(&sheet, asked.room).answer.written();
+        way_of(&sheet, self.answer.get(..written).unwrap_or_default())
     }
 
     fn ask_once(&mut self, sheet: &[u8], room: usize) -> Asked {
@@ -201,6 +196,21 @@ impl Buffers {
         self.answer = answer;
         Asked { shared, ..Asked::of(decision.answer, decision.search, room) }
     }
+}
+
+/// The way of the texts in these records, or why the library has none.
+pub(crate) fn way_of(sheet: &[u8], texts: &[u8]) -> Result<Vec<Step>, WayFound> {
+    // enough for every way
+    let mut records = vec![0; steps_bytes(MOST_SITUATIONS)];
+    match bradovusc::find_way(sheet, texts, &mut records) {
+        WayFound::Steps { written } => Ok(steps_of(&records, written)),
+        none => Err(none),
+    }
+}
+
+/// The steps in the first bytes of a buffer.
+fn steps_of(records: &[u8], written: usize) -> Vec<Step> {
+    bradovusc::way(records.get(..written).unwrap_or_default()).collect()
 }
 
 #[cfg(test)]

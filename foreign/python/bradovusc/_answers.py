@@ -253,7 +253,10 @@ class Decision(Told):
 
 @dataclass(frozen=True)
 class StepsTooShort(_Yes):
-    """51: the rules clash, and the texts would fit, but the steps buffer is too short for the way. Neither is written."""
+    """51: the rules clash, and the texts would fit, but the steps buffer is too short for the way. Neither is written.
+
+    Of :func:`find_way`: the texts solve the question, but the steps buffer is too short for their way.
+    """
 
     #: The situations that were entered.
     count: int
@@ -328,6 +331,7 @@ class WayFound(_Yes):
 
     #: The records of the way, of which :func:`way` gives the steps.
     records: bytes
+    shared: Tuple[int, ...] = dataclasses.field(default=(), compare=False, repr=False)
     number = 0
     _words = "clash"
 

@@ -157,11 +157,11 @@ def find_way(sheet: Readable, texts: Readable, steps: Optional[Writable] = None)
     lent = Lent(bytearray(STEP_RECORD * MOST_STEPS) if steps is None else steps)
     number, (count, place, written) = call("bradovusc_way", bytes(sheet), records, lent, told=3)
     if number == WayFound.number:
-        return WayFound(bytes(lent.front(written)))
+        return WayFound(bytes(lent.front(written)), shared_fields(sheet))
     if number == SideTooLong.number:
-        return SideTooLong(count)
+        return SideTooLong(count, shared_fields(sheet))
     if number == StepsTooShort.number:
-        return StepsTooShort(count)
+        return StepsTooShort(count, shared_fields(sheet))
     for kind in (WrongTexts, NoSolution, TooManySteps):
         if number == kind.number:
             return kind()

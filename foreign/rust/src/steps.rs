@@ -366,7 +366,7 @@ impl fmt::Display for WayFound {
         to.write_str(match self {
             WayFound::Steps { .. } => "clash",
             WayFound::Refused { fault, place } => return write!(to, "{fault}, at offset {place}"),
-            WayFound::SideTooLong => "a side of the way grew too long",
+            WayFound::SideTooLong => "not decided: a side grew too long",
             WayFound::WrongTexts => "no records of the texts",
             WayFound::NoSolution => "the texts solve nothing",
             WayFound::TooManySteps => "too many steps",

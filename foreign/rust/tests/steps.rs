@@ -164,27 +164,45 @@ fn the_way_of_given_texts() {
     assert_eq!(way_of(&long, &texts, 400).0, WayFound::SideTooLong);
 }
 
-/// The texts that deciding finds have a way, and the player gives them back.
+/// Decides the sheet in room for 356 situations: of a clash, the attempt that found it, and the way of
+/// its texts, which the player gives back.
+fn decided(sheet: &[u8]) -> Option<(u8, Vec<u8>)> {
+    let mut work = vec![0; 356 * SITUATION_BYTES];
+    let mut answer = vec![0; answer_bytes(356)];
+    let decision = decide(sheet, &mut work, &mut answer);
+    let Answer::Clash { written, .. } = decision.answer else { return None };
+    let (given, lent) = way_of(sheet, &answer[..written], steps_bytes(356));
+    assert_eq!(given, WayFound::Steps { written: lent.len() });
+    let (played, texts) = played(sheet, &lent, written);
+    assert_eq!((played, &texts[..]), (Played::Finished { written }, &answer[..written]));
+    Some((decision.search, lent))
+}
+
+/// `KP{n}-{n}` twice, n a number, on the right one that ends in 0.
+#[test]
+fn the_way_of_a_field_that_stands_twice() {
+    let (one, other) =
+        (b"PA\x00\x08\x42\x41\x00\x09\x44\x41\x00\x09", b"PA\x01\x06\x42\x44\x41\x00\x09\x00");
+    let (left, right) = (b"LE\x05\x14\x19\x40\x24\x40", b"RI\x05\x14\x19\x41\x24\x41");
+    let (strike_left, strike_right) = (Step::StrikeLeft, Step::StrikeRight);
+    let way = records(&[Step::Put(0), strike_left, strike_right, strike_left, strike_right]);
+    assert_eq!(decided(&[&one[..], other, left, right].concat()), Some((4, way)));
+}
+
+/// Every clash that is decided has a way, whichever attempt has found it.
 #[test]
 fn ways_of_what_is_decided() {
     let mut dice = [FIRST, SECOND].map(|edition| Dice::of(42, edition));
-    let mut found = 0;
-    for number in 0..600 {
+    let (mut by_first, mut by_another) = (0, 0);
+    for number in 0..1_500 {
         let sheet = pairs::case(&mut dice[number % 2], number % 3 == 0, 356).sheet;
-        let mut work = vec![0; 356 * SITUATION_BYTES];
-        let mut answer = vec![0; answer_bytes(356)];
-        let decision = decide(&sheet, &mut work, &mut answer);
-        let Answer::Clash { written, .. } = decision.answer else { continue };
-        let (given, lent) = way_of(&sheet, &answer[..written], steps_bytes(356));
-        if let WayFound::Steps { .. } = given {
-            let (played, texts) = played(&sheet, &lent, written);
-            assert_eq!((played, &texts[..]), (Played::Finished { written }, &answer[..written]));
-            found += 1;
-        } else {
-            assert_eq!(given, WayFound::SideTooLong);
+        match decided(&sheet) {
+            Some((1, _)) => by_first += 1,
+            Some(_) => by_another += 1,
+            None => (),
         }
     }
-    assert!(found > 100, "{found}");
+    assert!(by_first > 200 && by_another > 20, "{by_first} {by_another}");
 }
 
 #[test]
