@@ -43,15 +43,15 @@ pub fn search(
     let alphabet = question.alphabet;
     let characters = alphabet.characters;
     let space = alphabet.space;
-    let own_left = question.left;
-    let own_right = question.right;
-    let left = search_hidden::side(own_left, HIDDEN_LEFT);
-    let right = search_hidden::side(own_right, HIDDEN_RIGHT);
     let hidden = search_hidden::spaces(space);
     let own_fields = question.fields;
     let follow = search_tables::follow_behind(own_fields, hidden);
     let last = search_tables::last_behind(own_fields, hidden);
     let taking = search_tables::taking_among(own_fields, hidden, among, characters);
+    let own_left = question.left;
+    let left = search_hidden::side(own_left, HIDDEN_LEFT);
+    let own_right = question.right;
+    let right = search_hidden::side(own_right, HIDDEN_RIGHT);
     let mut none = [0; 1];
     let told = run(
         left,
@@ -111,15 +111,15 @@ fn search_told(
     let alphabet = question.alphabet;
     let characters = alphabet.characters;
     let space = alphabet.space;
-    let own_left = question.left;
-    let own_right = question.right;
-    let left = search_hidden::side(own_left, HIDDEN_LEFT);
-    let right = search_hidden::side(own_right, HIDDEN_RIGHT);
     let hidden = search_hidden::spaces(space);
     let own_fields = question.fields;
     let follow = search_tables::follow_behind(own_fields, hidden);
     let last = search_tables::last_behind(own_fields, hidden);
     let taking = search_tables::taking_behind(own_fields, hidden);
+    let own_left = question.left;
+    let left = search_hidden::side(own_left, HIDDEN_LEFT);
+    let own_right = question.right;
+    let right = search_hidden::side(own_right, HIDDEN_RIGHT);
     run(
         left,
         right,

@@ -7,12 +7,6 @@ use Rattle.search_question.proofs.Searched.{told-whole}
 use Rattle.search_question.proofs.search_told.Statement.{statement}
 use Rattle.search_question.proofs.search_told.Tie as tie
 
-side-requires : tie.Need-side-requires
-side-requires c κs = search needs
-
-side-requires-2 : tie.Need-side-requires-2
-side-requires-2 c κs = search needs
-
 spaces-requires : tie.Need-spaces-requires
 spaces-requires c κs = search needs
 
@@ -24,6 +18,12 @@ last-behind-requires c κs = search needs
 
 taking-behind-requires : tie.Need-taking-behind-requires
 taking-behind-requires c κs = search needs
+
+side-requires : tie.Need-side-requires
+side-requires c κs = search needs
+
+side-requires-2 : tie.Need-side-requires-2
+side-requires-2 c κs = search needs
 
 run-requires : tie.Need-run-requires
 run-requires c κs = search needs
@@ -40,13 +40,13 @@ same-length-3 c = search needs
 returns : tie.Need-returns
 returns c =
     let run = c .before .before .before .before .before .before in
-    let taking = run .before .before .before .before .before .before in
+    let right = run .before .before .before .before .before .before in
+    let left = right .before .before in
+    let taking = left .before .before in
     let last = taking .before in
     let follow = last .before in
     let hidden = follow .before .before in
-    let right = hidden .before in
-    let left = right .before in
-    let a = left .before .before .before .before .before .before .before .args in
+    let a = hidden .before .before .before .before .before .args in
     let own = a .question .fields in
     let many = a .question .alphabet .characters in
     let told = run .run .ensures in (
@@ -68,12 +68,12 @@ pub search-told-spec : {M : Type 1} → statement M
 search-told-spec =
     tie.close
     (tie.spec
-    side-requires
-    side-requires-2
     spaces-requires
     follow-behind-requires
     last-behind-requires
     taking-behind-requires
+    side-requires
+    side-requires-2
     run-requires
     same-length
     same-length-2
