@@ -86,6 +86,14 @@ module _ (s : Code.Question) (whole : Hidden) (many : ℕ) (follow taking : List
       subst (λ (z : Tables). Told-by way z room (first-of s) answer steps after written r) T
       (subst (λ (z : Coded). Told-by way (tables (within many) follow taking last) room z answer steps after written r) k p)
 
+-- what is told without the way is what is promised of a search over every character
+pub plain-told : (s : Code.Question) (work answer after worked : List ℕ) (e : Ended)
+    → ((e ≡ ended-with (tables-all s) (room-for (length work)) (first-of s) answer) × (after ≡ buffer-with (tables-all s) (room-for (length work)) (first-of s) answer))
+    × (worked ≡ replicate (length work) 0)
+    → SearchedAll s work answer after worked e
+unfolding ended-all buffer-all
+plain-told s work answer after worked e p = (p .0 .0, (p .0 .1, p .1))
+
 module _ (q : Question) (l : GoodSide (q .alphabet .characters) (q .left)) (r : GoodSide (q .alphabet .characters) (q .right)) (good : Searchable (hidden q))
     (bodies : List Body) where
   abbrev characters : ℕ

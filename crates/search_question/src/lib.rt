@@ -24,9 +24,9 @@ ghost use Rattle.search_question.specs.Over.{ended-over, buffer-over, ta
 ghost use Rattle.search_question.specs.ToldBy.{Told-by};
 
 // How a search ended, without its way and with it. Only the one that was wanted says something.
-struct Told {
-    plain: Ended,
-    way: StepsEnded,
+pub struct Told {
+    pub plain: Ended,
+    pub way: StepsEnded,
 }
 
 // Searches the question over these characters. The working buffer is all zero afterwards.
@@ -97,8 +97,8 @@ pub fn search_steps(
 }
 
 // Both of these, by whether the way is wanted. They are one function so that it has two callers: its tables are on the stack only after the sheet is
-// read.
-fn search_told(
+// read. Who has a question lent and hands it on calls it directly: each call between copies the question once more.
+pub fn search_told(
     question: Question,
     work: &mut [u8],
     answer: &mut [u8],

@@ -1,6 +1,7 @@
--- `search_all` meets its contract: the search that tells no way. Follows from what `search_told` promises.
+-- `search_all` meets its contract: the search that tells no way. Follows from `plain-told`.
+use denote.Ref.{now}
 use borrow.Author.Needs.{needs}
-use Rattle.search_question.specs.Over.{ended-all, buffer-all}
+use Rattle.search_question.proofs.Searched.{plain-told}
 use Rattle.search_question.proofs.search_all.Statement.{statement}
 use Rattle.search_question.proofs.search_all.Tie as tie
 
@@ -23,10 +24,10 @@ same-length-2 : tie.Need-same-length-2
 same-length-2 c = search needs
 
 returns : tie.Need-returns
-unfolding ended-all buffer-all
 returns c =
-    let told = c .before .before .before .before .before .before .search-told .ensures in
-    (told .0 .0, (told .0 .1, told .1))
+    let s = c .before .before .before .before .before .before in
+    let a = s .before .before .before .before .before .before .args in
+    plain-told (a .question) (now (a .work)) (now (a .answer)) _ _ _ (s .search-told .ensures)
 
 pub search-all-spec : {M : Type 1} → statement M
 search-all-spec =
