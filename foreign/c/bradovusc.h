@@ -4,8 +4,8 @@
  * A rule is fixed Code 39 characters with fields between them; a field may have a pattern. Two rules clash when one label can be
  * read by both. Spaces at the end of a label are dropped before it is read, so LT4 and LT4 with a space are the same label. The two
  * rules stand on a question sheet; the answer is a number, and after a clash a text for each field. One search answers it, or up to
- * seven attempts, which decide more. The one search can write the way to its clash too, step by step, and any such way can be played
- * again.
+ * seven attempts, which decide more. The one search can write the way to its clash too, step by step; texts of a clash from anywhere
+ * get their way too, unless a side grows too long on it; and any such way can be played again.
  * Where no field stands twice, a small engine says clash or no clash in at most 9,731 bytes. The sheet is written from the two sides
  * and the patterns; where one of them is wrong, its place is told. Most pairs of rules differ in what is fixed at their fronts or
  * ends, which is told from the two sides alone.
@@ -24,25 +24,25 @@
  * Up to version 0.8 a sheet or a rule could have a stray pattern, one for a field that does not stand. Now it is refused. Strays can
  * be dropped from sheets, rules and catalogues from before: every answer about them stays as it was.
  *
- * The static library libbradovusc.a, for x86-64 Linux, defines twenty-four functions: bradovusc_clash, bradovusc_decide,
- * bradovusc_steps, bradovusc_play, bradovusc_plain, bradovusc_plain_bytes, bradovusc_write, bradovusc_write_edition,
+ * The static library libbradovusc.a, for x86-64 Linux, defines twenty-five functions: bradovusc_clash, bradovusc_decide,
+ * bradovusc_steps, bradovusc_play, bradovusc_way, bradovusc_plain, bradovusc_plain_bytes, bradovusc_write, bradovusc_write_edition,
  * bradovusc_spell, bradovusc_read_spelt, bradovusc_script, bradovusc_add, bradovusc_add_decided, bradovusc_withdraw,
  * bradovusc_recheck, bradovusc_recheck_decided, bradovusc_spell_open, bradovusc_spell_open_rule, bradovusc_spell_open_catalogue,
- * bradovusc_drop_strays, bradovusc_drop_strays_rule, bradovusc_drop_strays_catalogue, bradovusc_fronts_differ and
- * bradovusc_version.
+ * bradovusc_drop_strays, bradovusc_drop_strays_rule, bradovusc_drop_strays_catalogue, bradovusc_fronts_differ and bradovusc_version.
  * They keep nothing from one call to the next, ask for no memory, and touch nothing but what they are lent, so calls in several
  * threads don't meet. bradovusc_recheck_decided, bradovusc_add_decided and bradovusc_recheck take at most about 140 KiB of stack,
  * bradovusc_spell_open_catalogue and bradovusc_drop_strays_catalogue about 120, the others about 105; 135, 132, 127, 112, 112 and 99
- * were measured, 82 of bradovusc_decide. So a thread with 128 KiB is enough for all but the first three, and one with 256 KiB for
- * these.
+ * were measured, 94 of bradovusc_way, 82 of bradovusc_decide. So a thread with 128 KiB is enough for all but the first three, and
+ * one with 256 KiB for these.
  * All else is in this header:
- * bradovusc_ask, bradovusc_settle, bradovusc_find_steps, bradovusc_play_steps, bradovusc_ask_plain, bradovusc_measure_plain,
- * bradovusc_write_sheet, bradovusc_write_sheet_edition, bradovusc_spell_text, bradovusc_read_back, bradovusc_write_script,
- * bradovusc_enter, bradovusc_enter_decided, bradovusc_remove, bradovusc_check_again, bradovusc_check_again_decided,
- * bradovusc_carry_sheet, bradovusc_carry_rule, bradovusc_carry_catalogue, bradovusc_mend_sheet, bradovusc_mend_rule,
- * bradovusc_mend_catalogue and bradovusc_tell_apart call them with any buffers, bradovusc_text and bradovusc_catalogue_text say a number in words,
- * bradovusc_next walks the texts of a clash, bradovusc_next_step the steps of its way, bradovusc_next_pair the pairs that were
- * listed, bradovusc_sign and bradovusc_value go between values and signs.
+ * bradovusc_ask, bradovusc_settle, bradovusc_find_steps, bradovusc_play_steps, bradovusc_find_way, bradovusc_ask_plain,
+ * bradovusc_measure_plain, bradovusc_write_sheet, bradovusc_write_sheet_edition, bradovusc_spell_text, bradovusc_read_back,
+ * bradovusc_write_script, bradovusc_enter, bradovusc_enter_decided, bradovusc_remove, bradovusc_check_again,
+ * bradovusc_check_again_decided, bradovusc_carry_sheet, bradovusc_carry_rule, bradovusc_carry_catalogue, bradovusc_mend_sheet,
+ * bradovusc_mend_rule, bradovusc_mend_catalogue and bradovusc_tell_apart call them with any buffers, bradovusc_text,
+ * bradovusc_catalogue_text and bradovusc_way_text say a number in words, bradovusc_next walks the texts of a clash,
+ * bradovusc_next_step the steps of its way, bradovusc_next_pair the pairs that were listed, bradovusc_sign and bradovusc_value go
+ * between values and signs.
  *
  * The header is C99 and C++11. The rules in full: docs/RULES.md.
  */
@@ -77,6 +77,9 @@ uint32_t bradovusc_version(void);
  *
  * Of a sheet whose way is written too, 51 settles the question as 20 does: the rules clash, but the steps couldn't be written. Of a way
  * that is played, 0 and 20 say that the rules clash, 11 to 17 what is wrong with the sheet, and 47 to 50 and 19 why the way is none.
+ *
+ * Of texts whose way is written, 0 and 51 say that they solve the question, 11 to 17 what is wrong with the sheet, 47 that there are no
+ * such records, 48 that the texts solve nothing, 19 and 50 that the way is none that can be played.
  *
  * Of the engine for plain rules, 0 and 1 settle the question, 11 to 17 say what is wrong with the sheet, 42 that a field stands more
  * than once, and 43 that the bits don't fit. Of the bytes that a sheet needs for it, 0 is success, and 11 to 17 and 42 are the same.
@@ -118,7 +121,7 @@ enum bradovusc_number {
 
     /* Given up: the working buffer is full. Lend a longer one, though some questions fill any. */
     BRADOVUSC_NO_ROOM = 18,
-    /* Given up: a side grew above 48 tokens, its hidden field counted. */
+    /* Given up: a side grew above 48 tokens, its hidden field counted. Of texts whose way is written: it did on the way. */
     BRADOVUSC_SIDE_TOO_LONG = 19,
     /* The rules clash, but the answer buffer is too short for the texts. Lend a longer one. */
     BRADOVUSC_ANSWER_TOO_SHORT = 20,
@@ -168,10 +171,16 @@ enum bradovusc_number {
     BRADOVUSC_STEP_NOT_ALLOWED = 48,
     /* The records end before the finish. */
     BRADOVUSC_NOT_FINISHED = 49,
-    /* There are more than 65,534 records. */
+    /* There are more than 65,534 records, or the way of given texts has more steps. */
     BRADOVUSC_TOO_MANY_STEPS = 50,
     /* The rules clash, but the steps buffer is too short for the way. Lend a longer one. The texts are not written either. */
-    BRADOVUSC_STEPS_TOO_SHORT = 51
+    BRADOVUSC_STEPS_TOO_SHORT = 51,
+
+    /* Of texts whose way is written: they are no records, one for each field that stands, by rising number, and nothing else, or a value
+     * is no character. */
+    BRADOVUSC_WRONG_TEXTS = 47,
+    /* The texts don't make both sides the same label, or one is none that its field may hold. */
+    BRADOVUSC_NO_SOLUTION = 48
 };
 
 /* The number in words, 0 as the answer of a sheet or a pair. Never null. */
@@ -248,6 +257,13 @@ static inline const char *bradovusc_text(uint32_t number) {
  * of the bytes that a sheet needs, or of a text that is spelt or read back: 0 is "done". */
 static inline const char *bradovusc_catalogue_text(uint32_t number) {
     return number == BRADOVUSC_DONE ? "done" : bradovusc_text(number);
+}
+
+/* The same for what is answered about the way of given texts: 47 and 48 are about these. */
+static inline const char *bradovusc_way_text(uint32_t number) {
+    return number == BRADOVUSC_WRONG_TEXTS   ? "no records of the texts"
+           : number == BRADOVUSC_NO_SOLUTION ? "the texts solve nothing"
+                                             : bradovusc_text(number);
 }
 
 /* The signs of the 43 characters of Code 39, by value. */
@@ -625,6 +641,32 @@ uint32_t bradovusc_steps(const uint8_t *sheet, size_t sheet_length, uint8_t *wor
 uint32_t bradovusc_play(const uint8_t *sheet, size_t sheet_length, const uint8_t *steps, size_t steps_length, uint8_t *answer,
                         size_t answer_length, uint64_t *told, size_t told_length);
 
+/*
+ * Writes the steps that spell given texts: VA records as the answer buffer has them after a clash, from anywhere, so those of
+ * bradovusc_decide too. A front field whose text is used up is struck, the left one first; otherwise the next character is put. What is
+ * told has the indices of bradovusc_told: the count is 0, the place is that of a fault of the sheet, else 0, and written are the bytes
+ * of the steps. Afterwards
+ *
+ *   number            steps buffer
+ *   0                 the steps, the rest unchanged
+ *   11 to 17          unchanged: the sheet is at fault
+ *   47                unchanged: the texts are no records, one for each field that stands, by rising number, and nothing else, or a
+ *                     value is no character
+ *   50                unchanged: a step is past the 65,534th
+ *   48                unchanged: the texts don't make both sides the same label, or one is none that its field may hold
+ *   19                unchanged: a side grew above 48 tokens
+ *   51                unchanged: the steps don't fit
+ *
+ * The sheet's faults come first, then 47. Then, step by step, 50, 48 and 19 are looked for in this order; then 51. It is proved that it
+ * gives 0 or 51 exactly if the texts solve the question, no side passes 48 tokens on the way and the way has at most 65,534 steps;
+ * and that bradovusc_play accepts what it writes and gives the texts back, byte for byte.
+ *
+ * Any bytes and any lengths are taken, 0 included. Each pointer must be that of so many elements, and not null, also where the
+ * length is 0; the four must not overlap.
+ */
+uint32_t bradovusc_way(const uint8_t *sheet, size_t sheet_length, const uint8_t *texts, size_t texts_length, uint8_t *steps,
+                       size_t steps_length, uint64_t *told, size_t told_length);
+
 /* The answer with its way: the number, and what is told beside it. */
 struct bradovusc_stepped {
     uint32_t number;
@@ -650,7 +692,7 @@ static inline struct bradovusc_stepped bradovusc_find_steps(const uint8_t *sheet
     return stepped;
 }
 
-/* What playing a way answers: the number, and what is told beside it. */
+/* What playing a way answers, and what finding one of given texts does: the number, and what is told beside it. */
 struct bradovusc_played {
     uint32_t number;
     uint64_t place, written;
@@ -668,6 +710,20 @@ static inline struct bradovusc_played bradovusc_play_steps(const uint8_t *sheet,
     played.place = told[BRADOVUSC_PLACE];
     played.written = told[BRADOVUSC_WRITTEN];
     return played;
+}
+
+/* bradovusc_way with all three numbers at once, and each pointer may be null where its length is 0. This is the one to call. */
+static inline struct bradovusc_played bradovusc_find_way(const uint8_t *sheet, size_t sheet_length, const uint8_t *texts,
+                                                         size_t texts_length, uint8_t *steps, size_t steps_length) {
+    uint8_t no_sheet = 0, no_texts = 0, no_steps = 0;
+    uint64_t told[BRADOVUSC_TOLD] = {0, 0, 0};
+    struct bradovusc_played found;
+    found.number = bradovusc_way(sheet == NULL && sheet_length == 0 ? &no_sheet : sheet, sheet_length,
+                                 texts == NULL && texts_length == 0 ? &no_texts : texts, texts_length,
+                                 steps == NULL && steps_length == 0 ? &no_steps : steps, steps_length, told, BRADOVUSC_TOLD);
+    found.place = told[BRADOVUSC_PLACE];
+    found.written = told[BRADOVUSC_WRITTEN];
+    return found;
 }
 
 /*

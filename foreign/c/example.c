@@ -5,8 +5,8 @@
  * label is checked again. Then a sheet and a catalogue lose their stray patterns and are carried over, from the time when a field
  * without a pattern could be empty. Then a keypad maker's 40 finish codes stand in one pattern, of a sheet that the library writes;
  * since no field stands twice in it, the small engine for plain rules answers it too. Then two rules in which fields stand twice:
- * one search gives up, the small engine refuses them, deciding does not. Last a catalogue of such rules: one search can't enter the
- * second, deciding can, and finds the clash of the third.
+ * one search gives up, the small engine refuses them, deciding does not; then the way of the texts that deciding found, which is
+ * played too. Last a catalogue of such rules: one search can't enter the second, deciding can, and finds the clash of the third.
  *
  * The first line of a sheet is number, count and place, and the number in words. After a clash follows a line for each field, its
  * number and its text, and after a fault a line with the byte at its place. Of the way there is a line with its number and its bytes,
@@ -15,7 +15,7 @@
  * carried over. Of the finish codes there is a line for each pattern, with its bytes, what writing its sheet answered, and the place
  * of a fault; of a sheet that was written a line with its length and its answer, the texts, and a line of the small engine: the
  * bytes that it needs, its number, and the number in words. Of the last sheet there is a line for each function, number, count and
- * the number in words, and of deciding the attempt. The lines of the last catalogue say the attempt too.
+ * the number in words, and of deciding the attempt, then the lines of its way. The lines of the last catalogue say the attempt too.
  */
 #include <inttypes.h>
 #include <stdio.h>
@@ -128,17 +128,8 @@ static void ask(void) {
     }
 }
 
-static void play(const char *what, size_t length) {
-    struct bradovusc_played played = bradovusc_play_steps(sheet, sizeof sheet, steps, length, answer, sizeof answer);
-    printf("%s: %" PRIu32 ", %s\n", what, played.number, bradovusc_text(played.number));
-    print_texts(played.written);
-}
-
-static void follow(void) {
-    struct bradovusc_stepped stepped =
-        bradovusc_find_steps(sheet, sizeof sheet, work, sizeof work, answer, sizeof answer, steps, sizeof steps);
-    struct bradovusc_way way = bradovusc_way_in(steps, (size_t)stepped.steps);
-    printf("the way: %" PRIu32 ", %s, %" PRIu64 " bytes\n", stepped.number, bradovusc_text(stepped.number), stepped.steps);
+static void print_steps(uint64_t written) {
+    struct bradovusc_way way = bradovusc_way_in(steps, (size_t)written);
     while (bradovusc_next_step(&way)) {
         if (way.kind == BRADOVUSC_CHARACTER) {
             printf("both read %c\n", bradovusc_sign(way.value));
@@ -146,10 +137,23 @@ static void follow(void) {
             printf("the %s front is struck\n", way.kind == BRADOVUSC_LEFT_STRUCK ? "left" : "right");
         }
     }
-    play("played", (size_t)stepped.steps);
-    play("without the last step", (size_t)stepped.steps - 3);
+}
+
+static void play(const char *what, const uint8_t *of, size_t of_length, size_t length) {
+    struct bradovusc_played played = bradovusc_play_steps(of, of_length, steps, length, answer, sizeof answer);
+    printf("%s: %" PRIu32 ", %s\n", what, played.number, bradovusc_text(played.number));
+    print_texts(played.written);
+}
+
+static void follow(void) {
+    struct bradovusc_stepped stepped =
+        bradovusc_find_steps(sheet, sizeof sheet, work, sizeof work, answer, sizeof answer, steps, sizeof steps);
+    printf("the way: %" PRIu32 ", %s, %" PRIu64 " bytes\n", stepped.number, bradovusc_text(stepped.number), stepped.steps);
+    print_steps(stepped.steps);
+    play("played", sheet, sizeof sheet, (size_t)stepped.steps);
+    play("without the last step", sheet, sizeof sheet, (size_t)stepped.steps - 3);
     steps[3] = (uint8_t)bradovusc_value('5'); /* what both read */
-    play("with 5 for 4", (size_t)stepped.steps);
+    play("with 5 for 4", sheet, sizeof sheet, (size_t)stepped.steps);
 }
 
 static void write_script(void) {
@@ -275,6 +279,17 @@ static void ask_keypads(const char *how, uint8_t *(*put_finishes)(uint8_t *)) {
     }
 }
 
+/* The way of the texts that were found, and of others. */
+static void follow_texts(size_t length) {
+    struct bradovusc_played found = bradovusc_find_way(twice, sizeof twice, answer, length, steps, sizeof steps);
+    printf("the way of these texts: %" PRIu32 ", %s, %" PRIu64 " bytes\n", found.number, bradovusc_way_text(found.number), found.written);
+    print_steps(found.written);
+    play("played", twice, sizeof twice, (size_t)found.written);
+    answer[5] = (uint8_t)bradovusc_value('1'); /* what field 0 holds */
+    found = bradovusc_find_way(twice, sizeof twice, answer, length, steps, sizeof steps);
+    printf("with 1 for 0: %" PRIu32 ", %s\n", found.number, bradovusc_way_text(found.number));
+}
+
 static void decide(void) {
     struct bradovusc_answer given = bradovusc_ask(twice, sizeof twice, work, sizeof work, answer, sizeof answer);
     struct bradovusc_decision decided = bradovusc_settle(twice, sizeof twice, work, sizeof work, answer, sizeof answer);
@@ -283,6 +298,7 @@ static void decide(void) {
     printf("decided: %" PRIu32 " %" PRIu64 ", %s, by attempt %" PRIu64 "\n", decided.number, decided.count,
            bradovusc_text(decided.number), decided.search);
     print_texts(decided.written);
+    follow_texts((size_t)decided.written);
 }
 
 static void add_decided(const char *name, const uint8_t *rule, size_t rule_length) {

@@ -1,8 +1,8 @@
 /*
  * Tries what bradovusc.h itself defines: the texts of the numbers, the signs, the walks over records, steps and listed pairs, null
- * pointers of length 0, deciding, the steps of a clash and the player, plain rules, a sheet that is written, the script of one, the
- * calls of a catalogue, with one search and decided, what is carried over, what loses its strays, sides told apart, the version, the
- * lengths of buffers; and the places of faults, as it lists them.
+ * pointers of length 0, deciding, the steps of a clash, the player, the way of given texts, plain rules, a sheet that is written, the
+ * script of one, the calls of a catalogue, with one search and decided, what is carried over, what loses its strays, sides told apart,
+ * the version, the lengths of buffers; and the places of faults, as it lists them.
  * C99, and C++11 too. Prints what does not hold, and how many checks there were; the exit status is 0 if all hold.
  */
 #include <stdio.h>
@@ -32,11 +32,14 @@
 #define bradovusc_spell watched_spell
 #define bradovusc_read_spelt watched_read_spelt
 #define bradovusc_fronts_differ watched_fronts_differ
+/* the name of a struct too, which stays */
+#define bradovusc_way(...) watched_way(__VA_ARGS__)
 #include "bradovusc.h"
 #undef bradovusc_clash
 #undef bradovusc_decide
 #undef bradovusc_steps
 #undef bradovusc_play
+#undef bradovusc_way
 #undef bradovusc_plain
 #undef bradovusc_plain_bytes
 #undef bradovusc_write_edition
@@ -67,6 +70,8 @@ uint32_t bradovusc_steps(const uint8_t *sheet, size_t sheet_length, uint8_t *wor
                          size_t answer_length, uint8_t *steps, size_t steps_length, uint64_t *told, size_t told_length);
 uint32_t bradovusc_play(const uint8_t *sheet, size_t sheet_length, const uint8_t *steps, size_t steps_length, uint8_t *answer,
                         size_t answer_length, uint64_t *told, size_t told_length);
+uint32_t bradovusc_way(const uint8_t *sheet, size_t sheet_length, const uint8_t *texts, size_t texts_length, uint8_t *steps,
+                       size_t steps_length, uint64_t *told, size_t told_length);
 uint32_t bradovusc_plain(const uint8_t *sheet, size_t sheet_length, uint8_t *bits, size_t bits_length, uint64_t *told,
                          size_t told_length);
 uint32_t bradovusc_plain_bytes(const uint8_t *sheet, size_t sheet_length, uint64_t *told, size_t told_length);
@@ -148,6 +153,15 @@ uint32_t watched_play(const uint8_t *sheet, size_t sheet_length, const uint8_t *
     check(answer != NULL, "the answer buffer's pointer is not null", (long)answer_length);
     check(told != NULL, "the pointer of what is told is not null", (long)told_length);
     return bradovusc_play(sheet, sheet_length, steps, steps_length, answer, answer_length, told, told_length);
+}
+
+uint32_t watched_way(const uint8_t *sheet, size_t sheet_length, const uint8_t *texts, size_t texts_length, uint8_t *steps,
+                     size_t steps_length, uint64_t *told, size_t told_length) {
+    check(sheet != NULL, "the sheet's pointer is not null", (long)sheet_length);
+    check(texts != NULL, "the texts' pointer is not null", (long)texts_length);
+    check(steps != NULL, "the steps buffer's pointer is not null", (long)steps_length);
+    check(told != NULL, "the pointer of what is told is not null", (long)told_length);
+    return bradovusc_way(sheet, sheet_length, texts, texts_length, steps, steps_length, told, told_length);
 }
 
 uint32_t watched_plain(const uint8_t *sheet, size_t sheet_length, uint8_t *bits, size_t bits_length, uint64_t *told,
@@ -341,6 +355,10 @@ static void try_texts(void) {
         check(strcmp(bradovusc_text(number), expected) == 0, "the text of a number", (long)number);
         expected = number == 0 ? "done" : expected;
         check(strcmp(bradovusc_catalogue_text(number), expected) == 0, "the text of a catalogue's number", (long)number);
+        expected = number == 47   ? "no records of the texts"
+                   : number == 48 ? "the texts solve nothing"
+                                  : bradovusc_text(number);
+        check(strcmp(bradovusc_way_text(number), expected) == 0, "the text of a number of a way", (long)number);
     }
     check(next == 31, "31 numbers have a text", (long)next);
     check(strcmp(bradovusc_text(UINT32_MAX), none) == 0, "the greatest number has no text", -1);
@@ -1318,8 +1336,8 @@ static void try_steps(void) {
 static void try_steps_told(void) {
     size_t told_length, i;
     for (told_length = 0; told_length <= 5; told_length++) {
-        uint64_t told[] = {7, 7, 7, 7, 7}, told_play[] = {7, 7, 7, 7, 7};
-        const uint64_t expected[] = {13, 0, 12, 16, 7}, expected_play[] = {0, 0, 12, 7, 7};
+        uint64_t told[] = {7, 7, 7, 7, 7}, told_play[] = {7, 7, 7, 7, 7}, told_way[] = {7, 7, 7, 7, 7};
+        const uint64_t expected[] = {13, 0, 12, 16, 7}, expected_play[] = {0, 0, 12, 7, 7}, expected_way[] = {0, 0, 16, 7, 7};
         uint8_t answer[12], steps[16];
         check(bradovusc_steps(stepped_sheet, sizeof stepped_sheet, stepped_work, sizeof stepped_work, answer, sizeof answer, steps,
                               sizeof steps, told, told_length) == 0,
@@ -1327,9 +1345,13 @@ static void try_steps_told(void) {
         check(bradovusc_play(stepped_sheet, sizeof stepped_sheet, steps, sizeof steps, answer, sizeof answer, told_play,
                              told_length) == 0,
               "it is played", (long)told_length);
+        check(bradovusc_way(stepped_sheet, sizeof stepped_sheet, answer, sizeof answer, steps, sizeof steps, told_way, told_length) ==
+                  0,
+              "its texts have a way", (long)told_length);
         for (i = 0; i < 5; i++) {
             check(told[i] == (i < told_length ? expected[i] : 7), "an element of what is told", (long)i);
             check(told_play[i] == (i < told_length ? expected_play[i] : 7), "an element of what the player tells", (long)i);
+            check(told_way[i] == (i < told_length ? expected_way[i] : 7), "an element of what is told of a way", (long)i);
         }
     }
 }
@@ -1377,6 +1399,82 @@ static void try_play(void) {
     check(given.number == 11 && given.place == 0, "no sheet", 11);
 }
 
+/* The way of these texts on the sheet, with a steps buffer of so many bytes, all of them 7 before. */
+static int is_way(const uint8_t *texts, size_t texts_length, size_t steps_length, uint32_t number) {
+    uint8_t steps[20];
+    size_t written = number == 0 ? sizeof stepped_way : 0;
+    struct bradovusc_played given;
+    memset(steps, 7, sizeof steps);
+    given = bradovusc_find_way(stepped_sheet, sizeof stepped_sheet, texts, texts_length, steps_length > 0 ? steps : NULL,
+                               steps_length);
+    return given.number == number && given.place == 0 && given.written == written && memcmp(steps, stepped_way, written) == 0 &&
+           all_are(steps + written, sizeof steps - written, 7);
+}
+
+static void try_way(void) {
+    static const uint8_t one_more[] = {'L', 'E', 0, 'R', 'I', 0, 0}, empty[] = {'L', 'E', 0, 'R', 'I', 0};
+    static const uint8_t strikes[] = {'S', 'T', 0, 'S', 'T', 1};
+    uint8_t texts[sizeof stepped_texts + 1], steps[8];
+    struct bradovusc_played given;
+    size_t i;
+    check(is_way(stepped_texts, sizeof stepped_texts, sizeof stepped_way, 0), "the way in just enough", 16);
+    check(is_way(stepped_texts, sizeof stepped_texts, 20, 0), "the way in plenty", 20);
+    for (i = 0; i < sizeof stepped_way; i++) {
+        check(is_way(stepped_texts, sizeof stepped_texts, i, 51), "too few bytes of steps", (long)i);
+    }
+    for (i = 0; i < sizeof stepped_texts; i++) {
+        check(is_way(i > 0 ? stepped_texts : NULL, i, 20, 47), "texts cut short", (long)i);
+        memcpy(texts, stepped_texts, sizeof stepped_texts);
+        texts[i] = 43;
+        check(is_way(texts, sizeof stepped_texts, 20, 47), "a byte that is another one", (long)i);
+    }
+    memcpy(texts, stepped_texts, sizeof stepped_texts);
+    texts[sizeof stepped_texts] = 0;
+    check(is_way(texts, sizeof texts, 20, 47), "a byte behind the records", 47);
+    texts[5] = 5;
+    check(is_way(texts, sizeof stepped_texts, 20, 48), "labels that differ", 48);
+    texts[11] = 5;
+    check(is_way(texts, sizeof stepped_texts, 20, 48), "a text that its field may not hold", 48);
+    given = bradovusc_find_way(empty, sizeof empty, NULL, 0, steps, sizeof steps);
+    check(given.number == 0 && given.written == 6 && memcmp(steps, strikes, sizeof strikes) == 0, "the hidden fields alone", 6);
+    given = bradovusc_find_way(one_more, sizeof one_more, stepped_texts, 1, NULL, 0);
+    check(given.number == 12 && given.place == 6 && given.written == 0, "the sheet's own fault is first", 12);
+    given = bradovusc_find_way(NULL, 0, NULL, 0, NULL, 0);
+    check(given.number == 11 && given.place == 0, "no sheet", 11);
+}
+
+/* 24 times x, and y, without patterns: the second A, put before each x, makes a long side. */
+static void try_long_way(void) {
+    static const uint8_t texts[] = {'V', 'A', 0, 2, 0, 10, 10, 'V', 'A', 1, 2, 0, 10, 10}, right[] = {'R', 'I', 1, 65};
+    uint8_t sheet[3 + 24 + sizeof right] = {'L', 'E', 24}, steps[8];
+    struct bradovusc_played given;
+    memset(sheet + 3, 64, 24);
+    memcpy(sheet + 3 + 24, right, sizeof right);
+    memset(steps, 7, sizeof steps);
+    given = bradovusc_find_way(sheet, sizeof sheet, texts, sizeof texts, steps, sizeof steps);
+    check(given.number == 19 && given.place == 0 && given.written == 0, "a side that grows too long", 19);
+    check(all_are(steps, sizeof steps, 7), "it changes nothing", 19);
+}
+
+/* KP, a number, - and the number again; the same, but the number ends in 0: one search gives up, and what is decided has a way. */
+static void try_way_of_decided(void) {
+    static const uint8_t twice[] = {'P', 'A', 0, 8, 66, 65, 0, 9, 68, 65, 0, 9, 'P', 'A', 1, 6, 66, 68, 65, 0, 9, 0,
+                                    'L', 'E', 5, 20, 25, 64, 36, 64, 'R', 'I', 5, 20, 25, 65, 36, 65};
+    static const uint8_t expected[] = {'S', 'T', 2, 0, 'S', 'T', 0, 'S', 'T', 1, 'S', 'T', 0, 'S', 'T', 1};
+    static uint8_t room[BRADOVUSC_WORK_BYTES(356)];
+    uint8_t texts[12], steps[20], again[12];
+    struct bradovusc_decision decided = bradovusc_settle(twice, sizeof twice, room, sizeof room, texts, sizeof texts);
+    struct bradovusc_played given;
+    check(decided.number == 0 && decided.search == 4 && decided.written == sizeof texts, "a clash by 4", (long)decided.search);
+    memset(steps, 7, sizeof steps);
+    given = bradovusc_find_way(twice, sizeof twice, texts, sizeof texts, steps, sizeof steps);
+    check(given.number == 0 && given.written == sizeof expected && memcmp(steps, expected, sizeof expected) == 0, "its way", 16);
+    check(all_are(steps + sizeof expected, sizeof steps - sizeof expected, 7), "no byte behind it", 16);
+    given = bradovusc_play_steps(twice, sizeof twice, steps, sizeof expected, again, sizeof again);
+    check(given.number == 0 && given.written == sizeof texts && memcmp(again, texts, sizeof texts) == 0, "the player gives the texts back",
+          12);
+}
+
 /* x and y without patterns, and so many times the character A: the same situation again and again. */
 static void try_most_steps(void) {
     static const uint8_t endless[] = {'L', 'E', 1, 64, 'R', 'I', 1, 65};
@@ -1398,6 +1496,14 @@ static void try_most_steps(void) {
     given = bradovusc_play_steps(endless, sizeof endless, steps, 4 * (most - 4) + sizeof end, texts, sizeof texts);
     check(given.number == 0 && given.written == 2 * (5 + most - 4), "the longest way", (long)most);
     check(texts[3] == 250 && texts[4] == 255, "a text of 65,530 characters", 65530);
+    given = bradovusc_find_way(endless, sizeof endless, texts, 2 * (5 + most - 4), steps, sizeof steps);
+    check(given.number == 0 && given.written == 4 * (most - 4) + sizeof end, "the longest way, by its texts", (long)most);
+    /* a character more in each */
+    memmove(texts + 6 + most - 4, texts + 5 + most - 4, 5 + most - 4);
+    texts[5 + most - 4] = texts[2 * (5 + most - 4) + 1] = 10;
+    texts[3] = texts[9 + most - 4] = 251;
+    given = bradovusc_find_way(endless, sizeof endless, texts, 2 * (6 + most - 4), steps, sizeof steps);
+    check(given.number == 50 && given.written == 0, "a step too many, by its texts", (long)most + 1);
 }
 
 /* A walk over steps, and over what is none. */
@@ -1662,6 +1768,8 @@ static void try_strays(void) {
     check(stepped.number == 22 && stepped.count == 0 && stepped.place == 5 && stepped.written == 0 && stepped.steps == 0, "its steps", 22);
     played = bradovusc_play_steps(sheet, length, before, 1, buffer, 32);
     check(played.number == 22 && played.place == 5 && played.written == 0, "22 is before 47", 22);
+    played = bradovusc_find_way(sheet, length, before, 1, buffer, 32);
+    check(played.number == 22 && played.place == 5 && played.written == 0, "22 is before 47, of texts", 22);
     check(is_plain(sheet, length, 1, 22, 5) && needs(sheet, length, 22, 5, 0), "plain rules", 22);
     check(is_scripted(bradovusc_write_script(sheet, length, buffer, 32), 22, 5, 0), "a script", 22);
     check(memcmp(buffer, before, sizeof buffer) == 0, "no byte changed", 22);
@@ -1916,6 +2024,9 @@ int main(void) {
     try_steps();
     try_steps_told();
     try_play();
+    try_way();
+    try_long_way();
+    try_way_of_decided();
     try_most_steps();
     try_walk_over_steps();
     try_plain();

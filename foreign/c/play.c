@@ -8,16 +8,16 @@
  */
 #include "streams.h"
 
-enum { ANSWER_FILL = 165, MOST_STEPS = 65535 };
+enum { ANSWER_FILL = 165 };
 
-static uint8_t steps[MOST_STEPS];
-static size_t steps_length;
+static struct handed steps;
 
 /* Whether an answer buffer of so many bytes is answered with these numbers, and is unchanged behind the written ones. */
 static bool gives(const struct stream_case *given, size_t length, uint32_t number, uint64_t place, uint64_t written) {
     uint8_t *answer = lend(length, ANSWER_FILL);
     uint64_t told[BRADOVUSC_TOLD];
-    bool same = bradovusc_play(given->sheet, given->sheet_length, steps, steps_length, answer, length, told, BRADOVUSC_TOLD) == number &&
+    bool same = bradovusc_play(given->sheet, given->sheet_length, steps.bytes, steps.length, answer, length, told, BRADOVUSC_TOLD) ==
+                    number &&
                 told[BRADOVUSC_COUNT] == 0 && told[BRADOVUSC_PLACE] == place && told[BRADOVUSC_WRITTEN] == written &&
                 written <= length && all(answer + written, length - (size_t)written, ANSWER_FILL);
     free(answer);
@@ -26,10 +26,10 @@ static bool gives(const struct stream_case *given, size_t length, uint32_t numbe
 
 /* A way to the finish, in answer buffers of other lengths: no text is longer than there are steps. */
 static void try_lengths(const struct stream_case *given) {
-    size_t most = BRADOVUSC_ANSWER_BYTES(steps_length);
+    size_t most = BRADOVUSC_ANSWER_BYTES(steps.length);
     uint8_t *answer = lend(most, ANSWER_FILL);
     uint64_t told[BRADOVUSC_TOLD];
-    uint32_t number = bradovusc_play(given->sheet, given->sheet_length, steps, steps_length, answer, most, told, BRADOVUSC_TOLD);
+    uint32_t number = bradovusc_play(given->sheet, given->sheet_length, steps.bytes, steps.length, answer, most, told, BRADOVUSC_TOLD);
     size_t written = (size_t)told[BRADOVUSC_WRITTEN];
     free(answer);
     if (number != BRADOVUSC_CLASH || !gives(given, written, BRADOVUSC_CLASH, 0, written)) {
@@ -40,18 +40,12 @@ static void try_lengths(const struct stream_case *given) {
 }
 
 static void play_case(const struct stream_case *given) {
-    uint8_t length[2] = {0, 0};
-    uint8_t *answer;
+    uint8_t *answer = lend(given->answer_length, ANSWER_FILL);
     uint64_t told[BRADOVUSC_TOLD];
     uint32_t number;
-    bool there = fread(length, 1, sizeof length, stdin) == sizeof length;
-    steps_length = (size_t)low_first(length, sizeof length);
-    if (!there || fread(steps, 1, steps_length, stdin) != steps_length) {
-        fputs("play: the stream stops inside a case\n", stderr);
-        exit(EXIT_FAILURE);
-    }
-    answer = lend(given->answer_length, ANSWER_FILL);
-    number = bradovusc_play(given->sheet, given->sheet_length, steps, steps_length, answer, given->answer_length, told, BRADOVUSC_TOLD);
+    read_handed("play", &steps);
+    number = bradovusc_play(given->sheet, given->sheet_length, steps.bytes, steps.length, answer, given->answer_length, told,
+                            BRADOVUSC_TOLD);
     print_written(number, told, answer, given->answer_length, ANSWER_FILL);
     if (number == BRADOVUSC_CLASH || number == BRADOVUSC_ANSWER_TOO_SHORT) {
         try_lengths(given);

@@ -90,6 +90,23 @@ static inline int each_case(const char *name, void (*answer_case)(const struct s
     return EXIT_SUCCESS;
 }
 
+/* What stands behind a case: bytes, with their length in two bytes before them (low byte first). */
+struct handed {
+    size_t length;
+    uint8_t bytes[65535];
+};
+
+/* Reads them; a stream that stops there fails. */
+static inline void read_handed(const char *name, struct handed *handed) {
+    uint8_t length[2] = {0, 0};
+    bool there = fread(length, 1, sizeof length, stdin) == sizeof length;
+    handed->length = (size_t)low_first(length, sizeof length);
+    if (!there || fread(handed->bytes, 1, handed->length, stdin) != handed->length) {
+        fprintf(stderr, "%s: the stream stops inside a case\n", name);
+        exit(EXIT_FAILURE);
+    }
+}
+
 /* A buffer of which so many bytes are written. */
 static inline void print_front(const uint8_t *answer, size_t answer_length, uint64_t written, uint8_t fill) {
     if (written <= answer_length) {

@@ -80,6 +80,14 @@ const tests = {
         await keep(page, "way");
     },
 
+    async "why there is no way to show"(page) {
+        await answered(page, LATCHES);
+        for (const reason of ["on the way a side would grow above 48 tokens", "the way would have more than 65,534 steps"]) {
+            const clash = JSON.stringify({ steps: null, steps_reason: reason });
+            assert.equal(await page.evaluate(`wayPanel(${clash}).textContent`), `There is no way to show: ${reason}.`);
+        }
+    },
+
     async "a mistake with its caret, and the way to its place"(page) {
         await answered(page, "latch = LT{size}\n  size = [0-9\n");
         const [shown] = await texts(page, "article.mistake pre");

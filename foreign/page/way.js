@@ -63,8 +63,7 @@ function putTogether(clash, { back, forward, slider, count, words, label, left, 
 /* The panel of a clash. `kept` remembers whether it is open and at which step, and `cover` dims what is not read yet. */
 function wayPanel(clash, kept, cover) {
     if (clash.steps === null) {
-        return element("p", { class: "none" },
-            `There is no way to show: search ${clash.search} has found the clash, and only search 1 writes its steps down.`);
+        return element("p", { class: "none" }, `There is no way to show: ${clash.steps_reason}.`);
     }
     const last = clash.steps.length - 1;
     const parts = wayParts(clash, last);

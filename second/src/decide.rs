@@ -198,7 +198,7 @@ fn over(question: &Question, characters: CharacterSet) -> Question {
 
 /// The fields that stand, the hidden ones too, rising.
 fn standing(question: &Question) -> Vec<&Allowed> {
-    let stands = |&field: &usize| question.times(Token::Field(field as u8)) > 0;
+    let stands = |&field: &usize| question.stands(field as u8);
     (0..ALL_FIELDS).filter(stands).map(|field| &question.allowed[field]).collect()
 }
 

@@ -29,7 +29,8 @@
 //! at all.
 //!
 //! `steps::steps` does what `answer` does and writes the way too, step by step;
-//! `steps::play` goes any such way and gives its texts.
+//! `steps::play` goes any such way and gives its texts, and `way::way` gives the way
+//! of texts from anywhere.
 //!
 //! `writer::write` writes the sheet of two sides and patterns by field.
 //!
@@ -75,6 +76,7 @@ pub mod smt;
 pub mod spell_open;
 pub mod steps;
 pub mod storeroom;
+pub mod way;
 pub mod write;
 pub mod writer;
 
@@ -102,6 +104,8 @@ pub const MOST_TEXT: usize = 65_534;
 /// A record of the answer without its values: "`VA`, field byte, length in two
 /// bytes (low first), the values".
 pub const ANSWER_RECORD_HEAD: usize = 5;
+/// Its mark.
+pub const TEXT: &[u8; 2] = b"VA";
 
 /// The characters of Code 39, by value.
 pub const CODE_39: &[u8; 43] = b"0123456789ABCDEFGHIJKLMNOPQRSTUVWXYZ-. $/+%";
@@ -188,7 +192,7 @@ fn records(texts: &Texts) -> Vec<u8> {
     let mut bytes = Vec::new();
     for (field, text) in texts {
         assert!(text.len() <= MOST_TEXT);
-        bytes.extend_from_slice(b"VA");
+        bytes.extend_from_slice(TEXT);
         bytes.push(*field);
         bytes.extend_from_slice(&(text.len() as u16).to_le_bytes());
         bytes.extend_from_slice(text);

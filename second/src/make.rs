@@ -5,9 +5,9 @@
 //! rules as storerooms write them, `decided` cases to decide, with `uneven`,
 //! `standings` and `lengths` for one attempt each, `written` what is handed to the
 //! writer of sheets, `plainly` sheets for the engine for plain rules, `ascii` texts
-//! to be spelt and read back, `ways` cases of the steps and of the player, `fronts`
-//! sides to be told apart. `said` says what is made in the second edition. `strays`
-//! makes sheets and rules with stray patterns.
+//! to be spelt and read back, `ways` cases of the steps and of the player, `given`
+//! texts whose way is asked for, `fronts` sides to be told apart. `said` says what is
+//! made in the second edition. `strays` makes sheets and rules with stray patterns.
 //!
 //! Others have some too, as they had before those were refused. What is looked up
 //! while such a case is made goes by the old rule, so that its stream stays as it
@@ -19,6 +19,7 @@ mod damages;
 pub mod decided;
 pub mod editions;
 pub mod fronts;
+pub mod given;
 pub mod kept;
 mod lengths;
 pub mod pairs;

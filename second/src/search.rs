@@ -3,7 +3,7 @@
 use std::collections::HashSet;
 use std::rc::Rc;
 
-use crate::sheet::{Question, Token, FIELDS};
+use crate::sheet::{Question, FIELDS};
 use crate::situation::{Situation, State, Step};
 use crate::{CLASH, MOST_TOKENS, NO_CLASH, NO_ROOM, SIDE_TOO_LONG};
 
@@ -129,10 +129,6 @@ fn clash(question: &Question, entered: &[Entered], finish: usize) -> Found {
 /// "A field's text is the characters put before it on the way from the start
 /// to the finish". The hidden fields "get no answer record".
 pub fn texts(question: &Question, steps: &[Step]) -> Texts {
-    let standing = |field: &u8| {
-        let field = Token::Field(*field);
-        question.left.contains(&field) || question.right.contains(&field)
-    };
     let text = |field: u8| {
         let put = steps.iter().filter_map(|step| match step {
             Step::Put { character, fields } if fields.contains(&field) => Some(*character),
@@ -140,5 +136,5 @@ pub fn texts(question: &Question, steps: &[Step]) -> Texts {
         });
         (field, put.collect())
     };
-    (0..FIELDS as u8).filter(standing).map(text).collect()
+    (0..FIELDS as u8).filter(|&field| question.stands(field)).map(text).collect()
 }

@@ -97,6 +97,11 @@ impl Question {
         self.left.iter().chain(&self.right).filter(|&&of| of == token).count()
     }
 
+    /// Whether the field stands in a side.
+    pub fn stands(&self, field: u8) -> bool {
+        self.times(Token::Field(field)) > 0
+    }
+
     /// The fixed characters of the sides.
     pub fn fixed(&self) -> CharacterSet {
         let sides = self.left.iter().chain(&self.right);

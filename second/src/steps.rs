@@ -10,7 +10,7 @@ use crate::fault::Fault;
 use crate::search::{self, Ending, Texts};
 use crate::sheet::{Question, Reading};
 use crate::situation::{Situation, State, Step};
-use crate::{records, room, Outcome};
+use crate::{records, room, writer, Outcome};
 use crate::{ANSWER_BUFFER_TOO_SHORT, CLASH, MOST_TOKENS, SIDE_TOO_LONG};
 
 /// "47 for one cut short, with another mark, a kind above 2 or a value that is
@@ -159,21 +159,31 @@ pub fn play(sheet: &[u8], steps: &[u8], answer: &mut [u8]) -> Outcome {
 
 /// The same for a sheet that is read by this rule.
 pub fn play_by(reading: Reading, sheet: &[u8], steps: &[u8], answer: &mut [u8]) -> Outcome {
+    // "then 20 for a short answer buffer"
+    written_by(reading, sheet, answer, ANSWER_BUFFER_TOO_SHORT, |question| {
+        played(question, steps).map(|texts| records(&texts))
+    })
+}
+
+/// Judges the sheet, then writes what is made of its question, or tells the number
+/// that is given in its place; `short` where the buffer is too short for it.
+pub fn written_by(
+    reading: Reading,
+    sheet: &[u8],
+    buffer: &mut [u8],
+    short: u8,
+    made: impl FnOnce(&Question) -> Result<Vec<u8>, u8>,
+) -> Outcome {
     let question = match reading.sheet(sheet) {
         Ok(question) => question,
         Err(fault) => return Outcome::of_fault(fault),
     };
-    let (number, written) = match played(&question, steps) {
+    let (number, written) = match made(&question) {
         Err(number) => (number, 0),
-        Ok(texts) => {
-            let records = records(&texts);
-            // "then 20 for a short answer buffer"
-            if records.len() > answer.len() {
-                (ANSWER_BUFFER_TOO_SHORT, 0)
-            } else {
-                answer[..records.len()].copy_from_slice(&records);
-                (CLASH, records.len())
-            }
+        Ok(bytes) if bytes.len() > buffer.len() => (short, 0),
+        Ok(bytes) => {
+            buffer[..bytes.len()].copy_from_slice(&bytes);
+            (CLASH, bytes.len())
         }
     };
     Outcome { number, count: 0, place: 0, written }
@@ -190,11 +200,7 @@ fn played(question: &Question, bytes: &[u8]) -> Result<Texts, u8> {
             return Err(TOO_MANY_STEPS);
         }
         let (record, behind) = Record::read(question.edition, rest).ok_or(NO_RECORD)?;
-        let (child, step) = child(question, &situation, record).ok_or(NOT_ALLOWED)?;
-        // "The 48-token limit holds"
-        if child.left.len() > MOST_TOKENS || child.right.len() > MOST_TOKENS {
-            return Err(SIDE_TOO_LONG);
-        }
+        let (child, step) = stepped(question, &situation, record)?;
         made.push(step);
         situation = child;
         rest = behind;
@@ -204,6 +210,20 @@ fn played(question: &Question, bytes: &[u8]) -> Result<Texts, u8> {
         return Err(NOT_FINISHED);
     }
     Ok(search::texts(question, &made))
+}
+
+/// The child that this step makes, or the number of what is wrong with the step.
+pub fn stepped(
+    question: &Question,
+    situation: &Situation,
+    record: Record,
+) -> Result<(Situation, Step), u8> {
+    let (child, step) = child(question, situation, record).ok_or(NOT_ALLOWED)?;
+    // "The 48-token limit holds"
+    if child.left.len() > MOST_TOKENS || child.right.len() > MOST_TOKENS {
+        return Err(SIDE_TOO_LONG);
+    }
+    Ok((child, step))
 }
 
 /// The child that this step makes, trimmed: "a dead child is not allowed, and
@@ -305,45 +325,47 @@ impl After {
     }
 }
 
-/// A case of the player: a case as of `answer`, whose working buffer is not
-/// there, and the bytes of the steps.
+/// A function like `play`.
+pub type Walker = fn(&[u8], &[u8], &mut [u8]) -> Outcome;
+
+/// A case of the player: a case as of `answer`, whose working buffer is not there,
+/// and the bytes of the steps. Of the way of given texts likewise, with the bytes
+/// of the texts; there the answer buffer is the steps buffer.
 #[derive(Clone, Debug, PartialEq, Eq)]
-pub struct Played {
+pub struct Handed {
     pub case: cases::Case,
-    pub steps: Vec<u8>,
+    pub bytes: Vec<u8>,
 }
 
-impl Played {
-    /// Plays into a freshly filled buffer: what is told, and the buffer.
-    pub fn run(&self) -> (Outcome, Vec<u8>) {
-        let mut answer = vec![ANSWER_FILL; self.case.answer as usize];
-        let told = play(&self.case.sheet, &self.steps, &mut answer);
-        (told, answer)
+impl Handed {
+    /// With a freshly filled buffer: what is told, and the buffer.
+    pub fn run(&self, walker: Walker) -> (Outcome, Vec<u8>) {
+        let mut buffer = vec![ANSWER_FILL; self.case.answer as usize];
+        let told = walker(&self.case.sheet, &self.bytes, &mut buffer);
+        (told, buffer)
     }
 
-    /// Number, count, place and written length, then every byte of the answer
-    /// buffer.
-    pub fn line(&self) -> String {
-        let (Outcome { number, count, place, written }, answer) = self.run();
+    /// Number, count, place and written length, then every byte of the buffer.
+    pub fn line(&self, walker: Walker) -> String {
+        let (Outcome { number, count, place, written }, buffer) = self.run(walker);
         let mut line = format!("{number} {count} {place} {written}");
-        push_answer_lent(&mut line, &answer, written, ANSWER_FILL);
+        push_answer_lent(&mut line, &buffer, written, ANSWER_FILL);
         line
     }
 
-    /// Writes the case behind the stream: that of `answer`, then the steps with
+    /// Writes the case behind the stream: that of `answer`, then the bytes with
     /// their length in two bytes before them.
     pub fn write(&self, stream: &mut Vec<u8>) {
         self.case.write(stream);
-        stream.extend_from_slice(&(self.steps.len() as u16).to_le_bytes());
-        stream.extend_from_slice(&self.steps);
+        stream.extend_from_slice(&(self.bytes.len() as u16).to_le_bytes());
+        stream.extend_from_slice(&self.bytes);
     }
 
     /// Reads a case from the front of a stream and hands back the rest; none
     /// where the stream stops inside the case.
-    pub fn read(stream: &[u8]) -> Option<(Played, &[u8])> {
+    pub fn read(stream: &[u8]) -> Option<(Handed, &[u8])> {
         let (case, rest) = cases::Case::read(stream)?;
-        let (&length, rest) = rest.split_first_chunk()?;
-        let (steps, rest) = rest.split_at_checked(u16::from_le_bytes(length).into())?;
-        Some((Played { case, steps: steps.to_vec() }, rest))
+        let (bytes, rest) = writer::bytes(rest)?;
+        Some((Handed { case, bytes }, rest))
     }
 }

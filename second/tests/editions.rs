@@ -19,7 +19,7 @@ use second::pattern::characters;
 use second::plain::plain_bytes;
 use second::sheet::read;
 use second::smt::{compare::says, write::script};
-use second::steps::{self, play, Played};
+use second::steps::{self, play, Handed};
 use second::{decide, printed, spell_open, storeroom, writer, CODE_39, SITUATION_BYTES};
 
 /// Bytes in hexadecimal, one space between them.
@@ -498,8 +498,8 @@ fn ways() {
     let sheet = hex("45 44 02 4C 45 01 C0 52 49 01 C1");
     let told = |value: u8| {
         let steps = [b"ST\x02", &[value][..], b"ST\x00ST\x00ST\x01ST\x01"].concat();
-        let played = Played { case: in_room(&sheet, 0, 12), steps };
-        played.run().0.number
+        let played = Handed { case: in_room(&sheet, 0, 12), bytes: steps };
+        played.run(play).0.number
     };
     for value in 0..=255 {
         assert_eq!(told(value), if value < 128 { 0 } else { 47 }, "{value}");

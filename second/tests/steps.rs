@@ -9,7 +9,7 @@ use std::collections::BTreeMap;
 use plain::{parts, takes};
 use second::edition::{Edition, FIRST, SECOND};
 use second::make::{pairs, ways, Dice};
-use second::steps::{enough, play, steps, Case, Played, Record, Told, MOST_STEPS};
+use second::steps::{enough, play, steps, Case, Handed, Record, Told, MOST_STEPS};
 use second::write::{many, row, sheet, tokens};
 use second::{answer, room, scan, Outcome, SITUATION_BYTES};
 
@@ -332,7 +332,7 @@ fn the_cases_of_the_player_have_everything() {
 
 fn the_cases_of_the_player_in(edition: Edition) {
     let mut dice = Dice::of(11, edition);
-    let mut cases: Vec<Played> = (0..600).map(|_| ways::played(&mut dice)).collect();
+    let mut cases: Vec<Handed> = (0..600).map(|_| ways::played(&mut dice)).collect();
     let each = ways::each(edition);
     println!("{} one by one", each.len());
     assert!((250..=450).contains(&each.len()));
@@ -341,12 +341,12 @@ fn the_cases_of_the_player_in(edition: Edition) {
     for case in &cases {
         let mut stream = Vec::new();
         case.write(&mut stream);
-        assert_eq!(Played::read(&stream), Some((case.clone(), &[][..])));
-        if !case.steps.is_empty() {
-            assert_eq!(Played::read(&stream[..stream.len() - 1]), None);
+        assert_eq!(Handed::read(&stream), Some((case.clone(), &[][..])));
+        if !case.bytes.is_empty() {
+            assert_eq!(Handed::read(&stream[..stream.len() - 1]), None);
         }
-        assert!(case.steps.len() <= ways::MOST_STEPS_BYTES);
-        let (told, buffer) = case.run();
+        assert!(case.bytes.len() <= ways::MOST_STEPS_BYTES);
+        let (told, buffer) = case.run(play);
         assert!(buffer[told.written..].iter().all(|&byte| byte == FILL));
         *by_number.entry(told.number).or_insert(0) += 1;
     }
@@ -386,7 +386,7 @@ fn texts_of_any_way_solve_the_question_in(edition: Edition) {
     for _ in 0..4_000 {
         let mut case = ways::played(&mut dice);
         case.case.answer = 4_096;
-        let (told, answer) = case.run();
+        let (told, answer) = case.run(play);
         if told.number != 0 {
             continue;
         }
@@ -413,7 +413,7 @@ fn texts_of_any_way_solve_the_question_in(edition: Edition) {
         let mut own = vec![0; enough(356)];
         let mut work = vec![0; 356 * SITUATION_BYTES];
         let found = steps(&case.case.sheet, &mut work, &mut [0; 4_096], &mut own);
-        not_its_own += usize::from(own[..found.bytes] != case.steps);
+        not_its_own += usize::from(own[..found.bytes] != case.bytes);
     }
     assert!(accepted > 800 && not_its_own > 20, "{accepted} {not_its_own}");
 }

@@ -14,10 +14,12 @@ ghost use Rattle.paper_spell.specs.Spell.{spelling-text, reading-spelt};
 ghost use Rattle.paper_steps.specs.StepsOutcome.{steps-outcome};
 ghost use Rattle.paper_decide.specs.Deciding.{decision};
 ghost use Rattle.paper_steps.specs.Player.{play};
+ghost use Rattle.paper_way.specs.WayOutcome.{way};
 ghost use Rattle.c_clash.specs.Asking.{telling};
 ghost use Rattle.c_steps.specs.StepsTelling.{telling-steps};
 ghost use Rattle.c_decide.specs.Decided.{telling-decided};
 ghost use Rattle.c_play.specs.PlayTold.{telling-played};
+ghost use Rattle.c_way.specs.WayTold.{telling-way};
 ghost use Rattle.c_carry.specs.Carried.{telling-spelt};
 ghost use Rattle.c_write.specs.WrittenNumbers.{telling-written};
 ghost use Rattle.c_plain.specs.EngineTelling.{telling-plain, telling-needs};
@@ -78,6 +80,22 @@ pub extern "C" fn bradovusc_play(
     ensures answer { λ _. ⌜ now (answer .exit) ≡ play (now (sheet .entry)) (now (steps .entry)) (now (answer .entry)) .answer ⌝ }
 {
     c_play::sheet(sheet, steps, answer, told)
+}
+
+// Writes the steps by 01's rules that spell the texts of these answer records on the sheet. Returns its number; count (which is 0), place and written
+// length go into the first three elements of `told`, as many as there is room for.
+#[no_mangle]
+pub extern "C" fn bradovusc_way(
+    sheet: &[u8],
+    texts: &[u8],
+    steps: &mut [u8],
+    told: &mut [u64],
+) -> u32
+    ensures number { λ r. ⌜ r ≡ way (now (sheet .entry)) (now (texts .entry)) (now (steps .entry)) .number ⌝ }
+    ensures told { λ _. ⌜ now (told .exit) ≡ telling-way (now (told .entry)) (way (now (sheet .entry)) (now (texts .entry)) (now (steps .entry))) ⌝ }
+    ensures steps { λ _. ⌜ now (steps .exit) ≡ way (now (sheet .entry)) (now (texts .entry)) (now (steps .entry)) .steps ⌝ }
+{
+    c_way::sheet(sheet, texts, steps, told)
 }
 
 // As `bradovusc_clash`, with up to six more attempts where that leaves the question open. Returns its number; count, place, written length and the

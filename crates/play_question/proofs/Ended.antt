@@ -47,6 +47,19 @@ first-held left right l r =
     denoted-laid (question-coded (tokens left) (tokens right))
     (question-short (tokens left) (tokens right) (omega (arith, tokens-length left)) (omega (arith, tokens-length right)) (all-tokens left) (all-tokens right))
 
+-- what is made of a question: its first situation and its tables
+module _ (s : Question) (whole : Hidden) (follow taking : List (List ℕ)) (last : List ℕ) (first : Situation) (w : whole ≡ with-hidden s) where
+  pub first-made : length (whole .left) ≡ longest-side → length (whole .right) ≡ longest-side
+      → first ≡ as-struct (question-coded (tokens (whole .left)) (tokens (whole .right))) → denoted first ≡ question-first s
+  first-made l r d =
+      ap denoted d ∙ first-held (whole .left) (whole .right) l r ∙ (λ i. question-coded (tokens (w i .left)) (tokens (w i .right)))
+
+  pub tables-made : follow ≡ map follow-of (whole .fields) → taking ≡ map taking-of (whole .fields) → last ≡ map last-of (whole .fields)
+      → lent-tables (whole .characters) follow taking last ≡ question-tables s
+  tables-made a b c =
+      (λ i. lent-tables (whole .characters) (a i) (b i) (c i))
+      ∙ (λ i. lent-tables (w i .characters) (map follow-of (w i .fields)) (map taking-of (w i .fields)) (map last-of (w i .fields)))
+
 pub question-from : (s : Question) (whole : Hidden) (follow taking : List (List ℕ)) (last : List ℕ) (first : Situation)
     → length (whole .left) ≡ longest-side → length (whole .right) ≡ longest-side → whole ≡ with-hidden s
     → follow ≡ map follow-of (whole .fields) → taking ≡ map taking-of (whole .fields) → last ≡ map last-of (whole .fields)
@@ -54,9 +67,6 @@ pub question-from : (s : Question) (whole : Hidden) (follow taking : List (List 
     → (steps answer after : List ℕ) (r : End) → PlayedFrom (lent-tables (whole .characters) follow taking last) (denoted first) steps answer after r
     → PlayedFrom (question-tables s) (question-first s) steps answer after r
 question-from s whole follow taking last first l r w a b c d steps answer after x p =
-    let k : denoted first ≡ question-first s = ap denoted d ∙ first-held (whole .left) (whole .right) l r ∙ (λ i. question-coded (tokens (w i .left)) (tokens (w i .right))) in
-    let t : lent-tables (whole .characters) follow taking last ≡ question-tables s =
-    (λ i. lent-tables (whole .characters) (a i) (b i) (c i))
-    ∙ (λ i. lent-tables (w i .characters) (map follow-of (w i .fields)) (map taking-of (w i .fields)) (map last-of (w i .fields))) in
-    subst (λ (z : Tables). PlayedFrom z (question-first s) steps answer after x) t
-    (subst (λ (z : Coded). PlayedFrom (lent-tables (whole .characters) follow taking last) z steps answer after x) k p)
+    subst (λ (z : Tables). PlayedFrom z (question-first s) steps answer after x) (tables-made s whole follow taking last first w a b c)
+    (subst (λ (z : Coded). PlayedFrom (lent-tables (whole .characters) follow taking last) z steps answer after x)
+    (first-made s whole follow taking last first w l r d) p)

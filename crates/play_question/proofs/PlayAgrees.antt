@@ -51,7 +51,7 @@ fits-told bytes answer = by-bool (leb (length bytes) (length answer)) (λ e. rw 
 
 module _ (q : Question) (good : Searchable q) where
   -- the fields with a first place set are those that stand
-  standing-marked : fields-with-sets (first-coded q .sets) ≡ standing q
+  pub standing-marked : fields-with-sets (first-coded q .sets) ≡ standing q
   unfolding fields-with-sets standing question-coded
   standing-marked =
       keep-same _ (λ (f : ℕ). stands-in f (q .left ++ q .right)) (upto fields)
@@ -96,12 +96,12 @@ module _ (q : Question) (g : GoodQuestion q) (steps answer : List ℕ) where
 
   -- the struct of the question
   module _ (bodies : List Body) where
-    tables-are : question-tables (question-of q bodies) ≡ tables-of (hidden q)
+    pub tables-are : question-tables (question-of q bodies) ≡ tables-of (hidden q)
     unfolding tables-of
     tables-are = λ i.
         lent-tables (q .alphabet .characters) (part-hidden q bodies follow-of i) (part-hidden q bodies taking-of i) (part-hidden q bodies last-of i)
 
-    first-is : question-first (question-of q bodies) ≡ first-coded (hidden q)
+    pub first-is : question-first (question-of q bodies) ≡ first-coded (hidden q)
     first-is = λ i. question-coded (left-hidden q bodies (good-most g) (g .left) i) (right-hidden q bodies (good-most g) (g .right) i)
 
     pub played-told : (s : Code.Question) → s ≡ question-of q bodies → (after : List ℕ) (r : End)

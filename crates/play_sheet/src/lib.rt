@@ -43,7 +43,7 @@ pub fn play(sheet: &[u8], steps: &[u8], answer: &mut [u8]) -> Playing
 }
 
 // The number of a refusal of the records.
-fn stop_number(why: Stop) -> usize
+pub fn stop_number(why: Stop) -> usize
     ensures { λ r. ⌜ r ≡ stop-number why ⌝ }
 {
     match why {
@@ -55,7 +55,8 @@ fn stop_number(why: Stop) -> usize
     }
 }
 
-fn numbers_of(number: usize, place: usize, written: usize) -> Numbers
+// The numbers of an answer without a count.
+pub fn numbers_of(number: usize, place: usize, written: usize) -> Numbers
     ensures { λ r. ⌜ r ≡ record { number = number; count = 0; place = place; written = written } ⌝ }
 {
     Numbers {

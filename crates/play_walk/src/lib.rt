@@ -41,7 +41,7 @@ pub enum Ending {
 }
 
 // "finished": both sides are empty
-fn is_finished(s: Situation) -> bool
+pub fn is_finished(s: Situation) -> bool
     ensures { λ r. ⌜ r ≡ finished-coded (denoted s) ⌝ }
 {
     s.left[0] == NO_TOKEN && s.right[0] == NO_TOKEN

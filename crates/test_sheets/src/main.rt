@@ -3,7 +3,7 @@
 // of sheets is handed, a text to be spelt or read back, or two sides to be told apart. The program ends where the input does, and also before a part or a case that is cut
 // short, has another mark or asks for more than is lent here. A read or a write that fails is told on standard error.
 //
-// The stored parts are these twenty-five, from 13 to 21 those of the second edition (request K10), from 22 to 24 those with stray patterns (request
+// The stored parts are these twenty-seven, from 13 to 21 those of the second edition (request K10), from 22 to 24 those with stray patterns (request
 // K13); tools/part frames a part. The second program prints the same lines. tools/compare tries fresh parts.
 //
 // 1. `BY`: the known sheets of document 01
@@ -203,6 +203,16 @@
 // that differs from the other in front and at its end, and sides longer than a sheet's; then numbers of editions, those that no byte holds among
 // them. Then what `sheets --fronts 51 2000` and `sheets --edition 2 --fronts 52 1000` make: sides of pairs of rules, and such with the same front and
 // the same end. `second --fronts` prints the same.
+//
+// 26. `WA`: the way of given texts
+//
+// First what the second program's `sheets --way-each` makes: every damage of every byte and of every record of the texts of three short sheets, then
+// single texts, among them one with the most steps that a way may have and one with one more. Then what `sheets --kept --way 61 300` makes: texts of
+// clashes that were found, longer ones, and such with a damage. `second --way` prints the same.
+//
+// 27. `WA`: the same in the second edition
+//
+// What `sheets --edition 2 --way-each` and `sheets --edition 2 --kept --way 62 120` make. `second --way` prints the same.
 mod ascii;
 mod fronts;
 mod part;
@@ -335,6 +345,7 @@ fn answer_case(sheet: &[u8], work: &mut [u8], answer: &mut [u8], shown: Shown) -
         Shown::Plain => plain::show_plain(sheet, work),
         Shown::Steps => steps::show_steps(sheet, work, answer),
         Shown::Played => steps::show_played(sheet, answer),
+        Shown::WayOfTexts => steps::show_way_of_texts(sheet, answer),
     }
 }
 

@@ -42,6 +42,8 @@ pub enum Shown {
     // `PY`: a line: number, count, place and written length of the way played, and every byte of the answer buffer. The steps stand behind the
     // sheet, with their length in two bytes before them
     Played,
+    // `WA`: the same of the way of given texts, which stand behind the sheet; the answer buffer is the steps buffer
+    WayOfTexts,
 }
 
 // How far the program is, what the cases of the part are, and how many are left.
@@ -71,6 +73,8 @@ const PLAIN: usize = b'P' as usize + 256 * (b'L' as usize);
 const STEPS: usize = b'S' as usize + 256 * (b'T' as usize);
 
 const PLAYED: usize = b'P' as usize + 256 * (b'Y' as usize);
+
+const WAY_OF_TEXTS: usize = b'W' as usize + 256 * (b'A' as usize);
 
 const WRITTEN: usize = b'W' as usize + 256 * (b'R' as usize);
 
@@ -102,6 +106,7 @@ fn part_of(mark: usize, number: usize) -> Part {
         PLAIN => cases(How::Going, Kind::Sheets(Shown::Plain), number),
         STEPS => cases(How::Going, Kind::Sheets(Shown::Steps), number),
         PLAYED => cases(How::Going, Kind::Sheets(Shown::Played), number),
+        WAY_OF_TEXTS => cases(How::Going, Kind::Sheets(Shown::WayOfTexts), number),
         WRITTEN => cases(How::Going, Kind::Written, number),
         EDITION => cases(How::Going, Kind::Edition, number),
         ASCII => cases(How::Going, Kind::Ascii, number),

@@ -1,5 +1,5 @@
-// A sheet answered with its steps, and a way that is played. Behind the sheet of a case stands a length in two bytes, low first: that of the steps
-// buffer, or that of the steps, which stand behind it.
+// A sheet answered with its steps, a way that is played, and the way of given texts. Behind the sheet of a case stands a length in two bytes, low
+// first: that of the steps buffer, or that of the steps or of the texts, which stand behind it.
 use crate::ANSWER_FILL;
 use crate::print_all;
 use crate::print_answered;
@@ -15,6 +15,9 @@ use print_out::read_number;
 
 // more than the longest way in the program's room
 const STEPS: usize = 2048;
+
+// as many bytes of texts as two bytes say
+const TEXTS: usize = 65535;
 
 // The byte with which the steps buffer is filled before each case.
 const STEPS_FILL: u8 = 195;
@@ -65,6 +68,26 @@ fn play(sheet: &[u8], steps: &[u8], answer: &mut [u8]) -> How {
     let told = play_sheet::in_numbers(play_sheet::play(sheet, steps, answer));
     print(
         print_answer(print_all(told), answer, told.written, ANSWER_FILL),
+        b"\n",
+    )
+}
+
+pub fn show_way_of_texts(sheet: &[u8], steps: &mut [u8]) -> How {
+    let mut texts = [0u8; TEXTS];
+    let first = read_bytes(How::Going, &mut texts);
+    let n = first.number;
+    let how = first.how;
+    if !is_going(how) {
+        return how;
+    }
+    find_way(sheet, &texts[0..n], steps)
+}
+
+// A line: number, count, place and written length, and every byte of the steps buffer.
+fn find_way(sheet: &[u8], texts: &[u8], steps: &mut [u8]) -> How {
+    let told = way_sheet::in_numbers(way_sheet::way(sheet, texts, steps));
+    print(
+        print_answer(print_all(told), steps, told.written, ANSWER_FILL),
         b"\n",
     )
 }

@@ -38,7 +38,7 @@ use bradovusc_notation::report::{counted, fault_object, no_rule_words, pair_word
 use bradovusc_notation::sides::{same_edition, Side, Text};
 use bradovusc_notation::source::Source;
 use bradovusc_notation::told::{told_words, Told};
-use bradovusc_notation::way::{way, Row};
+use bradovusc_notation::way::{way, Way};
 
 pub use bradovusc::Edition;
 pub use bradovusc_notation::ask::Room;
@@ -176,9 +176,10 @@ impl Pair {
         Some(bands(&self.right, &self.asked.shared.as_ref()?.right))
     }
 
-    /// The way to the clash, step by step, if the library's first search has found it.
-    pub fn way(&self) -> Option<Vec<Row>> {
-        way(&self.left, &self.right, &self.asked)
+    /// The way to the clash, step by step, or why the library has none; nothing where there is no
+    /// clash.
+    pub fn way(&self) -> Option<Way> {
+        (self.clashes() == Some(true)).then(|| way(&self.left, &self.right, &self.asked))
     }
 }
 

@@ -105,10 +105,9 @@ impl Tells {
         let Pair { left, right, asked } = pair;
         let (mut object, mut words) =
             (pair_object(left, right, asked), pair_words(left, right, asked, Paint::NONE));
-        if self.steps && pair.clashes() == Some(true) {
-            let rows = pair.way();
-            object = steps_in(object, left, right, rows.as_deref());
-            words += &steps_words(left, right, asked, rows.as_deref());
+        if let (true, Some(way)) = (self.steps, pair.way()) {
+            object = steps_in(object, left, right, &way);
+            words += &steps_words(left, right, &way);
         }
         if let (true, Some(on_left), Some(on_right)) =
             (self.bands, pair.left_bands(), pair.right_bands())

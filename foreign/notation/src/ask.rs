@@ -1,7 +1,7 @@
 //! Asks the library whether two rules make the same label, in room that grows.
 
 use bradovusc::{
-    answer_bytes, steps_bytes, Answer, Step, Written, MOST_SITUATIONS, SITUATION_BYTES,
+    answer_bytes, steps_bytes, Answer, Step, WayFound, Written, MOST_SITUATIONS, SITUATION_BYTES,
 };
 
 use crate::sides::{sheet, texts, Side, Text, RIGHT};
@@ -11,6 +11,9 @@ pub const FIRST_ROOM: usize = 356;
 
 /// While nothing is decided, the room becomes so many times what it was.
 const GROWTH: usize = 4;
+
+/// The one of the library's attempts that writes its own steps.
+pub const FIRST_SEARCH: u8 = 1;
 
 /// How much room a search has, in situations.
 #[derive(Clone, Copy, Debug, Default, PartialEq, Eq)]
@@ -163,14 +166,20 @@ impl Buffers {
         }
     }
 
-    /// The way to a clash that the library's first search finds in this room; none where it does not.
-    pub fn way(&mut self, left: &Side, right: &Side, room: usize) -> Option<Vec<Step>> {
-        let sheet = sheet(left, right).ok()?;
-        let mut answer = vec![0; answer_bytes(room)];
-        let mut records = vec![0; steps_bytes(room)];
-        let stepped = bradovusc::steps(&sheet, self.work(room), &mut answer, &mut records);
-        let records = records.get(..stepped.steps()).unwrap_or_default();
-        (stepped.clashes() == Some(true)).then(|| bradovusc::way(records).collect())
+    /// The way to a clash that was found: that of the library's first search, where it has found the
+    /// clash, and else that of the texts. Where the library has none, it says why.
+    pub fn way(&mut self, left: &Side, right: &Side, asked: &Asked) -> Result<Vec<Step>, WayFound> {
+        // a sheet that can't be written has no clash, and an empty one is refused
+        let sheet = sheet(left, right).unwrap_or_default();
+        if asked.search == FIRST_SEARCH {
+            let mut answer = vec![0; answer_bytes(asked.room)];
+            let mut records = vec![0; steps_bytes(asked.room)];
+            let stepped =
+                bradovusc::steps(&sheet, self.work(asked.room), &mut answer, &mut records);
+            return Ok(steps_of(&records, stepped.steps()));
+        }
+        let written = self.ask_once(&sheet, asked.room).answer.written();
+        way_of(&sheet, self.answer.get(..written).unwrap_or_default())
     }
 
     fn ask_once(&mut self, sheet: &[u8], room: usize) -> Asked {
@@ -187,6 +196,21 @@ impl Buffers {
         self.answer = answer;
         Asked { shared, ..Asked::of(decision.answer, decision.search, room) }
     }
+}
+
+/// The way of the texts in these records, or why the library has none.
+pub(crate) fn way_of(sheet: &[u8], texts: &[u8]) -> Result<Vec<Step>, WayFound> {
+    // enough for every way
+    let mut records = vec![0; steps_bytes(MOST_SITUATIONS)];
+    match bradovusc::find_way(sheet, texts, &mut records) {
+        WayFound::Steps { written } => Ok(steps_of(&records, written)),
+        none => Err(none),
+    }
+}
+
+/// The steps in the first bytes of a buffer.
+fn steps_of(records: &[u8], written: usize) -> Vec<Step> {
+    bradovusc::way(records.get(..written).unwrap_or_default()).collect()
 }
 
 #[cfg(test)]

@@ -20,7 +20,7 @@ pub fn summary_of(command: &str) -> Object {
 }
 
 /// A side of a situation has at most so many tokens.
-const LONGEST_SIDE: usize = 48;
+pub(crate) const LONGEST_SIDE: usize = 48;
 
 /// What begins all words on a pair that is not decided.
 const OPEN: &str = "not decided";

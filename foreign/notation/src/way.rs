@@ -1,11 +1,12 @@
 //! The way to a clash as a person follows it: both sides with what is still to be read, the label
 //! read so far, and each step in words.
 
-use bradovusc::{Edition, Step};
+use bradovusc::{Edition, Step, WayFound, MOST_STEPS};
 
 use crate::ask::{Asked, Buffers};
 use crate::json::Object;
 use crate::print::{character_text, told_text, Place};
+use crate::report::{grouped, LONGEST_SIDE};
 use crate::sides::{Side, RIGHT};
 
 /// The hidden fields of a sheet: the spaces at the end of the left side and of the right one.
@@ -38,16 +39,13 @@ pub enum Done {
     Read { character: u8, fields: [Option<u8>; 2] },
 }
 
-/// The one of the library's attempts, a search, that writes its steps.
-const FIRST_SEARCH: u8 = 1;
+/// The rows of a way, or why the library has none.
+pub type Way = Result<Vec<Row>, WayFound>;
 
-/// The way to a clash, if the library's first search has found it.
-pub fn way(left: &Side, right: &Side, asked: &Asked) -> Option<Vec<Row>> {
-    if asked.search != FIRST_SEARCH {
-        return None;
-    }
-    let steps = Buffers::new().way(left, right, asked.room)?;
-    follow(left, right, &steps)
+/// The way to a clash that was found.
+pub fn way(left: &Side, right: &Side, asked: &Asked) -> Way {
+    let steps = Buffers::new().way(left, right, asked)?;
+    follow(left, right, &steps).ok_or(WayFound::NoSolution)
 }
 
 /// The rows of a way, the start and then one for each step; none where a step can't be made there,
@@ -213,23 +211,33 @@ pub fn way_words(left: &Side, right: &Side, rows: &[Row]) -> String {
     words + &format!("{SPACES} is any number of spaces at the end of a label, which are dropped.\n")
 }
 
-/// The way to a clash in words, or that there is none to show.
-pub fn steps_words(left: &Side, right: &Side, asked: &Asked, rows: Option<&[Row]>) -> String {
-    match rows {
-        Some(rows) => way_words(left, right, rows),
-        None => format!(
-            "There is no way to show: attempt {} has found the clash, and only attempt \
-             {FIRST_SEARCH} writes its steps down.\n",
-            asked.search
-        ),
+/// Why there is no way to show, in words. Texts that solve the question get one of two numbers; any
+/// other is told in the library's own words.
+pub fn reason(none: &WayFound) -> String {
+    match none {
+        WayFound::SideTooLong => {
+            format!("on the way a side would grow above {LONGEST_SIDE} tokens")
+        }
+        WayFound::TooManySteps => {
+            format!("the way would have more than {} steps", grouped(MOST_STEPS))
+        }
+        other => other.to_string(),
+    }
+}
+
+/// The way to a clash in words, or why there is none to show.
+pub fn steps_words(left: &Side, right: &Side, way: &Way) -> String {
+    match way {
+        Ok(rows) => way_words(left, right, rows),
+        Err(none) => format!("There is no way to show: {}.\n", reason(none)),
     }
 }
 
 /// The same behind what an object has already.
-pub fn steps_in(object: Object, left: &Side, right: &Side, rows: Option<&[Row]>) -> Object {
-    match rows {
-        Some(rows) => object.list("steps", way_objects(left, right, rows)),
-        None => object.nothing("steps"),
+pub fn steps_in(object: Object, left: &Side, right: &Side, way: &Way) -> Object {
+    match way {
+        Ok(rows) => object.list("steps", way_objects(left, right, rows)),
+        Err(none) => object.nothing("steps").text("steps_reason", &reason(none)),
     }
 }
 
@@ -266,6 +274,7 @@ pub fn way_objects(left: &Side, right: &Side, rows: &[Row]) -> Vec<Object> {
 #[cfg(test)]
 mod tests {
     use super::*;
+    use crate::ask::way_of;
     use crate::sides::Title;
     use Step::{Put, StrikeLeft, StrikeRight};
 
@@ -368,6 +377,33 @@ mod tests {
         let names = Names { sides: [&left, &left] };
         let words = "the spaces on the right read \" \", which stands on the left";
         assert_eq!(names.done(&rows[1]), words);
+    }
+
+    /// Each number of the library, from texts that get it.
+    #[test]
+    fn why_there_is_none_to_show() {
+        let [left, right] = latches();
+        let record = |field: u8, length: u16| {
+            [&b"VA"[..], &[field], &length.to_le_bytes(), &vec![10; length.into()]].concat()
+        };
+        let open = b"LE\x01\x40RI\x01\x41";
+        let long = [&b"LE\x18"[..], &[64; 24], b"RI\x01\x41"].concat();
+        let two = |length| [record(0, length), record(1, length)].concat();
+        let all = [
+            (&long[..], two(2), "on the way a side would grow above 48 tokens"),
+            (open, two(65_531), "the way would have more than 65,534 steps"),
+            (open, record(0, 1), "no records of the texts"),
+            (open, [record(0, 1), record(1, 2)].concat(), "the texts solve nothing"),
+            (b"", Vec::new(), "cut short, at offset 0"),
+        ];
+        for (sheet, texts, words) in all {
+            let none = Err(way_of(sheet, &texts).unwrap_err());
+            let told = steps_words(&left, &right, &none);
+            assert_eq!(told, format!("There is no way to show: {words}.\n"));
+            let object = steps_in(Object::new(), &left, &right, &none);
+            assert_eq!(object.done(), format!(r#"{{"steps":null,"steps_reason":"{words}"}}"#));
+        }
+        assert_eq!(way_of(open, &two(65_530)).unwrap().len(), 65_534);
     }
 
     #[test]

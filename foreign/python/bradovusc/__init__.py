@@ -59,6 +59,7 @@ from ._answers import (
     Done,
     Fault,
     ForeignField,
+    Found,
     Full,
     Listed,
     ListedDecided,
@@ -70,6 +71,7 @@ from ._answers import (
     NoClash,
     NoRoom,
     NoRule,
+    NoSolution,
     NotAnswered,
     NotApart,
     NotFinished,
@@ -97,9 +99,11 @@ from ._answers import (
     Text,
     Told,
     TooManySteps,
+    WayFound,
     Withdrawn,
     Written,
     WrongStep,
+    WrongTexts,
 )
 from ._asking import asking_library, request
 from ._build import ANY, Patterns, between, choice, full_ascii, many, row, rule, word
@@ -147,7 +151,7 @@ from ._sheets import (
 )
 from ._signs import CHARACTERS, SIGNS, SPACE, sign, signs, value, values
 from ._spelling import read_spelt, spell, spelt_bytes
-from ._steps import MOST_STEPS, STEP_RECORD, Kind, Step, play, step_records, steps, steps_bytes, way
+from ._steps import MOST_STEPS, STEP_RECORD, Kind, Step, find_way, play, step_records, steps, steps_bytes, text_records, way
 from ._written import Sheet, sheet, write
 
 __version__ = VERSION
@@ -173,6 +177,7 @@ __all__ = [
     "FIELDS",
     "Fault",
     "ForeignField",
+    "Found",
     "Full",
     "Kind",
     "LibraryMissing",
@@ -191,6 +196,7 @@ __all__ = [
     "NoClash",
     "NoRoom",
     "NoRule",
+    "NoSolution",
     "NotAnswered",
     "NotApart",
     "NotFinished",
@@ -237,10 +243,12 @@ __all__ = [
     "Told",
     "TooManySteps",
     "VERSION",
+    "WayFound",
     "Withdrawn",
     "Written",
     "WrongRules",
     "WrongStep",
+    "WrongTexts",
     "add",
     "add_decided",
     "answer_bytes",
@@ -255,6 +263,7 @@ __all__ = [
     "drop_strays",
     "drop_strays_catalogue",
     "drop_strays_rule",
+    "find_way",
     "fronts_differ",
     "full_ascii",
     "library",
@@ -283,6 +292,7 @@ __all__ = [
     "step_records",
     "steps",
     "steps_bytes",
+    "text_records",
     "texts",
     "value",
     "values",

@@ -253,7 +253,10 @@ class Decision(Told):
 
 @dataclass(frozen=True)
 class StepsTooShort(_Yes):
-    """51: the rules clash, and the texts would fit, but the steps buffer is too short for the way. Neither is written."""
+    """51: the rules clash, and the texts would fit, but the steps buffer is too short for the way. Neither is written.
+
+    Of :func:`find_way`: the texts solve the question, but the steps buffer is too short for their way.
+    """
 
     #: The situations that were entered.
     count: int
@@ -320,6 +323,38 @@ class TooManySteps(_Open):
 #: What the player answers. Each has ``clashes``: true, or :class:`NotAnswered` is raised, since steps that are no way say nothing. The counts
 #: are 0.
 Played = Union[Clash, Refused, SideTooLong, AnswerTooShort, WrongStep, StepNotAllowed, NotFinished, TooManySteps]
+
+
+@dataclass(frozen=True)
+class WayFound(_Yes):
+    """0: the texts solve the question, and this is their way."""
+
+    #: The records of the way, of which :func:`way` gives the steps.
+    records: bytes
+    shared: Tuple[int, ...] = dataclasses.field(default=(), compare=False, repr=False)
+    number = 0
+    _words = "clash"
+
+
+@dataclass(frozen=True)
+class WrongTexts(_Open):
+    """47: the texts are no records, one for each field that stands, by rising number, or a value is no character."""
+
+    number = 47
+    _words = "no records of the texts"
+
+
+@dataclass(frozen=True)
+class NoSolution(_Open):
+    """48: the texts don't make both sides the same label, or one is none that its field may hold."""
+
+    number = 48
+    _words = "the texts solve nothing"
+
+
+#: What :func:`find_way` answers. Each has ``clashes``: true, or :class:`NotAnswered` is raised, since texts without a way say nothing. The
+#: counts are 0.
+Found = Union[WayFound, Refused, SideTooLong, WrongTexts, NoSolution, TooManySteps, StepsTooShort]
 
 
 @dataclass(frozen=True)

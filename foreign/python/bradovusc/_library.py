@@ -33,6 +33,7 @@ _FUNCTIONS = {
     "bradovusc_decide": _READ + _LENT + _LENT + _TOLD,
     "bradovusc_steps": _READ + _LENT + _LENT + _LENT + _TOLD,
     "bradovusc_play": _READ + _READ + _LENT + _TOLD,
+    "bradovusc_way": _READ + _READ + _LENT + _TOLD,
     "bradovusc_plain": _READ + _LENT + _TOLD,
     "bradovusc_plain_bytes": _READ + _TOLD,
     "bradovusc_write": _READ + _NUMBERS + _READ + _READ + _LENT + _TOLD,

@@ -73,7 +73,7 @@ class RulesClash(_OfTwo, _Yes):
     #: The label as it is spelt in Code 39, of rules of Full ASCII.
     spelt: Optional[str]
     number: int
-    #: The search that decided, 1 to 4.
+    #: The attempt that decided, 1 to 7.
     search: int
     #: The situations that were entered, and for how many there was room.
     situations: int
@@ -88,7 +88,7 @@ class RulesNoClash(_OfTwo):
     left: str
     right: str
     number: int
-    #: The search that decided, 1 to 4; 0 where the fixed fronts or ends differ, and no search was made.
+    #: The attempt that decided, 1 to 7; 0 where the fixed fronts or ends differ, and none was made.
     search: int
     situations: int
     room: int

@@ -1,4 +1,4 @@
-"""The steps on paper: the way to a clash, written down, and the player, which goes any such way."""
+"""The steps on paper: the way to a clash, written down, that of given texts, and the player, which goes any such way."""
 
 from __future__ import annotations
 
@@ -9,14 +9,19 @@ from typing import Iterable, Iterator, Optional
 from ._answers import (
     AnswerTooShort,
     Clash,
+    Found,
+    NoSolution,
     NotFinished,
     Played,
     SideTooLong,
     StepNotAllowed,
     Stepped,
     StepsTooShort,
+    Text,
     TooManySteps,
+    WayFound,
     WrongStep,
+    WrongTexts,
     answer as answered,
     refused,
 )
@@ -126,6 +131,38 @@ def play(sheet: Readable, steps: Readable, answer: Optional[Writable] = None) ->
     if number == AnswerTooShort.number:
         return AnswerTooShort(count, shared_fields(sheet))
     for kind in (WrongStep, StepNotAllowed, NotFinished, TooManySteps):
+        if number == kind.number:
+            return kind()
+    return refused(number, place)
+
+
+def text_records(found: Iterable[Text]) -> bytes:
+    """The records of these texts, one behind the other, as an answer buffer has them after a clash."""
+    return b"".join(b"VA" + bytes([text.field]) + len(text.values).to_bytes(2, "little") + bytes(text.values) for text in found)
+
+
+def find_way(sheet: Readable, texts: Readable, steps: Optional[Writable] = None) -> Found:
+    """Writes the steps that spell given texts: a front field whose text is used up is struck, the left one first; else the next character is put.
+
+    ``texts`` are records as an answer buffer has them after a clash, and as :func:`text_records` writes them; so those that :func:`decide`
+    found too. It is proved that the answer is :class:`WayFound` or :class:`StepsTooShort` exactly if they solve the question, no side passes
+    48 tokens on the way and the way has at most :data:`MOST_STEPS` steps; and that :func:`play` accepts what is written and gives the texts
+    back.
+
+    The sheet's own faults come first, then :class:`WrongTexts`. Then, step by step, :class:`TooManySteps`, :class:`NoSolution` and
+    :class:`SideTooLong` are looked for in this order; then comes :class:`StepsTooShort`. Only a way that is found changes the steps buffer.
+    Where none is lent, one that is long enough is made.
+    """
+    records = bytes(texts)
+    lent = Lent(bytearray(STEP_RECORD * MOST_STEPS) if steps is None else steps)
+    number, (count, place, written) = call("bradovusc_way", bytes(sheet), records, lent, told=3)
+    if number == WayFound.number:
+        return WayFound(bytes(lent.front(written)), shared_fields(sheet))
+    if number == SideTooLong.number:
+        return SideTooLong(count, shared_fields(sheet))
+    if number == StepsTooShort.number:
+        return StepsTooShort(count, shared_fields(sheet))
+    for kind in (WrongTexts, NoSolution, TooManySteps):
         if number == kind.number:
             return kind()
     return refused(number, place)

@@ -98,6 +98,18 @@ class Known(unittest.TestCase):
                 self.assertEqual(answer[:written], in_bytes(row["Texts"]))
                 self.assertEqual(answer[written:], bytearray([FILL]) * (len(answer) - written))
 
+    def test_ways_of_given_texts(self):
+        examples = list(rows("Way tells"))
+        self.assertGreater(len(examples), 20)
+        for number, row in examples:
+            with self.subTest(line=number):
+                steps = bytearray([FILL]) * lent(row)["steps"]
+                said = bradovusc.find_way(in_bytes(row["Sheet"]), in_bytes(row["Texts"]), steps)
+                written = getattr(said, "records", b"")
+                self.assertEqual([f"{said.number} 0 {getattr(said, 'place', 0)} {len(written)}"], quoted(row["Way tells"]))
+                self.assertEqual(written, in_bytes(row["Way"]))
+                self.assertEqual(steps, written + bytes([FILL]) * (lent(row)["steps"] - len(written)))
+
     def test_sheets_without_lent_buffers(self):
         small = [(number, row) for number, row in rows("Prints") if not row.get("Lent") and len(row["Sheet"]) < 200]
         for number, row in small:

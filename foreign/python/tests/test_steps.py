@@ -1,16 +1,18 @@
-"""The steps on paper: the way of a clash, the player and its refusals, and buffers around the right lengths."""
+"""The steps on paper: the way of a clash, that of given texts, the player and its refusals, and buffers around the right lengths."""
 
 import random
 import unittest
 
 import bradovusc
 from bradovusc import (
+    MOST_STEPS,
     AnswerTooShort,
     Clash,
     Fault,
     Kind,
     NoClash,
     NoRoom,
+    NoSolution,
     NotAnswered,
     NotFinished,
     Refused,
@@ -21,14 +23,19 @@ from bradovusc import (
     StepsTooShort,
     Text,
     TooManySteps,
+    WayFound,
     WrongStep,
+    WrongTexts,
     between,
+    find_way,
     many,
     play,
+    row,
     sheet,
     step_records,
     steps,
     steps_bytes,
+    text_records,
     way,
     word,
 )
@@ -131,11 +138,11 @@ class Player(unittest.TestCase):
 
     def test_the_most_steps(self):
         endless = sheet("{0}", "{1}")
-        puts = step_records([put("A")]) * bradovusc.MOST_STEPS
+        puts = step_records([put("A")]) * MOST_STEPS
         self.assertEqual(play(endless, puts, bytearray()), NotFinished())
         self.assertEqual(play(endless, puts + b"X", bytearray()), TooManySteps())
         whole = puts[: -4 * 4] + step_records([LEFT, RIGHT, LEFT, RIGHT])
-        self.assertEqual(play(endless, whole).written, 2 * (5 + bradovusc.MOST_STEPS - 4))
+        self.assertEqual(play(endless, whole).written, 2 * (5 + MOST_STEPS - 4))
 
     def test_every_way_is_played(self):
         dice = random.Random(7)
@@ -149,6 +156,73 @@ class Player(unittest.TestCase):
             if isinstance(said.answer, Clash):
                 self.assertEqual(play(asked, said.records), Clash(0, said.answer.texts, said.answer.written))
                 self.assertLessEqual(len(said.records), steps_bytes(said.answer.count))
+                found += 1
+        self.assertGreater(found, 60)
+
+
+class WayOfTexts(unittest.TestCase):
+    def test_a_way(self):
+        self.assertEqual(find_way(FOUR, text_records(TEXTS)), WayFound(RECORDS))
+        self.assertTrue(find_way(FOUR, text_records(TEXTS)).clashes)
+        for length in range(len(RECORDS)):
+            lent = bytearray([FILL]) * length
+            self.assertEqual(find_way(FOUR, text_records(TEXTS), lent), StepsTooShort(0))
+            self.assertEqual(lent, bytearray([FILL]) * length)
+
+    def refused(self, asked, records, answer):
+        lent = bytearray([FILL]) * 40
+        self.assertEqual(find_way(asked, records, lent), answer)
+        self.assertEqual(lent, bytearray([FILL]) * 40)
+        self.assertEqual(find_way(asked, records), answer)
+        with self.assertRaises(NotAnswered):
+            answer.clashes
+
+    def test_refusals(self):
+        records = text_records(TEXTS)
+        for length in range(len(records)):
+            self.refused(FOUR, records[:length], WrongTexts())
+            self.refused(FOUR, records[:length] + b"\x2b" + records[length + 1 :], WrongTexts())
+        self.refused(FOUR, records + b"\0", WrongTexts())
+        self.refused(FOUR, b"VA\0\1\0\5VA\1\1\0\4", NoSolution())
+        self.refused(FOUR, b"VA\0\1\0\5VA\1\1\0\5", NoSolution())
+        self.refused(b"", records, Refused(Fault.CUT_SHORT, 0))
+        self.refused(b"LE\0RI\0\0", b"X", Refused(Fault.WRONG_MARK, 6))
+        self.refused(sheet("{0}" * 24, "{1}"), b"VA\0\2\0\x0a\x0aVA\1\2\0\x0a\x0a", SideTooLong(0))
+
+    def test_the_most_steps(self):
+        open_sheet = sheet("{0}", "{1}")
+        # each field is struck, and each hidden one
+        longest = [Text(field, b"\x0a" * (MOST_STEPS - 4)) for field in (0, 1)]
+        said = find_way(open_sheet, text_records(longest))
+        self.assertEqual(list(way(said.records)), [put("A")] * (MOST_STEPS - 4) + [LEFT, LEFT, RIGHT, RIGHT])
+        self.assertEqual(play(open_sheet, said.records).texts, tuple(longest))
+        longer = [Text(field, b"\x0a" * (MOST_STEPS - 3)) for field in (0, 1)]
+        self.refused(open_sheet, text_records(longer), TooManySteps())
+
+    def test_a_field_that_stands_twice(self):
+        asked = sheet("KP{0}-{0}", "KP{1}-{1}", {0: row(between("0", "9"), DIGITS), 1: row(DIGITS, word("0"))})
+        decision = bradovusc.decide(asked)
+        self.assertEqual((decision.answer.texts, decision.search), ((Text(0, b"\0"), Text(1, b"\0")), 4))
+        said = find_way(asked, text_records(decision.answer.texts))
+        self.assertEqual(list(way(said.records)), [put("0"), LEFT, RIGHT, LEFT, RIGHT])
+        self.assertEqual(play(asked, said.records).texts, decision.answer.texts)
+
+    def test_a_shared_field(self):
+        asked = sheet("{0}A", "{0}{1}")
+        said = find_way(asked, b"VA\0\1\0\1VA\1\1\0\x0a")
+        self.assertEqual((said.shared, str(said)), ((0,), "clash, with field 0 shared: it holds the same text in both rules"))
+
+    def test_what_is_decided_has_a_way(self):
+        dice = random.Random(8)
+        found = 0
+        for _ in range(300):
+            sides = ["".join(dice.choices(["{0}", "{1}", "A", "B", " "], k=dice.randrange(1, 6))) for _ in range(2)]
+            asked = sheet(*sides)
+            answer = bradovusc.decide(asked).answer
+            if isinstance(answer, Clash):
+                said = find_way(asked, text_records(answer.texts))
+                self.assertIsInstance(said, WayFound)
+                self.assertEqual(play(asked, said.records), Clash(0, answer.texts, answer.written))
                 found += 1
         self.assertGreater(found, 60)
 

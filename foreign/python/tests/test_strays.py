@@ -41,6 +41,7 @@ class Refusals(unittest.TestCase):
             self.assertEqual(function(STRAY), refused)
         self.assertEqual((bradovusc.decide(STRAY).answer, bradovusc.decide(STRAY).search), (refused, 0))
         self.assertEqual((bradovusc.steps(STRAY).answer, bradovusc.play(STRAY, b"")), (refused, refused))
+        self.assertEqual(bradovusc.find_way(STRAY, b""), refused)
         self.assertEqual((refused.number, str(refused)), (22, "a stray pattern, at offset 0"))
         with self.assertRaises(NotAnswered):
             bradovusc.clash(STRAY).clashes

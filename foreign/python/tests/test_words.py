@@ -4,13 +4,15 @@ import re
 import unittest
 
 import bradovusc
-from bradovusc import Clash, Done, Edition, Fault, Told
+from bradovusc import Clash, Done, Edition, Fault, Told, WayFound
 from rules_page import TOP
 
 HEADER = (TOP / "foreign/c/bradovusc.h").read_text()
 ENUM = re.search(r"^enum bradovusc_number \{$(.*?)^\};$", HEADER, re.M | re.S)[1]
 NUMBERS = {name: int(number) for name, number in re.findall(r"^    BRADOVUSC_([A-Z_]+) = ([0-9]+),?$", ENUM, re.M)}
 WORDS = dict(re.findall(r'case BRADOVUSC_([A-Z_]+):\s+return "([^"]*)";', HEADER))
+# those that a number has beside these
+WORDS.update(re.findall(r'number == BRADOVUSC_([A-Z_]+)\s+\? "([^"]*)"', HEADER))
 
 
 def defined(name):
@@ -37,13 +39,13 @@ class Words(unittest.TestCase):
                 upper = re.sub(r"(?<=[a-z])(?=[A-Z])", "_", name).upper()
                 number = NUMBERS.get(upper, 0)
                 self.assertEqual(kind.number, number, name)
-                if name not in ("NotApart", "Written", "Listed", "ListedDecided", "Needed", "Done"):
+                if name not in ("NotApart", "Written", "Listed", "ListedDecided", "Needed", "WayFound"):
                     self.assertEqual(kind._words, WORDS[upper], name)
                 seen.add(kind.number)
         self.assertEqual(seen | {fault.number for fault in Fault}, set(NUMBERS[name] for name in WORDS))
 
     def test_done(self):
-        self.assertEqual([str(Done()), str(Clash(0))], ["done", "clash"])
+        self.assertEqual([str(Done()), str(Clash(0)), str(WayFound(b""))], ["done", "clash", "clash"])
 
     def test_constants(self):
         plain = {

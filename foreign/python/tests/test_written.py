@@ -19,6 +19,7 @@ from bradovusc import (
     choice,
     clash,
     decide,
+    find_way,
     full_ascii,
     many,
     play,
@@ -28,6 +29,7 @@ from bradovusc import (
     signs,
     spell,
     steps,
+    text_records,
     way,
     word,
     write,
@@ -177,6 +179,7 @@ class FullAscii(unittest.TestCase):
         first = next(way(stepped.records, Edition.FULL_ASCII))
         self.assertEqual((first.value, str(first)), (ord("b"), "both read 'b'"))
         self.assertEqual(str(play(asked, stepped.records).texts[0]), "b")
+        self.assertEqual(find_way(asked, text_records(stepped.answer.texts)).records, stepped.records)
         self.assertIn(b'"@"', script(asked).data)
 
     def test_a_wrong_edition(self):

@@ -46,10 +46,12 @@
 //! ```
 //!
 //! [`steps`](crate::steps()) writes the way to a clash too, step by step, so that it can be followed
-//! by hand; [`play`] goes any such way and gives the texts at its end.
+//! by hand; [`play`] goes any such way and gives the texts at its end, and [`find_way`] writes the
+//! way of any texts of a clash, those of [`decide`] too.
 //!
 //! ```
-//! use bradovusc::{answer_bytes, play, steps, steps_bytes, way, Played, Step, SITUATION_BYTES};
+//! use bradovusc::{answer_bytes, find_way, play, steps, steps_bytes, way};
+//! use bradovusc::{Played, Step, WayFound, SITUATION_BYTES};
 //!
 //! // Field 0, any digits, is the left side; field 1, the digit 4, the right one.
 //! let sheet = b"PA\x00\x04\x44\x41\x00\x09PA\x01\x01\x04LE\x01\x40RI\x01\x41";
@@ -65,6 +67,10 @@
 //! assert_eq!(play(sheet, records, &mut answer), Played::Finished { written: 12 });
 //! // Field 1 holds one character, so it can't be struck first.
 //! assert_eq!(play(sheet, b"ST\x01", &mut answer), Played::StepNotAllowed);
+//! // The same way, by its texts.
+//! let mut again = [0; 16];
+//! assert_eq!(find_way(sheet, &answer[..12], &mut again), WayFound::Steps { written: 16 });
+//! assert_eq!(again, records);
 //! ```
 //!
 //! Where no field stands more than once, [`plain()`] says clash or no clash in a small buffer of bits,
@@ -315,7 +321,9 @@ pub use fronts::fronts_differ;
 pub use plain::{plain, plain_bytes, Plain, PlainBytes, PLAIN_BYTES};
 pub use scripts::{script, Scripted, SCRIPT_BYTES};
 pub use spelling::{read_spelt, spell, spelt_bytes, Spelt};
-pub use steps::{play, steps, steps_bytes, way, Played, Step, Stepped, Way, MOST_STEPS};
+pub use steps::{
+    find_way, play, steps, steps_bytes, way, Played, Step, Stepped, Way, WayFound, MOST_STEPS,
+};
 pub use strays::{drop_strays, drop_strays_catalogue, drop_strays_rule, Mended, MendedCatalogue};
 pub use writing::{write, write_edition, Written};
 

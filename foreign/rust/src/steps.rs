@@ -1,4 +1,5 @@
-//! The steps on paper: the way to a clash, written down, and the player, which goes any such way.
+//! The steps on paper: the way to a clash, written down, that of given texts, and the player, which
+//! goes any such way.
 
 use std::fmt;
 use std::iter::FusedIterator;
@@ -299,6 +300,123 @@ pub fn play(sheet: &[u8], steps: &[u8], answer: &mut [u8]) -> Played {
     }
 }
 
+/// What is answered about the way of given texts.
+#[derive(Clone, Copy, Debug, PartialEq, Eq)]
+pub enum WayFound {
+    /// 0: the texts solve the question. The first `written` bytes of the steps buffer hold the steps
+    /// of their [`way`].
+    Steps { written: usize },
+    /// 11 to 17, 22, 44: the sheet is at fault. `place` is the offset of the byte at fault, as
+    /// [`Fault`] says.
+    Refused { fault: Fault, place: usize },
+    /// 19: a side grew above 48 tokens, the hidden field of spaces at its end counted.
+    SideTooLong,
+    /// 47: the texts are no records, one for each field that stands, by rising number, or a value is
+    /// no character.
+    WrongTexts,
+    /// 48: the texts don't make both sides the same label, or one is none that its field may hold.
+    NoSolution,
+    /// 50: the way has more than [`MOST_STEPS`] steps.
+    TooManySteps,
+    /// 51: the texts solve the question, but the steps buffer is too short for their way.
+    StepsTooShort,
+}
+
+impl WayFound {
+    /// Its number, as in the table of the rules.
+    pub fn number(self) -> u32 {
+        match self {
+            WayFound::Steps { .. } => 0,
+            WayFound::Refused { fault, .. } => fault.number(),
+            WayFound::SideTooLong => 19,
+            WayFound::WrongTexts => 47,
+            WayFound::NoSolution => 48,
+            WayFound::TooManySteps => 50,
+            WayFound::StepsTooShort => 51,
+        }
+    }
+
+    /// The offset of the byte of the sheet at fault; 0 for all but [`WayFound::Refused`].
+    pub fn place(self) -> usize {
+        if let WayFound::Refused { place, .. } = self {
+            place
+        } else {
+            0
+        }
+    }
+
+    /// The bytes written to the steps buffer; 0 for all but [`WayFound::Steps`].
+    pub fn written(self) -> usize {
+        if let WayFound::Steps { written } = self {
+            written
+        } else {
+            0
+        }
+    }
+
+    /// Whether the texts show that the rules clash. Texts that don't say nothing of that.
+    pub fn clashes(self) -> Option<bool> {
+        matches!(self, WayFound::Steps { .. } | WayFound::StepsTooShort).then_some(true)
+    }
+}
+
+/// In words; of a sheet at fault with the place.
+impl fmt::Display for WayFound {
+    fn fmt(&self, to: &mut fmt::Formatter<'_>) -> fmt::Result {
+        to.write_str(match self {
+            WayFound::Steps { .. } => "clash",
+            WayFound::Refused { fault, place } => return write!(to, "{fault}, at offset {place}"),
+            WayFound::SideTooLong => "not decided: a side grew too long",
+            WayFound::WrongTexts => "no records of the texts",
+            WayFound::NoSolution => "the texts solve nothing",
+            WayFound::TooManySteps => "too many steps",
+            WayFound::StepsTooShort => "clash, but the steps buffer is too short for the way",
+        })
+    }
+}
+
+/// Writes the steps that spell given texts: a front field whose text is used up is struck, the left
+/// one first; otherwise the next character is put. The texts are records as an answer buffer has
+/// them after a clash, from anywhere, so those of [`decide`](crate::decide) too.
+///
+/// It is proved that the answer is [`WayFound::Steps`] or [`WayFound::StepsTooShort`] exactly if the
+/// texts solve the question, no side passes 48 tokens on the way and the way has at most
+/// [`MOST_STEPS`] steps; and that [`play`] accepts what is written and gives the texts back, byte for
+/// byte. The steps buffer is unchanged after every other answer, and behind the steps.
+///
+/// The sheet's own faults come first, then [`WayFound::WrongTexts`]. Then, step by step,
+/// [`WayFound::TooManySteps`], [`WayFound::NoSolution`] and [`WayFound::SideTooLong`] are looked for
+/// in this order; then comes [`WayFound::StepsTooShort`].
+pub fn find_way(sheet: &[u8], texts: &[u8], steps: &mut [u8]) -> WayFound {
+    let mut told = [0; 3];
+    // SAFETY: each pointer and length are those of one slice. No slice that is written overlaps
+    // another, since two are borrowed mutably; the sheet and the texts are only read. The function
+    // keeps no pointer.
+    let number = unsafe {
+        bradovusc_way(
+            sheet.as_ptr(),
+            sheet.len() as u64,
+            texts.as_ptr(),
+            texts.len() as u64,
+            steps.as_mut_ptr(),
+            steps.len() as u64,
+            told.as_mut_ptr(),
+            told.len() as u64,
+        )
+    };
+    // These are an offset of the sheet and a length within the steps buffer.
+    let [_, place, written] = told.map(|number| number as usize);
+    match number {
+        0 => WayFound::Steps { written },
+        19 => WayFound::SideTooLong,
+        47 => WayFound::WrongTexts,
+        48 => WayFound::NoSolution,
+        50 => WayFound::TooManySteps,
+        51 => WayFound::StepsTooShort,
+        _ => WayFound::Refused { fault: Fault::numbered(number), place },
+    }
+}
+
 extern "C" {
     fn bradovusc_steps(
         sheet: *const u8,
@@ -320,6 +438,17 @@ extern "C" {
         steps_length: u64,
         answer: *mut u8,
         answer_length: u64,
+        told: *mut u64,
+        told_length: u64,
+    ) -> u32;
+
+    fn bradovusc_way(
+        sheet: *const u8,
+        sheet_length: u64,
+        texts: *const u8,
+        texts_length: u64,
+        steps: *mut u8,
+        steps_length: u64,
         told: *mut u64,
         told_length: u64,
     ) -> u32;

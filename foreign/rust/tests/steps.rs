@@ -1,12 +1,12 @@
 //! The steps on paper: known ways, each refusal of the player, buffers around the right lengths; and
 //! many generated cases, on which the library and the crate `second` agree: every number, and the
-//! buffers to the last byte. Every way that the library writes is played.
+//! buffers to the last byte. Every way that the library writes is played, those of given texts too.
 
 use std::collections::BTreeMap;
 
 use bradovusc::{
-    answer_bytes, clash, play, steps, steps_bytes, way, Answer, Fault, Played, Step, Stepped,
-    MOST_STEPS, SITUATION_BYTES,
+    answer_bytes, clash, decide, find_way, play, steps, steps_bytes, way, Answer, Fault, Played,
+    Step, Stepped, WayFound, MOST_STEPS, SITUATION_BYTES,
 };
 use second::edition::{FIRST, SECOND};
 use second::make::{pairs, ways, Dice};
@@ -119,6 +119,92 @@ fn the_player() {
     assert_eq!(played(&long, &puts, 9).0, Played::SideTooLong);
 }
 
+/// The way of these texts, into a filled buffer of this length, which is unchanged behind what is
+/// written.
+fn way_of(sheet: &[u8], texts: &[u8], length: usize) -> (WayFound, Vec<u8>) {
+    let mut lent = vec![STEPS_FILL; length];
+    let given = find_way(sheet, texts, &mut lent);
+    assert!(lent[given.written()..].iter().all(|&byte| byte == STEPS_FILL));
+    lent.truncate(given.written());
+    (given, lent)
+}
+
+#[test]
+fn the_way_of_given_texts() {
+    assert_eq!(way_of(SHEET, TEXTS, 16), (WayFound::Steps { written: 16 }, WAY.to_vec()));
+    for length in 0..16 {
+        assert_eq!(way_of(SHEET, TEXTS, length).0, WayFound::StepsTooShort);
+    }
+    let refused = |texts: &[u8], answer: WayFound| {
+        for length in [0, 16, 40] {
+            assert_eq!(way_of(SHEET, texts, length).0, answer);
+        }
+    };
+    for length in 0..TEXTS.len() {
+        refused(&TEXTS[..length], WayFound::WrongTexts);
+        let mut other = TEXTS.to_vec();
+        other[length] = 43;
+        refused(&other, WayFound::WrongTexts);
+    }
+    refused(&[TEXTS, &[0]].concat(), WayFound::WrongTexts);
+    refused(b"VA\x00\x01\x00\x05VA\x01\x01\x00\x04", WayFound::NoSolution);
+    refused(b"VA\x00\x01\x00\x05VA\x01\x01\x00\x05", WayFound::NoSolution);
+    let (fault, place) = (Fault::CutShort, 0);
+    assert_eq!(way_of(b"", TEXTS, 9).0, WayFound::Refused { fault, place });
+    let fault = Fault::StrayPattern;
+    assert_eq!(way_of(STRAY, b"X", 9).0, WayFound::Refused { fault, place });
+    // `A`, and `A` with a space: the left hidden field holds it
+    let spaced = b"LE\x01\x0aRI\x02\x0a\x26";
+    let (left, right) = (Step::StrikeLeft, Step::StrikeRight);
+    let expected = records(&[Step::Put(38), left, right]);
+    assert_eq!(way_of(spaced, b"", 16), (WayFound::Steps { written: 10 }, expected));
+    // 24 times field 0, which has no pattern, and two `A`
+    let long = [&b"LE\x18"[..], &[64; 24], b"RI\x01\x41"].concat();
+    let texts = [&b"VA\x00\x02\x00\x0a\x0aVA\x01\x30\x00"[..], &[10; 48]].concat();
+    assert_eq!(way_of(&long, &texts, 400).0, WayFound::SideTooLong);
+}
+
+/// Decides the sheet in room for 356 situations: of a clash, the attempt that found it, and the way of
+/// its texts, which the player gives back.
+fn decided(sheet: &[u8]) -> Option<(u8, Vec<u8>)> {
+    let mut work = vec![0; 356 * SITUATION_BYTES];
+    let mut answer = vec![0; answer_bytes(356)];
+    let decision = decide(sheet, &mut work, &mut answer);
+    let Answer::Clash { written, .. } = decision.answer else { return None };
+    let (given, lent) = way_of(sheet, &answer[..written], steps_bytes(356));
+    assert_eq!(given, WayFound::Steps { written: lent.len() });
+    let (played, texts) = played(sheet, &lent, written);
+    assert_eq!((played, &texts[..]), (Played::Finished { written }, &answer[..written]));
+    Some((decision.search, lent))
+}
+
+/// `KP{n}-{n}` twice, n a number, on the right one that ends in 0.
+#[test]
+fn the_way_of_a_field_that_stands_twice() {
+    let (one, other) =
+        (b"PA\x00\x08\x42\x41\x00\x09\x44\x41\x00\x09", b"PA\x01\x06\x42\x44\x41\x00\x09\x00");
+    let (left, right) = (b"LE\x05\x14\x19\x40\x24\x40", b"RI\x05\x14\x19\x41\x24\x41");
+    let (strike_left, strike_right) = (Step::StrikeLeft, Step::StrikeRight);
+    let way = records(&[Step::Put(0), strike_left, strike_right, strike_left, strike_right]);
+    assert_eq!(decided(&[&one[..], other, left, right].concat()), Some((4, way)));
+}
+
+/// Every clash that is decided has a way, whichever attempt has found it.
+#[test]
+fn ways_of_what_is_decided() {
+    let mut dice = [FIRST, SECOND].map(|edition| Dice::of(42, edition));
+    let (mut by_first, mut by_another) = (0, 0);
+    for number in 0..1_500 {
+        let sheet = pairs::case(&mut dice[number % 2], number % 3 == 0, 356).sheet;
+        match decided(&sheet) {
+            Some((1, _)) => by_first += 1,
+            Some(_) => by_another += 1,
+            None => (),
+        }
+    }
+    assert!(by_first > 200 && by_another > 20, "{by_first} {by_another}");
+}
+
 #[test]
 fn the_most_steps() {
     let endless = b"LE\x01\x40RI\x01\x41";
@@ -131,7 +217,14 @@ fn the_most_steps() {
     let end = records(&[left, right, left, right]);
     let whole = [&puts[..4 * (MOST_STEPS - 4)], &end].concat();
     let written = 2 * (5 + MOST_STEPS - 4);
-    assert_eq!(played(endless, &whole, written).0, Played::Finished { written });
+    let (given, texts) = played(endless, &whole, written);
+    assert_eq!(given, Played::Finished { written });
+    // the same way by its texts, and one with a character more
+    let (given, again) = way_of(endless, &texts, whole.len());
+    assert_eq!((given.written(), again.len()), (whole.len(), whole.len()));
+    let text = |field: u8| [&b"VA"[..], &[field, 251, 255], &[10; MOST_STEPS - 3]].concat();
+    let longer = [text(0), text(1)].concat();
+    assert_eq!(way_of(endless, &longer, 0).0, WayFound::TooManySteps);
 }
 
 #[test]

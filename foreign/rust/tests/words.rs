@@ -7,7 +7,7 @@ use bradovusc::{
     catalogue_bytes, decided_list_bytes, list_bytes, recheck, recheck_decided, sign, spelt_bytes,
     texts, value, version, Added, AddedDecided, Answer, CarriedOver, DecidedPair, Edition, Fault,
     Mended, MendedCatalogue, Pair, Plain, PlainBytes, Played, Rechecked, RecheckedDecided,
-    Scripted, Spelt, SpeltOpen, Stepped, Text, Withdrawn, Written, DECIDED_PAIR_BYTES,
+    Scripted, Spelt, SpeltOpen, Stepped, Text, WayFound, Withdrawn, Written, DECIDED_PAIR_BYTES,
     MOST_CHARACTERS, MOST_RULES, MOST_STEPS, PAIR_BYTES, PLAIN_BYTES, RULE_BYTES, RULE_FIELDS,
     SCRIPT_BYTES, SHEET_BYTES, SIGNS, VERSION,
 };
@@ -234,6 +234,43 @@ fn steps_in_words() {
     assert_eq!((played.number(), played.to_string()), (long.number(), long.to_string()));
     assert_eq!((other.number(), other.to_string()), (short.number(), short.to_string()));
     assert_eq!((played.clashes(), other.clashes()), (None, Some(true)));
+}
+
+/// Two numbers have words of their own; the others are told as those of a search and of the player.
+#[test]
+fn ways_of_given_texts_in_words() {
+    for fault in FAULTS {
+        let found = WayFound::Refused { fault, place: 13 };
+        assert_eq!(found.to_string(), format!("{fault}, at offset 13"));
+        assert_eq!((found.number(), found.place(), found.written()), (fault.number(), 13, 0));
+        assert_eq!(found.clashes(), None);
+    }
+    let own = [("WRONG_TEXTS", WayFound::WrongTexts), ("NO_SOLUTION", WayFound::NoSolution)];
+    for (name, found) in own {
+        let (_, behind) = HEADER.split_once(&format!("BRADOVUSC_{name} = ")).unwrap();
+        assert_eq!(behind.split([',', '\n']).next(), Some(found.number().to_string().as_str()));
+        let told = HEADER.split(&format!("== BRADOVUSC_{name}")).nth(1).unwrap();
+        assert_eq!(told.split('"').nth(1), Some(found.to_string().as_str()));
+    }
+    let [clash, _, _, long, _] = OTHERS.map(|answer| (answer.number(), answer.to_string()));
+    let many = (Played::TooManySteps.number(), Played::TooManySteps.to_string());
+    let stepped = Stepped::StepsTooShort { count: 7 };
+    let short = (stepped.number(), stepped.to_string());
+    let all = [
+        (WayFound::Steps { written: 9 }, clash),
+        (WayFound::SideTooLong, long),
+        (WayFound::TooManySteps, many),
+        (WayFound::StepsTooShort, short),
+    ];
+    for (found, told) in all {
+        assert_eq!((found.number(), found.to_string()), told);
+        let (written, solve) = match found {
+            WayFound::Steps { written } => (written, Some(true)),
+            WayFound::StepsTooShort => (0, Some(true)),
+            _ => (0, None),
+        };
+        assert_eq!((found.place(), found.written(), found.clashes()), (0, written, solve));
+    }
 }
 
 #[test]

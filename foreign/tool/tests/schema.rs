@@ -148,6 +148,26 @@ fn wrong_objects() {
     }
 }
 
+/// A clash whose way can't be shown has the reason, and no other clash has one.
+#[test]
+fn reasons_for_no_way() {
+    let file = golden("files/latch.rules").display().to_string();
+    let clash = call(&["pair", "--json", &file, "mortice", "latch"]).text();
+    let with = |more: &str| clash.trim_end().replacen('{', &format!("{{{more},"), 1);
+    let lines = [
+        r#""steps":null,"steps_reason":"the way would have more than 65,534 steps""#,
+        r#""steps":null"#,
+        r#""steps":null,"steps_reason":"""#,
+        r#""steps":null,"steps_reason":50"#,
+        r#""steps_reason":"the way would have more than 65,534 steps""#,
+    ];
+    if let Some(refused) = refused(OBJECTS, &lines.map(with)) {
+        let mut numbers: Vec<usize> = refused.into_iter().map(|(number, _)| number).collect();
+        numbers.dedup();
+        assert!(numbers.into_iter().eq(1..lines.len()));
+    }
+}
+
 #[test]
 fn logs() {
     let file = |name: &str| golden(&format!("files/{name}")).display().to_string();

@@ -43,6 +43,7 @@
 //! - `second --steps --lines`: a stream of cases of the steps, what `steps` prints
 //!   for each
 //! - `second --play`: a stream of cases of the player, a line for each
+//! - `second --way`: a stream of cases of the way of given texts, a line for each
 
 use std::io::{self, BufWriter, Read, Write};
 use std::process::ExitCode;
@@ -53,7 +54,8 @@ use second::catalogue::{Searcher, HASHING, SCANNING};
 use second::decide::{self, ATTEMPTS};
 use second::fault::Fault;
 use second::smt::{self, compare, output, Told};
-use second::{drop_strays, fronts, full_ascii, sheet, shown, spell_open, steps, writer};
+use second::steps::{self, Handed};
+use second::{drop_strays, fronts, full_ascii, sheet, shown, spell_open, way, writer};
 use second::{ANSWER_BUFFER_TOO_SHORT, CLASH, NO_CLASH, NO_ROOM, SIDE_TOO_LONG};
 
 /// "the program's 65,520 hold 356; it reads 2,048 bytes of input", and lends
@@ -86,7 +88,8 @@ fn main() -> ExitCode {
             each(steps::Case::read, |case| case.run(second::scan::steps).line() + "\n")
         }
         ["--steps", "--lines"] => each(steps::Case::read, |case| case.run(steps::steps).lines()),
-        ["--play"] => each(steps::Played::read, |case| case.line() + "\n"),
+        ["--play"] => each(Handed::read, |case| case.line(steps::play) + "\n"),
+        ["--way"] => each(Handed::read, |case| case.line(way::way) + "\n"),
         ["--spelt"] => many(|case| case.spelt() + "\n"),
         ["--spell-open"] => return spelt(spell_open::sheet),
         ["--spell-open-rule"] => return spelt(spell_open::rule),
@@ -126,7 +129,7 @@ fn usage() -> ExitCode {
     eprintln!("       second --drop-strays | second --drop-strays-rule | second --drop");
     eprintln!("       second --write | second --write-edition | second --ascii");
     eprintln!("       second --plain [--lines] | second --fronts");
-    eprintln!("       second --steps [--scan | --lines] | second --play");
+    eprintln!("       second --steps [--scan | --lines] | second --play | second --way");
     ExitCode::from(2)
 }
 

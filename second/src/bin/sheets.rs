@@ -13,6 +13,10 @@
 //! - `sheets --steps SEED NUMBER`: so many cases of the steps, made from the seed
 //! - `sheets --play SEED NUMBER`: so many cases of the player, made from the seed
 //! - `sheets --play-each`: every damage of every record of a few short ways
+//! - `sheets --way SEED NUMBER`: so many cases of the way of given texts, made from
+//!   the seed
+//! - `sheets --way-each`: every damage of every byte and every record of the texts of
+//!   a few short sheets
 //! - `sheets --growing`: 16 plain sheets that grow: 1 to 4 fields of 63 leaves a
 //!   side, and 0, 5, 10 or 20 characters
 //! - `sheets --growing N`: the sheet alone of the N-th of these
@@ -50,13 +54,13 @@
 //! - `sheets --drop`: those of `--strays`, and as many rules
 //!
 //! With `--edition 2` in front, what is made from a seed is of the second edition,
-//! and so are `--play-each`, `--printed`, `--strays` and `--drop`; a case of the
-//! writer has the edition in front.
+//! and so are `--play-each`, `--way-each`, `--printed`, `--strays` and `--drop`; a case
+//! of the writer has the edition in front.
 //!
 //! With `--kept` in front, or behind `--edition 2`, what is made from a seed is the
-//! same, and so are `--play-each` and `--printed`, but stray patterns are taken out of
-//! the sheets and rules that were good with them. Of `--printed` the first sheet is
-//! another one.
+//! same, and so are `--play-each`, `--way-each` and `--printed`, but stray patterns are
+//! taken out of the sheets and rules that were good with them. Of `--printed` the first
+//! sheet is another one.
 
 use std::io::{self, Write};
 use std::process::ExitCode;
@@ -66,10 +70,11 @@ use second::edition::{Edition, FIRST, SECOND};
 use second::equations::PRINTED;
 use second::make::editions::Tried;
 use second::make::{
-    ascii, case, decided, editions, fronts, kept, long, pairs, plainly, spelt, strays, ways,
+    ascii, case, decided, editions, fronts, given, kept, long, pairs, plainly, spelt, strays, ways,
     written, Dice,
 };
-use second::{printed, steps, storeroom, writer, MOST_ROOM};
+use second::steps::{self, Handed};
+use second::{printed, storeroom, writer, MOST_ROOM};
 
 fn main() -> ExitCode {
     let arguments: Vec<String> = std::env::args().skip(1).collect();
@@ -156,13 +161,23 @@ fn main() -> ExitCode {
         }
         ["--play", seed, number] => {
             return match made(edition, seed, number, ways::played) {
-                Some(cases) => put_all(&keep(keeps, cases, kept::played), steps::Played::write),
+                Some(cases) => put_all(&keep(keeps, cases, kept::handed), Handed::write),
                 None => usage(),
             };
         }
         ["--play-each"] => {
             let cases = ways::each(edition);
-            return put_all(&keep(keeps, cases, kept::played), steps::Played::write);
+            return put_all(&keep(keeps, cases, kept::handed), Handed::write);
+        }
+        ["--way", seed, number] => {
+            return match made(edition, seed, number, given::case) {
+                Some(cases) => put_all(&keep(keeps, cases, kept::handed), Handed::write),
+                None => usage(),
+            };
+        }
+        ["--way-each"] => {
+            let cases = given::each(edition);
+            return put_all(&keep(keeps, cases, kept::handed), Handed::write);
         }
         ["--pairs", seed, number, ref rest @ ..] => match paired(edition, seed, number, rest) {
             Some(cases) => cases,
@@ -277,6 +292,7 @@ fn usage() -> ExitCode {
         "usage: sheets [--spelt | --write | --plain | --plain-pairs] SEED NUMBER | sheets --growing [N]"
     );
     eprintln!("       sheets --steps SEED NUMBER | sheets --play SEED NUMBER | sheets --play-each");
+    eprintln!("       sheets --way SEED NUMBER | sheets --way-each");
     eprintln!("       sheets --long ROOM [N] | sheets --printed [N] | sheets --equations ROOM");
     eprintln!("       sheets --decide SEED NUMBER");
     eprintln!("       sheets --pairs [SEED NUMBER [--twice] [--room ROOM]]");

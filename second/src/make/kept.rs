@@ -33,9 +33,9 @@ pub fn stepped(case: steps::Case) -> steps::Case {
     steps::Case { case: self::case(case.case), ..case }
 }
 
-/// A case of the player.
-pub fn played(played: steps::Played) -> steps::Played {
-    steps::Played { case: case(played.case), ..played }
+/// A case of the player, or of the way of given texts.
+pub fn handed(handed: steps::Handed) -> steps::Handed {
+    steps::Handed { case: case(handed.case), ..handed }
 }
 
 /// A case of the writer of sheets.

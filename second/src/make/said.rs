@@ -34,7 +34,7 @@ impl Said {
 
     /// The dice's edition. In the second one the characters are the same signs,
     /// or any, or mostly such at which something changes; the space stays one.
-    fn by_chance(dice: &mut Dice) -> Said {
+    pub fn by_chance(dice: &mut Dice) -> Said {
         let mut said = Said::by_sign(dice.edition);
         if dice.edition == FIRST || dice.one_in(3) {
             return said;

@@ -11,7 +11,7 @@ use crate::edition::Edition;
 use crate::search::{search, Ending};
 use crate::sheet::{read, Reading, LEFT, RIGHT};
 use crate::situation::{Situation, State};
-use crate::steps::{child, play_by, steps_by, written, Case, Played, Record, A_CHARACTER, STEP};
+use crate::steps::{child, play_by, steps_by, written, Case, Handed, Record, A_CHARACTER, STEP};
 use crate::write::{choice, many, row, sheet, text, tokens};
 use crate::{printed, records, SITUATION_BYTES};
 
@@ -63,7 +63,7 @@ pub fn case(dice: &mut Dice) -> Case {
 }
 
 /// A length around the one that is needed: often just that, or a byte less.
-fn around(dice: &mut Dice, needed: usize, less: bool) -> usize {
+pub(super) fn around(dice: &mut Dice, needed: usize, less: bool) -> usize {
     if less {
         return needed.saturating_sub(1);
     }
@@ -73,7 +73,7 @@ fn around(dice: &mut Dice, needed: usize, less: bool) -> usize {
 // ---------------------------------------------------------------- the player
 
 /// One case of the player.
-pub fn played(dice: &mut Dice) -> Played {
+pub fn played(dice: &mut Dice) -> Handed {
     let (sheet, steps) = match dice.below(20) {
         0 => (any(dice), Vec::new()),
         1 => {
@@ -94,7 +94,7 @@ pub fn played(dice: &mut Dice) -> Played {
 }
 
 /// The case with an answer buffer around the length that is needed.
-fn with_answer(dice: &mut Dice, sheet: Vec<u8>, mut steps: Vec<u8>) -> Played {
+fn with_answer(dice: &mut Dice, sheet: Vec<u8>, mut steps: Vec<u8>) -> Handed {
     steps.truncate(MOST_STEPS_BYTES);
     let case = |answer: usize| cases::Case { work: 0, answer: answer as u32, sheet: sheet.clone() };
     let told = play_by(Reading::Old, &sheet, &steps, &mut [0; 4_096]);
@@ -103,7 +103,7 @@ fn with_answer(dice: &mut Dice, sheet: Vec<u8>, mut steps: Vec<u8>) -> Played {
         1 => any_answer_length(dice) as usize,
         number => around(dice, told.written, number < 5),
     };
-    Played { case: case(answer.min(4_096)), steps }
+    Handed { case: case(answer.min(4_096)), bytes: steps }
 }
 
 /// A sheet and its search's way, a record each.
@@ -242,7 +242,7 @@ fn random_records(dice: &mut Dice) -> Vec<u8> {
 // -------------------------------------------------------------------- sheets
 
 /// A sheet whose search finds a clash in room for 356 situations.
-fn clashing(dice: &mut Dice) -> Vec<u8> {
+pub(super) fn clashing(dice: &mut Dice) -> Vec<u8> {
     loop {
         let sheet = match dice.below(8) {
             0..=2 => pairs::pair(dice),
@@ -261,7 +261,7 @@ fn long_way() -> Vec<u8> {
 }
 
 /// Any sheet, refused ones among them.
-fn any(dice: &mut Dice) -> Vec<u8> {
+pub(super) fn any(dice: &mut Dice) -> Vec<u8> {
     match dice.below(6) {
         0 => random_bytes(dice),
         1 | 2 => {
@@ -277,7 +277,7 @@ fn any(dice: &mut Dice) -> Vec<u8> {
 
 /// Every damage of every record of a few short ways, each with an answer buffer
 /// of just the right length, and what else is not allowed.
-pub fn each(edition: Edition) -> Vec<Played> {
+pub fn each(edition: Edition) -> Vec<Handed> {
     let said = Said::by_sign(edition);
     let mut cases = Vec::new();
     for sheet in [latches(), sheet_s(), on_both_sides()] {
@@ -297,9 +297,9 @@ pub fn each(edition: Edition) -> Vec<Played> {
             }
         }
         let case = |answer: u32| cases::Case { work: 0, answer, sheet: sheet.clone() };
-        cases.extend(all.into_iter().map(|steps| Played { case: case(answer), steps }));
+        cases.extend(all.into_iter().map(|bytes| Handed { case: case(answer), bytes }));
         for answer in [0, answer.saturating_sub(1), answer + 1] {
-            cases.push(Played { case: case(answer), steps: whole.clone() });
+            cases.push(Handed { case: case(answer), bytes: whole.clone() });
         }
     }
     cases.extend(not_allowed(&said));
@@ -317,21 +317,21 @@ pub fn latches() -> Vec<u8> {
 }
 
 /// x any digits, y the digit 4: x and y.
-fn sheet_s() -> Vec<u8> {
+pub(super) fn sheet_s() -> Vec<u8> {
     sheet(&[(0, many(vec![65, 0, 9])), (1, vec![4])], &tokens("a"), &tokens("b"))
 }
 
 /// x, and x: one field is in both fronts.
-fn on_both_sides() -> Vec<u8> {
+pub(super) fn on_both_sides() -> Vec<u8> {
     sheet(&[(0, many(vec![65, 10, 11]))], &tokens("aA"), &tokens("aA"))
 }
 
 /// Single steps that are not allowed, and a sheet that is dead or refused.
-fn not_allowed(said: &Said) -> Vec<Played> {
+fn not_allowed(said: &Said) -> Vec<Handed> {
     let one = |sheet: Vec<u8>, records: &[Record]| {
         let mut steps = Vec::new();
         records.iter().for_each(|record| record.write(&mut steps));
-        Played { case: cases::Case { work: 0, answer: 64, sheet }, steps }
+        Handed { case: cases::Case { work: 0, answer: 64, sheet }, bytes: steps }
     };
     let of = |patterns: &[(u8, &[u8])], left: &str, right: &str| {
         let patterns: Vec<(u8, Vec<u8>)> =

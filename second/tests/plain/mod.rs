@@ -147,7 +147,7 @@ pub fn regular(edition: Edition, pattern: &Pattern, layout: Layout) -> String {
 }
 
 /// Where a text taken by the pattern may end, if it begins at `from`.
-fn ends(pattern: &Pattern, text: &[u8], from: usize) -> BTreeSet<usize> {
+pub fn ends(pattern: &Pattern, text: &[u8], from: usize) -> BTreeSet<usize> {
     match pattern {
         Pattern::Empty => BTreeSet::from([from]),
         Pattern::Leaf { lo, hi } => match text.get(from) {

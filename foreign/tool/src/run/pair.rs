@@ -43,9 +43,9 @@ impl Run<'_> {
         let (mut words, mut object) =
             (pair_words(left, right, asked, self.options.paint), pair_object(left, right, asked));
         if self.options.steps && asked.answer.clashes() == Some(true) {
-            let rows = way(left, right, asked);
-            words += &steps_words(left, right, asked, rows.as_deref());
-            object = steps_in(object, left, right, rows.as_deref());
+            let way = way(left, right, asked);
+            words += &steps_words(left, right, &way);
+            object = steps_in(object, left, right, &way);
         }
         let shared = asked.shared.as_ref().filter(|_| self.options.repair);
         if let Some(found) = shared.and_then(|shared| repair(written, sides, shared)) {

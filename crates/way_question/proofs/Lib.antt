@@ -1,0 +1,4 @@
+pub mod SpacedCoded
+pub mod WayAgrees
+pub mod StepsPut
+pub mod WayMade

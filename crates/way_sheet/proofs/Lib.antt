@@ -1,0 +1,2 @@
+pub mod WayAnswered
+pub mod OneWay

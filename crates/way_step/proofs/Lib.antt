@@ -1,0 +1,3 @@
+pub mod FrontTests
+pub mod LeftBehind
+pub mod NextTests

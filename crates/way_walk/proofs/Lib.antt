@@ -1,0 +1,3 @@
+pub mod TextsCoded
+pub mod SpellAgrees
+pub mod Spelt
