@@ -63,7 +63,9 @@ pub fn decide(
     ensures settled { λ r. ⌜ ((m : Bool) → Says m (Meets question) → record { settled = r; buffer = now (answer .exit) } ≡ settled-coded question m (now (first .entry)) (now (second .entry)) (length (now (work .entry))) (now (answer .entry))) ⌝ }
     ensures work { λ _. ⌜ now (work .exit) ≡ replicate (length (now (work .entry))) 0 ⌝ }
 {
-    let ended = search_question::search_all(question, work, answer);
+    let mut none = [0; 1];
+    let search = search_question::search_told(question, work, answer, &mut none[0..0], false);
+    let ended = search.plain;
     let count = ended.count;
     if decides(ended, true) {
         return told(ended, count, 1);

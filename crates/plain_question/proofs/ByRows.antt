@@ -10,8 +10,7 @@ use lib.ListN.{length, getD}
 use Rattle.paper.specs.Numbers.{set-fields}
 use Rattle.base_codes.specs.Inner.{no-token, tokens}
 use Rattle.base_question.specs.declared.Question.{Question}
-use Rattle.search_hidden.specs.Behind.{with-hidden}
-use Rattle.search_hidden.specs.declared.Hidden.{Hidden}
+use Rattle.search_hidden.specs.Behind.{Hidden, with-hidden}
 use Rattle.plain_rows.specs.Fronts.{Front}
 use Rattle.search_tables.specs.Tables.{follow-of, taking-of, last-of}
 use Rattle.plain_rows.specs.Rows.{rows-of}

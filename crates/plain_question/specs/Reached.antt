@@ -8,8 +8,7 @@ use lib.ListN.{length, getD}
 use Rattle.paper.specs.Numbers.{most-characters}
 use Rattle.base_codes.specs.Inner.{no-token, tokens}
 use Rattle.base_question.specs.declared.Question.{Question}
-use Rattle.search_hidden.specs.Behind.{with-hidden}
-use Rattle.search_hidden.specs.declared.Hidden.{Hidden}
+use Rattle.search_hidden.specs.Behind.{Hidden, with-hidden}
 use Rattle.plain_block.specs.Met.{comes-by, may-be-left}
 use Rattle.plain_rows.specs.Fronts.{Front, front-of}
 

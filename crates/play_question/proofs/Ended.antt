@@ -3,6 +3,7 @@
 use Prim.Native.Nat.{ℕ}
 use native.Mathlib.Omega.{arith}
 use mathlib.Core.Path.{_≡_, sym, ap, subst, _∙_}
+use mathlib.Core.Bool.{Bool}
 use mathlib.Core.List.{List, map}
 use lib.ListN.{length}
 use Rattle.paper.specs.Numbers.{longest-side}
@@ -12,8 +13,7 @@ use Rattle.base_codes.specs.declared.Situation.{Situation}
 use Rattle.base_codes.proofs.Denoted.{denoted-laid}
 use Rattle.base_codes.proofs.Tokens.{tokens-length, all-tokens}
 use Rattle.base_question.specs.declared.Question.{Question}
-use Rattle.search_hidden.specs.Behind.{with-hidden}
-use Rattle.search_hidden.specs.declared.Hidden.{Hidden}
+use Rattle.search_hidden.specs.Behind.{Hidden, with-hidden}
 use Rattle.search_tables.specs.Tables.{follow-of, taking-of, last-of}
 use Rattle.search_trim.specs.Trimming.{question-coded}
 use Rattle.search_trim.proofs.Short.{question-short}
@@ -25,7 +25,8 @@ use Rattle.play_walk.specs.declared.Ending.{Ending}
 use Rattle.play_walk.specs.declared.Ending.the-variants as Ending-as
 use Rattle.play_walk.specs.declared.Stop.{Stop}
 use Rattle.play_texts.specs.WayRecords.{way-records, WayAnswered}
-use Rattle.play_question.specs.QuestionPlayed.{end-of, question-tables, question-first, PlayedFrom}
+use Rattle.play_question.specs.QuestionPlayed.{end-of, question-tables, question-first, Part-of, PlayedFrom}
+use Rattle.play_question.specs.declared.Part.{Part}
 use Rattle.play_question.specs.declared.End.{End}
 use Rattle.play_question.specs.declared.End.the-variants.{Stopped}
 
@@ -60,13 +61,15 @@ module _ (s : Question) (whole : Hidden) (follow taking : List (List ℕ)) (last
       (λ i. lent-tables (whole .characters) (a i) (b i) (c i))
       ∙ (λ i. lent-tables (w i .characters) (map follow-of (w i .fields)) (map taking-of (w i .fields)) (map last-of (w i .fields)))
 
-pub question-from : (s : Question) (whole : Hidden) (follow taking : List (List ℕ)) (last : List ℕ) (first : Situation)
+-- what is told by the tables that `play_part` makes is told by the question's own
+pub part-whole : (s : Question) (whole : Hidden) (follow taking : List (List ℕ)) (last : List ℕ) (first : Situation)
     → length (whole .left) ≡ longest-side → length (whole .right) ≡ longest-side → whole ≡ with-hidden s
     → follow ≡ map follow-of (whole .fields) → taking ≡ map taking-of (whole .fields) → last ≡ map last-of (whole .fields)
     → first ≡ as-struct (question-coded (tokens (whole .left)) (tokens (whole .right)))
-    → (steps answer after : List ℕ) (r : End) → PlayedFrom (lent-tables (whole .characters) follow taking last) (denoted first) steps answer after r
-    → PlayedFrom (question-tables s) (question-first s) steps answer after r
-question-from s whole follow taking last first l r w a b c d steps answer after x p =
-    subst (λ (z : Tables). PlayedFrom z (question-first s) steps answer after x) (tables-made s whole follow taking last first w a b c)
-    (subst (λ (z : Coded). PlayedFrom (lent-tables (whole .characters) follow taking last) z steps answer after x)
+    → (wanted : Bool) (steps before after : List ℕ) (r : Part)
+    → Part-of wanted (lent-tables (whole .characters) follow taking last) (denoted first) steps before after r
+    → Part-of wanted (question-tables s) (question-first s) steps before after r
+part-whole s whole follow taking last first l r w a b c d wanted steps before after x p =
+    subst (λ (z : Tables). Part-of wanted z (question-first s) steps before after x) (tables-made s whole follow taking last first w a b c)
+    (subst (λ (z : Coded). Part-of wanted (lent-tables (whole .characters) follow taking last) z steps before after x)
     (first-made s whole follow taking last first w l r d) p)

@@ -1,6 +1,7 @@
 -- A question played, by inner codes: for any sides, tables, bytes of steps and answer buffer. How it ends, and the answer buffer then.
 use Prim.Native.Nat.{ℕ}
 use mathlib.Core.Path.{_≡_}
+use mathlib.Core.Bool.{Bool, true, false}
 use mathlib.Core.List.{List, map}
 use Rattle.paper_steps.specs.Player.{Play, play-refused}
 use Rattle.base_codes.specs.Inner.{tokens}
@@ -16,7 +17,8 @@ use Rattle.play_step.specs.StepCoded.{lent-tables}
 use Rattle.play_walk.specs.WalkCoded.{stop-number, walked}
 use Rattle.play_walk.specs.declared.Ending.{Ending}
 use Rattle.play_walk.specs.declared.Ending.the-variants as Ending-as
-use Rattle.play_texts.specs.WayRecords.{way-records, way-given, way-buffer}
+use Rattle.play_texts.specs.WayRecords.{way-records, way-given, way-buffer, WayAnswered}
+use Rattle.play_question.specs.declared.Part.{Part}
 use Rattle.play_question.specs.declared.End.{End}
 use Rattle.play_question.specs.declared.End.the-variants.{Texts, AnswerTooShort, Stopped}
 
@@ -42,6 +44,11 @@ end-by (Ending-as.Stopped why) bytes answer = Stopped why
 abbrev pub buffer-by : Ending → List ℕ → List ℕ → List ℕ
 buffer-by Ending-as.Arrived bytes answer = way-buffer bytes answer
 buffer-by (Ending-as.Stopped why) bytes answer = answer
+
+-- what one function tells of playing: where the walk ends, or, where they are wanted, the texts
+abbrev pub Part-of : Bool → Tables → Coded → (steps before after : List ℕ) → Part → Type 0
+Part-of false T s steps before after r = r .ending ≡ walked T s steps
+Part-of true T s steps before after r = WayAnswered (way-records T s steps) before after (r .given)
 
 pub record PlayedFrom (T : Tables) (s : Coded) (steps before after : List ℕ) (r : End) : Type 0 where
   pub end : r ≡ end-by (walked T s steps) (way-records T s steps) before

@@ -1,18 +1,13 @@
 // A question, played: its hidden fields, the tables of its fields, the steps made from the trimmed question, and the texts at the end. The number of
 // characters is that of its alphabet.
-use base_codes::FIELDS;
-use base_codes::Situation;
-use base_places::CHARACTERS;
-use base_places::PLACES;
-use base_places::PlaceSet;
+use base_codes::HIDDEN_LEFT;
+use base_codes::HIDDEN_RIGHT;
 use base_question::Question;
 use play_walk::Ending;
 use play_walk::Stop;
 use search_records::Given;
 ghost use mathlib.Core.Path.{_≡_};
-ghost use Rattle.base_codes.specs.Coded.{denoted};
-ghost use Rattle.play_step.specs.StepCoded.{lent-tables};
-ghost use Rattle.play_question.specs.QuestionPlayed.{end-of, question-tables, question-first, PlayedFrom};
+ghost use Rattle.play_question.specs.QuestionPlayed.{end-of, question-tables, question-first, Part-of, PlayedFrom};
 
 // How playing ends.
 pub enum End {
@@ -24,6 +19,12 @@ pub enum End {
     Stopped { why: Stop },
 }
 
+// Where the walk of the steps ends, and what became of the texts. Only the one that was wanted says something.
+struct Part {
+    ending: Ending,
+    given: Given,
+}
+
 fn end_of(given: Given) -> End
     ensures { λ r. ⌜ r ≡ end-of given ⌝ }
 {
@@ -33,38 +34,56 @@ fn end_of(given: Given) -> End
     }
 }
 
-// From this situation on, with so many characters and these tables.
-fn play_from(
-    first: Situation,
-    steps: &[u8],
-    answer: &mut [u8],
-    characters: usize,
-    follow: &[[PlaceSet; PLACES]; FIELDS],
-    taking: &[[PlaceSet; CHARACTERS]; FIELDS],
-    last: [PlaceSet; FIELDS],
-) -> End
-    ensures { λ r. ⌜ PlayedFrom (lent-tables characters (now (follow .entry)) (now (taking .entry)) last) (denoted first) (now (steps .entry)) (now (answer .entry)) (now (answer .exit)) r ⌝ }
-{
-    let ending = play_walk::walk(first, steps, characters, follow, taking, last);
-    if let Ending::Stopped { why } = ending {
-        return End::Stopped { why };
-    }
-    let given = play_texts::answer_way(answer, first, steps, characters, follow, taking, last);
-    end_of(given)
-}
-
-// Plays the records of steps from the trimmed question on.
+// Plays the records of steps from the trimmed question on: the steps are walked, and where they arrive the texts are put.
 pub fn play(question: Question, steps: &[u8], answer: &mut [u8]) -> End
     ensures { λ r. ⌜ PlayedFrom (question-tables question) (question-first question) (now (steps .entry)) (now (answer .entry)) (now (answer .exit)) r ⌝ }
 {
-    let hidden = search_hidden::question(question);
-    let characters = hidden.characters;
-    let left = hidden.left;
-    let right = hidden.right;
-    let fields = hidden.fields;
-    let follow = search_tables::follow_sets(fields);
-    let taking = search_tables::taking_sets(fields);
-    let last = search_tables::last_sets(fields);
+    let mut none = [0; 1];
+    let walked = play_part(question, steps, &mut none[0..0], false);
+    let ending = walked.ending;
+    if let Ending::Stopped { why } = ending {
+        return End::Stopped { why };
+    }
+    let put = play_part(question, steps, answer, true);
+    let given = put.given;
+    end_of(given)
+}
+
+// The walk, or the texts where they are wanted. It has two callers: its tables are on the stack only after the sheet is read.
+fn play_part(question: Question, steps: &[u8], answer: &mut [u8], wanted: bool) -> Part
+    ensures { λ r. ⌜ Part-of wanted (question-tables question) (question-first question) (now (steps .entry)) (now (answer .entry)) (now (answer .exit)) r ⌝ }
+{
+    let alphabet = question.alphabet;
+    let characters = alphabet.characters;
+    let space = alphabet.space;
+    let own_left = question.left;
+    let own_right = question.right;
+    let left = search_hidden::side(own_left, HIDDEN_LEFT);
+    let right = search_hidden::side(own_right, HIDDEN_RIGHT);
     let first = search_trim::question(left, right);
-    play_from(first, steps, answer, characters, &follow, &taking, last)
+    let hidden = search_hidden::spaces(space);
+    let own_fields = question.fields;
+    let follow = search_tables::follow_behind(own_fields, hidden);
+    let last = search_tables::last_behind(own_fields, hidden);
+    let taking = search_tables::taking_behind(own_fields, hidden);
+    if wanted {
+        let given = play_texts::answer_way(
+            answer,
+            first,
+            steps,
+            characters,
+            &follow,
+            &taking,
+            last,
+        );
+        return Part {
+            ending: Ending::Arrived,
+            given,
+        };
+    }
+    let ending = play_walk::walk(first, steps, characters, &follow, &taking, last);
+    Part {
+        ending,
+        given: Given::TooShort,
+    }
 }

@@ -1,18 +1,15 @@
--- A token put behind a side's last one, and tables put one field after the other. Follows from the laws of lists written into the front of a
--- buffer.
+-- A token put behind a side's last one. Follows from the laws of lists written into the front of a buffer.
 --   put-behind, no-room-behind : the side with the token, where there is room and where there is none
---   one-more                   : one field more has its tables
-use Prim.Native.Nat.{ℕ, suc, _+_, _<_}
+use Prim.Native.Nat.{ℕ, _<_}
 use native.Mathlib.Omega.{arith}
 use mathlib.Core.Path.{_≡_, sym, ap, _∙_}
-use mathlib.Core.List.{List, [], _∷_, _++_, append-assoc}
-use lib.ListN.{length, getD, take, drop, set, replicate, length-append}
-use lib.Seq.{take-suc, drop-cons, take-all, take-append-seam, set-at, length-take-le}
+use mathlib.Core.List.{List, [], _∷_, _++_}
+use lib.ListN.{length, take, set, replicate, length-append}
+use lib.Seq.{take-all, take-append-seam}
 use Rattle.paper.specs.Numbers.{longest-side}
 use Rattle.base_codes.specs.Inner.{no-token, tokens, padded}
 use Rattle.base_codes.specs.InFront.{In-front}
 use Rattle.base_codes.proofs.InFront.{in-front-more, in-front-padded}
-use Rattle.base_places.specs.declared.PlaceTables.{PlaceTables}
 use Rattle.search_hidden.specs.Behind.{side-with}
 
 module _ (side d e : List ℕ) (n token : ℕ) (many : n ≡ length (tokens side)) (part : take n side ≡ tokens side)
@@ -29,17 +26,3 @@ module _ (side d e : List ℕ) (n token : ℕ) (many : n ≡ length (tokens side
       let full : length (tokens side) ≡ longest-side = sym many ∙ h in
       in-front-padded w none
       ∙ ap padded (part ∙ sym (ap (λ (k : ℕ). take k (tokens side ++ (token ∷ []))) (sym full) ∙ take-append-seam (tokens side) (token ∷ [])))
-
--- tables that are not there
-abbrev pub no-tables : PlaceTables
-no-tables = record { follow = []; taking = []; last = 0 }
-
-pub one-more : (own all : List PlaceTables) (f : ℕ) → f < length own → f < length all
-    → set (take f own ++ drop f all) f (getD own f no-tables) ≡ take (suc f) own ++ drop (suc f) all
-one-more own all f h k =
-    rw (
-      drop-cons all f no-tables k,
-      set-at (take f own) (getD all f no-tables) (drop (suc f) all) (getD own f no-tables) f (length-take-le f own (omega arith)),
-      take-suc own f no-tables h,
-    )
-    (sym (append-assoc (take f own) (getD own f no-tables ∷ []) (drop (suc f) all)))

@@ -6,11 +6,18 @@ use Rattle.paper.specs.Numbers.{longest-side, hidden-left, hidden-right}
 use Rattle.paper.specs.Question.{any-spaces}
 use Rattle.base_codes.specs.Inner.{field-code, tokens, padded}
 use Rattle.base_places.specs.WorkedOut.{worked-out}
+use Rattle.base_places.specs.declared.PlaceTables.{PlaceTables}
 use Rattle.base_question.specs.declared.Question.{Question}
-use Rattle.search_hidden.specs.declared.Hidden.{Hidden}
 
 abbrev pub side-with : ℕ → List ℕ → List ℕ
 side-with token side = padded (take longest-side (tokens side ++ (token ∷ [])))
+
+-- a question with its hidden fields, and how many characters its alphabet has
+pub record Hidden : Type 0 where
+  pub characters : ℕ
+  pub left : List ℕ
+  pub right : List ℕ
+  pub fields : List PlaceTables
 
 -- "Each side is to be read as if one hidden field, of any number of spaces, stood at its end: field 8 on the left and 9 on the right"
 abbrev pub with-hidden : Question → Hidden

@@ -1,27 +1,21 @@
 // The hidden fields: "Each side is to be read as if one hidden field, of any number of spaces, stood at its end: field 8 on the left and 9 on the
 // right".
 use base_codes::CodedSide;
-use base_codes::FIELDS;
-use base_codes::HIDDEN_LEFT;
-use base_codes::HIDDEN_RIGHT;
 use base_codes::LONGEST_SIDE;
 use base_codes::NO_TOKEN;
-use base_codes::SHEET_FIELDS;
 use base_codes::length_of;
 use base_places::CHARACTERS;
 use base_places::PLACES;
 use base_places::PlaceSet;
 use base_places::PlaceTables;
-use base_question::Question;
 ghost use mathlib.Core.Path.{_≡_};
-ghost use mathlib.Core.List.{_∷_, [], _++_};
 ghost use lib.ListN.{replicate};
 ghost use Rattle.paper.specs.Numbers.{longest-side};
 ghost use Rattle.paper.specs.Question.{any-spaces};
 ghost use Rattle.base_codes.specs.Inner.{no-token};
 ghost use Rattle.base_places.specs.Masks.{taking-masks};
 ghost use Rattle.base_places.specs.WorkedOut.{worked-out};
-ghost use Rattle.search_hidden.specs.Behind.{side-with, with-hidden};
+ghost use Rattle.search_hidden.specs.Behind.{side-with};
 
 // a side of no token, to be written over
 fn no_side() -> CodedSide
@@ -77,48 +71,5 @@ pub fn spaces(space: usize) -> PlaceTables
         follow,
         taking,
         last: START_AND_LEAF,
-    }
-}
-
-// What is worked out of a sheet's fields, and behind it what is worked out of the hidden ones, which hold this space.
-pub fn fields(own: [PlaceTables; SHEET_FIELDS], space: usize) -> [PlaceTables; FIELDS]
-    ensures { λ r. ⌜ r ≡ own ++ (worked-out (any-spaces space) ∷ worked-out (any-spaces space) ∷ []) ⌝ }
-{
-    let hidden = spaces(space);
-    let mut all = [hidden; FIELDS];
-    let mut f = 0;
-    while f < SHEET_FIELDS {
-        let its = own[f];
-        all[f] = its;
-        f += 1;
-    }
-    all
-}
-
-// A question with its hidden fields, and how many characters its alphabet has.
-pub struct Hidden {
-    pub characters: usize,
-    pub left: CodedSide,
-    pub right: CodedSide,
-    pub fields: [PlaceTables; FIELDS],
-}
-
-pub fn question(own: Question) -> Hidden
-    ensures { λ r. ⌜ r ≡ with-hidden own ⌝ }
-{
-    let alphabet = own.alphabet;
-    let characters = alphabet.characters;
-    let space = alphabet.space;
-    let own_left = own.left;
-    let own_right = own.right;
-    let own_fields = own.fields;
-    let left = side(own_left, HIDDEN_LEFT);
-    let right = side(own_right, HIDDEN_RIGHT);
-    let all = fields(own_fields, space);
-    Hidden {
-        characters,
-        left,
-        right,
-        fields: all,
     }
 }

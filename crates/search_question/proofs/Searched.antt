@@ -6,7 +6,7 @@
 -- for the struct of the question, wherever its patterns stand. Follows from `run-told-over`, from what the hidden fields and the cut tables are.
 use Prim.Native.Nat.{ℕ, _<_}
 use native.Mathlib.Omega.{arith}
-use mathlib.Core.Path.{_≡_, ap, _∙_}
+use mathlib.Core.Path.{_≡_, ap, subst, _∙_}
 use mathlib.Core.Bool.{Bool, false}
 use mathlib.Core.List.{List, map}
 use lib.ListN.{length, getD, replicate}
@@ -25,25 +25,26 @@ use Rattle.base_codes.specs.Inner.{side-code, tokens}
 use Rattle.base_question.specs.Asked.{question-of}
 use Rattle.base_question.specs.declared.Body.{Body}
 use Rattle.base_question.specs.declared.Question as Code
-use Rattle.search_hidden.specs.Behind.{with-hidden}
-use Rattle.search_hidden.specs.declared.Hidden.{Hidden}
+use Rattle.search_hidden.specs.Behind.{Hidden, with-hidden}
 use Rattle.search_hidden.proofs.Codes.{left-hidden, right-hidden, part-hidden}
 use Rattle.search_tables.specs.Cut.{listed-by, cut-coded}
 use Rattle.search_tables.specs.Tables.{follow-of, taking-of, last-of}
 use Rattle.search_tables.proofs.CutOver.{cut-by}
 use Rattle.search_tables.proofs.Listed.{getD-listed}
 use Rattle.search_trim.specs.Trimming.{question-coded}
-use Rattle.search_children.specs.Children.{children-coded}
+use Rattle.search_children.specs.Children.{Tables, children-coded}
 use Rattle.search_children.specs.Coding.{taking-over, tables-of, tables-over}
 use Rattle.search_children.proofs.CodedChildren.{children-every}
 use Rattle.search_run.specs.Ended.{room-for, ended-with, buffer-with, told-end}
 use Rattle.search_run.specs.Lent.{tables}
-use Rattle.search_run.specs.StepsEnded.{StepsRun, steps-with, told-run}
+use Rattle.search_run.specs.StepsEnded.{StepsRun, told-run}
 use Rattle.search_run.proofs.RunIsSearch.{run-told-over}
 use Rattle.search_run.proofs.SameTables.{ended-same, buffer-same, steps-same}
 use Rattle.search_run.proofs.StepsRunIsSearch.{run-steps-told-over}
 use Rattle.base_answers.specs.declared.Ended.{Ended}
 use Rattle.search_question.specs.Over.{tables-among, first-of, ended-over, buffer-over, tables-all, ended-all, buffer-all, steps-all}
+use Rattle.search_question.specs.ToldBy.{Told-by}
+use Rattle.search_question.specs.declared.Told.{Told}
 
 -- what is promised of a search: how it ended, and both buffers then
 abbrev pub Searched : List Bool → Code.Question → List ℕ → List ℕ → List ℕ → List ℕ → Ended → Type 0
@@ -72,25 +73,26 @@ SearchedAll s work answer after worked e =
 abbrev pub SearchedSteps : Code.Question → List ℕ → List ℕ → List ℕ → List ℕ → StepsRun → Type 0
 SearchedSteps s work answer steps worked r = (r ≡ steps-all s (length work) answer steps) × (worked ≡ replicate (length work) 0)
 
+-- what is told of a search by the tables that `search_told` makes is told of one by the question's own
 module _ (s : Code.Question) (whole : Hidden) (many : ℕ) (follow taking : List (List ℕ)) (last : List ℕ)
     (w : whole ≡ with-hidden s) (m : many ≡ s .alphabet .characters)
-    (a : follow ≡ map follow-of (whole .fields)) (c : last ≡ map last-of (whole .fields)) (d : taking ≡ map taking-of (whole .fields))
-    (work answer : List ℕ) where
-  abbrev first : Coded
-  first = question-coded (tokens (whole .left)) (tokens (whole .right))
+    (a : follow ≡ map follow-of (whole .fields)) (c : last ≡ map last-of (whole .fields)) (d : taking ≡ map taking-of (whole .fields)) where
+  pub told-whole : (way : Bool) (room : ℕ) (answer steps after written : List ℕ) (r : Told)
+      → Told-by way (tables (within many) follow taking last) room (question-coded (tokens (whole .left)) (tokens (whole .right))) answer steps after written r
+      → Told-by way (tables-all s) room (first-of s) answer steps after written r
+  told-whole way room answer steps after written r p =
+      let T : tables (within many) follow taking last ≡ tables-all s = rw (d, a, c, m, w) in
+      let k : question-coded (tokens (whole .left)) (tokens (whole .right)) ≡ first-of s = rw w in
+      subst (λ (z : Tables). Told-by way z room (first-of s) answer steps after written r) T
+      (subst (λ (z : Coded). Told-by way (tables (within many) follow taking last) room z answer steps after written r) k p)
 
-  pub all-searched-by : (after worked : List ℕ) (e : Ended)
-      → (e ≡ ended-with (tables (within many) follow taking last) (room-for (length work)) first answer)
-      × ((after ≡ buffer-with (tables (within many) follow taking last) (room-for (length work)) first answer) × (worked ≡ replicate (length work) 0))
-      → SearchedAll s work answer after worked e
-  unfolding ended-all buffer-all
-  all-searched-by after worked e p = (rw (p .0, d, a, c, m, w), (rw (p .1 .0, d, a, c, m, w), p .1 .1))
-
-  pub steps-searched-by : (steps worked : List ℕ) (r : StepsRun)
-      → (r ≡ steps-with (tables (within many) follow taking last) (room-for (length work)) first answer steps) × (worked ≡ replicate (length work) 0)
-      → SearchedSteps s work answer steps worked r
-  unfolding steps-all
-  steps-searched-by steps worked r p = (rw (p .0, d, a, c, m, w), p .1)
+-- what is told without the way is what is promised of a search over every character
+pub plain-told : (s : Code.Question) (work answer after worked : List ℕ) (e : Ended)
+    → ((e ≡ ended-with (tables-all s) (room-for (length work)) (first-of s) answer) × (after ≡ buffer-with (tables-all s) (room-for (length work)) (first-of s) answer))
+    × (worked ≡ replicate (length work) 0)
+    → SearchedAll s work answer after worked e
+unfolding ended-all buffer-all
+plain-told s work answer after worked e p = (p .0 .0, (p .0 .1, p .1))
 
 module _ (q : Question) (l : GoodSide (q .alphabet .characters) (q .left)) (r : GoodSide (q .alphabet .characters) (q .right)) (good : Searchable (hidden q))
     (bodies : List Body) where

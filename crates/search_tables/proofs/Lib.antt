@@ -1,4 +1,3 @@
-pub mod Spread
 pub mod Behind
 pub mod Listed
 pub mod Filled

@@ -15,46 +15,56 @@ ghost use Rattle.paper.specs.Numbers.{most-characters};
 ghost use Rattle.search_tables.specs.Cut.{cut-row, cut-coded};
 ghost use Rattle.search_tables.specs.Tables.{follow-of, taking-of, last-of};
 
-// "For every field and every place, the set of places that may follow".
-pub fn follow_sets(fields: [PlaceTables; FIELDS]) -> [[PlaceSet; PLACES]; FIELDS]
-    ensures { λ r. ⌜ r ≡ map follow-of fields ⌝ }
+// "For every field and every place, the set of places that may follow": of a sheet's fields and, behind them, twice of the hidden ones, which are
+// alike.
+pub fn follow_behind(
+    own: [PlaceTables; SHEET_FIELDS],
+    hidden: PlaceTables,
+) -> [[PlaceSet; PLACES]; FIELDS]
+    ensures { λ r. ⌜ r ≡ map follow-of (own ++ (hidden ∷ hidden ∷ [])) ⌝ }
 {
-    let mut sets = [[0; PLACES]; FIELDS];
+    let behind = hidden.follow;
+    let mut sets = [behind; FIELDS];
     let mut f = 0;
-    while f < FIELDS {
-        let tables = fields[f];
-        let follow = tables.follow;
-        sets[f] = follow;
-        f += 1;
-    }
-    sets
-}
-
-// For every field and every character the set of places that take it.
-pub fn taking_sets(fields: [PlaceTables; FIELDS]) -> [[PlaceSet; CHARACTERS]; FIELDS]
-    ensures { λ r. ⌜ r ≡ map taking-of fields ⌝ }
-{
-    let mut sets = [[0; CHARACTERS]; FIELDS];
-    let mut f = 0;
-    while f < FIELDS {
-        let tables = fields[f];
-        let taking = tables.taking;
-        sets[f] = taking;
+    while f < SHEET_FIELDS {
+        let tables = own[f];
+        let its = tables.follow;
+        sets[f] = its;
         f += 1;
     }
     sets
 }
 
 // For every field the set of places that may be the last one of a text.
-pub fn last_sets(fields: [PlaceTables; FIELDS]) -> [PlaceSet; FIELDS]
-    ensures { λ r. ⌜ r ≡ map last-of fields ⌝ }
+pub fn last_behind(own: [PlaceTables; SHEET_FIELDS], hidden: PlaceTables) -> [PlaceSet; FIELDS]
+    ensures { λ r. ⌜ r ≡ map last-of (own ++ (hidden ∷ hidden ∷ [])) ⌝ }
 {
-    let mut sets = [0; FIELDS];
+    let behind = hidden.last;
+    let mut sets = [behind; FIELDS];
     let mut f = 0;
-    while f < FIELDS {
-        let tables = fields[f];
-        let last = tables.last;
-        sets[f] = last;
+    while f < SHEET_FIELDS {
+        let tables = own[f];
+        let its = tables.last;
+        sets[f] = its;
+        f += 1;
+    }
+    sets
+}
+
+// For every field and every character the set of places that take it.
+pub fn taking_behind(
+    own: [PlaceTables; SHEET_FIELDS],
+    hidden: PlaceTables,
+) -> [[PlaceSet; CHARACTERS]; FIELDS]
+    ensures { λ r. ⌜ r ≡ map taking-of (own ++ (hidden ∷ hidden ∷ [])) ⌝ }
+{
+    let behind = hidden.taking;
+    let mut sets = [behind; FIELDS];
+    let mut f = 0;
+    while f < SHEET_FIELDS {
+        let tables = own[f];
+        let its = tables.taking;
+        sets[f] = its;
         f += 1;
     }
     sets
@@ -79,58 +89,6 @@ fn cut(among: [bool; CHARACTERS], row: [PlaceSet; CHARACTERS], n: usize) -> [Pla
         c += 1;
     }
     masks
-}
-
-// The same of a sheet's fields and, behind them, twice of the hidden ones, which are alike.
-pub fn follow_behind(
-    own: [PlaceTables; SHEET_FIELDS],
-    hidden: PlaceTables,
-) -> [[PlaceSet; PLACES]; FIELDS]
-    ensures { λ r. ⌜ r ≡ map follow-of (own ++ (hidden ∷ hidden ∷ [])) ⌝ }
-{
-    let behind = hidden.follow;
-    let mut sets = [behind; FIELDS];
-    let mut f = 0;
-    while f < SHEET_FIELDS {
-        let tables = own[f];
-        let its = tables.follow;
-        sets[f] = its;
-        f += 1;
-    }
-    sets
-}
-
-pub fn last_behind(own: [PlaceTables; SHEET_FIELDS], hidden: PlaceTables) -> [PlaceSet; FIELDS]
-    ensures { λ r. ⌜ r ≡ map last-of (own ++ (hidden ∷ hidden ∷ [])) ⌝ }
-{
-    let behind = hidden.last;
-    let mut sets = [behind; FIELDS];
-    let mut f = 0;
-    while f < SHEET_FIELDS {
-        let tables = own[f];
-        let its = tables.last;
-        sets[f] = its;
-        f += 1;
-    }
-    sets
-}
-
-pub fn taking_behind(
-    own: [PlaceTables; SHEET_FIELDS],
-    hidden: PlaceTables,
-) -> [[PlaceSet; CHARACTERS]; FIELDS]
-    ensures { λ r. ⌜ r ≡ map taking-of (own ++ (hidden ∷ hidden ∷ [])) ⌝ }
-{
-    let behind = hidden.taking;
-    let mut sets = [behind; FIELDS];
-    let mut f = 0;
-    while f < SHEET_FIELDS {
-        let tables = own[f];
-        let its = tables.taking;
-        sets[f] = its;
-        f += 1;
-    }
-    sets
 }
 
 // "tables in which no place takes another character", of an alphabet of so many characters

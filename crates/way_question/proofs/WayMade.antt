@@ -9,8 +9,7 @@ use Rattle.base_codes.specs.Inner.{tokens}
 use Rattle.base_codes.specs.Coded.{Coded, denoted, as-struct}
 use Rattle.base_codes.specs.declared.Situation.{Situation}
 use Rattle.base_question.specs.declared.Question.{Question}
-use Rattle.search_hidden.specs.Behind.{with-hidden}
-use Rattle.search_hidden.specs.declared.Hidden.{Hidden}
+use Rattle.search_hidden.specs.Behind.{Hidden, with-hidden}
 use Rattle.search_tables.specs.Tables.{follow-of, taking-of, last-of}
 use Rattle.search_trim.specs.Trimming.{question-coded}
 use Rattle.search_children.specs.Children.{Tables}

@@ -1,5 +1,7 @@
 // A question, and the way of given texts on it: its hidden fields, the tables of its fields, the records of the texts, and the steps that spell them.
 use base_codes::FIELDS;
+use base_codes::HIDDEN_LEFT;
+use base_codes::HIDDEN_RIGHT;
 use base_codes::Situation;
 use base_places::CHARACTERS;
 use base_places::PLACES;
@@ -85,16 +87,16 @@ pub fn way(question: Question, texts: &[u8], steps: &mut [u8]) -> WayEnd
     let own_left = question.left;
     let own_right = question.right;
     let alphabet = question.alphabet;
+    let characters = alphabet.characters;
     let space = alphabet.space;
-    let hidden = search_hidden::question(question);
-    let characters = hidden.characters;
-    let left = hidden.left;
-    let right = hidden.right;
-    let fields = hidden.fields;
-    let follow = search_tables::follow_sets(fields);
-    let taking = search_tables::taking_sets(fields);
-    let last = search_tables::last_sets(fields);
+    let left = search_hidden::side(own_left, HIDDEN_LEFT);
+    let right = search_hidden::side(own_right, HIDDEN_RIGHT);
     let first = search_trim::question(left, right);
+    let hidden = search_hidden::spaces(space);
+    let own_fields = question.fields;
+    let follow = search_tables::follow_behind(own_fields, hidden);
+    let last = search_tables::last_behind(own_fields, hidden);
+    let taking = search_tables::taking_behind(own_fields, hidden);
     let sets = first.sets;
     let spans = way_records::read(texts, own_left, own_right, sets, characters);
     spell_from(

@@ -9,7 +9,7 @@ use bradovusc::{
     Step, Stepped, WayFound, MOST_STEPS, SITUATION_BYTES,
 };
 use second::edition::{FIRST, SECOND};
-use second::make::{pairs, ways, Dice};
+use second::make::{given, pairs, ways, Dice};
 use second::steps::STEPS_FILL;
 use second::Outcome;
 
@@ -255,15 +255,34 @@ fn generated_ways_that_are_played() {
     let mut seen = BTreeMap::new();
     let made = (0..2000).map(|number| ways::played(&mut dice[number % 2]));
     for case in made.chain([FIRST, SECOND].into_iter().flat_map(ways::each)) {
-        let (told, theirs) = case.run();
+        let (told, theirs) = case.run(second::steps::play);
         let mut ours = vec![ANSWER_FILL; case.case.answer as usize];
-        let given = play(&case.case.sheet, &case.steps, &mut ours);
+        let given = play(&case.case.sheet, &case.bytes, &mut ours);
         let (number, place) = (given.number() as u8, given.place());
         assert_eq!(Outcome { number, count: 0, place, written: given.written() }, told, "{case:?}");
         assert_eq!(ours, theirs, "{case:?}");
         *seen.entry(number).or_insert(0) += 1;
     }
     for number in [0, 12, 19, 20, 47, 48, 49] {
+        assert!(seen.get(&number).is_some_and(|&times| times > 8), "{seen:?}");
+    }
+}
+
+#[test]
+fn generated_texts_with_their_ways() {
+    let mut dice = [FIRST, SECOND].map(|edition| Dice::of(43, edition));
+    let mut seen = BTreeMap::new();
+    let made = (0..800).map(|number| given::case(&mut dice[number % 2]));
+    for case in made.chain([FIRST, SECOND].into_iter().flat_map(given::each)) {
+        let (told, theirs) = case.run(second::way::way);
+        let mut ours = vec![ANSWER_FILL; case.case.answer as usize];
+        let found = find_way(&case.case.sheet, &case.bytes, &mut ours);
+        let (number, place) = (found.number() as u8, found.place());
+        assert_eq!(Outcome { number, count: 0, place, written: found.written() }, told, "{case:?}");
+        assert_eq!(ours, theirs, "{case:?}");
+        *seen.entry(number).or_insert(0) += 1;
+    }
+    for number in [0, 12, 19, 47, 48, 51] {
         assert!(seen.get(&number).is_some_and(|&times| times > 8), "{seen:?}");
     }
 }

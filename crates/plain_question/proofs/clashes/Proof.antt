@@ -7,7 +7,7 @@ use borrow.Author.Needs.{needs}
 use lib.ListN.{length, length-append, length-map}
 use Rattle.paper.specs.Numbers.{set-fields}
 use Rattle.search_tables.specs.Tables.{last-of}
-use Rattle.search_hidden.specs.declared.Hidden.{Hidden}
+use Rattle.search_hidden.specs.Behind.{Hidden}
 use Rattle.plain_rows.specs.Rows.{rows, rows-of}
 use Rattle.plain_question.proofs.ByRows.{said-of-question}
 use Rattle.plain_question.proofs.clashes.Statement.{statement}

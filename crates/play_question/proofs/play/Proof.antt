@@ -1,61 +1,67 @@
--- `play` meets its contract: the question with its hidden fields and its tables is made, and played (`question-from`).
+-- `play` meets its contract, by where the walk ends. Follows from what `play_part` promises of the walk and of the texts.
 use denote.Ref.{now}
-use mathlib.Core.Path.{_≡_}
-use lib.ListN.{length}
 use borrow.Author.Needs.{needs}
-use Rattle.paper.specs.Numbers.{longest-side}
-use Rattle.play_question.proofs.Ended.{question-from}
+use Rattle.play_question.specs.QuestionPlayed.{question-tables, question-first}
+use Rattle.play_question.proofs.Ended.{stopped-from, arrived-from}
 use Rattle.play_question.proofs.play.Statement.{statement}
 use Rattle.play_question.proofs.play.Tie as tie
 
-question-requires : tie.Need-question-requires
-question-requires c κs = search needs
+sub-play-part : tie.Need-sub-play-part
+sub-play-part c = search needs
 
-follow-sets-requires : tie.Need-follow-sets-requires
-follow-sets-requires c κs = search needs
+part-none-start : tie.Need-part-none-start
+part-none-start c = search needs
 
-taking-sets-requires : tie.Need-taking-sets-requires
-taking-sets-requires c κs = search needs
+part-none-end : tie.Need-part-none-end
+part-none-end c = search needs
 
-last-sets-requires : tie.Need-last-sets-requires
-last-sets-requires c κs = search needs
+play-part-requires : tie.Need-play-part-requires
+play-part-requires c κs = search needs
 
-question-requires-2 : tie.Need-question-requires-2
-question-requires-2 c κs = search needs
+enum-known-ending : tie.Need-enum-known-ending
+enum-known-ending c = search needs
 
-play-from-requires : tie.Need-play-from-requires
-play-from-requires c κs = search needs
+returns : tie.Need-returns
+returns c =
+    let w = c .before .before .before .before in
+    let a = w .before .before .before .before .args in
+    stopped-from (question-tables (a .question)) (question-first (a .question)) (now (a .steps)) (now (a .answer)) (w .play-part .result .ending)
+    (w .play-part .ensures) (c .before .ending .given .0 .0) (c .before .ending .given .1)
+
+enum-told : tie.Need-enum-told
+enum-told c = search needs
+
+play-part-requires-2 : tie.Need-play-part-requires-2
+play-part-requires-2 c κs = search needs
+
+end-of-requires : tie.Need-end-of-requires
+end-of-requires c κs = search needs
 
 same-length : tie.Need-same-length
 same-length c = search needs
 
-lengths : (c : tie.After-question)
-    → (length (c .question .result .left) ≡ longest-side) × (length (c .question .result .right) ≡ longest-side)
-lengths c = (search needs, search needs)
-
-returns : tie.Need-returns
-returns c =
-    let p = c .before .before in
-    let first = p .before .before .before .before in
-    let last = first .before in
-    let taking = last .before in
-    let follow = taking .before in
-    let whole = follow .before .before .before .before in
-    let a = whole .before .before .before .args in
-    let (l, r) = lengths whole in
-    question-from (a .question) (whole .question .result) (follow .follow-sets .result) (taking .taking-sets .result) (last .last-sets .result) (first .question2 .result)
-    l r (whole .question .ensures) (follow .follow-sets .ensures) (taking .taking-sets .ensures) (last .last-sets .ensures) (first .question2 .ensures)
-    (now (a .steps)) (now (a .answer)) (p .play-from .last .1 .1 .0) (p .play-from .result) (p .play-from .ensures)
+returns-2 : tie.Need-returns-2
+returns-2 c =
+    let put = c .before .before .before in
+    let told = put .before .before in
+    let w = told .before .before .before in
+    let a = w .before .before .before .before .args in
+    arrived-from (question-tables (a .question)) (question-first (a .question)) (now (a .steps)) (now (a .answer)) (w .play-part .result .ending)
+    (w .play-part .ensures) (told .enum-told .given .1) (put .play-part2 .last .1 .1 .0) (put .play-part2 .result .given) (c .end-of .result)
+    (put .play-part2 .ensures) (c .end-of .ensures)
 
 pub play-spec : {M : Type 1} → statement M
 play-spec =
     tie.close
     (tie.spec
-    question-requires
-    follow-sets-requires
-    taking-sets-requires
-    last-sets-requires
-    question-requires-2
-    play-from-requires
+    sub-play-part
+    part-none-start
+    part-none-end
+    play-part-requires
+    enum-known-ending
+    returns
+    enum-told
+    play-part-requires-2
+    end-of-requires
     same-length
-    returns)
+    returns-2)

@@ -7,12 +7,6 @@ use Rattle.search_question.proofs.Searched.{searched-by}
 use Rattle.search_question.proofs.search.Statement.{statement}
 use Rattle.search_question.proofs.search.Tie as tie
 
-side-requires : tie.Need-side-requires
-side-requires c κs = search needs
-
-side-requires-2 : tie.Need-side-requires-2
-side-requires-2 c κs = search needs
-
 spaces-requires : tie.Need-spaces-requires
 spaces-requires c κs = search needs
 
@@ -25,6 +19,21 @@ last-behind-requires c κs = search needs
 taking-among-requires : tie.Need-taking-among-requires
 taking-among-requires c κs = search needs
 
+side-requires : tie.Need-side-requires
+side-requires c κs = search needs
+
+side-requires-2 : tie.Need-side-requires-2
+side-requires-2 c κs = search needs
+
+sub-run : tie.Need-sub-run
+sub-run c = search needs
+
+part-none-start : tie.Need-part-none-start
+part-none-start c = search needs
+
+part-none-end : tie.Need-part-none-end
+part-none-end c = search needs
+
 run-requires : tie.Need-run-requires
 run-requires c κs = search needs
 
@@ -36,16 +45,17 @@ same-length-2 c = search needs
 
 returns : tie.Need-returns
 returns c =
-    let run = c .before .before .before .before in
-    let taking = run .before .before .before .before .before in
+    let run = c .before .before .before .before .before .before in
+    let right = run .before .before .before .before .before .before in
+    let left = right .before .before in
+    let taking = left .before .before in
     let last = taking .before in
     let follow = last .before in
-    let hidden = follow .before in
-    let right = hidden .before in
-    let left = right .before in
-    let a = left .before .before .before .before .before .before .before .args in
+    let hidden = follow .before .before in
+    let a = hidden .before .before .before .before .args in
     let own = a .question .fields in
     let many = a .question .alphabet .characters in
+    let told = run .run .ensures in
     searched-by _ (a .question)
     (record { characters = many; left = left .side .result; right = right .side2 .result; fields = own ++ (hidden .spaces .result ∷ hidden .spaces .result ∷ []) })
     many _ _ _
@@ -56,18 +66,21 @@ returns c =
       fields = own ++ (hidden .spaces .ensures i ∷ hidden .spaces .ensures i ∷ []);
     })
     refl (follow .follow-behind .ensures) (last .last-behind .ensures) (taking .taking-among .ensures)
-    (now (a .work)) (now (a .answer)) _ _ _ (run .run .ensures)
+    (now (a .work)) (now (a .answer)) _ _ _ (told .0 .0, (told .0 .1, told .1))
 
 pub search-spec : {M : Type 1} → statement M
 search-spec =
     tie.close
     (tie.spec
-    side-requires
-    side-requires-2
     spaces-requires
     follow-behind-requires
     last-behind-requires
     taking-among-requires
+    side-requires
+    side-requires-2
+    sub-run
+    part-none-start
+    part-none-end
     run-requires
     same-length
     same-length-2

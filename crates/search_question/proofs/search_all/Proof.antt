@@ -1,32 +1,21 @@
--- `search_all` meets its contract: the question with its hidden fields and its tables is made, and searched. Follows from `all-searched-by`.
+-- `search_all` meets its contract: the search that tells no way. Follows from `plain-told`.
 use denote.Ref.{now}
-use mathlib.Core.Path.{refl}
-use mathlib.Core.List.{[], _∷_, _++_}
 use borrow.Author.Needs.{needs}
-use Rattle.search_question.proofs.Searched.{all-searched-by}
+use Rattle.search_question.proofs.Searched.{plain-told}
 use Rattle.search_question.proofs.search_all.Statement.{statement}
 use Rattle.search_question.proofs.search_all.Tie as tie
 
-side-requires : tie.Need-side-requires
-side-requires c κs = search needs
+sub-search-told : tie.Need-sub-search-told
+sub-search-told c = search needs
 
-side-requires-2 : tie.Need-side-requires-2
-side-requires-2 c κs = search needs
+part-none-start : tie.Need-part-none-start
+part-none-start c = search needs
 
-spaces-requires : tie.Need-spaces-requires
-spaces-requires c κs = search needs
+part-none-end : tie.Need-part-none-end
+part-none-end c = search needs
 
-follow-behind-requires : tie.Need-follow-behind-requires
-follow-behind-requires c κs = search needs
-
-last-behind-requires : tie.Need-last-behind-requires
-last-behind-requires c κs = search needs
-
-taking-behind-requires : tie.Need-taking-behind-requires
-taking-behind-requires c κs = search needs
-
-run-requires : tie.Need-run-requires
-run-requires c κs = search needs
+search-told-requires : tie.Need-search-told-requires
+search-told-requires c κs = search needs
 
 same-length : tie.Need-same-length
 same-length c = search needs
@@ -36,39 +25,18 @@ same-length-2 c = search needs
 
 returns : tie.Need-returns
 returns c =
-    let run = c .before .before .before .before in
-    let taking = run .before .before .before .before .before in
-    let last = taking .before in
-    let follow = last .before in
-    let hidden = follow .before in
-    let right = hidden .before in
-    let left = right .before in
-    let a = left .before .before .before .before .before .before .before .args in
-    let own = a .question .fields in
-    let many = a .question .alphabet .characters in
-    all-searched-by (a .question)
-    (record { characters = many; left = left .side .result; right = right .side2 .result; fields = own ++ (hidden .spaces .result ∷ hidden .spaces .result ∷ []) })
-    many _ _ _
-    (λ i. record {
-      characters = many;
-      left = left .side .ensures i;
-      right = right .side2 .ensures i;
-      fields = own ++ (hidden .spaces .ensures i ∷ hidden .spaces .ensures i ∷ []);
-    })
-    refl (follow .follow-behind .ensures) (last .last-behind .ensures) (taking .taking-behind .ensures)
-    (now (a .work)) (now (a .answer)) _ _ _ (run .run .ensures)
+    let s = c .before .before .before .before .before .before in
+    let a = s .before .before .before .before .before .before .args in
+    plain-told (a .question) (now (a .work)) (now (a .answer)) _ _ _ (s .search-told .ensures)
 
 pub search-all-spec : {M : Type 1} → statement M
 search-all-spec =
     tie.close
     (tie.spec
-    side-requires
-    side-requires-2
-    spaces-requires
-    follow-behind-requires
-    last-behind-requires
-    taking-behind-requires
-    run-requires
+    sub-search-told
+    part-none-start
+    part-none-end
+    search-told-requires
     same-length
     same-length-2
     returns)

@@ -1,32 +1,11 @@
--- `search_steps` meets its contract: the question with its hidden fields and its tables is made, and searched. Follows from `steps-searched-by`.
-use denote.Ref.{now}
-use mathlib.Core.Path.{refl}
-use mathlib.Core.List.{[], _∷_, _++_}
+-- `search_steps` meets its contract: the search that tells its way. Follows from what `search_told` promises.
 use borrow.Author.Needs.{needs}
-use Rattle.search_question.proofs.Searched.{steps-searched-by}
+use Rattle.search_question.specs.Over.{steps-all}
 use Rattle.search_question.proofs.search_steps.Statement.{statement}
 use Rattle.search_question.proofs.search_steps.Tie as tie
 
-side-requires : tie.Need-side-requires
-side-requires c κs = search needs
-
-side-requires-2 : tie.Need-side-requires-2
-side-requires-2 c κs = search needs
-
-spaces-requires : tie.Need-spaces-requires
-spaces-requires c κs = search needs
-
-follow-behind-requires : tie.Need-follow-behind-requires
-follow-behind-requires c κs = search needs
-
-last-behind-requires : tie.Need-last-behind-requires
-last-behind-requires c κs = search needs
-
-taking-behind-requires : tie.Need-taking-behind-requires
-taking-behind-requires c κs = search needs
-
-run-steps-requires : tie.Need-run-steps-requires
-run-steps-requires c κs = search needs
+search-told-requires : tie.Need-search-told-requires
+search-told-requires c κs = search needs
 
 same-length : tie.Need-same-length
 same-length c = search needs
@@ -38,40 +17,14 @@ same-length-3 : tie.Need-same-length-3
 same-length-3 c = search needs
 
 returns : tie.Need-returns
-returns c =
-    let run = c .before .before .before .before .before .before in
-    let taking = run .before .before .before .before .before .before in
-    let last = taking .before in
-    let follow = last .before in
-    let hidden = follow .before in
-    let right = hidden .before in
-    let left = right .before in
-    let a = left .before .before .before .before .before .before .before .before .args in
-    let own = a .question .fields in
-    let many = a .question .alphabet .characters in
-    steps-searched-by (a .question)
-    (record { characters = many; left = left .side .result; right = right .side2 .result; fields = own ++ (hidden .spaces .result ∷ hidden .spaces .result ∷ []) })
-    many _ _ _
-    (λ i. record {
-      characters = many;
-      left = left .side .ensures i;
-      right = right .side2 .ensures i;
-      fields = own ++ (hidden .spaces .ensures i ∷ hidden .spaces .ensures i ∷ []);
-    })
-    refl (follow .follow-behind .ensures) (last .last-behind .ensures) (taking .taking-behind .ensures)
-    (now (a .work)) (now (a .answer)) (now (a .steps)) _ _ (run .run-steps .ensures)
+unfolding steps-all
+returns c = c .before .before .before .before .before .before .before .search-told .ensures
 
 pub search-steps-spec : {M : Type 1} → statement M
 search-steps-spec =
     tie.close
     (tie.spec
-    side-requires
-    side-requires-2
-    spaces-requires
-    follow-behind-requires
-    last-behind-requires
-    taking-behind-requires
-    run-steps-requires
+    search-told-requires
     same-length
     same-length-2
     same-length-3
