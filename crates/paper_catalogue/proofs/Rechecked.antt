@@ -118,7 +118,7 @@ module _ (n : ℕ) where
 
   within_together : (l : List (List ℕ)) → Sized l → records_within n (length l) (together l) ≡ l
   within_together [] h = refl
-  within_together (x ∷ l) (e, h) = rw (← e, take-append_seam x (together l), drop-append_seam x (together l), e, within_together l h)
+  within_together (x ∷ l) (e, h) = rw (← e, take-append_seam x (together l), drop-append_seam x (together l), within_together l h)
 
   many_over : (m : ℕ) → 0 < n → n * m / n ≡ m
   many_over zero h = rw (mul-zero n) (div-eq_of_lt h)

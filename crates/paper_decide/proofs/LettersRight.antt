@@ -189,6 +189,7 @@ module _ (counts : ℕ → Bool) where
       (λ (a : any counts (from lo n) ≡ false). rw (e, not-all, a) (weighs_fixed 0)))
     where
       all_not : (p : ℕ → Bool) (l : List ℕ) {x : ℕ} → Memᴰ x l → p x ≡ false → all p l ≡ false
+      all_not p [] d e = elim d [ ]
       all_not p (y ∷ l) (Memᴰ.head h) e = rw (← h, e)
       all_not p (y ∷ l) (Memᴰ.tail d) e =
           by_bool (p y) (λ (h : p y ≡ true). rw h (all_not p l d e)) (λ (h : p y ≡ false). rw h)
@@ -296,6 +297,7 @@ divides_each : (g : ℕ → ℕ) (fs : List ℕ) (f : ℕ) → Memᴰ f fs → D
 divides_each g (h ∷ fs) f (Memᴰ.head e) = rw e (divides_left (g h) (divisor_of g fs))
 divides_each g (h ∷ fs) f (Memᴰ.tail d) =
     divides_through (divisor_of g (h ∷ fs)) (divisor_of g fs) (g f) (divides_right (g h) (divisor_of g fs)) (divides_each g fs f d)
+divides_each g [] f x'' = elim x'' [ ]
 
 divides_all : (d : ℕ) (g : ℕ → ℕ) (fs : List ℕ) → ((f : ℕ) → Memᴰ f fs → Divides d (g f)) → Divides d (sum_of g fs)
 divides_all d g [] h = divides_0 d

@@ -27,6 +27,7 @@ use Rattle.paper_laws.proofs.sheets.Hidden.{held_own, by_standing}
 -- the first of a list that has one
 head_in : (l : List ℕ) {x : ℕ} → Memᴰ x l → Memᴰ (get_or l 0 0) l
 head_in (y ∷ l) d = Memᴰ.head refl
+head_in [] d = elim d [ ]
 
 module _ (h : Held) (cs : List ℕ) where
   least_ends : (n : ℕ) (s : PlaceSet) → can_end h cs n s ≡ true → may_end h (set_along h s (least_text h cs n s)) ≡ true

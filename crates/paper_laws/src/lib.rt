@@ -1,1 +1,2 @@
 // Theorems only: see proofs/.
+#![tactic(auto)]

@@ -35,6 +35,7 @@ fields_stand : {f : ℕ} (side : Side) → Memᴰ f (fields_of side) → stands_
 fields_stand (chr a ∷ side) d = fields_stand side d
 fields_stand {f} (fld g ∷ side) (Memᴰ.head e) = left_true (eqb f g) (stands_in f side) (eq_eqb f g e)
 fields_stand {f} (fld g ∷ side) (Memᴰ.tail d) = right_true (eqb f g) (stands_in f side) (fields_stand side d)
+fields_stand {f = f} [] d = elim d [ ]
 
 fields_differ : (side : Side) → each_once side ≡ true → NoDup (fields_of side)
 fields_differ [] e = none

@@ -32,13 +32,13 @@ latch =
 script_of_latch : script latch
     ≡ bytes "; Do two label rules clash? sat: they do. unsat: they don't.\n"
     ++ bytes "; Fields 8 and 9 are the spaces at the end of the left and the right label.\n"
-    ++ bytes "(set_logic QF_S)\n"
-    ++ bytes "; field 0\n(declare_const f0 String)\n"
+    ++ bytes "(set-logic QF_S)\n"
+    ++ bytes "; field 0\n(declare-const f0 String)\n"
     ++ bytes "(assert (str.in_re f0 (re.* (re.union (str.to_re \"0\") "
     ++ bytes "(re.union (re.++ (re.union (str.to_re \"Z\") (str.to_re \"-\")) (str.to_re \"\")) (str.to_re \".\"))))))\n"
-    ++ bytes "; field 8\n(declare_const f8 String)\n(assert (str.in_re f8 (re.* (str.to_re \" \"))))\n"
-    ++ bytes "; field 9\n(declare_const f9 String)\n(assert (str.in_re f9 (re.* (str.to_re \" \"))))\n"
-    ++ bytes "(assert (= (str.++ \"LT\" f0 f8) (str.++ f0 \"4\" f9)))\n(check_sat)\n"
+    ++ bytes "; field 8\n(declare-const f8 String)\n(assert (str.in_re f8 (re.* (str.to_re \" \"))))\n"
+    ++ bytes "; field 9\n(declare-const f9 String)\n(assert (str.in_re f9 (re.* (str.to_re \" \"))))\n"
+    ++ bytes "(assert (= (str.++ \"LT\" f0 f8) (str.++ f0 \"4\" f9)))\n(check-sat)\n"
 unfolding character one_character range_expression field_lines all_standing equation script
 script_of_latch = refl
 
@@ -72,8 +72,8 @@ blank =
 script_of_blank : script blank
     ≡ bytes "; Do two label rules clash? sat: they do. unsat: they don't.\n"
     ++ bytes "; Fields 8 and 9 are the spaces at the end of the left and the right label.\n"
-    ++ bytes "(set_logic QF_S)\n"
-    ++ bytes "; field 2\n(declare_const f2 String)\n"
+    ++ bytes "(set-logic QF_S)\n"
+    ++ bytes "; field 2\n(declare-const f2 String)\n"
     ++ bytes "(assert (str.in_re f2 (re.++ (re.union"
     ++ bytes " (str.to_re \"0\") (str.to_re \"1\") (str.to_re \"2\") (str.to_re \"3\") (str.to_re \"4\")"
     ++ bytes " (str.to_re \"5\") (str.to_re \"6\") (str.to_re \"7\") (str.to_re \"8\") (str.to_re \"9\")"
@@ -95,9 +95,9 @@ script_of_blank : script blank
     ++ bytes " (str.to_re \"Z\") (str.to_re \"-\") (str.to_re \".\") (str.to_re \" \") (str.to_re \"$\")"
     ++ bytes " (str.to_re \"/\") (str.to_re \"+\") (str.to_re \"%\")"
     ++ bytes ")))))\n"
-    ++ bytes "; field 8\n(declare_const f8 String)\n(assert (str.in_re f8 (re.* (str.to_re \" \"))))\n"
-    ++ bytes "; field 9\n(declare_const f9 String)\n(assert (str.in_re f9 (re.* (str.to_re \" \"))))\n"
-    ++ bytes "(assert (= f8 (str.++ f2 \" Z\" f9)))\n(check_sat)\n"
+    ++ bytes "; field 8\n(declare-const f8 String)\n(assert (str.in_re f8 (re.* (str.to_re \" \"))))\n"
+    ++ bytes "; field 9\n(declare-const f9 String)\n(assert (str.in_re f9 (re.* (str.to_re \" \"))))\n"
+    ++ bytes "(assert (= f8 (str.++ f2 \" Z\" f9)))\n(check-sat)\n"
 unfolding character one_character range_expression field_lines all_standing equation script
 script_of_blank = refl
 
@@ -117,15 +117,15 @@ ascii =
 script_of_ascii : script ascii
     ≡ bytes "; Do two label rules clash? sat: they do. unsat: they don't.\n"
     ++ bytes "; Fields 8 and 9 are the spaces at the end of the left and the right label.\n"
-    ++ bytes "(set_logic QF_S)\n"
-    ++ bytes "; field 0\n(declare_const f0 String)\n"
+    ++ bytes "(set-logic QF_S)\n"
+    ++ bytes "; field 0\n(declare-const f0 String)\n"
     ++ bytes "(assert (str.in_re f0 (re.++ (re.range \" \" \"!\") (re.++ (re.* (re.range \"\\u{0}\" \"\"\"\"))"
     ++ bytes " (re.++ (re.range \"[\" \"\\u{5c}\") (re.range \"~\" \"\\u{7f}\"))))))\n"
-    ++ bytes "; field 1\n(declare_const f1 String)\n"
+    ++ bytes "; field 1\n(declare-const f1 String)\n"
     ++ bytes "(assert (str.in_re f1 (re.++ (re.range \"\\u{0}\" \"\\u{7f}\") (re.* (re.range \"\\u{0}\" \"\\u{7f}\")))))\n"
-    ++ bytes "; field 8\n(declare_const f8 String)\n(assert (str.in_re f8 (re.* (str.to_re \" \"))))\n"
-    ++ bytes "; field 9\n(declare_const f9 String)\n(assert (str.in_re f9 (re.* (str.to_re \" \"))))\n"
-    ++ bytes "(assert (= (str.++ \"\"\"\\u{5c}u{41}\\u{0}\" f0 f8) (str.++ \"~\\u{7f}\" f1 f9)))\n(check_sat)\n"
+    ++ bytes "; field 8\n(declare-const f8 String)\n(assert (str.in_re f8 (re.* (str.to_re \" \"))))\n"
+    ++ bytes "; field 9\n(declare-const f9 String)\n(assert (str.in_re f9 (re.* (str.to_re \" \"))))\n"
+    ++ bytes "(assert (= (str.++ \"\"\"\\u{5c}u{41}\\u{0}\" f0 f8) (str.++ \"~\\u{7f}\" f1 f9)))\n(check-sat)\n"
 unfolding escaped character one_character range_expression field_lines all_standing equation script
 script_of_ascii = refl
 
@@ -174,10 +174,10 @@ escapes_meant = refl
 -- Another layout: other blanks, comments elsewhere, more arguments, a quotation mark in a literal, a parenthesis and a semicolon in another.
 abbrev crowded : List ℕ
 crowded =
-    bytes "(set-logic\tQF_S);the logic\n\r(declare_const x String)(declare_const y1\n  String )"
+    bytes "(set-logic\tQF_S);the logic\n\r(declare-const x String)(declare-const y1\n  String )"
     ++ bytes "( assert(str.in_re x(re.union(str.to_re \"A\")(str.to_re ; a \"comment\" (\n \"B\"\"\")"
     ++ bytes " (re.++ (str.to_re \"\") (re.* (str.to_re \"CD\"))(str.to_re \"E\")))))"
-    ++ bytes "(assert (= \"a\"\"b\"(str.++ x \"\" y1 \"(;)\")))\n\n(check_sat); no line feed behind this"
+    ++ bytes "(assert (= \"a\"\"b\"(str.++ x \"\" y1 \"(;)\")))\n\n(check-sat); no line feed behind this"
 
 crowded_read : read_script crowded
     ≡ commands (
@@ -193,7 +193,7 @@ unfolding read_script
 crowded_read = refl
 
 -- A comment ends at a carriage return too.
-behind_a_return : read_script (bytes "; a comment\r(check_sat); another\r\n(check_sat)") ≡ commands (check_sat ∷ check_sat ∷ [])
+behind_a_return : read_script (bytes "; a comment\r(check-sat); another\r\n(check-sat)") ≡ commands (check_sat ∷ check_sat ∷ [])
 unfolding read_script
 behind_a_return = refl
 
@@ -214,7 +214,7 @@ garbled_scripts =
     ∷ bytes "(assert (str.in_re f0 (re.inter (str.to_re \"A\") (str.to_re \"B\"))))"
     ∷ bytes "(assert (= f0 (str.at f1 f2)))"
     ∷ bytes "(assert (str.prefixof f0 (str.to_re \"A\")))"
-    ∷ bytes "(declare_const f0 Int)"
+    ∷ bytes "(declare-const f0 Int)"
     ∷ bytes "(get-model)"
     -- a constant for a text, and a text for a word
     ∷ bytes "(assert (str.in_re f0 (str.to_re f1)))"
@@ -222,12 +222,12 @@ garbled_scripts =
     -- a parenthesis too few or too many; the end in a word, behind a text and in a text
     ∷ bytes "(assert (= f0 (str.at))"
     ∷ bytes "(assert (= f0 (str.++ f1))))"
-    ∷ bytes "(check_sat x"
-    ∷ bytes "(check_sat))"
-    ∷ bytes "(check_sat)x"
-    ∷ bytes "(check_sat)\"A\""
+    ∷ bytes "(check-sat x"
+    ∷ bytes "(check-sat))"
+    ∷ bytes "(check-sat)x"
+    ∷ bytes "(check-sat)\"A\""
     ∷ bytes "(check-sat\""
-    ∷ bytes "(check_sat)\"A"
+    ∷ bytes "(check-sat)\"A"
     ∷ []
 
 none_read : map read_script garbled_scripts ≡ replicate 22 no_script

@@ -199,7 +199,7 @@ module _ (e : Edition) where
       let r = side_term e right hidden_right in
       omega (
         arith,
-        length-append (l ++ (blank_sign ∷ r)) (bytes "))\n(check_sat)\n"),
+        length-append (l ++ (blank_sign ∷ r)) (bytes "))\n(check-sat)\n"),
         length-append l (blank_sign ∷ r),
         term_length left hidden_left,
         term_length right hidden_right,

@@ -42,14 +42,14 @@ digit_in_comment = no_end ends_line refl
 -- A field's lines.
 abbrev declared : List ℕ → List Lexeme → List Lexeme
 declared n rest =
-    opening ∷ word (bytes "declare_const") ∷ word n ∷ word (bytes "String") ∷ closing
+    opening ∷ word (bytes "declare-const") ∷ word n ∷ word (bytes "String") ∷ closing
     ∷ opening ∷ word (bytes "assert") ∷ opening ∷ word (bytes "str.in_re") ∷ word n ∷ rest
 
 abbrev pub before_field : Edition → ℕ → Held → List Lexeme → List Lexeme
 before_field e f h rest = declared (name f) (before_held e h (closing ∷ closing ∷ rest))
 
 lines_lexed : (d : ℕ) (e s : List ℕ) → ends_line d ≡ false → ends_word d ≡ false
-    → lexemes between ((bytes "; field " ++ (d ∷ bytes "\n(declare_const f") ++ (d ∷ bytes " String)\n(assert (str.in_re f")
+    → lexemes between ((bytes "; field " ++ (d ∷ bytes "\n(declare-const f") ++ (d ∷ bytes " String)\n(assert (str.in_re f")
     ++ (d ∷ bytes " ") ++ e ++ bytes "))\n") ++ s)
     ≡ declared (bytes "f" ++ (d ∷ [])) (lexemes between ((e ++ bytes "))\n") ++ s))
 lines_lexed d e s i j = rw (i, j, j)
@@ -153,7 +153,7 @@ term_lexed e (t ∷ side) f b s k h i =
 
 -- The equation of both sides and the check command.
 abbrev pub before_end : List Lexeme
-before_end = closing ∷ closing ∷ opening ∷ word (bytes "check_sat") ∷ closing ∷ []
+before_end = closing ∷ closing ∷ opening ∷ word (bytes "check-sat") ∷ closing ∷ []
 
 abbrev pub equation_lexemes : Edition → Side → Side → List Lexeme
 equation_lexemes e left right =
@@ -165,11 +165,11 @@ unfolding equation
 equation_lexed e left right h k =
     let l = side_term e left hidden_left in
     let r = side_term e right hidden_right in
-    let end = bytes "))\n(check_sat)\n" in
+    let end = bytes "))\n(check-sat)\n" in
     ap (λ (rest : List Lexeme). opening ∷ word (bytes "assert") ∷ opening ∷ word (bytes "=") ∷ rest)
     (ap (lexemes between) (append_assoc l (blank_sign ∷ r) end)
     ∙ term_lexed e left hidden_left blank_sign (r ++ end) h (omega arith) refl
-    ∙ ap (before_term e left hidden_left) (term_lexed e right hidden_right 41 (bytes ")\n(check_sat)\n") k (omega arith) refl))
+    ∙ ap (before_term e left hidden_left) (term_lexed e right hidden_right 41 (bytes ")\n(check-sat)\n") k (omega arith) refl))
 
 -- The script.
 abbrev pub before_fields : Edition → (ℕ → Held) → List ℕ → List Lexeme → List Lexeme
@@ -192,11 +192,11 @@ standing_known q f d = mem_upto set_fields (mem_keep (λ (g : ℕ). stands_in g 
 
 abbrev pub script_lexemes : Edition → Question → List Lexeme
 script_lexemes e q =
-    opening ∷ word (bytes "set_logic") ∷ word (bytes "QF_S") ∷ closing
+    opening ∷ word (bytes "set-logic") ∷ word (bytes "QF_S") ∷ closing
     ∷ before_fields e (held_by (hidden q)) (all_standing (hidden q)) (equation_lexemes e q.left q.right)
 
 heading_lexed : (s : List ℕ)
-    → lexemes between (heading ++ s) ≡ opening ∷ word (bytes "set_logic") ∷ word (bytes "QF_S") ∷ closing ∷ lexemes between s
+    → lexemes between (heading ++ s) ≡ opening ∷ word (bytes "set-logic") ∷ word (bytes "QF_S") ∷ closing ∷ lexemes between s
 heading_lexed s = refl
 
 -- by the characters of the question's edition
@@ -219,7 +219,7 @@ module _ (q : Question) (g : GoodQuestion q) where
       let end = equation e q.left q.right in
       ap (lexemes between) (append_assoc heading lines end)
       ∙ heading_lexed (lines ++ end)
-      ∙ ap (λ (rest : List Lexeme). opening ∷ word (bytes "set_logic") ∷ word (bytes "QF_S") ∷ closing ∷ rest)
+      ∙ ap (λ (rest : List Lexeme). opening ∷ word (bytes "set-logic") ∷ word (bytes "QF_S") ∷ closing ∷ rest)
       (fields_lexed e (held_by (hidden q)) held_good standing end (standing_known (hidden q))
       ∙ ap (before_fields e (held_by (hidden q)) standing)
       (equation_lexed e q.left q.right (side_known q.left g.left) (side_known q.right g.right)))

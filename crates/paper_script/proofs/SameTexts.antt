@@ -53,11 +53,12 @@ module _ (e : Edition) where
   -- A union of characters has the texts of what it began with, and each of its characters.
   unions_first : (x : Expression) (l : List ℕ) {w : List ℕ} → Matches x w → Matches (unions e x l) w
   unions_first x [] m = m
-  unions_first x (c ∷ l) m = unions_first _ l (of_first m)
+  unions_first x (c ∷ l) m = unions_first (union x (alone e c)) l (of_first m)
 
   unions_member : (x : Expression) (l : List ℕ) {c : ℕ} → Memᴰ c l → Matches (unions e x l) (point e c ∷ [])
-  unions_member x (a ∷ l) {c} (Memᴰ.head h) = rw h (unions_first _ l (of_second itself))
-  unions_member x (a ∷ l) (Memᴰ.tail d) = unions_member _ l d
+  unions_member x [] d = elim d [ ]
+  unions_member x (a ∷ l) {c} (Memᴰ.head h) = rw h (unions_first (union x (alone e a)) l (of_second itself))
+  unions_member x (a ∷ l) (Memᴰ.tail d) = unions_member (union x (alone e a)) l d
 
   -- one of the characters, and no other text
   abbrev OneOf : List ℕ → List ℕ → Type 0
@@ -127,10 +128,10 @@ module _ (e : Edition) where
       → Fitting e p u → Fitting e q v → Fitting e r w
   behind i put (a, h, f) (b, k, g) = (a ++ b, i ∙ ap₂ ◌++◌ h k ∙ sym (map_append (point e) a b), put a b f g)
 
-  star_fits : (a : Pattern) → ((v : List ℕ) → Matches (tree e a) v → Fitting e a v) → {v : List ℕ} → Matches (star (tree e a)) v
+  star_fits : (a : Pattern) (x : Expression) → ((v : List ℕ) → Matches x v → Fitting e a v) → {v : List ℕ} → Matches (star x) v
       → Fitting e (many a) v
-  star_fits a h no_time = ([], refl, none)
-  star_fits a h (once_more {u = u} i m n) = behind i (λ u v. more refl) (h u m) (star_fits a h n)
+  star_fits a x h no_time = ([], refl, none)
+  star_fits a x h (once_more {u = u} i m n) = behind i (λ u v. more refl) (h u m) (star_fits a x h n)
 
   pub matches_fits : (p : Pattern) → leaves_take (characters e) p → {v : List ℕ} → Matches (tree e p) v → Fitting e p v
   matches_fits (leaf (char c)) k m = (c ∷ [], of_text m, one (eqb_same c))
@@ -139,7 +140,7 @@ module _ (e : Edition) where
   matches_fits (then a b) k (one_then_other i m n) = behind i (λ u v. both refl) (matches_fits a k.0 m) (matches_fits b k.1 n)
   matches_fits (either a b) k (of_first m) = let (w, i, f) = matches_fits a k.0 m in (w, i, first f)
   matches_fits (either a b) k (of_second m) = let (w, i, f) = matches_fits b k.1 m in (w, i, second f)
-  matches_fits (many a) k m = star_fits a (λ v. matches_fits a k) m
+  matches_fits (many a) k m = star_fits a (tree e a) (λ v. matches_fits a k) m
 
   -- A pattern, and any text over the characters.
   fitting_over : (p : Pattern) → leaves_take (characters e) p → (v : List ℕ) → Matches (tree e p) v

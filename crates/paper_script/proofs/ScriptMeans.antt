@@ -38,7 +38,7 @@ with_field side f = side ++ (fld f ∷ [])
 equation_read : (e : Edition) (left right : Side) (n : ℕ) → length (equation_lexemes e left right) ≤ n
     → read_command n (equation_lexemes e left right)
     ≡ understood (equal (map (said e) (with_field left hidden_left)) (map (said e) (with_field right hidden_right)))
-    (opening ∷ word (bytes "check_sat") ∷ closing ∷ [])
+    (opening ∷ word (bytes "check-sat") ∷ closing ∷ [])
 equation_read e left right n k =
     let behind = before_term e right hidden_right before_end in
     rw (
@@ -46,7 +46,7 @@ equation_read e left right n k =
       term_read e right hidden_right n before_end (omega (arith, term_longer e left hidden_left behind)),
     )
 
-check_read : (n : ℕ) → 1 < n → read_commands n (opening ∷ word (bytes "check_sat") ∷ closing ∷ []) ≡ commands (check_sat ∷ [])
+check_read : (n : ℕ) → 1 < n → read_commands n (opening ∷ word (bytes "check-sat") ∷ closing ∷ []) ≡ commands (check_sat ∷ [])
 check_read zero h = absurd (omega arith)
 check_read (suc zero) h = absurd (omega arith)
 check_read (suc (suc n)) h = refl

@@ -1,4 +1,4 @@
--- A reader of scripts: from bytes to commands. It reads what SMT-LIB 2.6 calls `set_logic`, `declare_const` of a String, `assert` and `check_sat`,
+-- A reader of scripts: from bytes to commands. It reads what SMT-LIB 2.6 calls `set-logic`, `declare-const` of a String, `assert` and `check-sat`,
 -- in any layout; of terms, text literals, constants and `str.++`; of expressions `str.to_re`, `re.range`, `re.++`, `re.union` and `re.*`. The
 -- operators `re.++` and `re.union` are left-associative: with more than two arguments, (op A B C) is (op (op A B) C).
 use Rattle.std.specs.Prelude.{ℕ, zero, suc, Bool, true, false, cond, List, [], ◌∷◌, ◌++◌, map, eqb, length}
@@ -169,10 +169,10 @@ abbrev pub read_command : ℕ → List Lexeme → Understood Command
 read_command n s =
     and_then (open_parenthesis s) (λ (_ : Unit {0}) (behind : List Lexeme).
     and_then (a_word behind) (λ (w : List ℕ) (rest : List Lexeme).
-    cond (is w "set_logic") (and_then (a_word rest) (λ (name : List ℕ) (more : List Lexeme). closed (set_logic name) more))
-    (cond (is w "declare_const") (read_declared rest)
+    cond (is w "set-logic") (and_then (a_word rest) (λ (name : List ℕ) (more : List Lexeme). closed (set_logic name) more))
+    (cond (is w "declare-const") (read_declared rest)
     (cond (is w "assert") (read_asserted n rest)
-    (cond (is w "check_sat") (closed check_sat rest)
+    (cond (is w "check-sat") (closed check_sat rest)
     garbled)))))
 
 -- what reading a script gives

@@ -91,7 +91,7 @@ name f = bytes "f" ++ (digit f ∷ [])
 -- a comment that says which field it is, the constant, its membership
 unfoldable pub field_lines : Edition → ℕ → Held → List ℕ
 field_lines e f h =
-    bytes "; field " ++ (digit f ∷ bytes "\n(declare_const f") ++ (digit f ∷ bytes " String)\n(assert (str.in_re f")
+    bytes "; field " ++ (digit f ∷ bytes "\n(declare-const f") ++ (digit f ∷ bytes " String)\n(assert (str.in_re f")
     ++ (digit f ∷ bytes " ") ++ expression_of e h ++ bytes "))\n"
 
 -- The tokens of a side as arguments: a space before each, and characters that stand together are one literal. The test says whether one is open.
@@ -113,7 +113,7 @@ abbrev pub heading : List ℕ
 heading =
     bytes "; Do two label rules clash? sat: they do. unsat: they don't.\n"
     ++ bytes "; Fields 8 and 9 are the spaces at the end of the left and the right label.\n"
-    ++ bytes "(set_logic QF_S)\n"
+    ++ bytes "(set-logic QF_S)\n"
 
 -- the fields that stand in a side, the hidden ones too, by rising number
 unfoldable pub all_standing : Question → List ℕ
@@ -121,7 +121,7 @@ all_standing q = keep (λ (f : ℕ). stands_in f (q.left ++ q.right)) (upto set_
 
 unfoldable pub equation : Edition → Side → Side → List ℕ
 equation e left right =
-    bytes "(assert (= " ++ side_term e left hidden_left ++ (blank_sign ∷ side_term e right hidden_right) ++ bytes "))\n(check_sat)\n"
+    bytes "(assert (= " ++ side_term e left hidden_left ++ (blank_sign ∷ side_term e right hidden_right) ++ bytes "))\n(check-sat)\n"
 
 -- by the edition of the question's alphabet
 unfoldable pub script : Question → List ℕ

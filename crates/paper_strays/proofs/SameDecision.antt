@@ -196,6 +196,8 @@ AllLikewise room (t ∷ ts) (u ∷ us) = (tried t room ≡ tried u room) × AllL
 from_same : (first : End (Situation PlaceSet) Move) (room k n : ℕ) (ts us : List Attempt) → AllLikewise room ts us
     → concluded_from first room k n ts ≡ concluded_from first room k n us
 from_same first room k n [] [] h = refl
+from_same first room k n [] (u ∷ us) h = elim h [ ]
+from_same first room k n (t ∷ ts) [] h = elim h [ ]
 from_same first room k n (t ∷ ts) (u ∷ us) (l, h) =
     rw (l, from_same first room (suc k) (n + (tried u room).count) ts us h)
 

@@ -1,1 +1,2 @@
 // Vectors only: see proofs/.
+#![tactic(auto)]

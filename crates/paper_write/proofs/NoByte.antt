@@ -189,8 +189,8 @@ module _ (s : List ℕ) (i : ℕ) (above : 256 ≤ byte_at s i) where
 
     then_meets : (done behind rest : List ℕ) (go_on : List ℕ → Laying) (w : Laying) → MeetsBehind s i done behind w
         → ((more : List ℕ) → length more ≤ i → s ≡ more ++ behind → Meets s i rest (go_on more)) → Meets s i rest (then_laid done w go_on)
-    then_meets done behind rest go_on (at_fault x at) h next = h
-    then_meets done behind rest go_on (laid_out bytes) h next = next (done ++ bytes) h.0 h.1
+    then_meets done t rest go_on (at_fault x at) h next = h
+    then_meets done t rest go_on (laid_out bytes) h next = next (done ++ bytes) h.0 h.1
 
     -- all of the fields
     fields_meet : (lengths : List ℕ) (f : ℕ) (done patterns rest : List ℕ) → AllBytes patterns → byte_at rest 0 < 256 → length done ≤ i
@@ -229,8 +229,8 @@ module _ (s : List ℕ) (i : ℕ) (above : 256 ≤ byte_at s i) where
 
     side_meet : (m : Mark) (behind tokens rest : List ℕ) → AllBytes tokens → first_letter m < 256 → second_letter m < 256
         → behind ≡ side_laid m tokens ++ rest → (w : Laying) → Meets s i behind w → Meets s i rest (then_side ed m tokens w)
-    side_meet m behind tokens rest b x y e (at_fault z at) h = h
-    side_meet m behind tokens rest b x y e (laid_out done) h =
+    side_meet m t tokens rest b x y e (at_fault z at) h = h
+    side_meet m t tokens rest b x y e (laid_out done) h =
         then_meets done rest rest laid_out (side_record_laid ed m tokens)
         (side_meets m done tokens rest x y b h.0 (h.1 ∙ ap (λ (l : List ℕ). done ++ l) e))
         (λ more k d. (k, d))

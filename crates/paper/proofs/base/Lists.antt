@@ -40,11 +40,13 @@ module _ {ℓ} {A : Type ℓ} where
   pub mem_any : (p : A → Bool) {x : A} (l : List A) → Memᴰ x l → p x ≡ true → any p l ≡ true
   mem_any p (y ∷ l) (mathlib.Core.List.Memᴰ.head h) e = left_true (p y) (any p l) (rw h at e)
   mem_any p (y ∷ l) (mathlib.Core.List.Memᴰ.tail d) e = right_true (p y) (any p l) (mem_any p l d e)
+  mem_any p [] x3 e = elim x3 [ ]
 
   -- any fails: every member fails
   pub any_false : (p : A → Bool) {x : A} (l : List A) → any p l ≡ false → Memᴰ x l → p x ≡ false
   any_false p (y ∷ l) e (mathlib.Core.List.Memᴰ.head h) = rw h (or_left_false (p y) (any p l) e)
   any_false p (y ∷ l) e (mathlib.Core.List.Memᴰ.tail d) = any_false p l (or_right_false (p y) (any p l) e) d
+  any_false p [] e x3 = elim x3 [ ]
 
   pub none_any : (p : A → Bool) (l : List A) → ((x : A) → Memᴰ x l → p x ≡ false) → any p l ≡ false
   none_any p [] h = refl
@@ -58,6 +60,7 @@ module _ {ℓ} {A : Type ℓ} where
   pub all_true : (p : A → Bool) {x : A} (l : List A) → all p l ≡ true → Memᴰ x l → p x ≡ true
   all_true p (y ∷ l) e (mathlib.Core.List.Memᴰ.head h) = rw h (and_left (p y) (all p l) e)
   all_true p (y ∷ l) e (mathlib.Core.List.Memᴰ.tail d) = all_true p l (and_right (p y) (all p l) e) d
+  all_true p [] e x3 = elim x3 [ ]
 
   pub every_all : (p : A → Bool) (l : List A) → ((x : A) → Memᴰ x l → p x ≡ true) → all p l ≡ true
   every_all p [] h = refl
@@ -93,6 +96,7 @@ module _ {ℓ} {A : Type ℓ} where
   keep_mem p {x} (y ∷ l) (mathlib.Core.List.Memᴰ.head h) e =
       mathlib.Core.List.Memᴰ.append_left (keep p l) (mathlib.Core.List.Memᴰ.cast h (only_mem (p y) y (rw h at e)))
   keep_mem p {x} (y ∷ l) (mathlib.Core.List.Memᴰ.tail d) e = mathlib.Core.List.Memᴰ.append_right (only (p y) y) (keep_mem p l d e)
+  keep_mem p {x = x} [] x3 e = elim x3 [ ]
 
 module _ {ℓ κ} {A : Type ℓ} {B : Type κ} where
   -- each: a member of what some member gives
@@ -107,10 +111,12 @@ module _ {ℓ κ} {A : Type ℓ} {B : Type κ} where
   pub each_mem : (f : A → List B) {x : A} {y : B} (l : List A) → Memᴰ x l → Memᴰ y (f x) → Memᴰ y (each f l)
   each_mem f {y = y} (z ∷ l) (mathlib.Core.List.Memᴰ.head e) h = mathlib.Core.List.Memᴰ.append_left (each f l) (subst (λ (u : A). Memᴰ y (f u)) e h)
   each_mem f (z ∷ l) (mathlib.Core.List.Memᴰ.tail d) h = mathlib.Core.List.Memᴰ.append_right (f z) (each_mem f l d h)
+  each_mem f {y = y} [] x3 h = elim x3 [ ]
 
   pub mem_map : (f : A → B) {y : B} (l : List A) → Memᴰ y (map f l) → (x : A) × Memᴰ x l × (y ≡ f x)
   mem_map f (x ∷ l) (mathlib.Core.List.Memᴰ.head e) = (x, mathlib.Core.List.Memᴰ.head refl, e)
   mem_map f (x ∷ l) (mathlib.Core.List.Memᴰ.tail d) = let r = mem_map f l d in (r.0, mathlib.Core.List.Memᴰ.tail r.1, r.2)
+  mem_map f {y = y} [] x' = elim x' [ ]
 
   pub map_mem : (f : A → B) {x : A} {l : List A} → Memᴰ x l → Memᴰ (f x) (map f l)
   map_mem f (mathlib.Core.List.Memᴰ.head e) = mathlib.Core.List.Memᴰ.head (ap f e)
@@ -124,6 +130,7 @@ module _ {ℓ κ} {A : Type ℓ} {B : Type κ} where
 pub mem_from : {c : ℕ} (a n : ℕ) → Memᴰ c (from a n) → (a ≤ c) × (c < a + n)
 mem_from {c} a (suc n) (mathlib.Core.List.Memᴰ.head e) = (omega (arith, e), omega (arith, e))
 mem_from {c} a (suc n) (mathlib.Core.List.Memᴰ.tail d) = let r = mem_from (suc a) n d in (omega (arith, r), omega (arith, r))
+mem_from {c = c} a zero x' = elim x' [ ]
 
 pub from_mem : {c : ℕ} (a n : ℕ) → a ≤ c → c < a + n → Memᴰ c (from a n)
 from_mem {c} a zero h k = absurd (omega arith)
@@ -193,11 +200,13 @@ module _ {ℓ} {A : Type ℓ} where
   without : {x : A} (m : List A) → Memᴰ x m → List A
   without (y ∷ m) (mathlib.Core.List.Memᴰ.head e) = m
   without (y ∷ m) (mathlib.Core.List.Memᴰ.tail d) = y ∷ without m d
+  without [] x'' = elim x'' [ ]
 
   length_without : {x : A} (m : List A) (d : Memᴰ x m) → suc (length (without m d)) ≡ length m
   unfolding without
   length_without (y ∷ m) (mathlib.Core.List.Memᴰ.head e) = refl
   length_without (y ∷ m) (mathlib.Core.List.Memᴰ.tail d) = ap suc (length_without m d)
+  length_without [] d = elim d [ ]
 
   mem_without : {x y : A} (m : List A) (d : Memᴰ x m) → Memᴰ y m → (y ≡ x) ⊎ Memᴰ y (without m d)
   unfolding without
@@ -205,6 +214,7 @@ module _ {ℓ} {A : Type ℓ} where
   mem_without (z ∷ m) (mathlib.Core.List.Memᴰ.head e) (mathlib.Core.List.Memᴰ.tail k) = inr k
   mem_without (z ∷ m) (mathlib.Core.List.Memᴰ.tail d) (mathlib.Core.List.Memᴰ.head f) = inr (mathlib.Core.List.Memᴰ.head f)
   mem_without (z ∷ m) (mathlib.Core.List.Memᴰ.tail d) (mathlib.Core.List.Memᴰ.tail k) = ⊎_map (λ e. e) mathlib.Core.List.Memᴰ.tail (mem_without m d k)
+  mem_without {y = y} [] d _ = elim d [ ]
 
   -- the pigeonhole: a list without repetition, all of whose members stand in another, is not longer
   pub pigeonhole : {l : List A} (m : List A) → NoDup l → ((x : A) → Memᴰ x l → Memᴰ x m) → length l ≤ length m

@@ -28,7 +28,8 @@ other_is_front l r d = (mem_keep (λ (g : ℕ). not (any (eqb g) (front_field l)
 front_stands : (f : ℕ) (side : Side) → Memᴰ f (front_field side) → stands_in f side ≡ true
 front_stands f [] d = absurd (mathlib.Core.List.Memᴰ.not-nil d)
 front_stands f (chr a ∷ side) d = absurd (mathlib.Core.List.Memᴰ.not-nil d)
-front_stands f (fld g ∷ side) d = rw (mathlib.Core.List.Memᴰ.eq_of_singleton d) (left_true (eqb g g) (stands_in g side) (eqb_same g))
+front_stands f (fld g ∷ side) d =
+    left_true (eqb f g) (stands_in f side) (rw (mathlib.Core.List.Memᴰ.eq_of_singleton d) (eqb_same g))
 
 pub front_fields_stand : (f : ℕ) (l r : Side) → Memᴰ f (front_fields l r) → stands_in f (l ++ r) ≡ true
 front_fields_stand f l r d =

@@ -158,3 +158,4 @@ module _ {P : Type 0} (A : Acceptor P) where
   weight_put_some before after c {f} s (more {x = g} {l = fs} n d) p (Memᴰ.tail m) e =
       let i = weight_put_some (with_puts c fs after) after c (put_before A c g s) d (λ h. refl) m (put_stands A f c g s ∙ e) in
       omega (arith, i, weight_put_le A before (with_puts c fs after) c g s (first_put c g fs before after n p))
+  weight_put_some before after c {f = f} s none p x7 e = elim x7 [ ]

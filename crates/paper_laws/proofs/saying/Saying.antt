@@ -245,7 +245,7 @@ module _ (q : Question) where
 
 pub not_marked : (ed : Edition) (side : Side) (rest : List ℕ) → marked PA (side_saying ed LE side ++ rest) 0 ≡ false
 unfolding marked
-not_marked ed side rest = refl
+not_marked e side rest = refl
 
 -- The edition's record, in front of what is said in it.
 pub edition_said : (ed : Edition) (t : List ℕ) → next_is ED t 0 ≡ false

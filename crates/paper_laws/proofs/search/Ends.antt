@@ -27,10 +27,10 @@ module _ {S M : Type 0} where
       mathlib.Core.List.Memᴰ.cast r.2 (map_mem (λ (e : Entry S M). e.at) (mathlib.Core.List.Memᴰ.append_left m r.1))
 
   -- the child k₀ is met now, and what was met still is: one fewer to come
-  offered : {l l' : List (Entry S M)} {k₀ : Child S M} {ks : List (Child S M)} → ((k : Child S M) → Met l k → Met l' k)
+  offered : (l l' : List (Entry S M)) {k₀ : Child S M} {ks : List (Child S M)} → ((k : Child S M) → Met l k → Met l' k)
       → Met l' k₀ → (k : Child S M) → Met l k ⊎ Memᴰ k (k₀ ∷ ks) → Met l' k ⊎ Memᴰ k ks
-  offered still now k (inl a) = inl (still k a)
-  offered {l' = l'} {ks = ks} still now k (inr d) =
+  offered l l' still now k (inl a) = inl (still k a)
+  offered l l' {ks = ks} still now k (inr d) =
       mem_cons_by (λ (x : Child S M). Met l' x ⊎ Memᴰ x ks) (inl now) (λ x i. inr i) k d
 
   unfinished_snoc : (finished : S → Bool) (l : List (Entry S M)) (e : Entry S M)
@@ -101,6 +101,7 @@ module _ {S M : Type 0} (finished : S → Bool) (children : S → List (Child S 
                 λ q i k j.
                 rw (← order)
                 (offered
+                _ _
                 (met_more (t ++ w) (e ∷ []))
                 (map_mem (λ (x : Entry S M). x.at) (mathlib.Core.List.Memᴰ.append_right (t ++ w) (mathlib.Core.List.Memᴰ.head refl)))
                 k
@@ -123,7 +124,7 @@ module _ {S M : Type 0} (finished : S → Bool) (children : S → List (Child S 
           record {
             grown = g.grown;
             unfinished = g.unfinished;
-            met = λ q i k j. offered (λ x a. a) (entered_true s (t ++ w) h) k (g.met q i k j);
+            met = λ q i k j. offered _ _ (λ x a. a) (entered_true s (t ++ w) h) k (g.met q i k j);
             taken = g.taken;
           },
         ))
