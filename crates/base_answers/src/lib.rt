@@ -1,11 +1,13 @@
 // What the library answers: the faults of a sheet, how a search ends, and the whole answer with its numbers.
+#![tactic(auto)]
+
 ghost use Rattle.std.specs.Prelude.{◌≡◌};
 ghost use Rattle.paper.specs.Sheet.{fault_number};
 ghost use Rattle.base_answers.specs.Faults.{fault_of};
 ghost use Rattle.base_answers.specs.AnswerNumbers.{how_number, number_in_pair, how_written, as_numbers};
 
 // "The first fault met decides."
-#[derive(Drop)]
+#[derive(Clone, Copy)]
 pub enum Fault {
     CutShort,
     WrongMark,
@@ -36,14 +38,14 @@ pub fn number(x: Fault) -> u8
 }
 
 // What the checks on a record find.
-#[derive(Drop)]
+#[derive(Clone, Copy)]
 pub enum Found {
     NoFault,
     Refused(Fault),
 }
 
 // How a search ends.
-#[derive(Drop)]
+#[derive(Clone, Copy)]
 pub enum How {
     // 0: the answer buffer holds a text for each field standing in the sides
     Clash { written: usize },
@@ -58,14 +60,14 @@ pub enum How {
 }
 
 // How it ended, and the situations entered.
-#[derive(Drop)]
+#[derive(Clone, Copy)]
 pub struct Ended {
     pub how: How,
     pub count: usize,
 }
 
 // The answer to a sheet. specs/Told.antt gives each its number, count, place and written length.
-#[derive(Drop)]
+#[derive(Clone, Copy)]
 pub enum Answer {
     Searched { ended: Ended },
     // 11 to 17, 22 and 44: the sheet is at fault
@@ -149,7 +151,7 @@ pub const TOO_MANY_STEPS: usize = 50;
 pub const STEPS_TOO_SHORT: usize = 51;
 
 // An answer in document 01's numbers.
-#[derive(Drop)]
+#[derive(Clone, Copy)]
 pub struct Numbers {
     pub number: usize,
     pub count: usize,

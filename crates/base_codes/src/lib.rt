@@ -1,5 +1,7 @@
 // Inner codes: how tokens, sides, steps and situations stand in the library, whatever bytes a sheet has for them. A character is its
 // value, a field its number behind 192, and 255 is no token: a side ends at its first 255.
+#![tactic(auto)]
+
 ghost use Rattle.std.specs.Prelude.{◌≡◌, ◌≤◌, length, take};
 ghost use Rattle.paper.specs.Lists.{member};
 ghost use Rattle.paper.specs.Numbers.{longest_side};
@@ -76,7 +78,7 @@ pub fn stands(side: &[u8], token: u8) -> bool
 
 // "A situation is the two token lists and the place set of each field still standing in them." A side ends at its first 255; the set of a
 // field that is gone is 0.
-#[derive(Drop)]
+#[derive(Clone, Copy)]
 pub struct Situation {
     pub left: CodedSide,
     pub right: CodedSide,

@@ -1,17 +1,19 @@
 // The editions of a sheet (request K10): the characters of each, and what its bytes say.
+#![tactic(auto)]
+
 ghost use Rattle.std.specs.Prelude.{◌≡◌};
 ghost use Rattle.paper.specs.Alphabet.{alphabet_of, codes_from, code};
 ghost use Rattle.base_editions.specs.Editions.{paper_edition, alphabet_code};
 
 // A sheet without `ED`, and one that begins with `ED` and the byte 2.
-#[derive(Drop)]
+#[derive(Clone, Copy)]
 pub enum Edition {
     First,
     Second,
 }
 
 // The characters that labels are made of: how many there are, by value from 0 on, and which of them is the space.
-#[derive(Drop)]
+#[derive(Clone, Copy)]
 pub struct Alphabet {
     pub characters: usize,
     pub space: usize,

@@ -3,12 +3,11 @@
 --
 -- Masks are sums of powers of two, so that these definitions compute. The laws that lead from masks back to place sets are in
 -- proofs/Masks.antt.
-use Rattle.std.specs.Prelude.{ℕ, suc, ◌+◌, ◌*◌, ◌/◌, ◌%◌, ◌^◌, Bool, true, cond, ◌&&◌, ◌||◌, List, [], ◌∷◌, map, leb, ltb, eqb, get_or}
-use Rattle.std.specs.Int.Bits.{bit_or}
+use Rattle.std.specs.Prelude.{ℕ, suc, ◌+◌, ◌/◌, ◌%◌, ◌^◌, Bool, true, cond, ◌&&◌, List, [], ◌∷◌, map, leb, eqb, get_or}
 use Rattle.paper.specs.Lists.{upto, any, keep}
 use Rattle.paper.specs.Numbers.{most_characters, most_leaves}
-use Rattle.paper.specs.Pattern.{Leaf, char, range, Pattern, leaf, empty, then, either, many, Held, some_text, pattern}
-use Rattle.paper.specs.Places.{leaves, leaf_takes, follows, ends_at, PlaceSet}
+use Rattle.paper.specs.Pattern.{Held, some_text, pattern}
+use Rattle.paper.specs.Places.{leaf_takes, follows, ends_at, PlaceSet}
 
 -- "63 leaves, which with the start make 64 places"
 abbrev pub places : ℕ
@@ -45,10 +44,6 @@ abbrev pub takes_at : Held → ℕ → ℕ → Bool
 takes_at some_text q c = true
 takes_at (pattern p) q c = leaf_takes p 1 q c
 
--- no more characters than a table has room for
-unfoldable pub within : ℕ → ℕ
-within n = cond (leb n most_characters) n most_characters
-
 -- "For every field and every place, the set of places that may follow is worked out once from the pattern."
 unfoldable pub follow_masks : Held → List ℕ
 follow_masks h = masks (λ (i q : ℕ). comes_next h i q) places
@@ -69,37 +64,6 @@ last_mask h = mask_of (λ (i : ℕ). ends_at h i)
 unfoldable pub followers_of : List ℕ → ℕ → ℕ
 followers_of masks m = mask_of (λ (q : ℕ). any (λ (i : ℕ). in_mask m i && in_mask (get_or masks i 0) q) (upto places))
 
--- A leaf as a number: its first character times 256, and the one behind its last. Characters that a table has no room for are none.
-unfoldable pub range_code : Leaf → ℕ
-range_code (char a) = 256 * within a + within (suc a)
-range_code (range lo hi) = 256 * within lo + within (suc hi)
-
--- the number of the leaf q; 0, where q is none of the pattern's leaves
-abbrev pub range_at : Pattern → ℕ → ℕ → ℕ
-range_at (leaf l) o q = cond (eqb o q) (range_code l) 0
-range_at empty o q = 0
-range_at (then a b) o q = bit_or (range_at a o q) (range_at b (o + leaves a) q)
-range_at (either a b) o q = bit_or (range_at a o q) (range_at b (o + leaves a) q)
-range_at (many a) o q = range_at a o q
-
--- for every place its number; the start has none, and neither has a place of an open field
-unfoldable pub ranges : Held → List ℕ
-ranges some_text = table (λ (q : ℕ). 0) places
-ranges (pattern p) = table (λ (q : ℕ). range_at p 1 q) places
-
--- how many places a field has, "its leaves and the start"; 0 for an open field
-abbrev pub places_of : Held → ℕ
-places_of some_text = 0
-places_of (pattern p) = suc (leaves p)
-
--- is the character c one of the leaf with this number?
-abbrev pub in_range : ℕ → ℕ → Bool
-in_range r c = leb (r / 256) c && ltb c (r % 256)
-
--- Does the place q take the character c, by the numbers of the leaves and how many places there are? Of an open field every place does.
-abbrev pub takes_by : List ℕ → ℕ → ℕ → ℕ → Bool
-takes_by numbers n q c = eqb n 0 || (ltb q n && in_range (get_or numbers q 0) c)
-
--- for every character the places that take it
-unfoldable pub taking_by : List ℕ → ℕ → List ℕ
-taking_by numbers n = masks (λ (c q : ℕ). takes_by numbers n q c) most_characters
+-- no more characters than a table has room for
+unfoldable pub within : ℕ → ℕ
+within n = cond (leb n most_characters) n most_characters

@@ -1,10 +1,11 @@
 // Places: a place set is a 64-bit mask. Its lowest bit is the start, the others are the leaves in the order of reading.
+#![tactic(auto)]
+
 ghost use Rattle.std.specs.Prelude.{◌≡◌, cond, ℕ, ◌^◌, ◌≤◌, ◌<◌, eqb};
 ghost use Rattle.std.specs.Int.Bits.{bit_or};
-ghost use Rattle.paper.specs.Pattern.{range, some_text};
+ghost use Rattle.paper.specs.Pattern.{some_text};
 ghost use Rattle.paper.specs.Numbers.{most_characters};
-ghost use Rattle.base_places.specs.Masks.{places, mask_of, in_mask, followers_of, within, range_code, in_range, taking_by};
-ghost use Rattle.base_places.specs.Added.{Adds};
+ghost use Rattle.base_places.specs.Masks.{places, mask_of, in_mask, followers_of, within};
 ghost use Rattle.base_places.specs.WorkedOut.{worked_out};
 
 // "63 leaves, which with the start make 64 places".
@@ -24,14 +25,12 @@ const NOT_THE_START: PlaceSet = 0xFFFF_FFFF_FFFF_FFFE;
 const BEHIND_START: PlaceSet = 2;
 
 // What is worked out once of a pattern.
-#[derive(Drop)]
+#[derive(Clone, Copy)]
 pub struct PlaceTables {
     // for every place the places that may follow
     pub follow: [PlaceSet; PLACES],
-    // for every leaf the characters that it takes, as one number: the first of them times 256, and the one behind the last
-    pub ranges: [u16; PLACES],
-    // how many places there are, the start among them; 0 for an open field, of which every place takes every character
-    pub places: usize,
+    // for every character the places that take it
+    pub taking: [PlaceSet; CHARACTERS],
     // the places that may be the last one: "the start may, if the pattern takes the empty text"
     pub last: PlaceSet,
 }
@@ -93,51 +92,7 @@ pub fn open_tables() -> PlaceTables
 {
     PlaceTables {
         follow: [BEHIND_START; PLACES],
-        ranges: [0; PLACES],
-        places: 0,
+        taking: [ALL; CHARACTERS],
         last: NOT_THE_START,
     }
-}
-
-// The number of a leaf that takes the characters from lo to hi.
-pub fn range_number(lo: usize, hi: usize) -> u16
-    ensures { result ≡ range_code (range lo hi) }
-{
-    let first = within(lo) as u16;
-    if hi < CHARACTERS {
-        return 256 * first + hi as u16 + 1;
-    }
-    256 * first + CHARACTERS as u16
-}
-
-// Lets the set take the characters of the leaf with this number. Only these are looked at.
-fn mark(taking: &mut [PlaceSet; CHARACTERS], range: u16, set: PlaceSet)
-    ensures { Adds most_characters (λ (c : ℕ). cond (in_range range c) set 0) taking.old taking.new }
-{
-    let end = within((range % 256) as usize);
-    let mut c = within((range / 256) as usize);
-    while c < end {
-        taking[c] = taking[c] | set;
-        c += 1;
-    }
-}
-
-// For every character the places that take it, by the numbers of the leaves. The tables have those numbers in place of this row: they are handed on
-// by value, and so they are an eighth as long.
-pub fn taking(ranges: &[u16; PLACES], places: usize) -> [PlaceSet; CHARACTERS]
-    ensures { result ≡ taking_by ranges.now places }
-{
-    if places == 0 {
-        return [ALL; CHARACTERS];
-    }
-    let mut row = [0; CHARACTERS];
-    let mut q: usize = 0;
-    while q < PLACES {
-        if places <= q {
-            return row;
-        }
-        mark(&mut row, ranges[q], place(q));
-        q += 1;
-    }
-    row
 }

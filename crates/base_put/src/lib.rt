@@ -1,5 +1,7 @@
 // Bytes put one behind the other into a lent buffer, and counted: past its end nothing is stored, but the count goes on, so that the same
 // functions tell how long what they put is. Each hands back the place behind what it put.
+#![tactic(auto)]
+
 ghost use Rattle.std.specs.Prelude.{[], ◌∷◌, ◌≡◌};
 ghost use Rattle.paper.specs.Printed.{sign as sign_of};
 ghost use Rattle.base_put.specs.Counted.{Counted, next_place};

@@ -1,4 +1,6 @@
 // The question: its alphabet, both sides, what is worked out of each field's pattern, and where that pattern stands.
+#![tactic(auto)]
+
 ghost use Rattle.std.specs.Prelude.{◌≡◌, not, ◌++◌, ◌≤◌, eqb, length};
 ghost use Rattle.paper.specs.Lists.{only};
 ghost use Rattle.paper.specs.Numbers.{longest_side};
@@ -16,7 +18,7 @@ use base_places::PlaceTables;
 const HEAD: usize = 4;
 
 // Where a field's pattern stands in the bytes that were read: the offset of its first byte, and how many it has. Both are 0 where there is none.
-#[derive(Drop)]
+#[derive(Clone, Copy)]
 pub struct Body {
     pub start: usize,
     pub length: usize,
@@ -24,7 +26,7 @@ pub struct Body {
 
 // What is asked. A sheet asks it, or a pair of rules, or a question with each standing apart; where the patterns stand in no one sheet there are no
 // bodies.
-#[derive(Drop)]
+#[derive(Clone, Copy)]
 pub struct Question {
     pub alphabet: Alphabet,
     pub left: CodedSide,

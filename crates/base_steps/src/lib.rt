@@ -1,11 +1,13 @@
 // What the search that writes its way answers: how it ended, the whole answer, and its numbers.
+#![tactic(auto)]
+
 ghost use Rattle.std.specs.Prelude.{◌≡◌};
 ghost use Rattle.base_steps.specs.StepsNumbered.{bare_numbers, end_numbers, steps_numbers};
 
 use base_answers::{Fault, STEPS_TOO_SHORT};
 
 // How a search ends that writes its way.
-#[derive(Drop)]
+#[derive(Clone, Copy)]
 pub enum StepsHow {
     // 0: the answer buffer holds the texts, the third buffer the steps
     Clash { written: usize, steps: usize },
@@ -19,14 +21,14 @@ pub enum StepsHow {
 }
 
 // How it ended, and the situations entered.
-#[derive(Drop)]
+#[derive(Clone, Copy)]
 pub struct StepsEnded {
     pub how: StepsHow,
     pub count: usize,
 }
 
 // The answer to a sheet.
-#[derive(Drop)]
+#[derive(Clone, Copy)]
 pub enum StepsAnswer {
     Searched { ended: StepsEnded },
     // 11 to 17, 22 and 44: the sheet is at fault
@@ -34,7 +36,7 @@ pub enum StepsAnswer {
 }
 
 // An answer in numbers.
-#[derive(Drop)]
+#[derive(Clone, Copy)]
 pub struct StepsNumbers {
     pub number: usize,
     pub count: usize,

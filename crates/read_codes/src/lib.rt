@@ -1,4 +1,6 @@
 // The codes of a pattern's bytes (request K10): what each of them says in its edition, by one code for both.
+#![tactic(auto)]
+
 ghost use Rattle.std.specs.Prelude.{◌≡◌};
 ghost use Rattle.base_editions.specs.Editions.{paper_edition};
 ghost use Rattle.read_codes.specs.Laid.{laid_codes};

@@ -1,4 +1,6 @@
 // The patterns' records, from an offset to the first record that is none: "no, one or several `PA`, field numbers rising".
+#![tactic(auto)]
+
 ghost use Rattle.std.specs.Prelude.{◌≡◌, ◌||◌, suc, ◌+◌, ◌≤◌, leb, ltb, eqb, length};
 ghost use Rattle.paper.specs.Numbers.{fields, pattern_bytes};
 ghost use Rattle.paper.specs.Sheet.{PA, next_is, open_fields, read_patterns};
@@ -17,7 +19,7 @@ use read_pattern::Verdict;
 use read_side::{Cursor, Mark};
 
 // What the patterns' records say.
-#[derive(Drop)]
+#[derive(Clone, Copy)]
 pub struct Fields {
     pub found: Found,
     // behind the last pattern's record, or at the byte at fault
@@ -75,14 +77,14 @@ pub fn read(s: &[u8], start: Cursor, edition: Edition) -> Fields
 }
 
 // A cursor from one pattern's record to the next: where its mark stands, and the least field number that it may have.
-#[derive(Drop)]
+#[derive(Clone, Copy)]
 struct PatternCursor {
     at: usize,
     above: usize,
 }
 
 // What the checks on a pattern's record find: the first fault, or the field, what is worked out of its pattern and where that stands.
-#[derive(Drop)]
+#[derive(Clone, Copy)]
 struct PatternRecord {
     found: Found,
     field: usize,

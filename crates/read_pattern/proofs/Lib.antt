@@ -1,4 +1,5 @@
--- numbers joined to tables
+-- sets joined to tables
+pub mod Adding
 pub mod Joining
 -- reading a pattern's bytes
 pub mod Behind

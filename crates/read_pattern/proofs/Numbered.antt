@@ -5,7 +5,7 @@ use mathlib.Core.Path.{◌≡◌, refl, sym, ap, ap₂, ◌∙◌, subst}
 use mathlib.Core.Bool.{Bool, true, false, cond}
 use mathlib.Core.List.{List, [], ◌∷◌}
 use lib.Dec.{eqb}
-use lib.ListN.{length, get_or, set, drop, length-drop, length-set}
+use lib.ListN.{length, get_or, set, drop, length-drop}
 use lib.Seq.{drop-drop, get_or-drop}
 use Rattle.paper.proofs.base.Tests.{eq_eqb, neq_eqb}
 use Rattle.read_pattern.specs.Laid.{numbers, laid_as, read_as, left_in, next_in, last_bytes, Begins}
@@ -86,22 +86,6 @@ next_set [] x = refl
 next_set (y ∷ l) x = refl
 
 module _ {s l : List ℕ} (b : Begins s l) (some : 0 < left_in l) where
-  -- the first part begins with one byte less
-  pub first_less : left_in (set l 0 (left_in l - 1)) < left_in l
-  first_less = let e = left_set l (left_in l - 1) b.has in omega arith
-
-  pub first_begins : Begins s (set l 0 (left_in l - 1))
-  first_begins =
-      let e = left_set l (left_in l - 1) b.has in
-      let n = next_set l (left_in l - 1) in
-      let w = b.within in
-      let r = b.room in
-      record {
-        has = length-set l 0 (left_in l - 1) ∙ b.has;
-        within = omega arith;
-        room = omega arith;
-      }
-
   pub first_part : {w v : Working} (a : ReadPart) (ok : Bool) (m : List ℕ) → a ≡ read_as ok m
       → ReadingOf (last_bytes (left_in (set l 0 (left_in l - 1))) s) (next_in (set l 0 (left_in l - 1))) w v (read_as ok m)
       → First (last_bytes (left_in l) s) (next_in l) w v a

@@ -7,13 +7,13 @@ use mathlib.Core.List.{List, [], ◌∷◌}
 use lib.Dec.{eqb, eqb-zero-suc}
 use lib.Bits.{bit_or}
 use lib.ListN.{length, set, replicate}
-use Rattle.paper.specs.Numbers.{most_leaves}
+use Rattle.paper.specs.Numbers.{most_characters, most_leaves}
 use Rattle.paper.proofs.base.Tests.{true_false, not_true, le_leb, lt_leb}
 use Rattle.paper_laws.proofs.places.Parts.{last_within}
 use Rattle.paper.specs.Pattern.{Pattern, pattern}
 use Rattle.paper.specs.Places.{leaves, takes_empty, may_be_last, ends_at}
 use Rattle.paper.specs.Written.{Part, no_pattern, part, read_part, not_one_pattern, too_many_leaves, judged, judge_part, judge}
-use Rattle.base_places.specs.Masks.{places, mask_of, table, follow_masks, ranges, last_mask}
+use Rattle.base_places.specs.Masks.{places, mask_of, table, follow_masks, taking_mask, taking_masks, last_mask}
 use Rattle.read_pattern.specs.Worked.{worked_of}
 use Rattle.read_pattern.specs.ReadPart.{Reads, Working, working, Works, ReadAs}
 use Rattle.read_pattern.specs.declared.Worked.{Worked}
@@ -28,7 +28,7 @@ use Rattle.read_pattern.proofs.Joining.{joins_all}
 
 -- the tables before the first leaf
 abbrev pub unworked : Working
-unworked = working (replicate places 0) (replicate places 0)
+unworked = working (replicate places 0) (replicate most_characters 0)
 
 -- the start may be the last one "if the pattern takes the empty text", and it is no leaf
 last_at : (p : Pattern) (i : ℕ) → may_be_last p 1 i || (takes_empty p && eqb 0 i) ≡ ends_at (pattern p) i
@@ -65,18 +65,18 @@ module _ (r : ReadPart) (v : Working) where
   part_whole (part p starts []) h ok l = record { its = p; starts = starts; is = refl; reads = h.0; works = h.1 }
   part_whole (part p starts (b ∷ rest)) h ok l = let e = h.0.left in absurd (omega arith)
 
-  -- its tables, once the start has its followers and may be the last one
+  -- its masks, once the start has its followers and may be the last one
   module _ (start w : ℕ) (es : start ≡ mask_of (λ (q : ℕ). eqb 0 q)) (ew : w ≡ cond r.empty start 0) where
     abbrev pub whole_worked : Worked
     whole_worked =
         record {
           verdict = OnePattern;
           at = 0;
-          tables = record { follow = set v.follow 0 r.first; ranges = v.ranges; places = r.next; last = bit_or r.last w };
+          tables = record { follow = set v.follow 0 r.first; taking = v.taking; last = bit_or r.last w };
         }
 
     worked_is : (p : Pattern) {starts : List ℕ} → Reads p starts [] 1 r → Works p 1 unworked v → whole_worked ≡ worked_of (judged p)
-    unfolding table follow_masks ranges last_mask
+    unfolding table follow_masks taking_mask taking_masks last_mask
     worked_is p h k =
         let follow : set v.follow 0 r.first ≡ follow_masks (pattern p) =
         ap₂ (λ (l : List ℕ) (m : ℕ). set l 0 m) (joins_all places k.follow) h.first in
@@ -85,8 +85,7 @@ module _ (r : ReadPart) (v : Working) where
         (ew ∙ ap₂ (λ (b : Bool) (m : ℕ). cond b m 0) h.empty es ∙ mask_of_cond (λ (q : ℕ). eqb 0 q) (takes_empty p))
         ∙ mask_of_or (λ (i : ℕ). may_be_last p 1 i) (λ (i : ℕ). takes_empty p && eqb 0 i)
         ∙ mask_of_same (λ (i : ℕ). may_be_last p 1 i || (takes_empty p && eqb 0 i)) (λ (i : ℕ). ends_at (pattern p) i) (λ i l. last_at p i) in
-        let next : r.next ≡ suc (leaves p) = omega (arith, h.next) in
-        rw (follow, joins_all places k.ranges, next, last)
+        rw (follow, joins_all most_characters k.taking, last)
 
   module _ (s : List ℕ) (h : ReadAs (read_part (length s) s) 1 unworked v r) where
     pub judge_bad : r.ok ≡ false → judge s ≡ not_one_pattern (length s - r.left)

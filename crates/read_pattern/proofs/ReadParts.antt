@@ -4,25 +4,24 @@
 use Prim.Native.Nat.{ℕ, zero, suc, ◌+◌, ◌-◌, ◌≤◌, ◌<◌}
 use native.Mathlib.Omega.{arith}
 use mathlib.Core.Path.{◌≡◌, refl, sym, ap, ◌∙◌, subst₂}
-use mathlib.Core.Bool.{true, false, cond, ◌&&◌, ◌||◌}
+use mathlib.Core.Bool.{Bool, true, false, cond, ◌&&◌}
 use mathlib.Core.List.{List, [], ◌∷◌}
 use lib.Dec.{leb, ltb, eqb}
 use lib.ListN.{length, get_or, take, drop, length-drop}
 use lib.Seq.{take_all, drop-drop}
 use Rattle.paper.specs.Numbers.{most_characters, empty_code, range_code, then_code, or_code, many_code}
-use Rattle.paper.specs.Pattern.{char, range, Pattern, leaf, empty, then, either}
-use Rattle.paper.specs.Places.{leaves, may_be_first, may_be_last, may_follow}
+use Rattle.paper.specs.Pattern.{takes, char, range, Pattern, leaf, empty, then, either}
+use Rattle.paper.specs.Places.{leaves, may_be_first, may_be_last}
 use Rattle.paper.specs.Written.{Part, no_pattern, part, read_range, two_parts, read_part}
-use Rattle.paper.proofs.base.Tests.{by_bool, true_false, both_true, left_false, right_false}
-use Rattle.paper.proofs.base.Tests.{le_leb, lt_leb, lt_ltb, le_ltb, eqb_true, eqb_false, neq_eqb}
-use Rattle.base_places.specs.Added.{Adds}
-use Rattle.base_places.specs.Masks.{places, mask_of, in_mask}
-use Rattle.base_places.specs.Masks as Masks
-use Rattle.read_pattern.specs.ReadPart.{NotRead, Reads, Working, working, Joins, Works, ReadAs, ReadingOf, Single, LeafRead, Joined, Repeated}
+use Rattle.paper.proofs.base.Tests.{by_bool, true_false, same_tests}
+use Rattle.paper.proofs.base.Tests.{and_left, and_right, both_true, left_false, right_false}
+use Rattle.paper.proofs.base.Tests.{leb_true, le_leb, lt_leb, lt_ltb, le_ltb, eqb_true, eqb_false, eq_eqb, neq_eqb}
+use Rattle.base_places.specs.Masks.{places, in_mask}
+use Rattle.read_pattern.specs.ReadPart.{Adds, NotRead, Reads, Working, working, Joins, Works, ReadAs, ReadingOf, Single, LeafRead, Joined, Repeated}
 use Rattle.read_pattern.specs.declared.reader.ReadPart.{ReadPart}
 use Rattle.paper_laws.proofs.places.Reader as Reader
 use Rattle.read_pattern.proofs.Behind.{rest_behind, leaves_within}
-use Rattle.read_pattern.proofs.Joining.{joins_none, joins_more, masks_none, masks_more, joins_linked}
+use Rattle.read_pattern.proofs.Joining.{joins_none, joins_more, joins_same, joins_linked}
 
 -- A range: the two bytes behind the 65.
 pub range_none : (s : List ℕ) → length s < 1 → read_range s ≡ no_pattern 0
@@ -116,24 +115,35 @@ bad : (x : Part) (o : ℕ) (w v : Working) (a : ReadPart) → ReadAs x o w v a �
 bad (no_pattern left) o w v a h e = ap no_pattern (sym h.left)
 bad (part p starts rest) o w v a h e = absurd (true_false h.0.ok e)
 
--- The two patterns that have no part. No place follows their leaves, so what follows is left as it is.
-pub leaf_as : (lo hi first left o : ℕ) (follow ranges after : List ℕ) (r : ReadPart) → LeafRead lo hi first left o ranges after r
-    → (rest : List ℕ) → length rest ≡ left
-    → ReadAs (part (leaf (range lo hi)) (first ∷ []) rest) o (working follow ranges) (working follow after) r
-leaf_as lo hi first left o follow ranges after r h rest e = (h.reads rest e, record { follow = masks_none places follow; ranges = h.takes })
-
-pub empty_as : (left o : ℕ) (follow ranges : List ℕ) (r : ReadPart) → Single empty [] left o r
-    → (rest : List ℕ) → length rest ≡ left → ReadAs (part empty [] rest) o (working follow ranges) (working follow ranges) r
-empty_as left o follow ranges r h rest e =
-    (h rest e, record { follow = masks_none places follow; ranges = joins_none places ranges })
-
 -- a character is the range from itself to itself
+char_range : (b c : ℕ) → takes (range b b) c ≡ takes (char b) c
+char_range b c =
+    same_tests (leb b c && leb c b) (eqb b c)
+    (λ e.
+    let l = leb_true b c (and_left (leb b c) (leb c b) e) in
+    let m = leb_true c b (and_right (leb b c) (leb c b) e) in
+    eq_eqb b c (omega arith))
+    (λ e. let l = eqb_true b c e in both_true (le_leb b c (omega arith)) (le_leb c b (omega arith)))
+
+-- The two patterns that have no part. No place follows their leaves, so what follows is left as it is.
+pub leaf_as : (lo hi first left o : ℕ) (follow taking after : List ℕ) (r : ReadPart) → LeafRead lo hi first left o taking after r
+    → (rest : List ℕ) → length rest ≡ left
+    → ReadAs (part (leaf (range lo hi)) (first ∷ []) rest) o (working follow taking) (working follow after) r
+leaf_as lo hi first left o follow taking after r h rest e = (h.reads rest e, record { follow = joins_none places follow; taking = h.takes })
+
+pub empty_as : (left o : ℕ) (follow taking : List ℕ) (r : ReadPart) → Single empty [] left o r
+    → (rest : List ℕ) → length rest ≡ left → ReadAs (part empty [] rest) o (working follow taking) (working follow taking) r
+empty_as left o follow taking r h rest e =
+    (h rest e, record { follow = joins_none places follow; taking = joins_none most_characters taking })
+
 char_as : (b o : ℕ) (starts rest : List ℕ) (w v : Working) (r : ReadPart)
     → ReadAs (part (leaf (range b b)) starts rest) o w v r → ReadAs (part (leaf (char b)) starts rest) o w v r
-unfolding Masks.range_code
 char_as b o starts rest w v r h = (
   record { ok = h.0.ok; left = h.0.left; each = h.0.each; next = h.0.next; surplus = h.0.surplus; empty = h.0.empty; first = h.0.first; last = h.0.last },
-  record { follow = h.1.follow; ranges = h.1.ranges },
+  record {
+    follow = h.1.follow;
+    taking = joins_same most_characters (λ c q. ap (λ (t : Bool). eqb o q && t) (char_range b c)) h.1.taking;
+  },
 )
 
 -- no byte, no pattern
@@ -201,11 +211,11 @@ pub record First (s : List ℕ) (o : ℕ) (w v : Working) (a : ReadPart) : Type 
 -- the tables once what is first in a part follows what is last in the part before it
 pub record Linked (v z : Working) (a c : ReadPart) : Type 0 where
   pub follow : Adds places (λ (i : ℕ). cond (in_mask a.last i) c.first 0) v.follow z.follow
-  pub ranges : z.ranges ≡ v.ranges
+  pub taking : z.taking ≡ v.taking
 
 -- what is first in one part follows what is last in another
 links : {v z : Working} {a c : ReadPart} {p q : Pattern} {ls s ms t : List ℕ} {i j : ℕ} → Linked v z a c → Reads p ls s i a → Reads q ms t j c
-    → Joins (λ (x : ℕ). mask_of (λ (y : ℕ). may_be_last p i x && may_be_first q j y)) places v.follow z.follow
+    → Joins (λ (x y : ℕ). may_be_last p i x && may_be_first q j y) places v.follow z.follow
 links {v} {z} {a} {c} {p} {q} {ls} {s} {ms} {t} {i} {j} l x y =
     joins_linked (λ (n : ℕ). may_be_last p i n) (λ (n : ℕ). may_be_first q j n) v.follow z.follow a.last c.first x.last y.first l.follow
 
@@ -239,12 +249,7 @@ module _ {s : List ℕ} {o : ℕ} {w v : Working} {a : ReadPart} (f : First s o 
         let g = good_first n k in
         rw (e, g.is) (
           h g.read g.starts g.rest o g.reads,
-          record {
-            follow =
-                masks_more places (may_follow g.read o) (λ (x y : ℕ). may_be_last g.read o x && may_be_first g.read o y) g.works.follow
-                (links l g.reads g.reads);
-            ranges = rw l.ranges g.works.ranges;
-          },
+          record { follow = joins_more places g.works.follow (links l g.reads g.reads); taking = rw l.taking g.works.taking },
         ))
 
     -- c is the reading of the second part, which stands behind the first
@@ -292,11 +297,8 @@ module _ {s : List ℕ} {o : ℕ} {w v : Working} {a : ReadPart} (f : First s o 
           (as_two then y r okc h
           (λ p q ls s ms t m i b u.
           record {
-            follow =
-                masks_more places (λ (x y : ℕ). may_follow p o x y || may_follow q (o + leaves p) x y)
-                (λ (x y : ℕ). may_be_last p o x && may_be_first q (o + leaves p) y)
-                (masks_more places (may_follow p o) (may_follow q (o + leaves p)) b.follow u.follow) (links l m i);
-            ranges = rw l.ranges (joins_more places b.ranges u.ranges);
+            follow = joins_more places (joins_more places b.follow u.follow) (links l m i);
+            taking = rw l.taking (joins_more most_characters b.taking u.taking);
           })
           n k))
 
@@ -307,10 +309,7 @@ module _ {s : List ℕ} {o : ℕ} {w v : Working} {a : ReadPart} (f : First s o 
           rw e
           (as_two either z r okc h
           (λ p q ls s ms t m i b u.
-          record {
-            follow = masks_more places (may_follow p o) (may_follow q (o + leaves p)) b.follow u.follow;
-            ranges = joins_more places b.ranges u.ranges;
-          })
+          record { follow = joins_more places b.follow u.follow; taking = joins_more most_characters b.taking u.taking })
           n k))
 
       pub as_no_second : (y : Working) → then_code ≤ first_byte s → first_byte s ≤ or_code → c.ok ≡ false → ReadingOf s o w y c

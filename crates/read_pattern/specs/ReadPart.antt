@@ -2,14 +2,24 @@
 --   NotRead n r          r tells that there is none, and how many bytes are left from the one at fault on
 --   Reads p starts rest o r
 --                         r tells of the pattern p, whose first leaf is the place o and behind which the bytes `rest` are left
---   Works p o w v         the lent tables w have become v: what follows the leaves of p and the numbers of these are joined to them
-use Rattle.std.specs.Prelude.{ℕ, ◌+◌, ◌≤◌, ◌≡◌, true, false, List, [], ◌∷◌, ◌++◌, length, get_or, replicate}
+--   Works p o w v         the lent tables w have become v: what follows the leaves of p and what these take is joined to them
+use Rattle.std.specs.Prelude.{ℕ, ◌+◌, ◌≤◌, ◌≡◌, Bool, true, false, ◌||◌, List, [], ◌∷◌, ◌++◌, length, get_or, replicate}
 use Rattle.std.specs.Int.Bits.{bit_or}
+use Rattle.paper.specs.Numbers.{most_characters}
 use Rattle.paper.specs.Pattern.{range, Pattern, leaf, many}
-use Rattle.paper.specs.Places.{leaves, takes_empty, may_be_first, may_be_last, may_follow}
+use Rattle.paper.specs.Places.{leaves, takes_empty, may_be_first, may_be_last, may_follow, leaf_takes}
 use Rattle.paper.specs.Written.{Part, no_pattern, part, read_part}
-use Rattle.base_places.specs.Masks.{places, mask_of, table, range_at}
+use Rattle.base_places.specs.Masks.{places, mask_of, table, masks}
 use Rattle.read_pattern.specs.declared.reader.ReadPart.{ReadPart}
+
+-- the sets of a table and further ones together, at i
+abbrev pub or_at : List ℕ → (ℕ → ℕ) → ℕ → ℕ
+or_at sets more i = bit_or (get_or sets i 0) (more i)
+
+-- the sets `more 0`, `more 1`, .. are added to those of a table of n. (That an array behind a reference has its n elements is known by its type,
+-- but it is no fact about the list that stands for it here.)
+abbrev pub Adds : ℕ → (ℕ → ℕ) → List ℕ → List ℕ → Type 0
+Adds n more d e = length d ≡ n → e ≡ table (or_at d more) n
 
 pub record NotRead (n : ℕ) (r : ReadPart) : Type 0 where
   pub ok : r.ok ≡ false
@@ -29,21 +39,21 @@ pub record Reads (p : Pattern) (starts rest : List ℕ) (o : ℕ) (r : ReadPart)
   pub first : r.first ≡ mask_of (λ (q : ℕ). may_be_first p o q)
   pub last : r.last ≡ mask_of (λ (q : ℕ). may_be_last p o q)
 
--- the lent tables: for every place what may follow, and its number
+-- the lent tables: for every place what may follow, for every character what takes it
 pub record Working : Type 0 where
   pub follow : List ℕ
-  pub ranges : List ℕ
+  pub taking : List ℕ
 
 abbrev pub working : List ℕ → List ℕ → Working
-working follow ranges = record { follow = follow; ranges = ranges }
+working follow taking = record { follow = follow; taking = taking }
 
--- the numbers `t 0`, `t 1`, .. are joined by or to those of d, whatever these are
-pub record Joins (t : ℕ → ℕ) (n : ℕ) (d e : List ℕ) : Type 0 where
-  pub joined : (u : ℕ → ℕ) → d ≡ table u n → e ≡ table (λ (i : ℕ). bit_or (u i) (t i)) n
+-- the masks of the tests t are joined to those of d, whatever tests these are of
+pub record Joins (t : ℕ → ℕ → Bool) (n : ℕ) (d e : List ℕ) : Type 0 where
+  pub joined : (u : ℕ → ℕ → Bool) → d ≡ masks u n → e ≡ masks (λ (i q : ℕ). u i q || t i q) n
 
 pub record Works (p : Pattern) (o : ℕ) (w v : Working) : Type 0 where
-  pub follow : Joins (λ (i : ℕ). mask_of (λ (q : ℕ). may_follow p o i q)) places w.follow v.follow
-  pub ranges : Joins (λ (q : ℕ). range_at p o q) places w.ranges v.ranges
+  pub follow : Joins (λ (i q : ℕ). may_follow p o i q) places w.follow v.follow
+  pub taking : Joins (λ (c q : ℕ). leaf_takes p o q c) most_characters w.taking v.taking
 
 -- what reading gives for the pattern at the front of the bytes, or for none
 abbrev pub ReadAs : Part → ℕ → Working → Working → ReadPart → Type 0
@@ -58,10 +68,10 @@ ReadingOf s o w v r = (n : ℕ) → length s ≤ n → ReadAs (read_part n s) o 
 abbrev pub Single : Pattern → List ℕ → ℕ → ℕ → ReadPart → Type 0
 Single p starts left o r = (rest : List ℕ) → length rest ≡ left → Reads p starts rest o r
 
--- r is the reading of a leaf, and its number is joined to the table
-pub record LeafRead (lo hi first left o : ℕ) (ranges after : List ℕ) (r : ReadPart) : Type 0 where
+-- r is the reading of a leaf, and what it takes is joined to the table
+pub record LeafRead (lo hi first left o : ℕ) (taking after : List ℕ) (r : ReadPart) : Type 0 where
   pub reads : Single (leaf (range lo hi)) (first ∷ []) left o r
-  pub takes : Joins (λ (q : ℕ). range_at (leaf (range lo hi)) o q) places ranges after
+  pub takes : Joins (λ (c q : ℕ). leaf_takes (leaf (range lo hi)) o q c) most_characters taking after
 
 -- r is the reading of two patterns under an operator, of which a and b are the readings
 abbrev pub Joined : (Pattern → Pattern → Pattern) → ReadPart → ReadPart → ReadPart → Type 0

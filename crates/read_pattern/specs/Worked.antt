@@ -1,5 +1,6 @@
 -- What the bytes of a pattern come to (document 01, "Places"), for any bytes: how they are judged, and what is worked out of a good pattern.
 use Rattle.std.specs.Prelude.{ℕ, replicate}
+use Rattle.paper.specs.Numbers.{most_characters}
 use Rattle.paper.specs.Pattern.{pattern}
 use Rattle.paper.specs.Written.{Judged, not_one_pattern, too_many_leaves, judged}
 use Rattle.base_places.specs.Masks.{places}
@@ -10,7 +11,7 @@ use Rattle.read_pattern.specs.declared.Worked.{Worked}
 
 -- no pattern, no place; the offset of the byte at fault
 abbrev pub refused_as : Verdict → ℕ → Worked
-refused_as v i = record { verdict = v; at = i; tables = record { follow = replicate places 0; ranges = replicate places 0; places = 0; last = 0 } }
+refused_as v i = record { verdict = v; at = i; tables = record { follow = replicate places 0; taking = replicate most_characters 0; last = 0 } }
 
 -- what bytes come to that are judged so
 abbrev pub worked_of : Judged → Worked

@@ -1,5 +1,6 @@
-// Patterns: a pattern's bytes are judged, each as its code (`base_editions::code`), and its places are worked out: what may follow each of them as a
-// mask, what each leaf takes as a number.
+// Patterns: a pattern's bytes are judged, each as its code (`base_editions::code`), and its places are worked out as masks.
+#![tactic(auto)]
+
 mod place_sets;
 mod reader;
 
@@ -7,12 +8,12 @@ ghost use Rattle.std.specs.Prelude.{◌≡◌};
 ghost use Rattle.paper.specs.Written.{judge};
 ghost use Rattle.read_pattern.specs.Worked.{worked_of, refused_as};
 
-use base_places::{PLACES, PlaceTables, place};
+use base_places::{CHARACTERS, PLACES, PlaceTables, place};
 use place_sets::when;
 use reader::{laid, read};
 
 // "15 bytes are not one pattern", "16 more than 63 leaves", or neither.
-#[derive(Drop)]
+#[derive(Clone, Copy)]
 pub enum Verdict {
     NotOnePattern,
     TooManyLeaves,
@@ -20,7 +21,7 @@ pub enum Verdict {
 }
 
 // How the bytes of a pattern are judged, and the tables of a good pattern, else zeros.
-#[derive(Drop)]
+#[derive(Clone, Copy)]
 pub struct Worked {
     pub verdict: Verdict,
     // the offset of the byte at fault; 0 for a good pattern
@@ -33,9 +34,9 @@ pub fn tables(s: &[u8]) -> Worked
     ensures { result ≡ worked_of (judge s.now) }
 {
     let mut follow = [0; PLACES];
-    let mut ranges = [0; PLACES];
+    let mut taking = [0; CHARACTERS];
     let mut out = [s.len() as u64, 1, 0, 0, 0, 0];
-    let ok = read(s, &mut follow, &mut ranges, &mut out);
+    let ok = read(s, &mut follow, &mut taking, &mut out);
     let r = laid(ok, out);
     if !r.ok {
         return refused(Verdict::NotOnePattern, s.len() - r.left);
@@ -50,8 +51,7 @@ pub fn tables(s: &[u8]) -> Worked
     let last = r.last | when(r.empty, place(0));
     let tables = PlaceTables {
         follow,
-        ranges,
-        places: r.next,
+        taking,
         last,
     };
     Worked {
@@ -66,8 +66,7 @@ fn refused(verdict: Verdict, at: usize) -> Worked
 {
     let tables = PlaceTables {
         follow: [0; PLACES],
-        ranges: [0; PLACES],
-        places: 0,
+        taking: [0; CHARACTERS],
         last: 0,
     };
     Worked {

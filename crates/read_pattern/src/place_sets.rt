@@ -1,10 +1,11 @@
-// What is joined to the tables on the way: the set of places that may follow a place, and the number of a leaf.
-ghost use Rattle.std.specs.Prelude.{◌≡◌, cond, ℕ, eqb};
-ghost use Rattle.paper.specs.Pattern.{range};
-ghost use Rattle.base_places.specs.Masks.{places, in_mask, range_code};
-ghost use Rattle.base_places.specs.Added.{Adds};
+// Place sets joined to tables of them: the sets of places that may follow each place, or that take each character.
+ghost use Rattle.std.specs.Prelude.{◌≡◌, cond, ℕ, ◌<◌};
+ghost use Rattle.paper.specs.Numbers.{most_characters};
+ghost use Rattle.paper.specs.Pattern.{takes, range};
+ghost use Rattle.base_places.specs.Masks.{places, in_mask};
+ghost use Rattle.read_pattern.specs.ReadPart.{Adds};
 
-use base_places::{PLACES, PlaceSet, range_number};
+use base_places::{CHARACTERS, PLACES, PlaceSet};
 
 // The set, or no place.
 pub fn when(b: bool, set: PlaceSet) -> PlaceSet
@@ -29,12 +30,14 @@ pub fn link(follow: &mut [PlaceSet; PLACES], last: PlaceSet, first: PlaceSet)
     }
 }
 
-// Lays the number of a leaf at its place. A leaf for which there is no place has none.
-pub fn put_range(ranges: &mut [u16; PLACES], o: usize, lo: u8, hi: u8)
-    ensures { Adds places (λ (q : ℕ). cond (eqb o q) (range_code (range lo hi)) 0) ranges.old ranges.new }
+// Lets the set take the characters from lo to hi. Only these are looked at.
+pub fn mark(taking: &mut [PlaceSet; CHARACTERS], lo: u8, hi: u8, set: PlaceSet)
+    requires { (lo < most_characters) × (hi < most_characters) }
+    ensures { Adds most_characters (λ (c : ℕ). cond (takes (range lo hi) c) set 0) taking.old taking.new }
 {
-    let number = range_number(lo as usize, hi as usize);
-    if o < PLACES {
-        ranges[o] = ranges[o] | number;
+    let mut c = lo as usize;
+    while c <= hi as usize {
+        taking[c] = taking[c] | set;
+        c += 1;
     }
 }

@@ -1,13 +1,13 @@
 // Reading a pattern that is written operator first, and working out its places on the way.
 ghost use Rattle.std.specs.Prelude.{◌≡◌, cond, List, [], ℕ, ◌+◌, ◌^◌, ◌<◌, eqb, length, get_or};
-ghost use Rattle.paper.specs.Numbers.{then_code};
+ghost use Rattle.paper.specs.Numbers.{most_characters, then_code};
 ghost use Rattle.paper.specs.Pattern.{empty, then, either};
 ghost use Rattle.paper.specs.Written.{read_range};
 ghost use Rattle.base_places.specs.Masks.{places};
 ghost use Rattle.read_pattern.specs.ReadPart.{NotRead, working, ReadAs, ReadingOf, Single, LeafRead, Joined, Repeated};
 ghost use Rattle.read_pattern.specs.Laid.{numbers, laid_as, read_as, left_in, next_in, last_bytes, Begins};
 
-use crate::place_sets::{link, put_range, when};
+use crate::place_sets::{link, mark, when};
 use base_places::{CHARACTERS, PLACES, PlaceSet, place};
 
 // A byte stands here as its code, one for both editions (request K10). "0 to 42: that character", behind `ED` "0 to 127".
@@ -24,7 +24,7 @@ const MANY_CODE: u8 = 196;
 
 // What the pattern at the front of some bytes comes to, where its first leaf is at a given place. Which places may follow its leaves, and
 // which characters these take, is joined to tables that are lent.
-#[derive(Drop)]
+#[derive(Clone, Copy)]
 pub struct ReadPart {
     // there is one
     pub ok: bool,
@@ -73,12 +73,19 @@ impl ReadPart {
     }
 
     // "one character with lo ≤ value ≤ hi (a leaf)": so many bytes from its first on, so many behind it
-    fn leaf(ranges: &mut [u16; PLACES], from: usize, left: usize, o: usize, lo: u8, hi: u8) -> Self
-        requires { o + 1 < 2 ^ 64 }
-        ensures { LeafRead lo hi from left o ranges.old ranges.new result }
+    fn leaf(
+        taking: &mut [PlaceSet; CHARACTERS],
+        from: usize,
+        left: usize,
+        o: usize,
+        lo: u8,
+        hi: u8,
+    ) -> Self
+        requires { (o + 1 < 2 ^ 64) × ((lo < most_characters) × (hi < most_characters)) }
+        ensures { LeafRead lo hi from left o taking.old taking.new result }
     {
         let set = place(o);
-        put_range(ranges, o, lo, hi);
+        mark(taking, lo, hi, set);
         ReadPart {
             ok: true,
             left,
@@ -140,9 +147,9 @@ fn earlier(a: usize, b: usize) -> usize
 
 // "65 lo hi: one character with lo ≤ value ≤ hi ≤ 42": what stands behind the 65. "The lo byte if lo is above 42, else the hi byte if that is
 // above 42 or below lo." Behind `ED` "a range's ends go to 127".
-fn read_range(s: &[u8], o: usize, ranges: &mut [u16; PLACES]) -> ReadPart
+fn read_range(s: &[u8], o: usize, taking: &mut [PlaceSet; CHARACTERS]) -> ReadPart
     requires { (o + 1 < 2 ^ 64) × (length s.now + 1 < 2 ^ 64) }
-    ensures { (follow : List ℕ) → ReadAs (read_range s.now) o (working follow ranges.old) (working follow ranges.new) result }
+    ensures { (follow : List ℕ) → ReadAs (read_range s.now) o (working follow taking.old) (working follow taking.new) result }
 {
     let left = s.len();
     if left < 1 {
@@ -162,23 +169,23 @@ fn read_range(s: &[u8], o: usize, ranges: &mut [u16; PLACES]) -> ReadPart
     if CHARACTER_END <= hi {
         return ReadPart::none(left - 1);
     }
-    ReadPart::leaf(ranges, left + 1, left - 2, o, lo, hi)
+    ReadPart::leaf(taking, left + 1, left - 2, o, lo, hi)
 }
 
 // A pattern that has no part: a leaf or the empty text.
-fn read_single(s: &[u8], o: usize, ranges: &mut [u16; PLACES]) -> ReadPart
+fn read_single(s: &[u8], o: usize, taking: &mut [PlaceSet; CHARACTERS]) -> ReadPart
     requires { (o + length s.now < 2 ^ 64) × (0 < length s.now) × (get_or s.now 0 0 < then_code) }
-    ensures { (follow : List ℕ) → ReadingOf s.now o (working follow ranges.old) (working follow ranges.new) result }
+    ensures { (follow : List ℕ) → ReadingOf s.now o (working follow taking.old) (working follow taking.new) result }
 {
     let b = s[0];
     if b < CHARACTER_END {
-        return ReadPart::leaf(ranges, s.len(), s.len() - 1, o, b, b);
+        return ReadPart::leaf(taking, s.len(), s.len() - 1, o, b, b);
     }
     if b == EMPTY_CODE {
         return ReadPart::empty(s.len() - 1, o);
     }
     if b == RANGE_CODE {
-        return read_range(&s[1..], o, ranges);
+        return read_range(&s[1..], o, taking);
     }
     ReadPart::none(s.len())
 }
@@ -234,11 +241,11 @@ pub fn laid(ok: bool, out: [u64; NUMBERS]) -> ReadPart
 pub fn read(
     s: &[u8],
     follow: &mut [PlaceSet; PLACES],
-    ranges: &mut [u16; PLACES],
+    taking: &mut [PlaceSet; CHARACTERS],
     out: &mut [u64; NUMBERS],
 ) -> bool
     requires { Begins s.now out.old }
-    ensures { (length out.new ≡ numbers) × ReadingOf (last_bytes (left_in out.old) s.now) (next_in out.old) (working follow.old ranges.old) (working follow.new ranges.new) (read_as result out.new) }
+    ensures { (length out.new ≡ numbers) × ReadingOf (last_bytes (left_in out.old) s.now) (next_in out.old) (working follow.old taking.old) (working follow.new taking.new) (read_as result out.new) }
 {
     let left = out[LEFT] as usize;
     if left == 0 {
@@ -248,14 +255,14 @@ pub fn read(
     let b = s[at];
     if b < THEN_CODE {
         let o = out[NEXT] as usize;
-        let single = read_single(&s[at..], o, ranges);
+        let single = read_single(&s[at..], o, taking);
         return lay(out, single);
     }
     if MANY_CODE < b {
         return false;
     }
     out[LEFT] = (left - 1) as u64;
-    let one = read(s, follow, ranges, out);
+    let one = read(s, follow, taking, out);
     if !one {
         return one;
     }
@@ -266,7 +273,7 @@ pub fn read(
         let many = first.many();
         return lay(out, many);
     }
-    let two = read(s, follow, ranges, out);
+    let two = read(s, follow, taking, out);
     if !two {
         return two;
     }

@@ -1,4 +1,6 @@
 // A rule of a catalogue: from any bytes to the rule at their front, or to the first fault met with its place.
+#![tactic(auto)]
+
 ghost use Rattle.std.specs.Prelude.{◌≡◌, ◌||◌, ltb};
 ghost use Rattle.paper.specs.Lists.{any};
 ghost use Rattle.paper.specs.Numbers.{rule_fields};
@@ -20,7 +22,7 @@ use read_side::{Cursor, Mark};
 pub const RULE_FIELDS: usize = 4;
 
 // What a rule says.
-#[derive(Drop)]
+#[derive(Clone, Copy)]
 pub struct Rule {
     pub found: Found,
     // the offset of the byte at fault; 0 for a good rule

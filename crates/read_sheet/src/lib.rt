@@ -1,4 +1,6 @@
 // The question sheet: from any bytes to the question, or to the first fault met with its place.
+#![tactic(auto)]
+
 ghost use Rattle.std.specs.Prelude.{◌≡◌};
 ghost use Rattle.paper.specs.Sheet.{edition_front, read_before, read_sheet};
 ghost use Rattle.read_fields.specs.declared.Fields.{Fields};
@@ -12,7 +14,7 @@ use base_question::{Body, Question, first_stray, mark_of};
 use read_side::{Cursor, Mark};
 
 // What a sheet says.
-#[derive(Drop)]
+#[derive(Clone, Copy)]
 pub struct Sheet {
     pub found: Found,
     // the offset of the byte at fault; 0 for a good sheet
@@ -24,7 +26,7 @@ pub struct Sheet {
 }
 
 // What a sheet begins with: its edition, and the offset of the first record behind it; or a fault and its place.
-#[derive(Drop)]
+#[derive(Clone, Copy)]
 struct Front {
     found: Found,
     edition: Edition,
@@ -32,7 +34,7 @@ struct Front {
 }
 
 // What stands behind the patterns' records: the first fault of the sheet with its place, or its two sides.
-#[derive(Drop)]
+#[derive(Clone, Copy)]
 struct Sides {
     found: Found,
     place: usize,

@@ -1,4 +1,6 @@
 // Marks and sides: 01's checks on a side's record, from an offset to the next.
+#![tactic(auto)]
+
 ghost use Rattle.std.specs.Prelude.{◌≡◌, ◌+◌, ◌≤◌, ltb, length};
 ghost use Rattle.paper.specs.Lists.{leading};
 ghost use Rattle.paper.specs.Alphabet.{codes};
@@ -18,7 +20,7 @@ use base_places::CHARACTERS;
 pub const SHEET_SIDE: usize = 24;
 
 // "Every record begins with a two-byte mark."
-#[derive(Drop)]
+#[derive(Clone, Copy)]
 pub enum Mark {
     PA,
     LE,
@@ -75,7 +77,7 @@ fn ends_at(s: &[u8], at: usize) -> bool
 }
 
 // "Reading goes on from where the last record ended": the offset at which the next record's mark stands or should stand.
-#[derive(Drop)]
+#[derive(Clone, Copy)]
 pub struct Cursor {
     pub at: usize,
 }
@@ -108,7 +110,7 @@ impl Cursor {
 }
 
 // What the checks on a side find: the first fault, or its tokens by inner codes.
-#[derive(Drop)]
+#[derive(Clone, Copy)]
 pub struct SideRecord {
     pub found: Found,
     pub codes: CodedSide,

@@ -1,4 +1,6 @@
 // Situations looked up in the working buffer: slots are linked by buckets, and each bucket is walked from its newest slot to its oldest.
+#![tactic(auto)]
+
 ghost use Rattle.std.specs.Prelude.{◌≡◌, List, ◌∷◌, [], ◌++◌, ◌+◌, ◌*◌, ◌/◌, ◌%◌, ◌<◌, ◌≤◌, length, eqb};
 ghost use Rattle.paper.specs.Lists.{same_by};
 ghost use Rattle.paper.specs.Numbers.{situation_bytes};
@@ -28,7 +30,7 @@ const LOW_FACTOR: u64 = 1640531551;
 const HIGH_FACTOR: u64 = 1824926689;
 
 // Where a situation is entered: the number of its slot.
-#[derive(Drop)]
+#[derive(Clone, Copy)]
 pub enum Seen {
     At(usize),
     Nowhere,

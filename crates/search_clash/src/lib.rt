@@ -1,4 +1,6 @@
 // Do two label rules clash? A question sheet and two lent buffers in, an answer out.
+#![tactic(auto)]
+
 ghost use Rattle.std.specs.Prelude.{◌≡◌};
 ghost use Rattle.paper.specs.Buffers.{Demand1};
 ghost use Rattle.paper.specs.Demands.{Demand2, Demand3};

@@ -1,4 +1,6 @@
 // The fronts of a situation: what is worked out once of a token in front, and which characters both fronts take.
+#![tactic(auto)]
+
 ghost use Rattle.std.specs.Prelude.{◌&&◌, List, [], ◌≡◌, ℕ, ◌<◌, get_or};
 ghost use Rattle.paper.specs.Numbers.{set_fields};
 ghost use Rattle.base_places.specs.Masks.{followers_of};
@@ -10,7 +12,7 @@ use base_places::{PLACES, PlaceSet};
 
 // A token in front with what is worked out once of it for all characters: the places that may follow those of its field's set, and the number of
 // the row, of a table with one for each field, that has what each character lets through.
-#[derive(Drop)]
+#[derive(Clone, Copy)]
 pub struct FrontToken {
     pub token: u8,
     pub followers: PlaceSet,

@@ -2,7 +2,7 @@
 --   side_behind   : a good side with a field behind it is read back from the codes of the side, with the field's code put behind them
 --   fields_behind : what is worked out of a question's own fields, and behind it twice what is worked out of any spaces, is what is worked out of the
 --                   fields of the question with its hidden fields
---   left_hidden, right_hidden, part_hidden, taking_hidden : so the struct of a question with its hidden fields has the sides and the tables of `hidden q`
+--   left_hidden, right_hidden, part_hidden : so the struct of a question with its hidden fields has the sides and the tables of `hidden q`
 -- The first follows from a good side being read back (`SidesBack`). The second is computed.
 use Prim.Native.Nat.{ℕ, ◌+◌, ◌≤◌, ◌<◌}
 use native.Mathlib.Omega.{arith}
@@ -17,9 +17,7 @@ use Rattle.paper.specs.Question.{Question, held_by, any_spaces, hidden}
 use Rattle.paper.proofs.base.Lists.{map_append}
 use Rattle.paper_laws.proofs.sheets.Asked.{GoodSide}
 use Rattle.paper_laws.proofs.sheets.Hidden.{has_sets_with}
-use Rattle.base_places.specs.Masks.{taking_masks}
-use Rattle.base_places.specs.WorkedOut.{worked_out, taking_of}
-use Rattle.base_places.proofs.Ranges.{taking_worked}
+use Rattle.base_places.specs.WorkedOut.{worked_out}
 use Rattle.base_codes.specs.Inner.{field_code, token_code, side_code, tokens, padded}
 use Rattle.base_codes.proofs.Tokens.{tokens_padded}
 use Rattle.base_places.specs.declared.PlaceTables.{PlaceTables}
@@ -60,7 +58,3 @@ module _ (q : Question) (bodies : List Body) where
   pub part_hidden : {A : Type 0} (part : PlaceTables → A)
       → map part (with_hidden (question_of q bodies)).fields ≡ map (λ (f : ℕ). part (worked_out (held_by (hidden q) f))) (upto set_fields)
   part_hidden part = ap (map part) (fields_behind q) ∙ map-map part (λ (f : ℕ). worked_out (held_by (hidden q) f)) (upto set_fields)
-
-  -- and what takes each character
-  pub taking_hidden : map taking_of (with_hidden (question_of q bodies)).fields ≡ map (λ (f : ℕ). taking_masks (held_by (hidden q) f)) (upto set_fields)
-  taking_hidden = part_hidden taking_of ∙ λ i. map (λ (f : ℕ). taking_worked (held_by (hidden q) f) i) (upto set_fields)

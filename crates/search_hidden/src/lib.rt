@@ -1,14 +1,17 @@
 // The hidden fields: "Each side is to be read as if one hidden field, of any number of spaces, stood at its end: field 8 on the left and 9 on the
 // right".
+#![tactic(auto)]
+
 ghost use Rattle.std.specs.Prelude.{◌≡◌, replicate};
 ghost use Rattle.paper.specs.Numbers.{longest_side};
 ghost use Rattle.paper.specs.Question.{any_spaces};
 ghost use Rattle.base_codes.specs.Inner.{no_token};
+ghost use Rattle.base_places.specs.Masks.{taking_masks};
 ghost use Rattle.base_places.specs.WorkedOut.{worked_out};
 ghost use Rattle.search_hidden.specs.Behind.{side_with};
 
 use base_codes::{CodedSide, LONGEST_SIDE, NO_TOKEN, length_of};
-use base_places::{PLACES, PlaceSet, PlaceTables, range_number};
+use base_places::{CHARACTERS, PLACES, PlaceSet, PlaceTables};
 
 // a side of no token, to be written over
 fn no_side() -> CodedSide
@@ -39,6 +42,19 @@ const LEAF: PlaceSet = 2;
 
 const START_AND_LEAF: PlaceSet = 3;
 
+// For each character the places of "any number of spaces" that take it: the leaf takes the space alone. Where the space is none that a table has room
+// for, no place takes any.
+fn taking_space(space: usize) -> [PlaceSet; CHARACTERS]
+    ensures { result ≡ taking_masks (any_spaces space) }
+{
+    let mut taking = [0; CHARACTERS];
+    if space < CHARACTERS {
+        taking[space] = LEAF;
+        return taking;
+    }
+    taking
+}
+
 // What is worked out of "any number of spaces": one leaf, which follows the start and itself and takes the space alone. Either may be the last.
 pub fn spaces(space: usize) -> PlaceTables
     ensures { result ≡ worked_out (any_spaces space) }
@@ -46,12 +62,10 @@ pub fn spaces(space: usize) -> PlaceTables
     let mut follow = [0; PLACES];
     follow[0] = LEAF;
     follow[1] = LEAF;
-    let mut ranges = [0; PLACES];
-    ranges[1] = range_number(space, space);
+    let taking = taking_space(space);
     PlaceTables {
         follow,
-        ranges,
-        places: 2,
+        taking,
         last: START_AND_LEAF,
     }
 }

@@ -26,10 +26,9 @@ use Rattle.base_question.specs.Asked.{question_of}
 use Rattle.base_question.specs.declared.Body.{Body}
 use Rattle.base_question.specs.declared.Question as Code
 use Rattle.search_hidden.specs.Behind.{Hidden, with_hidden}
-use Rattle.search_hidden.proofs.Codes.{left_hidden, right_hidden, part_hidden, taking_hidden}
+use Rattle.search_hidden.proofs.Codes.{left_hidden, right_hidden, part_hidden}
 use Rattle.search_tables.specs.Cut.{listed_by, cut_coded}
-use Rattle.base_places.specs.WorkedOut.{taking_of}
-use Rattle.search_tables.specs.Tables.{follow_of, last_of}
+use Rattle.search_tables.specs.Tables.{follow_of, taking_of, last_of}
 use Rattle.search_tables.proofs.CutOver.{cut_by}
 use Rattle.search_tables.proofs.Listed.{get_or_listed}
 use Rattle.search_trim.specs.Trimming.{question_coded}
@@ -88,11 +87,12 @@ module _ (s : Code.Question) (whole : Hidden) (many : ℕ) (follow taking : List
       (subst (λ (z : Coded). ToldBy way (tables (within many) follow taking last) room z answer steps after written r) k p)
 
 -- what is told without the way is what is promised of a search over every character
-pub plain_told : (s : Code.Question) (work answer steps after worked written : List ℕ) (r : Told)
-    → ToldBy false (tables_all s) (room_for (length work)) (first_of s) answer steps after written r × (worked ≡ replicate (length work) 0)
-    → SearchedAll s work answer after worked r.plain
+pub plain_told : (s : Code.Question) (work answer after worked : List ℕ) (e : Ended)
+    → ((e ≡ ended_with (tables_all s) (room_for (length work)) (first_of s) answer) × (after ≡ buffer_with (tables_all s) (room_for (length work)) (first_of s) answer))
+    × (worked ≡ replicate (length work) 0)
+    → SearchedAll s work answer after worked e
 unfolding ended_all buffer_all
-plain_told s work answer steps after worked written r p = (p.0.0.0, (p.0.0.1, p.1))
+plain_told s work answer after worked e p = (p.0.0, (p.0.1, p.1))
 
 module _ (q : Question) (l : GoodSide q.alphabet.characters q.left) (r : GoodSide q.alphabet.characters q.right) (good : Searchable (hidden q))
     (bodies : List Body) where
@@ -107,7 +107,7 @@ module _ (q : Question) (l : GoodSide q.alphabet.characters q.left) (r : GoodSid
       → cut_coded characters (map taking_of (with_hidden (question_of q bodies)).fields) among ≡ (tables_over test (hidden q)).taking
   unfolding tables_over taking_over
   taking_are test among marks =
-      ap (λ (t : List (List ℕ)). cut_coded characters t among) (taking_hidden q bodies)
+      ap (λ (t : List (List ℕ)). cut_coded characters t among) (part_hidden q bodies taking_of)
       ∙ cut_by (held_by (hidden q)) characters test among (λ c h k. marks c h)
 
   within_is : within characters ≡ characters
@@ -141,7 +141,7 @@ module _ (q : Question) (l : GoodSide q.alphabet.characters q.left) (r : GoodSid
   -- the tables over every character need no cut: a situation has the same children by either
   all_are : tables_all (question_of q bodies) ≡ tables_of (hidden q)
   unfolding tables_of
-  all_are = λ i. tables (within_is i) (part_hidden q bodies follow_of i) (taking_hidden q bodies i) (part_hidden q bodies last_of i)
+  all_are = λ i. tables (within_is i) (part_hidden q bodies follow_of i) (part_hidden q bodies taking_of i) (part_hidden q bodies last_of i)
 
   abbrev same_children : (k : Coded) → children_coded (tables_of (hidden q)) k ≡ children_coded (tables_over every (hidden q)) k
   same_children = children_every (hidden q) good.most

@@ -23,8 +23,7 @@ use Rattle.base_question.specs.declared.Question.{Question}
 use Rattle.search_fronts.specs.Fronts.{Front, row_number, front_from, set_by}
 use Rattle.search_hidden.specs.Behind.{with_hidden}
 use Rattle.search_tables.specs.Cut.{listed_by, cut_row, cut_coded}
-use Rattle.base_places.specs.WorkedOut.{taking_of}
-use Rattle.search_tables.specs.Tables.{follow_of}
+use Rattle.search_tables.specs.Tables.{follow_of, taking_of}
 use Rattle.search_tables.proofs.Listed.{get_or_listed}
 use Rattle.search_children.specs.Children.{left_strike, right_strike, put_of, as_child, children_coded}
 use Rattle.search_children.proofs.CodedSets.{row_known}

@@ -7,8 +7,7 @@ use Rattle.base_codes.specs.Coded.{Coded}
 use Rattle.base_question.specs.declared.Question.{Question}
 use Rattle.search_hidden.specs.Behind.{with_hidden}
 use Rattle.search_tables.specs.Cut.{cut_coded}
-use Rattle.base_places.specs.WorkedOut.{taking_of}
-use Rattle.search_tables.specs.Tables.{follow_of, last_of}
+use Rattle.search_tables.specs.Tables.{follow_of, taking_of, last_of}
 use Rattle.search_trim.specs.Trimming.{question_coded}
 use Rattle.search_children.specs.Children.{Tables}
 use Rattle.search_run.specs.Ended.{room_for, ended_with, buffer_with}

@@ -1,5 +1,7 @@
 // A question, searched: its hidden fields, the tables of its fields, and the search over them. A sheet asks one, a pair of rules, or a question with
 // each standing apart.
+#![tactic(auto)]
+
 ghost use Rattle.std.specs.Prelude.{◌≡◌, length, replicate};
 ghost use Rattle.base_places.specs.Masks.{within};
 ghost use Rattle.base_codes.specs.Inner.{tokens};
@@ -16,8 +18,8 @@ use base_places::{CHARACTERS, PLACES, PlaceSet};
 use base_question::Question;
 use base_steps::{StepsEnded, StepsHow};
 
-// How a search ended, without its way and with it. The one that was not wanted is always the same: no room, and the count 0.
-#[derive(Drop)]
+// How a search ended, without its way and with it. Only the one that was wanted says something.
+#[derive(Clone, Copy)]
 pub struct Told {
     pub plain: Ended,
     pub way: StepsEnded,
@@ -109,10 +111,7 @@ pub fn search_told(
     let own_fields = question.fields;
     let follow = search_tables::follow_behind(own_fields, hidden);
     let last = search_tables::last_behind(own_fields, hidden);
-    let spaces = hidden.ranges;
-    let behind = base_places::taking(&spaces, hidden.places);
-    let mut taking = [behind; FIELDS];
-    search_tables::own_taking(own_fields, &mut taking);
+    let taking = search_tables::taking_behind(own_fields, hidden);
     let own_left = question.left;
     let left = search_hidden::side(own_left, HIDDEN_LEFT);
     let own_right = question.right;

@@ -1,4 +1,6 @@
 // The answer of a clash: the texts, spelt from the slots of the working buffer, and their records, each directly behind the one before.
+#![tactic(auto)]
+
 ghost use Rattle.std.specs.Prelude.{◌≡◌, ◌+◌, ◌/◌, ◌<◌, ◌≤◌, length};
 ghost use Rattle.paper.specs.Numbers.{fields, situation_bytes};
 ghost use Rattle.search_records.specs.Records.{parent_in, step_in, origin_in, puts_in, way_spelt, SlotIn, StepsBack, RecordWritten, Answered};
@@ -15,14 +17,14 @@ const MARK: usize = 3;
 const HEAD: usize = MARK + NUMBER;
 
 // What became of the answer: an answer buffer too short, or so many bytes written.
-#[derive(Drop)]
+#[derive(Clone, Copy)]
 pub enum Given {
     TooShort,
     Bytes(usize),
 }
 
 // One step back along the way: the parent's number, the step from there, and whether it put its character before the field.
-#[derive(Drop)]
+#[derive(Clone, Copy)]
 pub struct Back {
     pub parent: usize,
     pub step: u8,
@@ -30,7 +32,7 @@ pub struct Back {
 }
 
 // The parent's number of a slot, and the step from there.
-#[derive(Drop)]
+#[derive(Clone, Copy)]
 pub struct Origin {
     pub parent: usize,
     pub step: u8,

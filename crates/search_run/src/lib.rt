@@ -1,4 +1,6 @@
 // The search: from the two sides and the fields' tables to how it ends, in a lent working buffer, and to the records of a clash.
+#![tactic(auto)]
+
 mod search;
 
 ghost use Rattle.std.specs.Prelude.{◌≡◌, ◌-◌, ◌<◌, length, replicate};

@@ -17,7 +17,7 @@ use search_fronts::FrontToken;
 use search_slots::{HELD, SLOT};
 
 // How the search stands, or how it ended.
-#[derive(Drop)]
+#[derive(Clone, Copy)]
 pub enum Status {
     Going,
     Found,
@@ -27,7 +27,7 @@ pub enum Status {
 }
 
 // The slots entered so far, and the status.
-#[derive(Drop)]
+#[derive(Clone, Copy)]
 pub struct Run {
     pub entered: usize,
     pub status: Status,

@@ -1,4 +1,6 @@
 // A situation in the working buffer: its slot of 184 bytes.
+#![tactic(auto)]
+
 pub mod numbers;
 
 ghost use Rattle.std.specs.Prelude.{◌≡◌, List, ◌++◌, ℕ, ◌*◌, ◌/◌, length, replicate};

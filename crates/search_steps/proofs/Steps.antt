@@ -1,7 +1,7 @@
 -- The records of the way to a slot: they are those of the slot before it with that of the step, they have at most four bytes for each slot, and the
 -- record of a step, stored in front of what is written already, makes them longer by one. And the three answers, each under its tests.
 -- Follows from the definition of `steps_back` by induction on the fuel, which does not matter.
-use Prim.Native.Nat.{ℕ, zero, suc, ◌+◌, ◌-◌, ◌≤◌, ◌<◌}
+use Prim.Native.Nat.{ℕ, zero, suc, ◌+◌, ◌≤◌, ◌<◌}
 use native.Mathlib.Omega.{arith}
 use mathlib.Core.Path.{◌≡◌, refl, sym, ap, ap₂, ◌∙◌}
 use mathlib.Core.Bool.{Bool, true, false}

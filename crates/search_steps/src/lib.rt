@@ -1,4 +1,6 @@
 // The steps of a clash: the records of the way, from the slots of the working buffer, and the answer of a clash with them.
+#![tactic(auto)]
+
 ghost use Rattle.std.specs.Prelude.{◌≡◌, ◌/◌, ◌<◌, length};
 ghost use Rattle.paper.specs.Numbers.{situation_bytes};
 ghost use Rattle.search_records.specs.Records.{way_spelt, SlotIn, value_records};

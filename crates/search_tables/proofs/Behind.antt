@@ -1,7 +1,6 @@
 -- A part of each own field's tables, stored one field after the other into a list that has the hidden fields' part everywhere; and the rows of
 -- tables cut to some characters.
---   behind_none, behind_more, behind_own, behind_all : at the end the list is the part of the own fields' tables, and behind it twice that of the hidden ones
---   laid_behind : so is a lent array into which the own fields' rows are laid
+--   behind_none, behind_more, behind_all : at the end the list is the part of the own fields' tables, and behind it twice that of the hidden ones
 --   rows_cut : each field's row cut by itself is the table that is cut
 -- Follows from the laws of `set`, `take` and `map`.
 use Prim.Native.Nat.{ℕ, suc, ◌+◌, ◌≤◌, ◌<◌}
@@ -10,21 +9,19 @@ use native.Mathlib.Omega.{arith}
 use mathlib.Core.Path.{◌≡◌, refl, sym, ap, ◌∙◌}
 use mathlib.Core.Bool.{Bool}
 use mathlib.Core.List.{List, [], ◌∷◌, ◌++◌, map, append_assoc}
-use lib.ListN.{length, get_or, take, drop, set, replicate, length-replicate, length-append, length-map, get_or-map}
+use lib.ListN.{length, get_or, take, drop, set, replicate, length-append, length-map, get_or-map}
 use lib.Seq.{take-suc, drop-cons, take_all, set_at, length-take-le, ext_get_or}
 use Rattle.paper.specs.Lists.{upto}
 use Rattle.paper.specs.Numbers.{fields, set_fields}
 use Rattle.paper.proofs.base.Lists.{map_append, length_from}
 use Rattle.paper.proofs.base.Listed.{get_or_map_upto}
-use Rattle.base_places.specs.WorkedOut.{taking_of}
 use Rattle.base_places.specs.declared.PlaceTables.{PlaceTables}
 use Rattle.search_tables.specs.Cut.{listed_by, cut_row, cut_coded}
-use Rattle.search_tables.specs.Tables.{OwnLaid}
-use Rattle.search_tables.proofs.Listed.{get_or_either}
+use Rattle.search_tables.specs.Tables.{taking_of}
 
 -- tables that are not there
 abbrev none : PlaceTables
-none = record { follow = []; ranges = []; places = 0; last = 0 }
+none = record { follow = []; taking = []; last = 0 }
 
 module _ {A : Type 0} (part : PlaceTables → A) (own : List PlaceTables) (d : List A) where
   -- the fields below f have theirs
@@ -59,39 +56,27 @@ module _ {A : Type 0} (part : PlaceTables → A) (own : List PlaceTables) (d : L
               (sym (append_assoc (take f (map part own)) (x ∷ []) (drop (suc f) d)));
         }
 
-    pub behind_own : fields ≤ f → sets ≡ map part own ++ drop fields d
-    behind_own h =
-        let same : f ≡ fields = omega (arith, t.at_most) in
-        rw (t.is, same, take_all fields (map part own) (omega (arith, length-map own part, t.all)))
-
     pub behind_all : (hidden : PlaceTables) → d ≡ replicate set_fields (part hidden) → fields ≤ f → sets ≡ map part (own ++ (hidden ∷ hidden ∷ []))
-    behind_all hidden first h = behind_own h ∙ rw first (sym (map_append part own (hidden ∷ hidden ∷ [])))
-
--- the own fields' rows, laid into an array that has the hidden ones' everywhere
-pub laid_behind : (own : List PlaceTables) (hidden : PlaceTables) {d e : List (List ℕ)} → d ≡ replicate set_fields (taking_of hidden) → OwnLaid own d e
-    → e ≡ map taking_of (own ++ (hidden ∷ hidden ∷ []))
-laid_behind own hidden {d} first laid =
-    laid (ap length first ∙ length-replicate set_fields (taking_of hidden))
-    ∙ rw first (sym (map_append taking_of own (hidden ∷ hidden ∷ [])))
+    behind_all hidden first h =
+        let same : f ≡ fields = omega (arith, t.at_most) in
+        rw (t.is, same, first, take_all fields (map part own) (omega (arith, length-map own part, t.all)))
+        (sym (map_append part own (hidden ∷ hidden ∷ [])))
 
 -- each field's row, cut
 pub rows_cut : (n : ℕ) (among : List Bool) (tables : List PlaceTables) → length tables ≡ set_fields
-    → map (λ (t : PlaceTables). cut_row n among (taking_of t)) tables ≡ cut_coded n (map taking_of tables) among
+    → map (λ (t : PlaceTables). cut_row n among t.taking) tables ≡ cut_coded n (map taking_of tables) among
 unfolding cut_coded listed_by
 rows_cut n among tables all =
-    let cut : PlaceTables → List ℕ = λ t. cut_row n among (taking_of t) in
+    let cut : PlaceTables → List ℕ = λ t. cut_row n among t.taking in
     let by : ℕ → List ℕ = λ f. cut_row n among (get_or (map taking_of tables) f []) in
     ext_get_or (cut none) (map cut tables) (map by (upto set_fields))
     (length-map tables cut ∙ all ∙ sym (length-map (upto set_fields) by ∙ length_from 0 set_fields))
     (λ f h.
     let k : f < set_fields = omega (arith, length-map tables cut, all) in
     get_or-map cut tables f none
-    ∙ sym
-    (get_or_map_upto by (cut none) set_fields f k
-    ∙ ap (cut_row n among)
-    (get_or_either (map taking_of tables) f [] (taking_of none) (omega (arith, length-map tables taking_of, all)) ∙ get_or-map taking_of tables f none)))
+    ∙ sym (get_or_map_upto by (cut none) set_fields f k ∙ ap (cut_row n among) (get_or-map taking_of tables f none)))
 
 pub rows_cut_behind : (n : ℕ) (among : List Bool) (own : List PlaceTables) (hidden : PlaceTables) → length own ≡ fields
-    → map (λ (t : PlaceTables). cut_row n among (taking_of t)) (own ++ (hidden ∷ hidden ∷ [])) ≡ cut_coded n (map taking_of (own ++ (hidden ∷ hidden ∷ []))) among
+    → map (λ (t : PlaceTables). cut_row n among t.taking) (own ++ (hidden ∷ hidden ∷ [])) ≡ cut_coded n (map taking_of (own ++ (hidden ∷ hidden ∷ []))) among
 rows_cut_behind n among own hidden all =
     rows_cut n among (own ++ (hidden ∷ hidden ∷ [])) (omega (arith, length-append own (hidden ∷ hidden ∷ []), all))

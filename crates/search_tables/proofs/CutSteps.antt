@@ -9,7 +9,7 @@ use mathlib.Core.Path.{◌≡◌, sym, ap, ◌∙◌}
 use mathlib.Core.Bool.{Bool, true, false, cond, ◌&&◌}
 use mathlib.Core.List.{List}
 use lib.Dec.{leb, ltb, eqb}
-use lib.ListN.{length, get_or, set, replicate, length-replicate, get_or-replicate}
+use lib.ListN.{get_or, set, replicate, length-replicate, get_or-replicate}
 use Rattle.paper.specs.Numbers.{most_characters}
 use Rattle.paper.proofs.base.Tests.{by_bool, same_tests, cond_true, cond_false, lt_ltb, le_ltb, ltb_true, leb_false, eqb_true, eqb_false}
 use Rattle.base_places.specs.Masks.{within}

@@ -1,5 +1,5 @@
--- Lists by number: what stands at a place, whatever would stand behind the end (`get_or_either`), equal lists, one place stored anew, some place marked. Follows from the laws of `map` and `set`.
-use Prim.Native.Nat.{ℕ, zero, suc, ◌<◌}
+-- Marks by number: what stands at a place, equal lists, one place stored anew, some place marked. Follows from the laws of `map` and `set`.
+use Prim.Native.Nat.{ℕ, ◌<◌}
 use native.Mathlib.Omega.{arith}
 use mathlib.Core.Path.{◌≡◌, refl, sym, ap, ◌∙◌}
 use mathlib.Core.Bool.{Bool, cond, ◌||◌}
@@ -12,12 +12,6 @@ use Rattle.paper.proofs.base.Tests.{by_bool, cond_true, cond_false, eqb_true, eq
 use Rattle.paper.proofs.base.Lists.{length_from}
 use Rattle.paper.proofs.base.Listed.{get_or_map_upto}
 use Rattle.search_tables.specs.Cut.{listed_by}
-
--- what stands in a list, whatever it would be behind its end
-pub get_or_either : {A : Type 0} (l : List A) (n : ℕ) (d e : A) → n < length l → get_or l n d ≡ get_or l n e
-get_or_either [] n d e h = absurd (omega arith)
-get_or_either (x ∷ l) zero d e h = refl
-get_or_either (x ∷ l) (suc n) d e h = get_or_either l n d e (omega arith)
 
 module _ {A : Type 0} (h : ℕ → A) (n : ℕ) where
   pub length_listed : length (listed_by h n) ≡ n

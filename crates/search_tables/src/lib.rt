@@ -1,13 +1,14 @@
 // The tables of the fields in the form in which the search holds them: for each field its masks, by its number. And the tables over some of the
 // characters alone.
+#![tactic(auto)]
+
 ghost use Rattle.std.specs.Prelude.{◌≡◌, ◌∷◌, [], ◌++◌, map, cond, ◌≤◌};
 ghost use Rattle.paper.specs.Numbers.{most_characters};
 ghost use Rattle.search_tables.specs.Cut.{cut_row, cut_coded};
-ghost use Rattle.base_places.specs.WorkedOut.{taking_of};
-ghost use Rattle.search_tables.specs.Tables.{follow_of, last_of, OwnLaid};
+ghost use Rattle.search_tables.specs.Tables.{follow_of, taking_of, last_of};
 
 use base_codes::{FIELDS, SHEET_FIELDS};
-use base_places::{CHARACTERS, PLACES, PlaceSet, PlaceTables, taking, within};
+use base_places::{CHARACTERS, PLACES, PlaceSet, PlaceTables, within};
 
 // "For every field and every place, the set of places that may follow": of a sheet's fields and, behind them, twice of the hidden ones, which are
 // alike.
@@ -45,32 +46,22 @@ pub fn last_behind(own: [PlaceTables; SHEET_FIELDS], hidden: PlaceTables) -> [Pl
     sets
 }
 
-// For every field of a sheet and every character the set of places that take it, laid into a lent array in place of what it has for these fields. (An
-// array that is handed back is copied, and this one is large.)
-pub fn own_taking(own: [PlaceTables; SHEET_FIELDS], sets: &mut [[PlaceSet; CHARACTERS]; FIELDS])
-    ensures { OwnLaid own sets.old sets.new }
-{
-    let mut f = 0;
-    while f < SHEET_FIELDS {
-        let tables = own[f];
-        let ranges = tables.ranges;
-        let its = taking(&ranges, tables.places);
-        sets[f] = its;
-        f += 1;
-    }
-}
-
-// The same of the hidden fields too.
+// For every field and every character the set of places that take it.
 pub fn taking_behind(
     own: [PlaceTables; SHEET_FIELDS],
     hidden: PlaceTables,
 ) -> [[PlaceSet; CHARACTERS]; FIELDS]
     ensures { result ≡ map taking_of (own ++ (hidden ∷ hidden ∷ [])) }
 {
-    let spaces = hidden.ranges;
-    let behind = taking(&spaces, hidden.places);
+    let behind = hidden.taking;
     let mut sets = [behind; FIELDS];
-    own_taking(own, &mut sets);
+    let mut f = 0;
+    while f < SHEET_FIELDS {
+        let tables = own[f];
+        let its = tables.taking;
+        sets[f] = its;
+        f += 1;
+    }
     sets
 }
 
@@ -105,15 +96,13 @@ pub fn taking_among(
     ensures { result ≡ cut_coded characters (map taking_of (own ++ (hidden ∷ hidden ∷ []))) among }
 {
     let n = within(characters);
-    let spaces = hidden.ranges;
-    let whole = taking(&spaces, hidden.places);
-    let behind = cut(among, whole, n);
+    let spaces = hidden.taking;
+    let behind = cut(among, spaces, n);
     let mut sets = [behind; FIELDS];
     let mut f: usize = 0;
     while f < SHEET_FIELDS {
         let tables = own[f];
-        let ranges = tables.ranges;
-        let row = taking(&ranges, tables.places);
+        let row = tables.taking;
         let masks = cut(among, row, n);
         sets[f] = masks;
         f += 1;

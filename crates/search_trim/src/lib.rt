@@ -1,4 +1,6 @@
 // Trimming: equal characters dropped from both fronts; and the trimmed question.
+#![tactic(auto)]
+
 ghost use Rattle.std.specs.Prelude.{◌++◌, ◌≡◌, ◌≤◌, ◌<◌, length, take, replicate};
 ghost use Rattle.paper.specs.Numbers.{set_fields, longest_side};
 ghost use Rattle.base_codes.specs.Inner.{no_token, tokens, padded};
@@ -11,7 +13,7 @@ use base_codes::{
 use base_places::PlaceSet;
 
 // Two sides behind their equal characters in front, each in its 48 bytes as far as it has room, and how many tokens each has.
-#[derive(Drop)]
+#[derive(Clone, Copy)]
 pub struct Trimmed {
     pub left: CodedSide,
     pub right: CodedSide,

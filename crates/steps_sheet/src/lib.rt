@@ -1,4 +1,6 @@
 // Do two label rules clash, and by which way? A question sheet and three lent buffers in, an answer out.
+#![tactic(auto)]
+
 ghost use Rattle.std.specs.Prelude.{◌≡◌};
 ghost use Rattle.paper.specs.Sheet.{read_sheet};
 ghost use Rattle.paper_steps.specs.StepsOutcome.{steps_outcome};

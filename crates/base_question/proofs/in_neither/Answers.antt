@@ -1,0 +1,21 @@
+-- `in_neither` meets its contract: a token of two sides is one of the first, or one of the second (`Counts`). Assumes nothing.
+use mathlib.Core.Path.{sym, ap, ◌∙◌}
+use mathlib.Core.Bool.{not}
+use lib.Dec.{eqb}
+use Rattle.paper.proofs.base.Tests.{not_is_true, not_is_false}
+use Rattle.base_codes.specs.Inner.{tokens}
+use Rattle.base_question.specs.Standings.{count}
+use Rattle.base_question.proofs.Counts.{count_left, count_right}
+use Rattle.base_question.proofs.Strays.{not_twice}
+use Rattle.base_question.proofs.in_neither.Goals as goal
+
+pub returns-then-in_side : goal.returns-then-in_side
+returns-then-in_side c =
+    let a = c.args in
+    sym (count_left a.token (tokens a.left) (tokens a.right) (not_is_true (sym c.in_side.ensures ∙ c.if-in_side.true)))
+
+pub returns : goal.returns
+returns c =
+    let a = c.args in
+    rw (count_right a.token (tokens a.left) (tokens a.right) (not_is_false (sym c.in_side.ensures ∙ c.if-in_side.false)))
+    (ap not c.in_side-2.ensures ∙ sym (not_twice (eqb (count a.token (tokens a.right)) 0)))

@@ -1,0 +1,36 @@
+-- `steps_length` adds up the bytes of the records. The loop's invariant: those added and those of the way to the present slot make the length. The
+-- slot's number falls, and a record has at most four bytes, so the sum fits.
+use native.Mathlib.Omega.{arith}
+use mathlib.Core.Path.{◌≡◌}
+use Rattle.search_records.proofs.Text.{slot_before}
+use Rattle.search_steps.proofs.Steps.{record_short, length_grown}
+use Rattle.search_steps.proofs.steps_length.Goals as goal
+
+pub loop-i-init : goal.loop-i-init
+loop-i-init c = (omega arith, omega arith)
+
+pub step_before-before-requires : goal.step_before-before-requires
+step_before-before-requires c = record {
+  slot_in = slot_before c.loop-i.i (omega (arith, c.loop-i.invariant.0)) c.requires;
+  i_nonzero = c.loop-i-test.true;
+}
+
+pub overflow_add-n : goal.overflow_add-n
+overflow_add-n c =
+    omega (arith, c.loop-i.invariant.0, c.loop-i-test.true, c.record_length-n.ensures, record_short c.step_before-before.result.step, c.requires.room)
+
+pub loop-i-smaller : goal.loop-i-smaller
+loop-i-smaller c = c.step_before-before.ensures.falls
+
+pub loop-i-preserved : goal.loop-i-preserved
+loop-i-preserved c =
+    let back = c.step_before-before in
+    let e = c.record_length-n.ensures in (
+      omega (arith, c.loop-i.invariant.0, back.ensures.falls, e, record_short back.result.step),
+      omega (arith, c.loop-i.invariant.1, e, length_grown back.ensures),
+    )
+
+pub returns : goal.returns
+returns c =
+    let z : c.loop-i.i ≡ 0 = omega (arith, c.loop-i-test.false) in
+    omega (arith, rw z at c.loop-i.invariant.1)
