@@ -18,7 +18,8 @@ use Rattle.base_places.specs.Masks.{within}
 use Rattle.base_question.specs.Asked.{question_of}
 use Rattle.base_question.specs.declared.Body.{Body}
 use Rattle.base_question.specs.declared.Question as Code
-use Rattle.search_hidden.proofs.Codes.{left_hidden, right_hidden, taking_hidden}
+use Rattle.search_hidden.proofs.Codes.{left_hidden, right_hidden, part_hidden}
+use Rattle.search_tables.specs.Tables as Tables
 use Rattle.search_children.specs.Coding.{tables_of}
 use Rattle.decide_alike.specs.AlikeCoded.{standing_coded, codes_in, taking_in, many_in, least_coded, few_coded}
 use Rattle.decide_alike.specs.declared.LeastOnes.{LeastOnes}
@@ -32,7 +33,7 @@ module _ (q : Question) (l : GoodSide q.alphabet.characters q.left) (r : GoodSid
 
   taking_are : taking_in (question_of q bodies) ≡ taking_of (hidden q)
   unfolding tables_of
-  taking_are = taking_hidden q bodies
+  taking_are = part_hidden q bodies Tables.taking_of
 
   many_are : many_in (question_of q bodies) ≡ q.alphabet.characters
   unfolding within

@@ -10,7 +10,7 @@ use Rattle.base_codes.specs.Inner.{field_code, tokens}
 use Rattle.base_question.specs.declared.Question.{Question}
 use Rattle.search_hidden.specs.Behind.{with_hidden}
 use Rattle.search_tables.specs.Cut.{listed_by}
-use Rattle.base_places.specs.WorkedOut.{taking_of}
+use Rattle.search_tables.specs.Tables.{taking_of}
 use Rattle.decide_alike.specs.declared.LeastOnes.{LeastOnes}
 
 -- what becomes of x by the steps 0, 1, .. : n of them

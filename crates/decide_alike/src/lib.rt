@@ -1,5 +1,7 @@
 // Which characters of a question are searched: the least ones of those alike, and a few of these. The characters are those of its alphabet, of which
 // there are n (request K10: Code 39 has 43, Full ASCII has 128).
+#![tactic(auto)]
+
 ghost use Rattle.std.specs.Prelude.{cond, ◌&&◌, ◌||◌, not, ◌++◌, ◌≡◌, ◌≤◌, ◌<◌, eqb};
 ghost use Rattle.paper.specs.Lists.{member};
 ghost use Rattle.paper.specs.Numbers.{most_characters};
@@ -155,7 +157,7 @@ fn least_from(
 }
 
 // The least ones of those alike, and what tells them.
-#[derive(Drop)]
+#[derive(Clone, Copy)]
 struct LeastOnes {
     // the characters that stand fixed in a side
     fixed: [bool; CHARACTERS],

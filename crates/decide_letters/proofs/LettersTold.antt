@@ -23,7 +23,7 @@ use Rattle.paper.proofs.base.Listed.{any_same}
 use Rattle.paper_laws.proofs.sheets.Asked.{GoodSide, GoodQuestion, good_most}
 use Rattle.paper_laws.proofs.sheets.Hidden.{HasSet, in_range_has_set}
 use Rattle.paper_decide.specs.Letters.{one_if, divisor, between, Weights, held_weights, side_weight, times, sum_of, divisor_of, uneven, this_one, all_but, chars_of, letters_differ}
-use Rattle.base_codes.specs.Inner.{field_code, token_code, side_code, tokens, padded}
+use Rattle.base_codes.specs.Inner.{field_code, token_code, side_code, padded}
 use Rattle.base_question.specs.Bodies.{nowhere}
 use Rattle.base_question.specs.declared.Body.{Body}
 use Rattle.base_question.proofs.SidesBack.{side_back}

@@ -9,7 +9,7 @@ use mathlib.Core.Path.{◌≡◌, refl, sym, ap, ◌∙◌}
 use mathlib.Core.Bool.{Bool}
 use mathlib.Core.List.{List, [], ◌∷◌, ◌++◌, append_assoc, append-nil}
 use lib.Dec.{leb}
-use lib.ListN.{length, get_or, take, drop, length-take}
+use lib.ListN.{get_or, take, drop, length-take}
 use lib.Seq.{take_all}
 use Rattle.paper.specs.Numbers.{most_characters, empty_code, range_code, then_code, or_code, many_code, pattern_bytes}
 use Rattle.paper.specs.Alphabet.{Edition, codes}

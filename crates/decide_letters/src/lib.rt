@@ -1,5 +1,7 @@
 // Letters: in a label that both rules make, each character stands as often by the one as by the other. Where no texts of the fields make that so, the
 // rules don't clash.
+#![tactic(auto)]
+
 mod pattern;
 mod sides;
 mod totals;
@@ -27,7 +29,7 @@ const RULE_FIELDS: usize = 4;
 const CHARACTER_CODES: usize = FIELD_CODE as usize;
 
 // What is asked, and how often each field stands in either side.
-#[derive(Drop)]
+#[derive(Clone, Copy)]
 struct Asked {
     left: CodedSide,
     right: CodedSide,

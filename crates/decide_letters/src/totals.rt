@@ -7,7 +7,7 @@ ghost use Rattle.decide_letters.specs.LettersCoded.{side_with, with_field, HasRo
 use crate::weights::{Weights, between, divisor, endless, least, most, step, surplus};
 
 // The least and the most that a side weighs, and whether there is no most.
-#[derive(Drop)]
+#[derive(Clone, Copy)]
 pub struct Total {
     pub least: u64,
     pub most: u64,
@@ -15,7 +15,7 @@ pub struct Total {
 }
 
 // Both sides, and the common divisor of what their fields go by.
-#[derive(Drop)]
+#[derive(Clone, Copy)]
 pub struct Totals {
     pub left: Total,
     pub right: Total,

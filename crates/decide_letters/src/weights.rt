@@ -5,7 +5,7 @@ ghost use Rattle.paper_decide.specs.Letters.{one_if, divisor, between, fixed_wei
 ghost use Rattle.decide_letters.specs.PatternStack.{counted, open_weights, spread, part, packed, unpacked};
 
 // Which characters count: one alone, or all but the space.
-#[derive(Drop)]
+#[derive(Clone, Copy)]
 pub enum Counting {
     One(usize),
     AllBut(usize),

@@ -31,7 +31,7 @@ use Rattle.paper_decide.specs.Few.{is_few}
 use Rattle.paper_decide.specs.Letters.{letters_differ}
 use Rattle.paper_decide.specs.OneText.{with_texts}
 use Rattle.paper_decide.specs.Deciding as Paper
-use Rattle.paper_decide.specs.Deciding.{own_search, letters_test, apart_test, text_search, longer, alike_search, few_search, Conclusion, concluded_from, concluded, decision_of}
+use Rattle.paper_decide.specs.Deciding.{own_search, letters_test, apart_test, text_search, longer, alike_search, few_search, attempts, Conclusion, concluded_from, concluded, decision_of}
 use Rattle.paper_decide.proofs.TextsGood.{texts_good}
 use Rattle.base_answers.specs.declared.Ended.{Ended}
 use Rattle.base_question.specs.Asked.{question_of}
@@ -49,7 +49,7 @@ use Rattle.decide_letters.proofs.PatternRead.{Says}
 use Rattle.decide_texts.specs.TextsCoded.{texts_coded}
 use Rattle.decide_texts.proofs.TextsTies.{texts_read}
 use Rattle.decide_question.specs.Attempt.{decides_coded, Attempted, letters_asked, apart_asked, by_test, by_text, by_characters, attempt_coded}
-use Rattle.decide_question.specs.Settling.{later, settled_from, settled_coded, told_settled}
+use Rattle.decide_question.specs.Settling.{settled_from, settled_coded, told_settled}
 use Rattle.decide_question.proofs.AnyQuestion.{own_unchanged}
 use Rattle.decide_question.proofs.Concluding.{Ends, conclusion_told, Made, made_search, made_test, undecided_here, decided_here, nothing_left}
 

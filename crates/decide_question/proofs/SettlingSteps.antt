@@ -53,21 +53,26 @@ module _ (gives : ℕ → Attempted) (own : Ended) (answer : List ℕ) (k n : �
 -- what is promised of an attempt that is made
 abbrev pub AttemptMade : Code.Question → List ℕ → List ℕ → ℕ → List ℕ → List ℕ → Tried → List ℕ → List ℕ → Type 0
 AttemptMade s first second k work answer t after worked =
-    ((m : Bool) → Says m (Meets s) → record { tried = t; buffer = after } ≡ attempt_coded s (length work) answer m first second k)
-    × ((Harmless answer (record { tried = t; buffer = after })) × (worked ≡ work))
+    record {
+      tried : (m : Bool) → Says m (Meets s) → record { tried = t; buffer = after } ≡ attempt_coded s (length work) answer m first second k;
+      harmless : Harmless answer (record { tried = t; buffer = after });
+      work : worked ≡ work;
+    }
 
 pub made_by : (s : Code.Question) (first second : List ℕ) (k : ℕ) (work answer : List ℕ) {x : Attempted} {t : Tried} {after worked : List ℕ}
     → Harmless answer x → record { tried = t; buffer = after } ≡ x
     → ((m : Bool) → x ≡ attempt_coded s (length work) answer m first second k) → worked ≡ work
     → AttemptMade s first second k work answer t after worked
-made_by s first second k work answer h e n w = (λ m y. e ∙ n m, (subst (Harmless answer) (sym e) h, w))
+made_by s first second k work answer h e n w = record { tried = λ m y. e ∙ n m; harmless = subst (Harmless answer) (sym e) h; work = w }
 
 -- what is promised of settling by the attempts behind the first, after so many situations
 abbrev pub Promised : Code.Question → List ℕ → List ℕ → Ended → ℕ → List ℕ → List ℕ → Settled → List ℕ → List ℕ → Type 0
 Promised s first second own entered work answer r after worked =
-    ((m : Bool) → Says m (Meets s)
-    → record { settled = r; buffer = after } ≡ settled_from (attempt_coded s (length work) answer m first second) own answer entered later)
-    × (worked ≡ work)
+    record {
+      settled : (m : Bool) → Says m (Meets s)
+          → record { settled = r; buffer = after } ≡ settled_from (attempt_coded s (length work) answer m first second) own answer entered later;
+      work : worked ≡ work;
+    }
 
 -- Where the attempt k is to be made, after n situations: what is settled from here on is what was to be settled from the second on.
 pub record Going (s : Code.Question) (first second : List ℕ) (own : Ended) (entered : ℕ) (lent lent_answer : List ℕ) (k n : ℕ) (work answer : List ℕ)
@@ -104,20 +109,20 @@ module _ {s : Code.Question} {first second : List ℕ} {own : Ended} {entered : 
   module _ (next : k < 8) (t : Tried) (after worked : List ℕ) (x : AttemptMade s first second k work answer t after worked) where
     its_attempt : (m : Bool) → Says m (Meets s)
         → record { tried = t; buffer = after } ≡ attempt_coded s (length lent) lent_answer m first second k
-    its_attempt m y = rw (g.same_work, g.same_answer) at (x.0 m y)
+    its_attempt m y = rw (g.same_work, g.same_answer) at (x.tried m y)
 
     pub going_bound : n + t.ended.count ≤ 8 * most_room
-    going_bound = omega (arith, g.bound, next, x.1.0.at_most)
+    going_bound = omega (arith, g.bound, next, x.harmless.at_most)
 
     pub going_on : t.decides ≡ false → Going s first second own entered lent lent_answer (k + 1) (n + t.ended.count) worked after
     going_on d =
         record {
           clear = g.clear;
-          same_work = x.1.1 ∙ g.same_work;
-          same_answer = x.1.0.unchanged d ∙ g.same_answer;
+          same_work = x.work ∙ g.same_work;
+          same_answer = x.harmless.unchanged d ∙ g.same_answer;
           low = omega (arith, g.low);
           high = omega arith;
-          bound = omega (arith, g.bound, x.1.0.at_most);
+          bound = omega (arith, g.bound, x.harmless.at_most);
           settled =
               λ m y.
               rw (add-one k)
@@ -127,24 +132,28 @@ module _ {s : Code.Question} {first second : List ℕ} {own : Ended} {entered : 
 
     pub going_told : t.decides ≡ true → (r : Settled) → r ≡ record { ended = with_count (n + t.ended.count) t.ended; search = k }
         → Promised s first second own entered lent lent_answer r after worked
-    going_told d r z = (
-      λ m y.
-          ap (λ (u : Settled). record { settled = u; buffer = after }) z
-          ∙ settled_here (attempt_coded s (length lent) lent_answer m first second) own lent_answer k n (from_here (suc k)) t after (its_attempt m y) d
-          ∙ ap (settled_from (attempt_coded s (length lent) lent_answer m first second) own lent_answer n) (sym (next_number k next)) ∙ g.settled m y,
-      x.1.1 ∙ g.same_work,
-    )
+    going_told d r z =
+        record {
+          settled =
+              λ m y.
+              ap (λ (u : Settled). record { settled = u; buffer = after }) z
+              ∙ settled_here (attempt_coded s (length lent) lent_answer m first second) own lent_answer k n (from_here (suc k)) t after (its_attempt m y) d
+              ∙ ap (settled_from (attempt_coded s (length lent) lent_answer m first second) own lent_answer n) (sym (next_number k next)) ∙ g.settled m y;
+          work = x.work ∙ g.same_work;
+        }
 
   -- none is left
   pub none_left : 8 ≤ k → (r : Settled) → r ≡ record { ended = with_count n own; search = 0 }
       → Promised s first second own entered lent lent_answer r answer work
-  none_left over r z = (
-    λ m y.
-        ap (λ (u : Settled). record { settled = u; buffer = answer }) z
-        ∙ ap (λ (a : List ℕ). record { settled = record { ended = with_count n own; search = 0 }; buffer = a }) g.same_answer
-        ∙ ap (settled_from (attempt_coded s (length lent) lent_answer m first second) own lent_answer n) (sym (none_from k over)) ∙ g.settled m y,
-    g.same_work,
-  )
+  none_left over r z =
+      record {
+        settled =
+            λ m y.
+            ap (λ (u : Settled). record { settled = u; buffer = answer }) z
+            ∙ ap (λ (a : List ℕ). record { settled = record { ended = with_count n own; search = 0 }; buffer = a }) g.same_answer
+            ∙ ap (settled_from (attempt_coded s (length lent) lent_answer m first second) own lent_answer n) (sym (none_from k over)) ∙ g.settled m y;
+        work = g.same_work;
+      }
 
 -- The first search.
 module _ (s : Code.Question) (first second work answer after worked : List ℕ) (e : Ended)
@@ -152,8 +161,10 @@ module _ (s : Code.Question) (first second work answer after worked : List ℕ) 
   -- what `decide` promises
   abbrev Settles : Settled → List ℕ → List ℕ → Type 0
   Settles r after worked =
-      ((m : Bool) → Says m (Meets s) → record { settled = r; buffer = after } ≡ settled_coded s m first second (length work) answer)
-      × (worked ≡ replicate (length work) 0)
+      record {
+        settled : (m : Bool) → Says m (Meets s) → record { settled = r; buffer = after } ≡ settled_coded s m first second (length work) answer;
+        work : worked ≡ replicate (length work) 0;
+      }
 
   pub first_at_most : e.count ≤ most_room
   first_at_most = rw p.0 (own_at_most s (length work) answer)
@@ -164,10 +175,8 @@ module _ (s : Code.Question) (first second work answer after worked : List ℕ) 
   pub first_told : decides_coded true e ≡ true → (r : Settled) → r ≡ record { ended = with_count e.count e; search = 1 } → Settles r after worked
   unfolding settled_coded
   first_told d r z =
-      let y : decides_coded true (ended_all s (length work) answer) ≡ true = rw p.0 at d in (
-        λ m says. rw (y, z, p.1.0, p.0),
-        p.1.1,
-      )
+      let y : decides_coded true (ended_all s (length work) answer) ≡ true = rw p.0 at d in
+      record { settled = λ m says. rw (y, z, p.1.0, p.0); work = p.1.1 }
 
   pub first_undecided : decides_coded true e ≡ false → (last end : List ℕ) (r : Settled)
       → Promised s first second e e.count worked after r last end → Settles r last end
@@ -175,7 +184,5 @@ module _ (s : Code.Question) (first second work answer after worked : List ℕ) 
   first_undecided d last end r q =
       let y : decides_coded true (ended_all s (length work) answer) ≡ false = rw p.0 at d in
       let same : after ≡ answer = p.1.0 ∙ own_unchanged s (length work) answer true y in
-      let length-same : length worked ≡ length work = ap length p.1.1 ∙ length-replicate {A = ℕ} (length work) 0 in (
-        λ m says. rw y (rw (length-same, same, p.0) at (q.0 m says)),
-        q.1 ∙ p.1.1,
-      )
+      let length-same : length worked ≡ length work = ap length p.1.1 ∙ length-replicate {A = ℕ} (length work) 0 in
+      record { settled = λ m says. rw y (rw (length-same, same, p.0) at (q.settled m says)); work = q.work ∙ p.1.1 }

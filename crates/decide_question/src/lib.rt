@@ -1,5 +1,7 @@
 // A question decided: attempts one after the other in the same working buffer. A sheet asks one, and so does a pair of rules.
-ghost use Rattle.std.specs.Prelude.{Bool, ◌≡◌, ◌≤◌, length, replicate};
+#![tactic(auto)]
+
+ghost use Rattle.std.specs.Prelude.{Bool, not, ◌≡◌, ◌≤◌, length, replicate};
 ghost use Rattle.paper.specs.Numbers.{most_room};
 ghost use Rattle.base_editions.specs.Editions.{paper_edition};
 ghost use Rattle.plain_question.specs.Reached.{Meets, Says};
@@ -36,14 +38,14 @@ const SITUATION_BITS: usize = 8 * 184;
 
 // How the attempt that decided ended, with the situations of all the attempts made, and which it was: 1 to 7. Where none decided it is 0, and the end
 // is the first search's.
-#[derive(Drop)]
+#[derive(Clone, Copy)]
 pub struct Settled {
     pub ended: Ended,
     pub search: u8,
 }
 
 // What an attempt gives: whether it decides, and how it ended.
-#[derive(Drop)]
+#[derive(Clone, Copy)]
 struct Tried {
     decides: bool,
     ended: Ended,

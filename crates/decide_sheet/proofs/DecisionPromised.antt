@@ -47,9 +47,11 @@ module _ (sheet : List ℕ) (s : Sheet) (e : s ≡ sheet_of (bodies_of sheet) (r
 
   -- what is settled of the question of a good sheet is the whole
   pub asked_told : s.found ≡ NoFault → (work answer after worked : List ℕ) (u : Settled)
-      → ((m : Bool) → Says m (Meets s.question)
-      → record { settled = u; buffer = after } ≡ settled_coded s.question m sheet sheet (length work) answer)
-      × (worked ≡ replicate (length work) 0)
+      → record {
+        settled : (m : Bool) → Says m (Meets s.question)
+            → record { settled = u; buffer = after } ≡ settled_coded s.question m sheet sheet (length work) answer;
+        work : worked ≡ replicate (length work) 0;
+      }
       → (r : Made.Decision) → r ≡ record { answer = Answer.Searched u.ended; search = u.search }
       → told_decision r after worked ≡ decision sheet work answer
   unfolding decision
@@ -59,10 +61,11 @@ module _ (sheet : List ℕ) (s : Sheet) (e : s ≡ sheet_of (bodies_of sheet) (r
       let good = sheet_good sheet q a.good in
       let says = subst (λ (x : Question). Says (clashes_apart q) (Meets x)) (sym a.is) (clash_said q good (bodies_of sheet)) in
       ap (λ (d : Made.Decision). told_decision d after worked) m
-      ∙ (λ i. told_settled (p.0 (clashes_apart q) says i) (p.1 i))
+      ∙ (λ i. told_settled (p.settled (clashes_apart q) says i) (p.work i))
       ∙ settled_told q good (bodies_of sheet) sheet sheet (written q a.good) s.question a.is work answer
       ∙ sym (ap (λ (x : Reading). decision_of x work answer) a.good)
 
 pub promised : (sheet work answer : List ℕ) (d : Decision) → d ≡ decision sheet work answer
-    → (d ≡ decision sheet work answer) × Decided (read_sheet sheet) work answer d
-promised sheet work answer d e = (e, subst (Decided (read_sheet sheet) work answer) (sym e) (sheet_decided sheet work answer))
+    → record { whole : d ≡ decision sheet work answer; decided : Decided (read_sheet sheet) work answer d }
+promised sheet work answer d e =
+    record { whole = e; decided = subst (Decided (read_sheet sheet) work answer) (sym e) (sheet_decided sheet work answer) }

@@ -1,5 +1,7 @@
 // Deciding more than the search alone: attempts one after the other in the same working buffer. A question sheet and two lent buffers in; an answer,
 // and which attempt gave it, out.
+#![tactic(auto)]
+
 ghost use Rattle.std.specs.Prelude.{◌≡◌};
 ghost use Rattle.paper.specs.Sheet.{read_sheet};
 ghost use Rattle.base_answers.specs.declared.Answer.TheVariants.{Searched, Refused};
@@ -11,7 +13,7 @@ use base_answers::{Answer, Fault, Found};
 use decide_question::Settled;
 
 // An answer, and the attempt that decided: 1 to 7; 0 where none did.
-#[derive(Drop)]
+#[derive(Clone, Copy)]
 pub struct Decision {
     pub answer: Answer,
     pub search: u8,

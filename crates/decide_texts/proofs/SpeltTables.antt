@@ -1,25 +1,26 @@
--- The tables of one text: from its start the place of each character is followed by the next one, each has the number of its character, the last one may
--- be the last. A text that has one more character has one place more:
+-- The tables of one text: from its start the place of each character is followed by the next one, each takes its character, the last one may be the
+-- last. A text that has one more character has one place more:
 --   spelt_more : the tables of w ++ (c ∷ []) are those of w with that place
 --   Spelling   : the tables of the characters gone through, and those still to come; none yet, one more, all
--- Follows from `follows`, `range_at` and `ends_at` of a pattern that is spelt out, by induction on the text.
+-- Follows from `follows`, `leaf_takes` and `ends_at` of a pattern that is spelt out, by induction on the text.
 use Prim.Native.Nat.{ℕ, zero, suc, ◌+◌, ◌≤◌, ◌<◌}
 use native.Mathlib.Nat.{add-zero}
 use native.Mathlib.Omega.{arith}
 use mathlib.Core.Path.{◌≡◌, refl, sym, ap, ap₂, ◌∙◌}
-use mathlib.Core.Bool.{Bool, true, false, cond, ◌&&◌, ◌||◌, or-false}
+use mathlib.Core.Bool.{Bool, true, false, ◌&&◌, ◌||◌, or-false, or_assoc, and-true, and-false}
 use mathlib.Core.List.{List, [], ◌∷◌, ◌++◌, append-nil, append_assoc}
-use lib.Bits.{bit_or, or_zero_r}
+use lib.Bits.{bit_or}
 use lib.Dec.{leb, ltb, eqb, eqb-zero-suc, eqb-suc-zero}
-use lib.ListN.{length, set, length-append, length-set}
+use lib.ListN.{length, get_or, set, length-append, length-set}
 use lib.Seq.{ext_get_or, get_or-set_same, get_or-set_other}
-use Rattle.paper.specs.Pattern.{char, range, pattern}
-use Rattle.paper.specs.Places.{leaves, takes_empty, may_be_first, may_be_last, may_follow, follows, ends_at}
+use Rattle.paper.specs.Numbers.{most_characters}
+use Rattle.paper.specs.Pattern.{pattern}
+use Rattle.paper.specs.Places.{takes_empty, may_be_first, may_be_last, may_follow, leaf_takes, follows, ends_at}
 use Rattle.paper.proofs.base.Tests.{by_bool, same_tests, le_leb, lt_leb, leb_true, lt_ltb, le_ltb, eqb_true, eqb_false, eqb_same, neq_eqb}
 use Rattle.paper_decide.specs.OneText.{spelt_out}
-use Rattle.base_places.specs.Masks.{places, mask_of, table, follow_masks, range_code, range_at, ranges, last_mask}
+use Rattle.base_places.specs.Masks.{places, mask_of, table, follow_masks, taking_mask, taking_masks, last_mask}
 use Rattle.base_places.specs.declared.PlaceTables.{PlaceTables}
-use Rattle.base_places.proofs.MaskOf.{mask_of_same}
+use Rattle.base_places.proofs.MaskOf.{mask_of_same, mask_of_or}
 use Rattle.base_places.proofs.Filling.{length_table, get_or_table}
 use Rattle.decide_texts.specs.TextsCoded.{spelt_tables}
 use Rattle.decide_texts.proofs.TextTurns.{ltb_other}
@@ -77,10 +78,9 @@ follow_at c [] o p q = between_none o p q
 follow_at c (d ∷ w) o p q =
     ap₂ (λ (a b : Bool). a || (eqb o p && b)) (follow_at d w (o + 1) p q) (first_at d w (o + 1) q) ∙ between_more o (length w) p q
 
-numbers_at : (c : ℕ) (w : List ℕ) (o q : ℕ)
-    → range_at (spelt_out (c ∷ w)) o q ≡ bit_or (cond (eqb o q) (range_code (char c)) 0) (range_at (spelt_out w) (o + 1) q)
-numbers_at c [] o q = sym (or_zero_r (cond (eqb o q) (range_code (char c)) 0))
-numbers_at c (d ∷ w) o q = refl
+takes_at : (c : ℕ) (w : List ℕ) (o q d : ℕ) → leaf_takes (spelt_out (c ∷ w)) o q d ≡ (eqb o q && eqb c d) || leaf_takes (spelt_out w) (o + 1) q d
+takes_at c [] o q d = sym (or-false (eqb o q && eqb c d))
+takes_at c (e ∷ w) o q d = refl
 
 -- the places of a text, the start being 0
 follows_is : (w : List ℕ) (i q : ℕ) → follows (spelt_out w) i q ≡ ltb i (length w) && eqb (suc i) q
@@ -95,26 +95,20 @@ ends_is [] (suc i) = sym (eqb-zero-suc i)
 ends_is (c ∷ w) zero = not_empty c w ∙ sym (eqb-suc-zero (length w))
 ends_is (c ∷ w) (suc i) = last_at c w 1 (suc i) ∙ ap (λ (x : ℕ). eqb x (suc i)) (let e : 1 + length w ≡ suc (length w) = omega arith in e)
 
-leaves_is : (w : List ℕ) → leaves (spelt_out w) ≡ length w
-leaves_is [] = refl
-leaves_is (c ∷ []) = refl
-leaves_is (c ∷ d ∷ w) = let rest = leaves_is (d ∷ w) in omega arith
-
--- one character more: its number stands behind the others, which are as they were
-number_here : (w : List ℕ) (c o : ℕ) → range_at (spelt_out (w ++ (c ∷ []))) o (o + length w) ≡ range_code (char c)
-number_here [] c o = rw (add-zero o, eqb_same o)
-number_here (a ∷ w) c o =
-    let here : o + suc (length w) ≡ o + 1 + length w = omega arith in
-    numbers_at a (w ++ (c ∷ [])) o (o + suc (length w))
-    ∙ rw (neq_eqb o (o + suc (length w)) (λ (z : o ≡ o + suc (length w)). omega arith))
-    (ap (range_at (spelt_out (w ++ (c ∷ []))) (o + 1)) here ∙ number_here w c (o + 1))
-
-number_other : (w : List ℕ) (c o q : ℕ) → (q ≡ o + length w → ⊥) → range_at (spelt_out w) o q ≡ range_at (spelt_out (w ++ (c ∷ []))) o q
-number_other [] c o q h = rw (neq_eqb o q (λ (z : o ≡ q). h (omega arith)))
-number_other (a ∷ w) c o q h =
-    numbers_at a w o q
-    ∙ ap (bit_or (cond (eqb o q) (range_code (char a)) 0)) (number_other w c (o + 1) q (λ (z : q ≡ o + 1 + length w). h (omega arith)))
-    ∙ sym (numbers_at a (w ++ (c ∷ [])) o q)
+-- one character more
+takes_more : (w : List ℕ) (c o q d : ℕ)
+    → leaf_takes (spelt_out (w ++ (c ∷ []))) o q d ≡ leaf_takes (spelt_out w) o q d || (eqb (o + length w) q && eqb c d)
+takes_more [] c o q d = ap (λ (x : ℕ). eqb x q && eqb c d) (sym (add-zero o))
+takes_more (a ∷ w) c o q d =
+    let its = eqb o q && eqb a d in
+    let rest = leaf_takes (spelt_out w) (o + 1) q d in
+    let last = eqb (o + suc (length w)) q && eqb c d in
+    takes_at a (w ++ (c ∷ [])) o q d
+    ∙ ap (λ (b : Bool). its || b)
+    (takes_more w c (o + 1) q d
+    ∙ ap (λ (x : ℕ). rest || (eqb x q && eqb c d)) (let e : o + 1 + length w ≡ o + suc (length w) = omega arith in e))
+    ∙ sym (or_assoc its rest last)
+    ∙ ap (λ (b : Bool). b || last) (sym (takes_at a w o q d))
 
 length_more : (w : List ℕ) (c : ℕ) → length (w ++ (c ∷ [])) ≡ length w + 1
 length_more w c = length-append w (c ∷ [])
@@ -133,13 +127,12 @@ table_set f g n i x h e others =
     let other : j ≡ i → ⊥ = eqb_false j i s in
     get_or-set_other (table f n) i j x 0 other ∙ get_or_table f n j b ∙ others j other ∙ sym (get_or_table g n j b)))
 
--- tables with one place more, behind the place `at`, whose leaf has this number and which may be the last
+-- tables with one place more, behind the place `at`, that takes c and may be the last
 abbrev pub with_place : PlaceTables → ℕ → ℕ → ℕ → PlaceTables
-with_place t at number its =
+with_place t at c its =
     record {
       follow = set t.follow at its;
-      ranges = set t.ranges (at + 1) number;
-      places = at + 2;
+      taking = set t.taking c (bit_or (get_or t.taking c 0) its);
       last = its;
     }
 
@@ -183,24 +176,33 @@ module _ (w : List ℕ) (c : ℕ) where
       mask_of_same (λ (q : ℕ). eqb (length w + 1) q) (λ (i : ℕ). ends_at (pattern (spelt_out more)) i)
       (λ q l. sym (ends_is more q ∙ ap (λ (x : ℕ). eqb x q) (length_more w c)))
 
-  -- the numbers of the leaves
-  numbers : List ℕ → ℕ → ℕ
-  numbers v q = range_at (spelt_out v) 1 q
+  -- what takes a character: for the new one its place is added
+  takes : List ℕ → ℕ → ℕ
+  takes v d = mask_of (λ (q : ℕ). leaf_takes (spelt_out v) 1 q d)
 
-  ranges_more : length w + 1 < places → set (spelt_tables w).ranges (length w + 1) (range_code (char c)) ≡ (spelt_tables more).ranges
-  unfolding spelt_tables ranges numbers
-  ranges_more h =
-      let here : length w + 1 ≡ 1 + length w = omega arith in
-      table_set (numbers w) (numbers more) places (length w + 1) (range_code (char c)) h
-      (sym (ap (numbers more) here ∙ number_here w c 1))
-      (λ q other. number_other w c 1 q (λ (z : q ≡ 1 + length w). other (omega arith)))
+  takes_here : bit_or (takes w c) (place_behind w) ≡ takes more c
+  unfolding takes
+  takes_here =
+      mask_of_or (λ (q : ℕ). leaf_takes (spelt_out w) 1 q c) (λ (q : ℕ). eqb (length w + 1) q)
+      ∙ mask_of_same (λ (q : ℕ). leaf_takes (spelt_out w) 1 q c || eqb (length w + 1) q) (λ (q : ℕ). leaf_takes (spelt_out more) 1 q c)
+      (λ q l.
+      let next : length w + 1 ≡ 1 + length w = omega arith in
+      sym (takes_more w c 1 q c ∙ rw (eqb_same c, and-true (eqb (1 + length w) q), next)))
 
-  places_more : length w + 2 ≡ (spelt_tables more).places
-  unfolding spelt_tables
-  places_more = omega (arith, leaves_is more, length_more w c)
+  takes_other : (d : ℕ) → (d ≡ c → ⊥) → takes w d ≡ takes more d
+  unfolding takes
+  takes_other d h =
+      mask_of_same (λ (q : ℕ). leaf_takes (spelt_out w) 1 q d) (λ (q : ℕ). leaf_takes (spelt_out more) 1 q d)
+      (λ q l. sym (takes_more w c 1 q d ∙ rw (neq_eqb c d (λ (z : c ≡ d). h (sym z)), and-false (eqb (1 + length w) q)) (or-false (leaf_takes (spelt_out w) 1 q d))))
 
-  pub spelt_more : length w + 1 < places → with_place (spelt_tables w) (length w) (range_code (char c)) (place_behind w) ≡ spelt_tables more
-  spelt_more h = λ i. record { follow = follow_more (omega arith) i; ranges = ranges_more h i; places = places_more i; last = last_more i }
+  taking_more : c < most_characters → set (spelt_tables w).taking c (bit_or (get_or (spelt_tables w).taking c 0) (place_behind w)) ≡ (spelt_tables more).taking
+  unfolding spelt_tables taking_masks taking_mask takes
+  taking_more h =
+      table_set (takes w) (takes more) most_characters c (bit_or (get_or (table (takes w) most_characters) c 0) (place_behind w)) h
+      (ap (λ (m : ℕ). bit_or m (place_behind w)) (get_or_table (takes w) most_characters c h) ∙ takes_here) takes_other
+
+  pub spelt_more : length w < places → c < most_characters → with_place (spelt_tables w) (length w) c (place_behind w) ≡ spelt_tables more
+  spelt_more h k = λ i. record { follow = follow_more h i; taking = taking_more k i; last = last_more i }
 
 -- The whole text is what was gone through, whose tables are there, and the rest.
 pub record Spelling (whole rest : List ℕ) (tables : PlaceTables) (at : ℕ) : Type 0 where
@@ -212,20 +214,18 @@ pub record Spelling (whole rest : List ℕ) (tables : PlaceTables) (at : ℕ) : 
 pub spelling_none : (whole : List ℕ) (tables : PlaceTables) → tables ≡ spelt_tables [] → Spelling whole whole tables 0
 spelling_none whole tables e = record { gone = []; long = refl; there = e; all = refl }
 
-pub spelling_more : (whole rest behind : List ℕ) (tables : PlaceTables) (at c number its : ℕ) → Spelling whole rest tables at → rest ≡ c ∷ behind
-    → number ≡ range_code (range c c) → its ≡ mask_of (λ (q : ℕ). eqb (at + 1) q) → at + 1 < places
-    → Spelling whole behind (with_place tables at number its) (at + 1)
-unfolding range_code
-spelling_more whole rest behind tables at c number its s e n f h =
+pub spelling_more : (whole rest behind : List ℕ) (tables : PlaceTables) (at c its : ℕ) → Spelling whole rest tables at → rest ≡ c ∷ behind
+    → its ≡ mask_of (λ (q : ℕ). eqb (at + 1) q) → at < places → c < most_characters → Spelling whole behind (with_place tables at c its) (at + 1)
+spelling_more whole rest behind tables at c its s e f h k =
     let w = s.gone in
     record {
       gone = w ++ (c ∷ []);
       long = length_more w c ∙ ap (λ (n : ℕ). n + 1) s.long;
       there =
-          ap (λ (t : PlaceTables). with_place t at number its) s.there
-          ∙ ap₂ (with_place (spelt_tables w) at) n f
-          ∙ ap (λ (k : ℕ). with_place (spelt_tables w) k (range_code (char c)) (mask_of (λ (q : ℕ). eqb (k + 1) q))) (sym s.long)
-          ∙ spelt_more w c (omega (arith, s.long));
+          ap (λ (t : PlaceTables). with_place t at c its) s.there
+          ∙ ap (with_place (spelt_tables w) at c) f
+          ∙ ap (λ (n : ℕ). with_place (spelt_tables w) n c (mask_of (λ (q : ℕ). eqb (n + 1) q))) (sym s.long)
+          ∙ spelt_more w c (omega (arith, s.long)) k;
       all = s.all ∙ ap (λ (l : List ℕ). w ++ l) e ∙ sym (append_assoc w (c ∷ []) behind);
     }
 

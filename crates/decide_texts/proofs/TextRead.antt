@@ -1,6 +1,6 @@
 -- The text that is tried, by masks, is that of the definition, and so are the tables of a field that holds it alone:
 --   text_read : worked_out (text_held cs asked h) ≡ text_tables n asked (worked_out h)
--- Follows from `can_read`, character by character, from the laws of masks, and from what the numbers of the leaves say (`taking_worked`).
+-- Follows from `can_read`, character by character, and from the laws of masks.
 use Prim.Native.Nat.{ℕ, zero, suc, ◌≤◌, ◌<◌}
 use native.Mathlib.Omega.{arith}
 use mathlib.Core.Path.{◌≡◌, refl, sym, ap, ◌∙◌}
@@ -16,12 +16,11 @@ use Rattle.paper.specs.Places.{PlaceSet, first_set, set_after}
 use Rattle.paper.proofs.base.Lists.{cons_eq, mem_keep, mem_upto}
 use Rattle.paper.proofs.base.Listed.{keep_same}
 use Rattle.paper_decide.specs.OneText.{can_end, least_text, lengths_below, one_from, spelt_out, lengths_tried, text_held}
-use Rattle.base_places.specs.Masks.{mask, followers_of, follow_masks, taking_masks, last_mask}
+use Rattle.base_places.specs.Masks.{mask, followers_of, follow_masks, taking_masks}
 use Rattle.base_places.specs.WorkedOut.{worked_out}
 use Rattle.base_places.specs.declared.PlaceTables.{PlaceTables}
 use Rattle.base_places.proofs.Masks.{Masked, Few, masked_first, masked_after, mask_after, taking_at}
-use Rattle.base_places.proofs.Ranges.{taking_worked}
-use Rattle.decide_texts.specs.TextsCoded.{meets, start, taken_by, ending, length_coded, leads, first_to, text_from, spelt_tables, text_tables}
+use Rattle.decide_texts.specs.TextsCoded.{meets, start, length_coded, leads, first_to, text_from, spelt_tables, text_tables}
 use Rattle.decide_texts.proofs.EndsRead.{ends, can_read}
 
 -- the first of a list, or 0
@@ -89,13 +88,6 @@ module _ (h : Held) (few : Few h) (n : ℕ) (most : n ≤ most_characters) where
       (keep_same (λ (k : ℕ). can_end h cs k first_set) (λ (k : ℕ). meets start (its_ends k)) (upto lengths_tried)
       (λ k d. can_read h few n most k first_set masked_first))
 
-  -- the tables of a field that holds its text alone, by the row of what takes each character
-  abbrev tables_by : ℕ → List ℕ → PlaceTables
-  tables_by asked row =
-      let its_ends = ending (follow_masks h) (taken_by n row) (last_mask h) in
-      let k = length_coded its_ends asked in
-      cond (ltb k lengths_tried) (spelt_tables (text_from n (follow_masks h) row its_ends k start)) (worked_out h)
-
   pub text_read : (asked : ℕ) → worked_out (text_held cs asked h) ≡ text_tables n asked (worked_out h)
   unfolding text_tables spelt_tables
   text_read asked =
@@ -104,4 +96,3 @@ module _ (h : Held) (few : Few h) (n : ℕ) (most : n ≤ most_characters) where
       through (ltb k lengths_tried) (pattern (spelt_out (least_text h cs k first_set))) h
       ∙ ap (λ (w : List ℕ). cond (ltb k lengths_tried) (spelt_tables w) (worked_out h)) (text_is k first_set masked_first)
       ∙ ap (λ (m : ℕ). cond (ltb m lengths_tried) (spelt m) (worked_out h)) (length_is asked)
-      ∙ ap (tables_by asked) (sym (taking_worked h))

@@ -16,7 +16,6 @@ use Rattle.paper.proofs.base.Lists.{cons_eq, any_append}
 use Rattle.paper.proofs.base.Listed.{upto_snoc}
 use Rattle.paper_decide.specs.OneText.{one_from, lengths_tried}
 use Rattle.base_places.specs.Masks.{places, mask_of, in_mask, followers_of}
-use Rattle.base_places.specs.WorkedOut.{taking_of}
 use Rattle.base_places.specs.declared.PlaceTables.{PlaceTables}
 use Rattle.base_places.proofs.MaskOf.{mask_of_same, mask_of_or, mask_of_cond, mask_of_none, mask_of_digits}
 use Rattle.decide_texts.specs.TextsCoded.{meets, start, taken_by, leading_to, ending, EndingsOf, first_to, text_from, spelt_tables, text_tables}
@@ -145,21 +144,21 @@ module _ (n : ℕ) (follow taking : List ℕ) where
       let c = first_to n taking next (f k) in
       rw (h k (omega arith)) (cons_eq refl (text_same e f k (bit_and next (get_or taking c 0)) (λ j l. h j (omega arith))))
 
--- what is worked out of a field, whose text has k characters, or which has none, by the row of what takes each character
-module _ (n asked : ℕ) (t : PlaceTables) (row : List ℕ) (taken k : ℕ) (all : List ℕ) (r : row ≡ taking_of t) (u : taken ≡ taken_by n row)
+-- what is worked out of a field, whose text has k characters, or which has none
+module _ (n asked : ℕ) (t : PlaceTables) (taken k : ℕ) (all : List ℕ) (u : taken ≡ taken_by n t.taking)
     (x : EndingsOf (ending t.follow taken t.last) asked k all) where
   abbrev ends : ℕ → ℕ
   ends = ending t.follow taken t.last
 
-  text_by : text_tables n asked t ≡ cond (ltb k lengths_tried) (spelt_tables (text_from n t.follow row ends k start)) t
+  text_by : text_tables n asked t ≡ cond (ltb k lengths_tried) (spelt_tables (text_from n t.follow t.taking ends k start)) t
   unfolding text_tables
-  text_by = rw (x.its_length, u, r)
+  text_by = rw (x.its_length, u)
 
-  pub one_text : k < lengths_tried → spelt_tables (text_from n t.follow row (λ (j : ℕ). get_or all j 0) k start) ≡ text_tables n asked t
+  pub one_text : k < lengths_tried → spelt_tables (text_from n t.follow t.taking (λ (j : ℕ). get_or all j 0) k start) ≡ text_tables n asked t
   one_text h =
-      ap spelt_tables (text_same n t.follow row (λ (j : ℕ). get_or all j 0) ends k start x.shorter)
-      ∙ sym (text_by ∙ cond_true (ltb k lengths_tried) (spelt_tables (text_from n t.follow row ends k start)) t (lt_ltb k lengths_tried h))
+      ap spelt_tables (text_same n t.follow t.taking (λ (j : ℕ). get_or all j 0) ends k start x.shorter)
+      ∙ sym (text_by ∙ cond_true (ltb k lengths_tried) (spelt_tables (text_from n t.follow t.taking ends k start)) t (lt_ltb k lengths_tried h))
 
   pub no_one_text : lengths_tried ≤ k → t ≡ text_tables n asked t
   no_one_text h =
-      sym (text_by ∙ cond_false (ltb k lengths_tried) (spelt_tables (text_from n t.follow row ends k start)) t (le_ltb k lengths_tried h))
+      sym (text_by ∙ cond_false (ltb k lengths_tried) (spelt_tables (text_from n t.follow t.taking ends k start)) t (le_ltb k lengths_tried h))

@@ -27,7 +27,7 @@ use Rattle.base_places.specs.Masks.{within}
 use Rattle.base_places.specs.WorkedOut.{worked_out}
 use Rattle.base_places.specs.declared.PlaceTables.{PlaceTables}
 use Rattle.base_places.proofs.Masks.{Few}
-use Rattle.base_codes.specs.Inner.{token_code, side_code, tokens, padded}
+use Rattle.base_codes.specs.Inner.{token_code, side_code, padded}
 use Rattle.base_question.specs.Asked.{question_of}
 use Rattle.base_question.specs.Standings as Standings
 use Rattle.base_question.specs.declared.Body.{Body}

@@ -8,7 +8,7 @@ use Rattle.paper.specs.Numbers.{fields}
 use Rattle.paper.specs.Pattern.{pattern}
 use Rattle.paper_decide.specs.OneText.{one_from, spelt_out, lengths_tried}
 use Rattle.base_places.specs.Masks.{mask_of, in_mask, followers_of, within}
-use Rattle.base_places.specs.WorkedOut.{worked_out, taking_of}
+use Rattle.base_places.specs.WorkedOut.{worked_out}
 use Rattle.base_places.specs.declared.PlaceTables.{PlaceTables}
 use Rattle.base_question.specs.Standings.{standing_times}
 use Rattle.base_question.specs.declared.Question.{Question}
@@ -66,13 +66,13 @@ spelt_tables w = worked_out (pattern (spelt_out w))
 -- What is worked out of a field that holds one text; as it was, where it has none of at most 24 characters.
 unfoldable pub text_tables : ℕ → ℕ → PlaceTables → PlaceTables
 text_tables n asked t =
-    let ends = ending t.follow (taken_by n (taking_of t)) t.last in
+    let ends = ending t.follow (taken_by n t.taking) t.last in
     let k = length_coded ends asked in
-    cond (ltb k lengths_tried) (spelt_tables (text_from n t.follow (taking_of t) ends k start)) t
+    cond (ltb k lengths_tried) (spelt_tables (text_from n t.follow t.taking ends k start)) t
 
 -- each field that stands twice holds one text; the others are as they were
 abbrev pub no_tables : PlaceTables
-no_tables = record { follow = []; ranges = []; places = 0; last = 0 }
+no_tables = record { follow = []; taking = []; last = 0 }
 
 abbrev pub tables_at : Question → ℕ → PlaceTables
 tables_at s f = get_or s.fields f no_tables

@@ -1,15 +1,15 @@
 // "A text for each field that stands twice": such a field holds one text alone. For a number of characters it is the least text of so many, by value.
+#![tactic(auto)]
+
 ghost use Rattle.std.specs.Prelude.{cond, [], ◌≡◌, ℕ, ◌^◌, ◌≤◌, ◌<◌, eqb, get_or};
 ghost use Rattle.paper.specs.Numbers.{most_characters};
 ghost use Rattle.paper_decide.specs.OneText.{longest_tried};
 ghost use Rattle.base_places.specs.Masks.{places, mask_of};
-ghost use Rattle.decide_texts.specs.TextsCoded.{meets, start, taken_by, leading_to, ending, EndingsOf};
+ghost use Rattle.decide_texts.specs.TextsCoded.{meets, start, taken_by, leading_to, ending, length_coded, EndingsOf};
 ghost use Rattle.decide_texts.specs.TextsCoded.{first_to, text_from, spelt_tables, text_tables, texts_coded};
 
 use base_codes::SHEET_FIELDS;
-use base_places::{
-    CHARACTERS, PLACES, PlaceSet, PlaceTables, followers, place, range_number, within,
-};
+use base_places::{CHARACTERS, PLACES, PlaceSet, PlaceTables, followers, place, within};
 use base_question::{Question, standings};
 
 // No text that is tried has more characters.
@@ -23,7 +23,7 @@ const START: PlaceSet = 1;
 
 // How many characters the text has, the number behind the last one that is tried where there is none; and for each smaller number the places from
 // which a text of so many may end.
-#[derive(Drop)]
+#[derive(Clone, Copy)]
 struct Ends {
     length: usize,
     ends: [PlaceSet; LENGTHS],
@@ -57,14 +57,13 @@ fn with_text(own: PlaceTables, n: usize, asked: usize) -> PlaceTables
     ensures { result ≡ text_tables n asked own }
 {
     let follow = own.follow;
-    let ranges = own.ranges;
-    let row = base_places::taking(&ranges, own.places);
+    let taking = own.taking;
     let last = own.last;
-    let its = endings(&follow, taken(&row, n), last, asked);
+    let its = endings(&follow, taken(&taking, n), last, asked);
     let length = its.length;
     if length < LENGTHS {
         let ends = its.ends;
-        return spelt(&follow, &row, n, ends, length);
+        return spelt(&follow, &taking, n, ends, length);
     }
     own
 }
@@ -160,8 +159,7 @@ fn no_text() -> PlaceTables
 {
     PlaceTables {
         follow: [0; PLACES],
-        ranges: [0; PLACES],
-        places: 1,
+        taking: [0; CHARACTERS],
         last: START,
     }
 }
@@ -188,8 +186,7 @@ fn spelt(
         set = next & taking[c];
         let its = place(at + 1);
         tables.follow[at] = its;
-        tables.ranges[at + 1] = range_number(c, c);
-        tables.places = at + 2;
+        tables.taking[c] = tables.taking[c] | its;
         tables.last = its;
         at += 1;
     }

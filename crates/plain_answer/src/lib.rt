@@ -1,4 +1,6 @@
 // What the small engine answers of a question (request K9), by how many bytes of bits are lent; and how many bytes it needs.
+#![tactic(auto)]
+
 ghost use Rattle.std.specs.Prelude.{◌≡◌};
 ghost use Rattle.plain_answer.specs.Answered.{Answered, answering_of, needed_by};
 ghost use Rattle.plain_answer.specs.EngineNumbers.{plain_numbers, needed_numbers};
@@ -9,7 +11,7 @@ use plain_count::{bits_of, stands_twice};
 use plain_question::clashes;
 
 // "It says only clash or no clash." specs/EngineNumbers.antt gives each its numbers.
-#[derive(Drop)]
+#[derive(Clone, Copy)]
 pub enum PlainAnswer {
     // 0
     Clash,
@@ -24,14 +26,14 @@ pub enum PlainAnswer {
 }
 
 // What is answered, and how many bytes the question's bits need: 0 where that is not told.
-#[derive(Drop)]
+#[derive(Clone, Copy)]
 pub struct Answering {
     pub answer: PlainAnswer,
     pub needed: usize,
 }
 
 // How many bytes of bits a sheet needs.
-#[derive(Drop)]
+#[derive(Clone, Copy)]
 pub enum Needed {
     // 0
     Bytes { bytes: usize },

@@ -5,13 +5,13 @@ use native.Mathlib.Omega.{arith}
 use mathlib.Core.Path.{◌≡◌, refl, sym, ap, ◌∙◌}
 use mathlib.Core.Bool.{true, false, ◌||◌}
 use mathlib.Core.List.{List}
-use mathlib.Core.Logic.{◌⊎◌, ⊎_elim}
+use mathlib.Core.Logic.{⊎_elim}
 use lib.Bits.{bit_and, bit_or, and_le_r}
 use lib.Count.{count_trailing_zeros}
 use lib.ListN.{get_or, replicate}
 use Rattle.paper.proofs.base.Tests.{true_false, or_left_false, or_right_false, eqb_true}
 use Rattle.base_places.specs.Masks.{places, in_mask}
-use Rattle.plain_block.specs.RowTables.{RowTables}
+use Rattle.base_places.specs.declared.PlaceTables.{PlaceTables}
 use Rattle.plain_block.specs.Met.{Met, left_came, right_came, both_read}
 use Rattle.plain_block.specs.Rows.{In, weight, Grows, Each, Behind, Going}
 use Rattle.plain_block.proofs.Digits.{in_mask_or, in_mask_none, in_mask_one, lowest_of, only_lowest_out}
@@ -27,7 +27,7 @@ no_pair zero i = refl
 no_pair (suc k) zero = refl
 no_pair (suc k) (suc i) = no_pair k i
 
-module _ (l r : RowTables) (lo hi m n : ℕ) where
+module _ (l r : PlaceTables) (lo hi m n : ℕ) where
   abbrev Next : List ℕ → ℕ → ℕ → ℕ → Type 0
   Next rows = Behind l.follow l.taking r.follow r.taking lo hi rows
 

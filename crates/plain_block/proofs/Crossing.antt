@@ -11,7 +11,7 @@ use lib.Dec.{eqb, ltb}
 use lib.ListN.{get_or}
 use Rattle.paper.proofs.base.Tests.{by_bool, true_false, not_is_true, and_left, and_right, both_true, eqb_false, neq_eqb, ltb_true}
 use Rattle.base_places.specs.Masks.{places, in_mask, followers_of}
-use Rattle.plain_block.specs.RowTables.{RowTables}
+use Rattle.base_places.specs.declared.PlaceTables.{PlaceTables}
 use Rattle.plain_block.specs.Met.{comes_by, may_be_left, Met, left_came, right_came, both_read, Exactly, Crosses}
 use Rattle.plain_block.specs.Rows.{In, Going}
 use Rattle.plain_block.specs.declared.Crossed.{Crossed}
@@ -20,13 +20,13 @@ use Rattle.plain_block.proofs.Characters.{followed, follows_some}
 use Rattle.plain_block.proofs.Closed.{all_met}
 
 -- a place that is come to is one
-comes_below : (t : RowTables) (i c q : ℕ) → comes_by t i c q ≡ true → q < places
+comes_below : (t : PlaceTables) (i c q : ℕ) → comes_by t i c q ≡ true → q < places
 comes_below t i c q h =
     let both = ltb i places && ltb q places in
     ltb_true q places
     (and_right (ltb i places) (ltb q places) (and_left both (in_mask (get_or t.follow i 0) q && in_mask (get_or t.taking c 0) q) h))
 
-module _ (l r : RowTables) (lo hi m n : ℕ) (left-narrow : m < 2 ^ places) (right-narrow : n < 2 ^ places) where
+module _ (l r : PlaceTables) (lo hi m n : ℕ) (left-narrow : m < 2 ^ places) (right-narrow : n < 2 ^ places) where
   met_below : {i q : ℕ} → Met l r lo hi m n i q → (i < places) × (q < places)
   met_below (left_came q e) = (omega arith, in_narrow m q left-narrow e)
   met_below (right_came i e) = (in_narrow n i right-narrow e, omega arith)

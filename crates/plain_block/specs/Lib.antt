@@ -1,3 +1,2 @@
-pub mod RowTables
 pub mod Met
 pub mod Rows

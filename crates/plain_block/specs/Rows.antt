@@ -9,7 +9,7 @@ use Rattle.std.specs.Prelude.{ℕ, ◌+◌, ◌*◌, ◌-◌, ◌^◌, ◌≤◌
 use Rattle.std.specs.Int.Bits.{bit_and}
 use Rattle.paper.specs.Numbers.{most_characters}
 use Rattle.base_places.specs.Masks.{places, in_mask}
-use Rattle.plain_block.specs.RowTables.{RowTables}
+use Rattle.base_places.specs.declared.PlaceTables.{PlaceTables}
 use Rattle.plain_block.specs.Met.{comes_by, Met, tables}
 
 -- the pair of the left place i and the right place q stands in the rows
@@ -60,7 +60,7 @@ pub record Behind (left-follow left-taking right-follow right-taking : List ℕ)
   pub left : comes_by (tables left-follow left-taking 0) i by j ≡ true
   pub right : comes_by (tables right-follow right-taking 0) at by s ≡ true
 
-pub record Going (l r : RowTables) (lo hi m n : ℕ) (rows : List ℕ) (todo met : ℕ) : Type 0 where
+pub record Going (l r : PlaceTables) (lo hi m n : ℕ) (rows : List ℕ) (todo met : ℕ) : Type 0 where
   pub sound : (i q : ℕ) → In rows i q → Met l r lo hi m n i q
   pub left_came : (q : ℕ) → in_mask m q ≡ true → In rows 0 q
   pub right_came : (i : ℕ) → in_mask n i ≡ true → In rows i 0

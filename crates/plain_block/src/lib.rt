@@ -1,5 +1,7 @@
 // Two tokens in front (request K9): which pairs of a left and a right place are met while both stay in front. "only the places of the two fields in
 // front are repeated until nothing is added".
+#![tactic(auto)]
+
 ghost use Rattle.std.specs.Prelude.{◌≡◌, ◌&&◌, not, ℕ, ◌^◌, ◌<◌, eqb, length, get_or};
 ghost use Rattle.std.specs.Int.Bits.{bit_and, bit_or};
 ghost use Rattle.base_places.specs.Masks.{places, in_mask};
@@ -12,7 +14,7 @@ use base_places::{CHARACTERS, PLACES, PlaceSet, followers, within};
 const START: PlaceSet = 1;
 
 // What the pairs that are met tell the tokens behind.
-#[derive(Drop)]
+#[derive(Clone, Copy)]
 pub struct Crossed {
     // the right places at which the left token may be left
     pub left: PlaceSet,

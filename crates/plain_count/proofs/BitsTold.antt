@@ -1,33 +1,31 @@
 -- `bits_of` tells of a good question of the paper how many bits it has.
 --   bits_told : bits_coded (question_of q bodies) ≡ bits_of q
--- Follows by induction on a side, from how many places a field has: its tables have as many, two if it has no pattern (`places_told`), and the hidden
--- field has one leaf and the start.
-use Prim.Native.Nat.{ℕ, suc, ◌+◌, ◌-◌, ◌*◌, ◌≤◌, ◌<◌}
+-- Follows by induction on a side, from how many places a field has (`places_told`): the hidden field has one leaf and the start.
+use Prim.Native.Nat.{ℕ, ◌+◌, ◌-◌, ◌*◌, ◌≤◌, ◌<◌}
 use native.Mathlib.Omega.{arith}
 use mathlib.Core.Path.{◌≡◌, refl, sym, ap, ap₂, ◌∙◌}
 use mathlib.Core.List.{List, [], ◌∷◌, ◌++◌, map, Memᴰ}
-use lib.Dec.{eqb-suc-zero}
 use lib.ListN.{get_or, length-map, get_or-append}
 use Rattle.paper.specs.Lists.{upto}
 use Rattle.paper.specs.Numbers.{most_characters, fields, hidden_left, hidden_right}
-use Rattle.paper.specs.Pattern.{Held, some_text, pattern}
-use Rattle.paper.specs.Places.{leaves}
+use Rattle.paper.specs.Pattern.{Held, some_text}
 use Rattle.paper.specs.Equation.{Token, chr, fld, Side}
 use Rattle.paper.specs.Question.{Question, held_by, any_spaces, hidden}
 use Rattle.paper.proofs.base.Tests.{le_leb, lt_ltb, le_ltb}
 use Rattle.paper.proofs.base.Lists.{length_from}
 use Rattle.paper.proofs.base.Listed.{get_or_map_upto}
-use Rattle.paper_laws.proofs.sheets.Asked.{InRange, GoodHeld, GoodQuestion, good_most}
+use Rattle.paper_laws.proofs.sheets.Asked.{InRange, GoodQuestion, good_most, good_space}
 use Rattle.paper_plain.specs.Standing.{places_of, standings}
 use Rattle.paper_plain.specs.Engine.{bits_of}
-use Rattle.base_places.specs.Masks.{places}
+use Rattle.base_places.specs.Masks.{within}
 use Rattle.base_places.specs.WorkedOut.{worked_out}
 use Rattle.base_places.specs.declared.PlaceTables.{PlaceTables}
-use Rattle.base_codes.specs.Inner.{field_code, token_code, side_code, tokens}
+use Rattle.base_codes.specs.Inner.{field_code, token_code, side_code}
 use Rattle.base_question.specs.Asked.{field_tables, question_of}
 use Rattle.base_question.specs.declared.Body.{Body}
 use Rattle.base_question.proofs.SidesBack.{side_back}
-use Rattle.plain_count.specs.StandingsCoded.{no_tables, places_in, all_places, token_adds, standings_coded, bits_coded}
+use Rattle.plain_count.specs.StandingsCoded.{no_tables, places_by, all_places, token_adds, standings_coded, bits_coded}
+use Rattle.plain_count.proofs.PlacesTold.{places_told}
 
 -- a side with its hidden field, by how many places the fields have
 module _ (n : ℕ) (most : n ≤ most_characters) (held : ℕ → Held) (places : List ℕ) (known : (f : ℕ) → f < fields → get_or places f 0 ≡ places_of (held f)) where
@@ -44,14 +42,17 @@ module _ (n : ℕ) (most : n ≤ most_characters) (held : ℕ → Held) (places 
       token_told t (side ++ (fld g ∷ [])) (h t (Memᴰ.head refl))
       ∙ ap (λ (k : ℕ). token_adds places (token_code t) + k) (side_told g side two (λ u d. h u (Memᴰ.tail d)))
 
--- how many places a field has, by what is worked out of what it may hold
-places_told : (n : ℕ) (h : Held) → GoodHeld n h → places_in (worked_out h).places ≡ places_of h
-places_told n some_text g = refl
-places_told n (pattern p) g = let few = g.1 in rw (eqb-suc-zero (leaves p), le_leb (suc (leaves p)) places (omega arith))
+-- as many characters as a table has room for
+within_all : (n : ℕ) → n ≤ most_characters → within n ≡ n
+unfolding within
+within_all n h = rw (le_leb n most_characters h)
 
 module _ (q : Question) (good : GoodQuestion q) where
   abbrev characters : ℕ
   characters = q.alphabet.characters
+
+  some : 0 < characters
+  some = omega (arith, good_space good)
 
   abbrev own : List Held
   own = map (held_by q) (upto fields)
@@ -63,19 +64,20 @@ module _ (q : Question) (good : GoodQuestion q) where
       (omega (arith, length-map (upto fields) (held_by q), length_from 0 fields))
       ∙ get_or_map_upto (held_by q) some_text fields f h
 
-  counted : (f : ℕ) → f < fields → get_or (all_places (field_tables q)) f 0 ≡ places_of (held_by (hidden q) f)
+  counted : (f : ℕ) → f < fields → get_or (all_places characters (field_tables q)) f 0 ≡ places_of (held_by (hidden q) f)
   unfolding all_places
   counted f h =
-      get_or_map_upto (λ (g : ℕ). places_in (get_or (field_tables q) g no_tables).places) 0 fields f h
-      ∙ ap (λ (t : PlaceTables). places_in t.places) (get_or_map_upto (λ (g : ℕ). worked_out (held_by q g)) no_tables fields f h)
-      ∙ places_told characters (held_by q f) (good.held.good f)
+      get_or_map_upto (λ (g : ℕ). places_by characters (get_or (field_tables q) g no_tables).taking) 0 fields f h
+      ∙ ap (λ (t : PlaceTables). places_by characters t.taking) (get_or_map_upto (λ (g : ℕ). worked_out (held_by q g)) no_tables fields f h)
+      ∙ places_told characters (good_most good) some (held_by q f) (good.held.good f)
       ∙ ap places_of (sym (held_own f h))
 
   pub bits_told : (bodies : List Body) → bits_coded (question_of q bodies) ≡ bits_of q
   unfolding bits_coded bits_of
   bits_told bodies =
-      let its-places = all_places (field_tables q) in
+      let its-places = all_places characters (field_tables q) in
       let told = side_told characters (good_most good) (held_by (hidden q)) its-places counted in
-      ap₂ ◌*◌
+      rw (within_all characters (good_most good))
+      (ap₂ ◌*◌
       (ap (standings_coded its-places) (side_back characters (good_most good) q.left good.left) ∙ sym (told hidden_left q.left refl good.left.tokens))
-      (ap (standings_coded its-places) (side_back characters (good_most good) q.right good.right) ∙ sym (told hidden_right q.right refl good.right.tokens))
+      (ap (standings_coded its-places) (side_back characters (good_most good) q.right good.right) ∙ sym (told hidden_right q.right refl good.right.tokens)))

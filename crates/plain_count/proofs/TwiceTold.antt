@@ -9,7 +9,7 @@ use mathlib.Core.Bool.{Bool, true, false, not, ◌&&◌}
 use mathlib.Core.List.Memᴰ
 use mathlib.Core.List.{List, [], ◌∷◌, ◌++◌, map, Memᴰ}
 use lib.Dec.{leb, ltb, eqb}
-use lib.ListN.{length, get_or, length-append}
+use lib.ListN.{length-append}
 use Rattle.paper.specs.Lists.{upto, any, only, keep}
 use Rattle.paper.specs.Numbers.{most_characters, set_fields}
 use Rattle.paper.specs.Equation.{Token, chr, fld, Side, is_field, stands_in}

@@ -1,9 +1,11 @@
--- How many standings a question has (request K9), by its inner codes and its tables: of any bytes and any tables.
-use Rattle.std.specs.Prelude.{ℕ, ◌+◌, ◌*◌, Bool, cond, List, [], ◌∷◌, map, leb, ltb, eqb, get_or}
+-- How many standings a question has (request K9), by its inner codes and its tables of masks: of any bytes and any masks.
+use Rattle.std.specs.Prelude.{ℕ, ◌+◌, ◌*◌, ◌/◌, ◌%◌, Bool, cond, List, [], ◌∷◌, map, ltb, eqb, get_or, take}
+use Rattle.std.specs.Int.Bits.{bit_or}
+use Rattle.std.specs.Int.Count.{count_trailing_zeros}
 use Rattle.paper.specs.Lists.{upto, any}
 use Rattle.paper.specs.Numbers.{fields}
 use Rattle.base_codes.specs.Inner.{is_char, field_of, tokens}
-use Rattle.base_places.specs.Masks.{places}
+use Rattle.base_places.specs.Masks.{places, within}
 use Rattle.base_places.specs.declared.PlaceTables.{PlaceTables}
 use Rattle.base_question.specs.Standings.{standing_times}
 use Rattle.base_question.specs.declared.Question.{Question}
@@ -12,18 +14,27 @@ use Rattle.base_question.specs.declared.Question.{Question}
 unfoldable pub twice_coded : List ℕ → List ℕ → Bool
 twice_coded left right = any (λ (n : ℕ). ltb 1 n) (standing_times left right)
 
--- "its leaves and the start, or two for a field without a pattern", by how many places its tables have: none, if it has no pattern. More than 64, which
--- no pattern has, count as 64: so it is a byte whatever the tables are.
+-- the places of the mask, and those that take some character
+abbrev pub taken_too : ℕ → List ℕ → ℕ
+taken_too m [] = m
+taken_too m (its ∷ taking) = taken_too (bit_or m its) taking
+
+-- "its leaves and the start, or two for a field without a pattern", by the places that take some character. The leaves are the places behind the
+-- start, as far as there is no gap between them. Of a field without a pattern the start takes some character, too. Only the characters of the alphabet, of
+-- which there are n, are looked at.
 abbrev pub places_in : ℕ → ℕ
-places_in n = cond (eqb n 0) 2 (cond (leb n places) n places)
+places_in taken = cond (eqb (taken % 2) 1) 2 (1 + count_trailing_zeros places (taken / 2 + 1))
+
+unfoldable pub places_by : ℕ → List ℕ → ℕ
+places_by n taking = places_in (taken_too 0 (take n taking))
 
 -- tables that are not there
 abbrev pub no_tables : PlaceTables
-no_tables = record { follow = []; ranges = []; places = 0; last = 0 }
+no_tables = record { follow = []; taking = []; last = 0 }
 
 -- how many places each field has
-unfoldable pub all_places : List PlaceTables → List ℕ
-all_places tables = map (λ (f : ℕ). places_in (get_or tables f no_tables).places) (upto fields)
+unfoldable pub all_places : ℕ → List PlaceTables → List ℕ
+all_places n tables = map (λ (f : ℕ). places_by n (get_or tables f no_tables).taking) (upto fields)
 
 -- how many standings a token adds
 abbrev pub token_adds : List ℕ → ℕ → ℕ
@@ -36,5 +47,5 @@ standings_coded places (b ∷ side) = token_adds places b + standings_coded plac
 
 unfoldable pub bits_coded : Question → ℕ
 bits_coded s =
-    let its-places = all_places s.fields in
+    let its-places = all_places (within s.alphabet.characters) s.fields in
     standings_coded its-places (tokens s.left) * standings_coded its-places (tokens s.right)

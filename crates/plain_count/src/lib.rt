@@ -1,10 +1,14 @@
 // How many bits a question needs (request K9): one "for each pair of a left and a right standing", if no field stands more than once.
+#![tactic(auto)]
+
 ghost use Rattle.std.specs.Prelude.{◌≡◌, ◌≤◌};
+ghost use Rattle.paper.specs.Numbers.{most_characters};
+ghost use Rattle.base_places.specs.Masks.{within};
 ghost use Rattle.base_codes.specs.Inner.{tokens};
-ghost use Rattle.plain_count.specs.StandingsCoded.{twice_coded, places_in, all_places, token_adds, standings_coded, bits_coded};
+ghost use Rattle.plain_count.specs.StandingsCoded.{twice_coded, places_in, places_by, all_places, token_adds, standings_coded, bits_coded};
 
 use base_codes::{CodedSide, FIELD_CODE, FIELDS, LONGEST_SIDE, NO_TOKEN, SHEET_FIELDS, field_of};
-use base_places::PLACES;
+use base_places::{CHARACTERS, PlaceSet, within};
 use base_question::Question;
 
 // "two for a field without a pattern"
@@ -38,33 +42,45 @@ pub fn bits_of(question: Question) -> usize
     standings(left, places) * standings(right, places)
 }
 
-// How many places each field has.
+// How many places each field has, by the characters of the question's alphabet.
 fn places_of(question: Question) -> [u8; SHEET_FIELDS]
-    ensures { result ≡ all_places question.fields }
+    ensures { result ≡ all_places (within question.alphabet.characters) question.fields }
 {
+    let alphabet = question.alphabet;
+    let n = within(alphabet.characters);
     let mut places = [0u8; SHEET_FIELDS];
     let mut f: usize = 0;
     while f < SHEET_FIELDS {
         let tables = question.fields[f];
-        let many = tables.places;
-        places[f] = places_in(many);
+        let taking = tables.taking;
+        places[f] = places_by(taking, n);
         f += 1;
     }
     places
 }
 
-// How many places a field has, by the number of its tables: "its leaves and the start". Of a field without a pattern that number is 0.
-fn places_in(many: usize) -> u8
-    ensures { result ≡ places_in many }
+// How many places a field has, by the places that take each of n characters.
+fn places_by(taking: [PlaceSet; CHARACTERS], n: usize) -> u8
+    requires { n ≤ most_characters }
+    ensures { result ≡ places_by n taking }
 {
-    if many == 0 {
+    let mut taken: PlaceSet = 0;
+    let mut c: usize = 0;
+    while c < n {
+        taken = taken | taking[c];
+        c += 1;
+    }
+    places_in(taken)
+}
+
+// How many places a field has, by those that take some character: "its leaves and the start". Of a field without a pattern the start does too.
+fn places_in(taken: PlaceSet) -> u8
+    ensures { result ≡ places_in taken }
+{
+    if taken % 2 == 1 {
         return OPEN;
     }
-    if many <= PLACES {
-        many as u8
-    } else {
-        PLACES as u8
-    }
+    1 + u64::trailing_zeros(taken / 2 + 1) as u8
 }
 
 // How many standings a side has, its hidden field's among them.

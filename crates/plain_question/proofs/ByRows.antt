@@ -11,8 +11,8 @@ use Rattle.paper.specs.Numbers.{set_fields}
 use Rattle.base_codes.specs.Inner.{no_token, tokens}
 use Rattle.base_question.specs.declared.Question.{Question}
 use Rattle.search_hidden.specs.Behind.{Hidden, with_hidden}
-use Rattle.plain_block.specs.RowTables.{row_follow, row_taking, row_last}
 use Rattle.plain_rows.specs.Fronts.{Front}
+use Rattle.search_tables.specs.Tables.{follow_of, taking_of, last_of}
 use Rattle.plain_rows.specs.Rows.{rows_of}
 use Rattle.plain_rows.proofs.Rows.{token_front}
 use Rattle.plain_question.specs.Reached.{Reached, front_at, Meets, Says}
@@ -21,7 +21,7 @@ use Rattle.plain_question.specs.Entered.{fronts}
 module _ (h : Hidden) (all : length h.fields ≡ set_fields) where
   abbrev by_rows : List ℕ → ℕ → Front
   by_rows side =
-      fronts h.characters (map row_follow (rows_of h.fields)) (map row_taking (rows_of h.fields)) (map row_last (rows_of h.fields)) (tokens side)
+      fronts h.characters (map follow_of (rows_of h.fields)) (map taking_of (rows_of h.fields)) (map last_of (rows_of h.fields)) (tokens side)
 
   rows_are : (side : List ℕ) → by_rows side ≡ front_at h side
   rows_are side = λ t i. token_front h.fields all h.characters (get_or (tokens side) i no_token) t
@@ -44,7 +44,7 @@ said_rows n follow taking its last left right b e s =
 
 pub said_of_question : (q : Question) (h : Hidden) (n : ℕ) (follow taking : List (List ℕ)) (last : List ℕ) (b : Bool)
     → h ≡ with_hidden q → n ≡ h.characters → length h.fields ≡ set_fields
-    → follow ≡ map row_follow (rows_of h.fields) → taking ≡ map row_taking (rows_of h.fields) → last ≡ map row_last (rows_of h.fields)
+    → follow ≡ map follow_of (rows_of h.fields) → taking ≡ map taking_of (rows_of h.fields) → last ≡ map last_of (rows_of h.fields)
     → Says b (Reached (fronts n follow taking last (tokens h.left)) (fronts n follow taking last (tokens h.right)) (length (tokens h.left)) 0 (length (tokens h.right)) 0)
     → Says b (Meets q)
 said_of_question q h n follow taking last b e m all f g k s =

@@ -17,8 +17,8 @@ use lib.Seq.{get_or-set_same, get_or-set_other}
 use Rattle.paper.specs.Numbers.{longest_side}
 use Rattle.paper.proofs.base.Tests.{by_bool, true_false, eqb_true, eqb_false}
 use Rattle.base_places.specs.Masks.{in_mask}
+use Rattle.base_places.specs.declared.PlaceTables.{PlaceTables}
 use Rattle.base_places.proofs.MaskOf.{in_mask_out}
-use Rattle.plain_block.specs.RowTables.{RowTables}
 use Rattle.plain_block.specs.Met as Met
 use Rattle.plain_block.specs.Met.{Exactly, Crosses, may_be_left}
 use Rattle.plain_block.specs.declared.Crossed.{Crossed}
@@ -39,7 +39,7 @@ none_exactly : (P : ℕ → Type 0) → ((i : ℕ) → P i → ⊥) → Exactly 
 none_exactly P h = record { sound = λ i e. absurd (in_none i e); complete = λ i p. absurd (h i p) }
 
 -- Where neither token came in front nothing is met.
-nothing_met : {l r : RowTables} {lo hi i q : ℕ} → Met.Met l r lo hi 0 0 i q → ⊥
+nothing_met : {l r : PlaceTables} {lo hi i q : ℕ} → Met.Met l r lo hi 0 0 i q → ⊥
 nothing_met (Met.left_came q e) = in_none q e
 nothing_met (Met.right_came i e) = in_none i e
 nothing_met (Met.both_read i q c j s d a b k x y) = nothing_met d
@@ -47,7 +47,7 @@ nothing_met (Met.both_read i q c j s d a b k x y) = nothing_met d
 abbrev nothing : Crossed
 nothing = record { left = 0; right = 0; starts = false }
 
-nothing_crosses : (l r : RowTables) (lo hi : ℕ) → Crosses l r lo hi 0 0 nothing
+nothing_crosses : (l r : PlaceTables) (lo hi : ℕ) → Crosses l r lo hi 0 0 nothing
 nothing_crosses l r lo hi =
     record {
       left = none_exactly _ (λ q h. nothing_met h.1);

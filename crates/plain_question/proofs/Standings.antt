@@ -9,7 +9,7 @@ use native.Mathlib.Omega.{arith}
 use mathlib.Core.Path.{◌≡◌, refl, sym, ap, ◌∙◌, subst}
 use mathlib.Core.Bool.{Bool, true}
 use mathlib.Core.Logic.{⊎_elim}
-use mathlib.Core.List.{List, [], ◌∷◌, ◌++◌, map, map-map}
+use mathlib.Core.List.{List, [], ◌∷◌, ◌++◌, map}
 use mathlib.Core.List.Memᴰ
 use mathlib.Core.List.{Memᴰ}
 use lib.ListN.{length, get_or, length-map}
@@ -37,7 +37,6 @@ use Rattle.base_codes.specs.Inner.{field_code, no_token, token_code, side_code, 
 use Rattle.base_question.specs.Asked.{question_of}
 use Rattle.base_question.specs.declared.Body.{Body}
 use Rattle.search_hidden.proofs.Codes.{left_hidden, right_hidden, fields_behind}
-use Rattle.plain_block.specs.RowTables.{RowTables, row_of}
 use Rattle.plain_block.specs.Met.{comes_by, may_be_left}
 use Rattle.plain_rows.specs.Fronts.{Front, no_tables, one_place, front_of}
 use Rattle.plain_question.specs.Reached.{Reached, begun, left_left, right_left, both_read, Meets, Says}
@@ -92,12 +91,6 @@ module _ (n : ℕ) (most : n ≤ most_characters) (held : ℕ → Held) (few : (
   abbrev all_tables : List PlaceTables
   all_tables = map (λ (f : ℕ). worked_out (held f)) (upto set_fields)
 
-  -- the row of each field
-  field_row : (f : ℕ) → f < set_fields → get_or (map row_of all_tables) f no_tables ≡ row_of (worked_out (held f))
-  field_row f h =
-      ap (λ (l : List RowTables). get_or l f no_tables) (map-map row_of (λ (g : ℕ). worked_out (held g)) (upto set_fields))
-      ∙ get_or_map_upto (λ (g : ℕ). row_of (worked_out (held g))) no_tables set_fields f h
-
   -- the tokens of a side in front
   abbrev pub fronts_of : Side → ℕ → Front
   fronts_of side i = front_of n all_tables (get_or (side_code side) i no_token)
@@ -106,12 +99,12 @@ module _ (n : ℕ) (most : n ≤ most_characters) (held : ℕ → Held) (few : (
     front_character : {i a : ℕ} {rest : Side} → At side i (chr a ∷ rest) → fronts_of side i ≡ record { of = one_place; lo = a; hi = suc a }
     front_character {a = a} x = let h : a < n = at_known x known in ap (front_of n all_tables) (code_at x) ∙ rw (lt_ltb a field_code (omega arith))
 
-    front_field : {i f : ℕ} {rest : Side} → At side i (fld f ∷ rest) → fronts_of side i ≡ record { of = row_of (worked_out (held f)); lo = 0; hi = n }
+    front_field : {i f : ℕ} {rest : Side} → At side i (fld f ∷ rest) → fronts_of side i ≡ record { of = worked_out (held f); lo = 0; hi = n }
     front_field {f = f} x =
         let h : f < set_fields = at_known {n = n} x known in
         let same : field_of (field_code + f) ≡ f = omega arith in
         ap (front_of n all_tables) (code_at x)
-        ∙ rw (le_ltb (field_code + f) field_code (omega arith), same, field_row f h)
+        ∙ rw (le_ltb (field_code + f) field_code (omega arith), same, get_or_map_upto (λ (g : ℕ). worked_out (held g)) no_tables set_fields f h)
 
     front_end : {i : ℕ} → At side i [] → fronts_of side i ≡ record { of = no_tables; lo = 0; hi = n }
     front_end x = ap (front_of n all_tables) (code_end x)
@@ -136,6 +129,8 @@ module _ (n : ℕ) (most : n ≤ most_characters) (held : ℕ → Held) (few : (
     stood_left : {i : ℕ} {s t : Standing} → Stood i s → LeftTo held s.rest s.place t → Left i s t
     stood_left (at_field {f = f} {p = p} {rest = rest} x h) (field_left e) =
         record { ends = rw (front_field x) (held_left (held f) (few f) p h ∙ e); next = begins_stood rest (at_next x); starting = refl }
+    stood_left {i = i} {t = t} (at_end _) x7 = elim x7 [ ]
+    stood_left {i = i} {t = t} (at_character {a = a} {rest = rest} _) x8 = elim x8 [ ]
 
     -- a standing that a place of the token in front leads to: its own, or the one behind it
     data LeadsOn (i q : ℕ) (t : Standing) : Type 0 where
@@ -168,6 +163,7 @@ module _ (n : ℕ) (most : n ≤ most_characters) (held : ℕ → Held) (few : (
           comes = rw w (held_comes (held f) (few f) p c q (omega arith) h b e);
           on = stays (at_field x b) refl;
         }
+    stood_read {i = i} {c = c} {t = t} k (at_end _) x8 = elim x8 [ ]
 
     -- From tokens and places to standings: what a place of the token in front is shown as.
     data Shown (i p : ℕ) : Standing → Type 0 where

@@ -8,7 +8,6 @@ use Prim.Native.Nat.{ℕ, zero, suc, ◌≤◌, ◌<◌}
 use native.Mathlib.Omega.{arith}
 use mathlib.Core.Path.{◌≡◌, refl, sym, ap, ap₂, ◌∙◌}
 use mathlib.Core.Bool.{true, ◌&&◌, and-true}
-use mathlib.Core.List.{List}
 use lib.Dec.{eqb, ltb}
 use lib.ListN.{get_or, get_or-replicate}
 use Rattle.paper.specs.Numbers.{most_characters, most_leaves}
@@ -20,33 +19,25 @@ use Rattle.paper_plain.specs.Standing as Paper
 use Rattle.paper_plain.specs.Standing.{places_of}
 use Rattle.base_places.specs.Masks.{places, mask_of, in_mask, comes_next, takes_at, follow_masks, taking_mask, last_mask}
 use Rattle.base_places.specs.WorkedOut.{worked_out}
+use Rattle.base_places.specs.declared.PlaceTables.{PlaceTables}
 use Rattle.base_places.proofs.MaskOf.{in_mask_of, in_mask_out}
 use Rattle.base_places.proofs.Filling.{get_or_table}
 use Rattle.base_places.proofs.Masks.{Few, taking_at}
-use Rattle.base_places.proofs.Ranges.{taking_worked}
-use Rattle.plain_block.specs.RowTables.{RowTables, row_of}
 use Rattle.plain_block.specs.Met.{comes_by, may_be_left}
 use Rattle.plain_rows.specs.Fronts.{no_tables, one_place}
 use Rattle.plain_question.proofs.Entered.{in_none, get_or_none}
 
 -- the tests of a place that comes by a character
-within_places : (t : RowTables) (i c q : ℕ) → comes_by t i c q ≡ true → (i < places) × (q < places)
+within_places : (t : PlaceTables) (i c q : ℕ) → comes_by t i c q ≡ true → (i < places) × (q < places)
 within_places t i c q e =
     let w = and_left (ltb i places && ltb q places) _ e in
     (ltb_true i places (and_left (ltb i places) (ltb q places) w), ltb_true q places (and_right (ltb i places) (ltb q places) w))
 
-follows_by : (t : RowTables) (i c q : ℕ) → comes_by t i c q ≡ true → in_mask (get_or t.follow i 0) q ≡ true
+follows_by : (t : PlaceTables) (i c q : ℕ) → comes_by t i c q ≡ true → in_mask (get_or t.follow i 0) q ≡ true
 follows_by t i c q e = and_left (in_mask (get_or t.follow i 0) q) _ (and_right (ltb i places && ltb q places) _ e)
 
 -- A field.
 module _ (h : Held) where
-  abbrev its_row : RowTables
-  its_row = row_of (worked_out h)
-
-  -- what takes a character, by the field's row
-  its_taking : (c : ℕ) → c < most_characters → get_or its_row.taking c 0 ≡ taking_mask h c
-  its_taking c k = ap (λ (l : List ℕ). get_or l c 0) (taking_worked h) ∙ taking_at h c k
-
   both_tests : (i c q : ℕ) → comes_next h i q && takes_at h q c ≡ Paper.comes_by h i c q
   both_tests i c q = of h
     where
@@ -54,13 +45,13 @@ module _ (h : Held) where
       of some_text = and-true (eqb q 1)
       of (pattern p) = refl
 
-  comes_same : (i c q : ℕ) → i < places → q < places → c < most_characters → comes_by its_row i c q ≡ Paper.comes_by h i c q
+  comes_same : (i c q : ℕ) → i < places → q < places → c < most_characters → comes_by (worked_out h) i c q ≡ Paper.comes_by h i c q
   unfolding follow_masks taking_mask
   comes_same i c q a b k =
       ap₂ ◌&&◌ (both_true (lt_ltb i places a) (lt_ltb q places b))
       (ap₂ ◌&&◌
       (ap (λ (m : ℕ). in_mask m q) (get_or_table (λ (j : ℕ). mask_of (λ (s : ℕ). comes_next h j s)) places i a) ∙ in_mask_of (λ (s : ℕ). comes_next h i s) q b)
-      (ap (λ (m : ℕ). in_mask m q) (its_taking c k) ∙ in_mask_of (λ (s : ℕ). takes_at h s c) q b)
+      (ap (λ (m : ℕ). in_mask m q) (taking_at h c k) ∙ in_mask_of (λ (s : ℕ). takes_at h s c) q b)
       ∙ both_tests i c q)
 
   pub few_places : Few h → places_of h ≤ places
@@ -78,16 +69,16 @@ module _ (h : Held) where
       of some_text e = omega (arith, eqb_true q 1 e)
       of (pattern p) e = omega (arith, (takes_within p 1 q c (and_right (follows p i q) (leaf_takes p 1 q c) e)).high)
 
-  pub comes_held : (i c q : ℕ) → c < most_characters → comes_by its_row i c q ≡ true → (q < places_of h) × (Paper.comes_by h i c q ≡ true)
+  pub comes_held : (i c q : ℕ) → c < most_characters → comes_by (worked_out h) i c q ≡ true → (q < places_of h) × (Paper.comes_by h i c q ≡ true)
   comes_held i c q k e =
-      let w = within_places its_row i c q e in
+      let w = within_places (worked_out h) i c q e in
       let t = sym (comes_same i c q w.0 w.1 k) ∙ e in
       (next_place i c q t, t)
 
-  pub held_comes : Few h → (i c q : ℕ) → c < most_characters → i < places_of h → q < places_of h → Paper.comes_by h i c q ≡ true → comes_by its_row i c q ≡ true
+  pub held_comes : Few h → (i c q : ℕ) → c < most_characters → i < places_of h → q < places_of h → Paper.comes_by h i c q ≡ true → comes_by (worked_out h) i c q ≡ true
   held_comes f i c q k a b e = let n = few_places f in comes_same i c q (omega arith) (omega arith) k ∙ e
 
-  pub held_left : Few h → (i : ℕ) → i < places_of h → may_be_left its_row i ≡ ends_at h i
+  pub held_left : Few h → (i : ℕ) → i < places_of h → may_be_left (worked_out h) i ≡ ends_at h i
   unfolding last_mask
   held_left f i a = let n = few_places f in in_mask_of (λ (j : ℕ). ends_at h j) i (omega arith)
 

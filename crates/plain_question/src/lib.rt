@@ -1,9 +1,11 @@
 // A question gone through by pairs of standings (request K9): for every left token in front, and every right one, the places at which the one came in
 // front with the other.
+#![tactic(auto)]
+
 ghost use Rattle.std.specs.Prelude.{◌≡◌, ◌∷◌, [], ◌++◌, map, ℕ, suc, ◌≤◌, ◌<◌, length, get_or, take};
 ghost use Rattle.paper.specs.Numbers.{longest_side};
 ghost use Rattle.base_codes.specs.Inner.{no_token, tokens};
-ghost use Rattle.plain_block.specs.RowTables.{row_taking};
+ghost use Rattle.search_tables.specs.Tables.{taking_of};
 ghost use Rattle.plain_rows.specs.Rows.{rows, rows_of, token_of, front_by};
 ghost use Rattle.plain_question.specs.Reached.{Reached, Meets, Says};
 ghost use Rattle.plain_question.specs.Entered.{fronts, CrossesFronts, Goes_on};
@@ -146,11 +148,10 @@ fn rows_met(
     last: &[PlaceSet; ROWS],
 ) -> bool
     requires { length last.now ≡ rows }
-    ensures { Says result (Reached (fronts characters follow.now (map row_taking (rows_of (own ++ (hidden ∷ hidden ∷ [])))) last.now (tokens left)) (fronts characters follow.now (map row_taking (rows_of (own ++ (hidden ∷ hidden ∷ [])))) last.now (tokens right)) (length (tokens left)) 0 (length (tokens right)) 0) }
+    ensures { Says result (Reached (fronts characters follow.now (map taking_of (rows_of (own ++ (hidden ∷ hidden ∷ [])))) last.now (tokens left)) (fronts characters follow.now (map taking_of (rows_of (own ++ (hidden ∷ hidden ∷ [])))) last.now (tokens right)) (length (tokens left)) 0 (length (tokens right)) 0) }
 {
-    let spaces = hidden.ranges;
-    let behind = base_places::taking(&spaces, hidden.places);
-    let mut taking = [behind; ROWS];
+    let spaces = hidden.taking;
+    let mut taking = [spaces; ROWS];
     let one = [BEHIND_START; CHARACTERS];
     taking[CHARACTER_ROW] = one;
     let none = [0; CHARACTERS];
@@ -158,8 +159,7 @@ fn rows_met(
     let mut f = 0;
     while f < SHEET_FIELDS {
         let tables = own[f];
-        let ranges = tables.ranges;
-        let its = base_places::taking(&ranges, tables.places);
+        let its = tables.taking;
         taking[f] = its;
         f += 1;
     }

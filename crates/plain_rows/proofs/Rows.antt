@@ -1,9 +1,10 @@
 -- Rows of tokens in front:
---   laid_none, laid_more, laid_all : a part of each field's row, stored one field after the other, in front of the rows of a character and of an end
+--   laid_none, laid_more, laid_all : a part of each field's tables, stored one field after the other, in front of the rows of a character and of an end
 --   token_front                     : the token with an inner code, by its rows, is the token in front of `front_of`
 --   token_row                       : its row is there
+--   get_or_either                     : what stands in a list, whatever would stand behind its end
 -- Follows from the laws of `set`, `take` and `map`, and from the tests on the code.
-use Prim.Native.Nat.{ℕ, suc, ◌+◌, ◌≤◌, ◌<◌}
+use Prim.Native.Nat.{ℕ, zero, suc, ◌+◌, ◌≤◌, ◌<◌}
 use native.Mathlib.Numerals.{add-one}
 use native.Mathlib.Omega.{arith}
 use mathlib.Core.Path.{◌≡◌, refl, sym, ap, ◌∙◌}
@@ -17,28 +18,18 @@ use Rattle.paper.proofs.base.Lists.{map_append}
 use Rattle.paper.proofs.base.Tests.{by_bool, ltb_true, ltb_false}
 use Rattle.base_places.specs.declared.PlaceTables.{PlaceTables}
 use Rattle.base_codes.specs.Inner.{field_of, is_char}
-use Rattle.search_tables.proofs.Listed.{get_or_either}
-use Rattle.plain_block.specs.RowTables.{RowTables, row_of, row_follow, row_taking, row_last}
 use Rattle.plain_rows.specs.Fronts.{Front, no_tables, one_place, front_of}
 use Rattle.plain_rows.specs.declared.Token.{Token}
+use Rattle.search_tables.specs.Tables.{follow_of, taking_of, last_of}
 use Rattle.plain_rows.specs.Rows.{character_row, end_row, rows, rows_of, token_of, front_by}
 
--- tables that are not there, and a row that is not there
+-- tables that are not there
 abbrev none : PlaceTables
-none = record { follow = []; ranges = []; places = 0; last = 0 }
+none = record { follow = []; taking = []; last = 0 }
 
-abbrev no_row : RowTables
-no_row = record { follow = []; taking = []; last = 0 }
-
-module _ {A : Type 0} (part : RowTables → A) (own : List PlaceTables) (d : List A) where
+module _ {A : Type 0} (part : PlaceTables → A) (own : List PlaceTables) (d : List A) where
   abbrev parts : List A
-  parts = map part (map row_of own)
-
-  length_parts : length parts ≡ length own
-  length_parts = length-map (map row_of own) part ∙ length-map own row_of
-
-  part_at : (f : ℕ) → get_or parts f (part (row_of none)) ≡ part (row_of (get_or own f none))
-  part_at f = get_or-map part (map row_of own) f (row_of none) ∙ ap part (get_or-map row_of own f none)
+  parts = map part own
 
   -- the fields below f have theirs, the rows from f on are those of d
   pub record Laid (now : List A) (f : ℕ) : Type 0 where
@@ -52,12 +43,13 @@ module _ {A : Type 0} (part : RowTables → A) (own : List PlaceTables) (d : Lis
     laid_long =
         ap length t.is
         ∙ length-append (take f parts) (drop f d)
-        ∙ omega (arith, t.all, t.at_most, t.long, length_parts, length-take-le f parts (omega (arith, t.all, t.at_most, length_parts)), length-drop f d)
+        ∙ omega (arith, t.all, t.at_most, t.long, length-map own part, length-take-le f parts (omega (arith, t.all, t.at_most, length-map own part)), length-drop f d)
 
-    pub laid_more : f < fields → (x : A) → x ≡ part (row_of (get_or own f none)) → Laid (set now f x) (f + 1)
-    laid_more h x e =
-        let many : f < length parts = omega (arith, t.all, length_parts) in
-        let there : get_or parts f (part (row_of none)) ≡ x = part_at f ∙ sym e in
+    pub laid_more : f < fields → Laid (set now f (part (get_or own f none))) (f + 1)
+    laid_more h =
+        let x = part (get_or own f none) in
+        let many : f < length parts = omega (arith, t.all, length-map own part) in
+        let there : get_or parts f (part none) ≡ x = get_or-map part own f none in
         record {
           all = t.all;
           at_most = omega arith;
@@ -65,22 +57,26 @@ module _ {A : Type 0} (part : RowTables → A) (own : List PlaceTables) (d : Lis
           is =
               ap (λ (l : List A). set l f x) (t.is ∙ ap (λ (l : List A). take f parts ++ l) (drop-cons d f x (omega (arith, t.long))))
               ∙ set_at (take f parts) (get_or d f x) (drop (suc f) d) x f (length-take-le f parts (omega arith))
-              ∙ rw (add-one f, take-suc parts f (part (row_of none)) many, there) (sym (append_assoc (take f parts) (x ∷ []) (drop (suc f) d)));
+              ∙ rw (add-one f, take-suc parts f (part none) many, there) (sym (append_assoc (take f parts) (x ∷ []) (drop (suc f) d)));
         }
 
-    pub laid_all : (hidden : PlaceTables) → fields ≤ f → drop fields d ≡ part (row_of hidden) ∷ part (row_of hidden) ∷ part one_place ∷ part no_tables ∷ []
+    pub laid_all : (hidden : PlaceTables) → fields ≤ f → drop fields d ≡ part hidden ∷ part hidden ∷ part one_place ∷ part no_tables ∷ []
         → now ≡ map part (rows_of (own ++ (hidden ∷ hidden ∷ [])))
     laid_all hidden h e =
         let same : f ≡ fields = omega (arith, t.at_most) in
         t.is
-        ∙ rw (same, e, take_all fields parts (omega (arith, t.all, length_parts)))
-        (sym (map_append part (map row_of own) (row_of hidden ∷ row_of hidden ∷ one_place ∷ no_tables ∷ [])))
-        ∙ ap (map part)
-        (sym (append_assoc (map row_of own) (row_of hidden ∷ row_of hidden ∷ []) (one_place ∷ no_tables ∷ []))
-        ∙ ap (λ (l : List RowTables). l ++ (one_place ∷ no_tables ∷ [])) (sym (map_append row_of own (hidden ∷ hidden ∷ []))))
+        ∙ rw (same, e, take_all fields parts (omega (arith, t.all, length-map own part)))
+        (sym (map_append part own (hidden ∷ hidden ∷ one_place ∷ no_tables ∷ [])))
+        ∙ ap (map part) (sym (append_assoc own (hidden ∷ hidden ∷ []) (one_place ∷ no_tables ∷ [])))
 
   pub laid_none : length own ≡ fields → length d ≡ rows → Laid d 0
   laid_none all long = record { all = all; at_most = omega arith; long = long; is = refl }
+
+-- a number in a list, whatever it would be behind its end
+pub get_or_either : {A : Type 0} (l : List A) (n : ℕ) (d e : A) → n < length l → get_or l n d ≡ get_or l n e
+get_or_either [] n d e h = absurd (omega arith)
+get_or_either (x ∷ l) zero d e h = refl
+get_or_either (x ∷ l) (suc n) d e h = get_or_either l n d e (omega arith)
 
 -- What the token with an inner code is.
 module _ (n b : ℕ) where
@@ -115,41 +111,37 @@ module _ (n b : ℕ) where
 -- A token by its rows.
 module _ (each : List PlaceTables) (all : length each ≡ set_fields) where
   abbrev by_rows : Token → Front
-  by_rows t = front_by (map row_follow (rows_of each)) (map row_taking (rows_of each)) (map row_last (rows_of each)) t
+  by_rows t = front_by (map follow_of (rows_of each)) (map taking_of (rows_of each)) (map last_of (rows_of each)) t
 
-  length_each : length (map row_of each) ≡ set_fields
-  length_each = length-map each row_of ∙ all
-
-  -- a row by its parts
-  row_at : (t : Token) (of : RowTables) → get_or (rows_of each) t.row no_row ≡ of → by_rows t ≡ record { of = of; lo = t.lo; hi = t.hi }
+  -- the tables of a row
+  row_at : (t : Token) (of : PlaceTables) → get_or (rows_of each) t.row none ≡ of → by_rows t ≡ record { of = of; lo = t.lo; hi = t.hi }
   row_at t of e =
       let l = rows_of each in
       (λ i.
       record {
         of =
             record {
-              follow = get_or-map row_follow l t.row no_row i;
-              taking = get_or-map row_taking l t.row no_row i;
-              last = get_or-map row_last l t.row no_row i;
+              follow = get_or-map follow_of l t.row none i;
+              taking = get_or-map taking_of l t.row none i;
+              last = get_or-map last_of l t.row none i;
             };
         lo = t.lo;
         hi = t.hi;
       })
-      ∙ ap (λ (x : RowTables). record { of = x; lo = t.lo; hi = t.hi }) e
+      ∙ ap (λ (x : PlaceTables). record { of = x; lo = t.lo; hi = t.hi }) e
 
-  behind : (n : ℕ) → get_or (rows_of each) (set_fields + n) no_row ≡ get_or (one_place ∷ no_tables ∷ []) n no_row
-  behind n = ap (λ (k : ℕ). get_or (rows_of each) (k + n) no_row) (sym length_each) ∙ get_or-append-add (map row_of each) (one_place ∷ no_tables ∷ []) n no_row
+  behind : (n : ℕ) → get_or (rows_of each) (set_fields + n) none ≡ get_or (one_place ∷ no_tables ∷ []) n none
+  behind n = ap (λ (k : ℕ). get_or (rows_of each) (k + n) none) (sym all) ∙ get_or-append-add each (one_place ∷ no_tables ∷ []) n none
 
   pub token_front : (n b : ℕ) → by_rows (token_of n b) ≡ front_of n each b
   token_front n b =
       by_bool (is_char b) (λ h. rw (token_character n b h, h) (row_at (character n b) one_place (behind 0)))
       (λ h. by_bool (ltb (field_of b) set_fields)
       (λ k.
-      let its = map row_of each in
-      let there : field_of b < length its = omega (arith, ltb_true (field_of b) set_fields k, length_each) in
+      let there : field_of b < length each = omega (arith, ltb_true (field_of b) set_fields k) in
       rw (token_field n b h k, h)
-      (row_at (field n b) (get_or its (field_of b) no_tables)
-      (get_or-append its (one_place ∷ no_tables ∷ []) no_row (field_of b) there ∙ get_or_either its (field_of b) no_row no_tables there)))
+      (row_at (field n b) (get_or each (field_of b) no_tables)
+      (get_or-append each (one_place ∷ no_tables ∷ []) none (field_of b) there ∙ get_or_either each (field_of b) none no_tables there)))
       (λ k.
-      rw (token_end n b h k, h, get_or-eq_default (map row_of each) no_tables {n = field_of b} (omega (arith, ltb_false (field_of b) set_fields k, length_each)))
+      rw (token_end n b h k, h, get_or-eq_default each no_tables {n = field_of b} (omega (arith, ltb_false (field_of b) set_fields k)))
       (row_at (end n b) no_tables (behind 1))))

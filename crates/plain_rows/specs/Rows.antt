@@ -1,10 +1,9 @@
 -- The rows of the tokens in front: for each field what is worked out of it, then a row for every character and one for a side's end. A token in front is
 -- the number of its row, and the characters that it may read.
-use Rattle.std.specs.Prelude.{ℕ, suc, cond, List, [], ◌∷◌, ◌++◌, map, ltb, get_or}
+use Rattle.std.specs.Prelude.{ℕ, suc, cond, List, [], ◌∷◌, ◌++◌, ltb, get_or}
 use Rattle.paper.specs.Numbers.{set_fields}
 use Rattle.base_places.specs.declared.PlaceTables.{PlaceTables}
 use Rattle.base_codes.specs.Inner.{field_of, is_char}
-use Rattle.plain_block.specs.RowTables.{RowTables, row_of}
 use Rattle.plain_rows.specs.Fronts.{Front, no_tables, one_place}
 use Rattle.plain_rows.specs.declared.Token.{Token}
 
@@ -18,8 +17,8 @@ end_row = suc set_fields
 abbrev pub rows : ℕ
 rows = suc end_row
 
-abbrev pub rows_of : List PlaceTables → List RowTables
-rows_of fields = map row_of fields ++ (one_place ∷ no_tables ∷ [])
+abbrev pub rows_of : List PlaceTables → List PlaceTables
+rows_of fields = fields ++ (one_place ∷ no_tables ∷ [])
 
 -- the token with the inner code b, over n characters
 unfoldable pub token_of : ℕ → ℕ → Token

@@ -1,8 +1,10 @@
 // The rows of the tokens in front (request K9): what is worked out of each field, the hidden ones last, then a row for every character and one for a
 // side's end. A character is
 // read as a field with one leaf would be.
+#![tactic(auto)]
+
 ghost use Rattle.std.specs.Prelude.{◌≡◌, ◌∷◌, [], ◌++◌, map};
-ghost use Rattle.plain_block.specs.RowTables.{row_follow, row_last};
+ghost use Rattle.search_tables.specs.Tables.{follow_of, last_of};
 ghost use Rattle.plain_rows.specs.Rows.{rows_of, token_of};
 
 use base_codes::{FIELD_CODE, FIELDS, SHEET_FIELDS, field_of};
@@ -27,7 +29,7 @@ pub fn follow_rows(
     own: [PlaceTables; SHEET_FIELDS],
     hidden: PlaceTables,
 ) -> [[PlaceSet; PLACES]; ROWS]
-    ensures { result ≡ map row_follow (rows_of (own ++ (hidden ∷ hidden ∷ []))) }
+    ensures { result ≡ map follow_of (rows_of (own ++ (hidden ∷ hidden ∷ []))) }
 {
     let mut rows = [[0; PLACES]; ROWS];
     let spaces = hidden.follow;
@@ -48,7 +50,7 @@ pub fn follow_rows(
 
 // For every row the places that may be the last one.
 pub fn last_rows(own: [PlaceTables; SHEET_FIELDS], hidden: PlaceTables) -> [PlaceSet; ROWS]
-    ensures { result ≡ map row_last (rows_of (own ++ (hidden ∷ hidden ∷ []))) }
+    ensures { result ≡ map last_of (rows_of (own ++ (hidden ∷ hidden ∷ []))) }
 {
     let mut rows = [0; ROWS];
     let spaces = hidden.last;
@@ -66,7 +68,7 @@ pub fn last_rows(own: [PlaceTables; SHEET_FIELDS], hidden: PlaceTables) -> [Plac
 }
 
 // A token in front: the number of its row, and the characters that it may read, from lo on to below hi.
-#[derive(Drop)]
+#[derive(Clone, Copy)]
 pub struct Token {
     pub row: usize,
     pub lo: usize,

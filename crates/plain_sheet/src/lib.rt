@@ -1,4 +1,6 @@
 // A small engine for plain rules (request K9): a question sheet and a buffer for bits in, clash or no clash out. And how many bytes a sheet needs.
+#![tactic(auto)]
+
 ghost use Rattle.std.specs.Prelude.{◌≡◌};
 ghost use Rattle.paper.specs.Sheet.{read_sheet};
 ghost use Rattle.paper_plain.specs.Engine.{engine, needs};

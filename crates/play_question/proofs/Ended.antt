@@ -14,8 +14,7 @@ use Rattle.base_codes.proofs.Denoted.{denoted_laid}
 use Rattle.base_codes.proofs.Tokens.{tokens_length, all_tokens}
 use Rattle.base_question.specs.declared.Question.{Question}
 use Rattle.search_hidden.specs.Behind.{Hidden, with_hidden}
-use Rattle.base_places.specs.WorkedOut.{taking_of}
-use Rattle.search_tables.specs.Tables.{follow_of, last_of}
+use Rattle.search_tables.specs.Tables.{follow_of, taking_of, last_of}
 use Rattle.search_trim.specs.Trimming.{question_coded}
 use Rattle.search_trim.proofs.Short.{question_short}
 use Rattle.search_children.specs.Children.{Tables}

@@ -29,8 +29,8 @@ use Rattle.base_codes.specs.Inner.{token_code}
 use Rattle.base_question.specs.Asked.{question_of}
 use Rattle.base_question.specs.declared.Body.{Body}
 use Rattle.base_question.specs.declared.Question as Code
-use Rattle.search_hidden.proofs.Codes.{left_hidden, right_hidden, part_hidden, taking_hidden}
-use Rattle.search_tables.specs.Tables.{follow_of, last_of}
+use Rattle.search_hidden.proofs.Codes.{left_hidden, right_hidden, part_hidden}
+use Rattle.search_tables.specs.Tables.{follow_of, taking_of, last_of}
 use Rattle.search_trim.specs.Trimming.{first_masks, question_coded}
 use Rattle.search_children.specs.Coding.{tables_of}
 use Rattle.search_children.proofs.CodedSides.{known_side}
@@ -99,7 +99,7 @@ module _ (q : Question) (g : GoodQuestion q) (steps answer : List ℕ) where
     pub tables_are : question_tables (question_of q bodies) ≡ tables_of (hidden q)
     unfolding tables_of
     tables_are = λ i.
-        lent_tables q.alphabet.characters (part_hidden q bodies follow_of i) (taking_hidden q bodies i) (part_hidden q bodies last_of i)
+        lent_tables q.alphabet.characters (part_hidden q bodies follow_of i) (part_hidden q bodies taking_of i) (part_hidden q bodies last_of i)
 
     pub first_is : question_first (question_of q bodies) ≡ first_coded (hidden q)
     first_is = λ i. question_coded (left_hidden q bodies (good_most g) g.left i) (right_hidden q bodies (good_most g) g.right i)

@@ -5,8 +5,7 @@ use Rattle.base_codes.specs.Inner.{tokens}
 use Rattle.base_codes.specs.Coded.{Coded}
 use Rattle.base_question.specs.declared.Question.{Question}
 use Rattle.search_hidden.specs.Behind.{with_hidden}
-use Rattle.base_places.specs.WorkedOut.{taking_of}
-use Rattle.search_tables.specs.Tables.{follow_of, last_of}
+use Rattle.search_tables.specs.Tables.{follow_of, taking_of, last_of}
 use Rattle.search_trim.specs.Trimming.{question_coded}
 use Rattle.search_children.specs.Children.{Tables}
 use Rattle.search_records.specs.declared.Given.{Given}
@@ -43,11 +42,10 @@ abbrev pub buffer_by : Ending → List ℕ → List ℕ → List ℕ
 buffer_by Ending-as.Arrived bytes answer = way_buffer bytes answer
 buffer_by (Ending-as.Stopped why) bytes answer = answer
 
--- what one function tells of playing: where the walk ends, or, where they are wanted, the texts. What was not wanted has a fixed value, and without the
--- texts the answer buffer is as it was.
+-- what one function tells of playing: where the walk ends, or, where they are wanted, the texts
 abbrev pub PartOf : Bool → Tables → Coded → (steps before after : List ℕ) → Part → Type 0
-PartOf false T s steps before after r = (r.ending ≡ walked T s steps) × ((r.given ≡ Given-as.TooShort) × (after ≡ before))
-PartOf true T s steps before after r = WayAnswered (way_records T s steps) before after r.given × (r.ending ≡ Ending-as.Arrived)
+PartOf false T s steps before after r = r.ending ≡ walked T s steps
+PartOf true T s steps before after r = WayAnswered (way_records T s steps) before after r.given
 
 pub record PlayedFrom (T : Tables) (s : Coded) (steps before after : List ℕ) (r : End) : Type 0 where
   pub end : r ≡ end_by (walked T s steps) (way_records T s steps) before

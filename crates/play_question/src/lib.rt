@@ -1,15 +1,17 @@
 // A question, played: its hidden fields, the tables of its fields, the steps made from the trimmed question, and the texts at the end. The number of
 // characters is that of its alphabet.
+#![tactic(auto)]
+
 ghost use Rattle.std.specs.Prelude.{◌≡◌};
 ghost use Rattle.play_question.specs.QuestionPlayed.{end_of, question_tables, question_first, PartOf, PlayedFrom};
 
-use base_codes::{FIELDS, HIDDEN_LEFT, HIDDEN_RIGHT};
+use base_codes::{HIDDEN_LEFT, HIDDEN_RIGHT};
 use base_question::Question;
 use play_walk::{Ending, Stop};
 use search_records::Given;
 
 // How playing ends.
-#[derive(Drop)]
+#[derive(Clone, Copy)]
 pub enum End {
     // 0: the answer buffer holds a text for each field standing in the sides
     Texts { written: usize },
@@ -19,8 +21,8 @@ pub enum End {
     Stopped { why: Stop },
 }
 
-// Where the walk of the steps ends, and what became of the texts. The one that was not wanted is always the same: arrived, and too short.
-#[derive(Drop)]
+// Where the walk of the steps ends, and what became of the texts. Only the one that was wanted says something.
+#[derive(Clone, Copy)]
 struct Part {
     ending: Ending,
     given: Given,
@@ -66,10 +68,7 @@ fn play_part(question: Question, steps: &[u8], answer: &mut [u8], wanted: bool) 
     let own_fields = question.fields;
     let follow = search_tables::follow_behind(own_fields, hidden);
     let last = search_tables::last_behind(own_fields, hidden);
-    let spaces = hidden.ranges;
-    let behind = base_places::taking(&spaces, hidden.places);
-    let mut taking = [behind; FIELDS];
-    search_tables::own_taking(own_fields, &mut taking);
+    let taking = search_tables::taking_behind(own_fields, hidden);
     if wanted {
         let given = play_texts::answer_way(
             answer, first, steps, characters, &follow, &taking, last,

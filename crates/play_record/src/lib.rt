@@ -1,4 +1,6 @@
 // The record in front of bytes of steps, which may be anything.
+#![tactic(auto)]
+
 ghost use Rattle.std.specs.Prelude.{◌≡◌, drop};
 ghost use Rattle.paper_steps.specs.StepRecords.{front_of, with_value};
 ghost use Rattle.play_record.specs.InFront.{record_of};
@@ -11,7 +13,7 @@ const STRIKE: usize = 3;
 const PUT: usize = 4;
 
 // A step by its inner code, and how many bytes its record has. No record has no bytes.
-#[derive(Drop)]
+#[derive(Clone, Copy)]
 pub struct Record {
     pub step: u8,
     pub bytes: usize,

@@ -1,4 +1,6 @@
 // The player's entry: reads a sheet, and plays the records of steps on it.
+#![tactic(auto)]
+
 ghost use Rattle.std.specs.Prelude.{◌≡◌};
 ghost use Rattle.paper.specs.Sheet.{read_sheet};
 ghost use Rattle.paper_steps.specs.Player.{play as play_of};
@@ -14,7 +16,7 @@ use play_question::End;
 use play_walk::Stop;
 
 // The answer to a sheet and records of steps.
-#[derive(Drop)]
+#[derive(Clone, Copy)]
 pub enum Playing {
     Ended { end: End },
     // 11 to 17, 22 and 44: the sheet is at fault

@@ -1,4 +1,6 @@
 // One step from a situation, by the three functions that make the search's children.
+#![tactic(auto)]
+
 ghost use Rattle.std.specs.Prelude.{ℕ, ◌≡◌};
 ghost use Rattle.base_codes.specs.Coded.{denoted};
 ghost use Rattle.search_children.specs.Laid.{child_of};

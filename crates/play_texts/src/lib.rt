@@ -1,5 +1,7 @@
 // The texts at the end of a way: the records of what its steps put before each field that stands, each directly behind the one before. No
 // working buffer is lent: for each field the steps are made again.
+#![tactic(auto)]
+
 ghost use Rattle.std.specs.Prelude.{not, ◌∷◌, [], ◌≡◌, ◌/◌, ◌%◌, ◌<◌, eqb};
 ghost use Rattle.paper.specs.Lists.{only};
 ghost use Rattle.paper.specs.Outcome.{value_record};

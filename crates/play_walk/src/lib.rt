@@ -1,4 +1,6 @@
 // The steps of a way, made one after the other: where playing them ends, and what they put before a field.
+#![tactic(auto)]
+
 ghost use Rattle.std.specs.Prelude.{◌≡◌, ◌+◌, eqb};
 ghost use Rattle.base_codes.specs.Inner.{field_code};
 ghost use Rattle.base_codes.specs.Coded.{denoted, finished_coded};
@@ -15,7 +17,7 @@ use search_children::Fate;
 const MOST_STEPS: usize = 65534;
 
 // Why playing stops before the finish.
-#[derive(Drop)]
+#[derive(Clone, Copy)]
 pub enum Stop {
     // 50: a record past the 65,534th
     PastMost,
@@ -30,7 +32,7 @@ pub enum Stop {
 }
 
 // Where playing ends.
-#[derive(Drop)]
+#[derive(Clone, Copy)]
 pub enum Ending {
     Arrived,
     Stopped { why: Stop },

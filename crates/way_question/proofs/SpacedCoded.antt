@@ -4,10 +4,10 @@
 -- Of a good question. Follows from the length of a label by inner codes being the paper's.
 use Prim.Native.Nat.{ℕ, ◌+◌, ◌-◌, ◌≤◌, ◌<◌}
 use native.Mathlib.Omega.{arith}
-use mathlib.Core.Path.{◌≡◌, refl, sym, ap, ap₂, ◌∙◌, fun_ext}
-use mathlib.Core.Bool.{true, cond}
+use mathlib.Core.Path.{◌≡◌, refl, sym, ap₂, ◌∙◌, fun_ext}
+use mathlib.Core.Bool.{cond}
 use mathlib.Core.List.{List, [], ◌∷◌, ◌++◌}
-use lib.Dec.{ltb, eqb}
+use lib.Dec.{eqb}
 use lib.ListN.{length, get_or, set, replicate, length-set, length-append}
 use Rattle.paper.specs.Numbers.{most_characters, fields, hidden_left, hidden_right}
 use Rattle.paper.specs.Equation.{chr, fld, Side, label}
@@ -16,7 +16,7 @@ use Rattle.paper.proofs.base.Tests.{by_bool, eqb_true, eqb_symmetric, neq_eqb, l
 use Rattle.paper_laws.proofs.sheets.Asked.{GoodSide, GoodQuestion, good_most}
 use Rattle.paper_laws.proofs.sheets.Hidden.{in_range_has_set}
 use Rattle.paper_way.specs.TextSteps.{spaced}
-use Rattle.base_codes.specs.Inner.{field_code, side_code, field_of}
+use Rattle.base_codes.specs.Inner.{field_code, side_code}
 use Rattle.search_children.proofs.CodedSides.{KnownSide, known_side, field_of_code}
 use Rattle.way_records.specs.Spans.{text_at, Within, label_coded, with_missing}
 use Rattle.way_records.proofs.Reading.{get_d_set}

@@ -1,10 +1,10 @@
 -- How it ends, as the code goes: the steps are counted first, and then put.
 --   spelled_short : they are counted to their end
 -- Follows from the definitions and the laws of bytes put and counted.
-use Prim.Native.Nat.{ℕ, zero, suc, ◌+◌, ◌*◌, ◌≤◌, ◌<◌}
+use Prim.Native.Nat.{ℕ, zero, suc, ◌*◌, ◌≤◌, ◌<◌}
 use native.Mathlib.Omega.{arith}
 use mathlib.Core.Path.{◌≡◌, refl, sym, ap, ◌∙◌, subst}
-use mathlib.Core.Bool.{Bool, true, false, cond}
+use mathlib.Core.Bool.{Bool, true, false}
 use mathlib.Core.List.{List, [], ◌++◌}
 use lib.Dec.{eqb}
 use lib.ListN.{length, length-append}
@@ -16,7 +16,6 @@ use Rattle.base_codes.specs.Inner.{left_struck, right_struck}
 use Rattle.base_codes.specs.Coded.{Coded, finished_coded}
 use Rattle.search_children.specs.Children.{Tables, Settled, dropped, above, made}
 use Rattle.play_step.specs.StepCoded.{step_coded}
-use Rattle.play_walk.specs.declared.Ending.{Ending}
 use Rattle.play_walk.specs.declared.Ending.TheVariants as Ending-as
 use Rattle.play_walk.specs.declared.Stop.{Stop}
 use Rattle.play_walk.specs.declared.Stop.TheVariants.{NoRecord}

@@ -14,10 +14,10 @@ use Rattle.paper.specs.Outcome.{standing}
 use Rattle.paper.proofs.base.Tests.{by_bool}
 use Rattle.paper_laws.proofs.sheets.Asked.{GoodQuestion, good_most}
 use Rattle.paper_laws.proofs.sheets.Hidden.{Searchable, hidden_searchable, standing_hidden}
-use Rattle.paper_steps.specs.Player.{Played}
+use Rattle.paper_steps.specs.Player.{Played, stopped, arrived}
 use Rattle.paper_way.specs.TextRecords.{no_texts, texts_read, read_texts}
 use Rattle.paper_way.specs.TextSteps.{spaced, spelled, spell_from}
-use Rattle.paper_way.specs.WayOutcome.{Way, way_told, way_ended, way_read}
+use Rattle.paper_way.specs.WayOutcome.{way_told, way_ended, way_read}
 use Rattle.paper_way.proofs.SpelledOut.{opened}
 use Rattle.paper_steps.specs.Player as Player
 use Rattle.base_codes.specs.Inner.{side_code, tokens}

@@ -10,8 +10,7 @@ use Rattle.base_codes.specs.Coded.{Coded, denoted, as_struct}
 use Rattle.base_codes.specs.declared.Situation.{Situation}
 use Rattle.base_question.specs.declared.Question.{Question}
 use Rattle.search_hidden.specs.Behind.{Hidden, with_hidden}
-use Rattle.base_places.specs.WorkedOut.{taking_of}
-use Rattle.search_tables.specs.Tables.{follow_of, last_of}
+use Rattle.search_tables.specs.Tables.{follow_of, taking_of, last_of}
 use Rattle.search_trim.specs.Trimming.{question_coded}
 use Rattle.search_children.specs.Children.{Tables}
 use Rattle.search_records.specs.Records.{fields_with_sets}

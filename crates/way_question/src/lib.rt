@@ -1,4 +1,6 @@
 // A question, and the way of given texts on it: its hidden fields, the tables of its fields, the records of the texts, and the steps that spell them.
+#![tactic(auto)]
+
 ghost use Rattle.base_codes.specs.Coded.{denoted};
 ghost use Rattle.play_step.specs.StepCoded.{lent_tables};
 ghost use Rattle.way_walk.specs.SpellCoded.{spelled_coded};
@@ -11,7 +13,7 @@ use play_walk::{Ending, Stop};
 use way_records::Spans;
 
 // How it ends.
-#[derive(Drop)]
+#[derive(Clone, Copy)]
 pub enum WayEnd {
     // 0: the steps buffer holds the records of the steps
     Steps { written: usize },
@@ -83,10 +85,7 @@ pub fn way(question: Question, texts: &[u8], steps: &mut [u8]) -> WayEnd
     let own_fields = question.fields;
     let follow = search_tables::follow_behind(own_fields, hidden);
     let last = search_tables::last_behind(own_fields, hidden);
-    let spaces = hidden.ranges;
-    let behind = base_places::taking(&spaces, hidden.places);
-    let mut taking = [behind; FIELDS];
-    search_tables::own_taking(own_fields, &mut taking);
+    let taking = search_tables::taking_behind(own_fields, hidden);
     let sets = first.sets;
     let spans = way_records::read(texts, own_left, own_right, sets, characters);
     spell_from(

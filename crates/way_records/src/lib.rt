@@ -1,4 +1,6 @@
 // The answer records of texts, read in place: where each field's text stands, and how long it is; and how many spaces the hidden fields hold.
+#![tactic(auto)]
+
 ghost use Rattle.std.specs.Prelude.{ℕ, ◌-◌, ◌≤◌, ◌<◌, ◌≡◌, true, false, cond, not, List, [], ◌++◌, ltb, eqb, get_or, replicate};
 ghost use Rattle.paper.specs.Lists.{all, only};
 ghost use Rattle.paper.specs.Numbers.{fields, set_fields};
@@ -19,14 +21,14 @@ const LEFT_SPACES: usize = SHEET_FIELDS;
 const RIGHT_SPACES: usize = SHEET_FIELDS + 1;
 
 // Whether a record is in front, and how long its text is.
-#[derive(Drop)]
+#[derive(Clone, Copy)]
 pub struct TextHead {
     pub found: bool,
     pub length: usize,
 }
 
 // Whether there are such records, where the next one begins, and of each field the place behind its text and how many of its characters are left.
-#[derive(Drop)]
+#[derive(Clone, Copy)]
 pub struct Spans {
     pub found: bool,
     pub next: usize,

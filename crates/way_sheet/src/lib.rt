@@ -1,4 +1,6 @@
 // A way for texts: reads a sheet, and writes the steps that spell given texts on it.
+#![tactic(auto)]
+
 ghost use Rattle.std.specs.Prelude.{◌≡◌};
 ghost use Rattle.paper.specs.Sheet.{read_sheet};
 ghost use Rattle.paper_way.specs.WayOutcome.{way as way_of};
@@ -10,7 +12,7 @@ use play_sheet::{numbers_of, stop_number};
 use way_question::WayEnd;
 
 // The answer to a sheet and the records of texts.
-#[derive(Drop)]
+#[derive(Clone, Copy)]
 pub enum WayAnswer {
     Ended { end: WayEnd },
     // 11 to 17, 22 and 44: the sheet is at fault

@@ -1,5 +1,7 @@
 // The step that texts want: a front field whose text is used up is struck, the left one first; otherwise the next character is put. And how many
 // characters of each text are left behind it.
+#![tactic(auto)]
+
 ghost use Rattle.std.specs.Prelude.{◌-◌, ◌≡◌, get_or};
 ghost use Rattle.paper_way.specs.TextSteps.{no_character};
 ghost use Rattle.base_codes.specs.Coded.{denoted};

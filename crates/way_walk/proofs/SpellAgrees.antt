@@ -6,7 +6,6 @@ use Prim.Native.Nat.{ℕ, zero, suc, ◌≤◌}
 use native.Mathlib.Omega.{arith}
 use mathlib.Core.Path.{◌≡◌, refl, sym, ap, ◌∙◌, subst}
 use mathlib.Core.List.{List, [], ◌∷◌, ◌++◌, append_assoc, append-nil}
-use lib.Dec.{eqb}
 use Rattle.paper.specs.Numbers.{most_characters}
 use Rattle.paper.specs.Pattern.{Held, some_text, pattern}
 use Rattle.paper.specs.Places.{PlaceSet}
@@ -21,7 +20,7 @@ use Rattle.paper_chosen.specs.Chosen.{every}
 use Rattle.paper_steps.specs.StepRecords.{IsStep, step_record, step_records}
 use Rattle.paper_steps.specs.Player.{most_steps, Made, not_allowed, long_side, made, step_made, Played, stopped, arrived, made_on, first_entry}
 use Rattle.paper_steps.proofs.StepChildren.{step_told, told_none, child_steps}
-use Rattle.paper_way.specs.TextSteps.{Next, no_step, next, next_step, texts_behind, next_on, spell_from}
+use Rattle.paper_way.specs.TextSteps.{Next, next_step, texts_behind, next_on, spell_from}
 use Rattle.base_places.proofs.Masks.{Few}
 use Rattle.base_codes.specs.Inner.{left_struck, right_struck, move_code}
 use Rattle.base_codes.specs.Coded.{Coded, finished_coded}

@@ -6,7 +6,7 @@
 use Prim.Native.Nat.{ℕ, zero, suc, ◌+◌, ◌-◌, ◌≤◌, ◌<◌}
 use native.Mathlib.Omega.{arith}
 use mathlib.Core.Path.{◌≡◌, refl, sym, ap, ◌∙◌, fun_ext}
-use mathlib.Core.Bool.{true, false, cond, not}
+use mathlib.Core.Bool.{true, false, cond}
 use mathlib.Core.List.{List, [], ◌∷◌}
 use lib.Dec.{leb, ltb, eqb}
 use lib.ListN.{length, get_or, take, drop, set, replicate, length-set, length-drop, length-replicate, get_or-replicate, get_or-eq_default}
@@ -16,7 +16,7 @@ use Rattle.paper.specs.Numbers.{most_characters, fields, set_fields}
 use Rattle.paper.specs.Places.{PlaceSet}
 use Rattle.paper.specs.Equation.{chr, fld, Side, Texts}
 use Rattle.paper.specs.Situation.{Situation, Move, strike_left, strike_right, put, front_fields}
-use Rattle.paper.proofs.base.Tests.{by_bool, cond_by, and_left, leb_true, ltb_true, ltb_false, lt_ltb, le_ltb, eqb_true, eqb_false, eqb_same, eq_eqb, neq_eqb}
+use Rattle.paper.proofs.base.Tests.{by_bool, cond_by, and_left, leb_true, ltb_true, ltb_false, lt_ltb, le_ltb, eqb_true, eqb_false, eqb_same, neq_eqb}
 use Rattle.paper_steps.specs.StepRecords.{IsStep}
 use Rattle.paper_way.specs.TextSteps.{used_up, no_character, next_character, Next, no_step, next, next_step, texts_behind}
 use Rattle.base_codes.specs.Inner.{field_code, no_token, side_code, move_code, is_field_code, field_of, front}

@@ -8,7 +8,6 @@ use Rattle.base_codes.specs.Inner.{left_struck, right_struck}
 use Rattle.base_codes.specs.Coded.{Coded, finished_coded}
 use Rattle.search_children.specs.Children.{Tables, Settled, dropped, above, made}
 use Rattle.play_step.specs.StepCoded.{step_coded}
-use Rattle.play_walk.specs.declared.Stop.{Stop}
 use Rattle.play_walk.specs.declared.Stop.TheVariants.{PastMost, NotAllowed, SideTooLong}
 use Rattle.play_walk.specs.declared.Ending.{Ending}
 use Rattle.play_walk.specs.declared.Ending.TheVariants.{Arrived, Stopped}

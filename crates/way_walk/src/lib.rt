@@ -1,4 +1,6 @@
 // Texts spelt out: the steps that they want are made one after the other, and their records put.
+#![tactic(auto)]
+
 ghost use Rattle.std.specs.Prelude.{◌≡◌};
 ghost use Rattle.base_put.specs.Counted.{Counted};
 ghost use Rattle.base_codes.specs.Coded.{denoted};
@@ -16,7 +18,7 @@ use search_children::Fate;
 const MOST_STEPS: usize = 65534;
 
 // Where it ends, and how many bytes the records of its steps have.
-#[derive(Drop)]
+#[derive(Clone, Copy)]
 pub struct Walked {
     pub ending: Ending,
     pub bytes: usize,

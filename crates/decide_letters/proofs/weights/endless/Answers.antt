@@ -1,0 +1,8 @@
+-- `endless` meets its contract, by what the parts of a number are.
+use mathlib.Core.Path.{refl}
+use Rattle.decide_letters.specs.PatternStack.{unpacked}
+use Rattle.decide_letters.proofs.weights.endless.Goals as goal
+
+pub returns : goal.returns
+unfolding unpacked
+returns c = refl
