@@ -1,4 +1,6 @@
 // A sheet and a rule written anew into a lent buffer, each record changed by whether its field stands, by what was read of them.
+#![tactic(auto)]
+
 ghost use Rattle.std.specs.Prelude.{◌≡◌, ◌≤◌, length};
 ghost use Rattle.paper.specs.Rule as Paper;
 ghost use Rattle.paper.specs.Sheet.{Records, Reading};
@@ -18,7 +20,7 @@ use read_rule::Rule;
 use read_sheet::Sheet;
 
 // The answer to a sheet or a rule that is to be written anew. specs/Anew.antt gives each its numbers.
-#[derive(Drop)]
+#[derive(Clone, Copy)]
 pub enum Rewritten {
     // 0: so many bytes stand in front of the buffer
     Written { bytes: usize },

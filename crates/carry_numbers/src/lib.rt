@@ -1,4 +1,6 @@
 // The answers of the room carry in numbers: to a sheet or a rule that was written anew, to a catalogue carried over, to one whose strays were taken out.
+#![tactic(auto)]
+
 ghost use Rattle.std.specs.Prelude.{◌≡◌};
 ghost use Rattle.carry_anew.specs.Anew.{spelt_numbers};
 ghost use Rattle.carry_open.specs.CarriedOver.{carried_number};

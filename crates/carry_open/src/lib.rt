@@ -1,5 +1,7 @@
 // Old sheets, rules and catalogues carried over: "Sheets and catalogue rules that relied on the old meaning must carry 68 65 0 42 written out", behind
 // `ED` "196 193 0 127" (request K10).
+#![tactic(auto)]
+
 ghost use Rattle.std.specs.Prelude.{◌≡◌};
 ghost use Rattle.paper_carry.specs.Spelling.{spelling, rule_spelling, carrying_over, CarryPromised, RulePromised, CataloguePromised};
 ghost use Rattle.carry_anew.specs.Anew.{told_spelt};
@@ -11,7 +13,7 @@ use carry_put::{no_bytes, put_rules};
 use carry_records::Change;
 
 // The answer to a catalogue that is to be carried over in its own buffer.
-#[derive(Drop)]
+#[derive(Clone, Copy)]
 pub enum CarriedOver {
     // 0: every rule is
     Done,

@@ -1,5 +1,7 @@
 // A sheet, a rule and the rules of a catalogue put anew: the bytes in front of their records, then the records, each changed by whether its field
 // stands (`carry_records`).
+#![tactic(auto)]
+
 ghost use Rattle.std.specs.Prelude.{◌≡◌, [], take, replicate};
 ghost use Rattle.paper_carry.specs.Spelling.{longest_rules};
 ghost use Rattle.base_codes.specs.Inner.{padded};

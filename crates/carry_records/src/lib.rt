@@ -1,5 +1,7 @@
 // Records put anew, changed by whether their field stands: with 68 65 0 42, behind `ED` 196 193 0 127, written out for each standing field without a
 // pattern, or without those of fields that don't stand. Everything else is put byte for byte.
+#![tactic(auto)]
+
 ghost use Rattle.std.specs.Prelude.{◌≡◌, ◌<◌, ◌+◌, drop};
 ghost use Rattle.paper.specs.Numbers.{fields};
 ghost use Rattle.base_editions.specs.Editions.{paper_edition};
@@ -12,7 +14,7 @@ use base_put::{put, put_all};
 use base_question::Body;
 
 // What is changed.
-#[derive(Drop)]
+#[derive(Clone, Copy)]
 pub enum Change {
     // the pattern is written out in an edition for a field that stands and has none
     Open(Edition),
@@ -86,7 +88,7 @@ fn leaves_out(change: Change, count: usize) -> bool
 }
 
 // The place behind what was put, and the offset behind what was read.
-#[derive(Drop)]
+#[derive(Clone, Copy)]
 pub struct Placed {
     pub end: usize,
     pub next: usize,

@@ -1,5 +1,7 @@
 // Stray patterns taken out of old sheets, rules and catalogues (request K13): read "by the old rule", and written without the patterns of fields that
 // stand in neither side, "`ED` and everything else byte for byte as it was".
+#![tactic(auto)]
+
 ghost use Rattle.std.specs.Prelude.{◌≡◌};
 ghost use Rattle.paper_strays.specs.Dropping.{dropping, rule_dropping, catalogue_dropping, DropPromised, RuleDropPromised, CatalogueDropPromised};
 ghost use Rattle.carry_anew.specs.Anew.{told_spelt};
@@ -10,7 +12,7 @@ use carry_put::{no_bytes, put_rules};
 use carry_records::Change;
 
 // The answer to a catalogue whose strays are to be taken out in its own buffer.
-#[derive(Drop)]
+#[derive(Clone, Copy)]
 pub enum StraysDropped {
     // 0: no rule has one
     Done,

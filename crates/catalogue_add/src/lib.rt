@@ -1,4 +1,6 @@
 // A catalogue of label rules in one lent buffer: a rule goes in only if it clashes with none that is there.
+#![tactic(auto)]
+
 ghost use Rattle.std.specs.Prelude.{◌≡◌};
 ghost use Rattle.paper_catalogue.specs.PairAsking.{by_search};
 ghost use Rattle.paper_catalogue.specs.Catalogue.{adding, adding_by, withdrawing};
@@ -12,7 +14,7 @@ use catalogue_question::{Asking, Pair};
 use read_rule::Rule;
 
 // The answer to a new rule. specs/Addition.antt gives each its number, count, place, rule's number, pair's answer and search.
-#[derive(Drop)]
+#[derive(Clone, Copy)]
 pub enum Added {
     // 0: its record stands behind the last one
     Entered,
@@ -29,7 +31,7 @@ pub enum Added {
 }
 
 // The answer to a withdrawal.
-#[derive(Drop)]
+#[derive(Clone, Copy)]
 pub enum Withdrawn {
     // 0: the rule is gone and the gap is closed
     Gone,
@@ -114,7 +116,7 @@ fn enter(
 }
 
 // What the pairs with the rules present gave.
-#[derive(Drop)]
+#[derive(Clone, Copy)]
 pub enum Asked {
     Apart,
     NotApart { rule: usize, pair: Pair },

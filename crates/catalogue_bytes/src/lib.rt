@@ -1,4 +1,6 @@
 // Bytes put behind the last record, and a gap that is closed.
+#![tactic(auto)]
+
 ghost use Rattle.std.specs.Prelude.{◌≡◌, ◌+◌, ◌≤◌, length};
 ghost use Rattle.paper_catalogue.specs.Catalogue.{with_record, without_record};
 ghost use Rattle.catalogue_bytes.specs.Moving.{put_at, closed_at};

@@ -1,4 +1,6 @@
 // The form of a catalogue: "Records stand one behind the other from the buffer's start, then zero bytes."
+#![tactic(auto)]
+
 ghost use Rattle.std.specs.Prelude.{◌≡◌, false, drop};
 ghost use Rattle.paper_catalogue.specs.Catalogue.{all_zero, form_by, form, form_before};
 ghost use Rattle.catalogue_form.specs.Kept.{no_begins, unfit_by, unfit_coded, front_bytes, kept_of, rule_there};
@@ -15,7 +17,7 @@ pub const CATALOGUE_RULES: usize = 32;
 pub const BEGINS: usize = CATALOGUE_RULES + 1;
 
 // What stands in a catalogue.
-#[derive(Drop)]
+#[derive(Clone, Copy)]
 pub struct Kept {
     // is the buffer of this form?
     pub good: bool,

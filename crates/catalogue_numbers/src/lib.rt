@@ -1,4 +1,6 @@
 // The answers of a catalogue in the numbers of requests K1 and K3; those of a catalogue that decides are the same.
+#![tactic(auto)]
+
 ghost use Rattle.std.specs.Prelude.{◌≡◌};
 ghost use Rattle.catalogue_numbers.specs.CatalogueNumbers.{numbers_of_added, number_of_withdrawn, as_totals};
 
@@ -9,7 +11,7 @@ use catalogue_add::{Added, Withdrawn};
 use catalogue_recheck::Rechecked;
 
 // What adding a rule tells. Each is 0 where nothing is said of it.
-#[derive(Drop)]
+#[derive(Clone, Copy)]
 pub struct Numbers {
     pub number: usize,
     pub count: usize,
@@ -65,7 +67,7 @@ pub fn withdrawn(w: Withdrawn) -> usize
 }
 
 // What checking again tells. Both totals are 0 where nothing is listed.
-#[derive(Drop)]
+#[derive(Clone, Copy)]
 pub struct Totals {
     pub number: usize,
     // the pairs listed, and the bytes of their records

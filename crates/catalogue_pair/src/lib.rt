@@ -1,4 +1,6 @@
 // A pair of rules asked in a working buffer, by 01's search or as `decide` asks. No text is written.
+#![tactic(auto)]
+
 ghost use Rattle.std.specs.Prelude.{Bool, ◌≡◌, length, replicate};
 ghost use Rattle.plain_question.specs.Reached.{Meets, Says};
 ghost use Rattle.catalogue_question.specs.PairCoded.{pair_question};

@@ -22,7 +22,7 @@ moved_all side i h =
 
 -- tables that are not there
 abbrev none : PlaceTables
-none = record { follow = []; ranges = []; places = 0; last = 0 }
+none = record { follow = []; taking = []; last = 0 }
 
 -- n fields of the first rule, f of the second, and what of the first is not yet replaced
 abbrev pub with_fields : ℕ → List PlaceTables → List PlaceTables → ℕ → List PlaceTables

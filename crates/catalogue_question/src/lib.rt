@@ -1,5 +1,7 @@
 // A pair of rules: "the present rule is the left side, the new one the right, with its fields as 4 to 7". What it asks, how it is asked, and what
 // it is answered.
+#![tactic(auto)]
+
 ghost use Rattle.std.specs.Prelude.{◌≡◌, map, eqb, ◌<◌};
 ghost use Rattle.paper.specs.Numbers.{fields};
 ghost use Rattle.base_answers.specs.AnswerNumbers.{number_in_pair};
@@ -13,7 +15,7 @@ use base_question::{Body, Question};
 use read_rule::RULE_FIELDS;
 
 // How a pair is asked.
-#[derive(Drop)]
+#[derive(Clone, Copy)]
 pub enum Asking {
     // by 01's search
     Search,
@@ -22,7 +24,7 @@ pub enum Asking {
 }
 
 // What a pair is answered, the situations entered, and the attempt that gave it.
-#[derive(Drop)]
+#[derive(Clone, Copy)]
 pub struct Pair {
     pub answer: usize,
     pub count: usize,

@@ -1,4 +1,6 @@
 // A kept catalogue checked again: its pairs are all asked, and those not answered 1 are listed.
+#![tactic(auto)]
+
 ghost use Rattle.std.specs.Prelude.{◌≡◌, length, replicate};
 ghost use Rattle.paper_catalogue.specs.Recheck.{rechecking, rechecking_by};
 ghost use Rattle.paper_catalogue_decide.specs.DecidedPairs.{rechecking_decided};
@@ -21,7 +23,7 @@ pub const DECIDED_BYTES: usize = 7;
 const LONGEST_LIST: usize = 496 * DECIDED_BYTES;
 
 // What checking again gives. specs/PairList.antt gives each its number.
-#[derive(Drop)]
+#[derive(Clone, Copy)]
 pub enum Rechecked {
     // 0: so many pairs stand in front of the list, in so many bytes
     Listed { pairs: usize, written: usize },

@@ -27,6 +27,10 @@ token_character c h = cond_true (ltb c most_characters) (chr c) (fld (c - field_
 token_field : (c : ℕ) → most_characters ≤ c → token c ≡ fld (c - field_token)
 token_field c h = cond_false (ltb c most_characters) (chr c) (fld (c - field_token)) (le_ltb c most_characters h)
 
+-- what is left before a place, read from behind
+abbrev pub said_before : Edition → ℕ → List ℕ → Side
+said_before e p bytes = reverse (side_said e (take p bytes))
+
 -- the bytes of a side in an edition
 module _ (e : Edition) (bytes : List ℕ) where
   pub next_said : (i c : ℕ) → i < length bytes → c ≡ code e (get_or bytes i 0)

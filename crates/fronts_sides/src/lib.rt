@@ -1,4 +1,6 @@
 // Two sides told apart by what is fixed in them: "Two sides whose fixed fronts (or ends, without the spaces) differ can't clash".
+#![tactic(auto)]
+
 ghost use Rattle.std.specs.Prelude.{◌≡◌, cond, reverse};
 ghost use Rattle.paper.specs.Alphabet as Alphabet;
 ghost use Rattle.paper.specs.Alphabet.{alphabet_of};

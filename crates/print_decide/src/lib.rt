@@ -1,4 +1,6 @@
 // What the program `decide` prints, made in a lent buffer.
+#![tactic(auto)]
+
 ghost use Rattle.std.specs.Prelude.{◌≡◌};
 ghost use Rattle.paper_print.specs.DecideProgram.{printed_decided};
 ghost use Rattle.print_lines.specs.Lines.{Prints};

@@ -1,4 +1,6 @@
 // The lines of an answer, put into a lent buffer. Each function that puts bytes from a place on hands back the place behind them.
+#![tactic(auto)]
+
 ghost use Rattle.std.specs.Prelude.{[], ◌∷◌, ◌++◌, map, ◌≡◌, ◌+◌, ◌*◌, ◌%◌, ◌<◌, ◌≤◌, min, leb, length, take};
 ghost use Rattle.paper.specs.Printed.{sign as sign_of};
 ghost use Rattle.base_editions.specs.Editions.{paper_edition};
@@ -25,7 +27,7 @@ pub const DECIDED_LINE: usize = 4 * (DIGITS + 1);
 const RECORD_HEAD: usize = 5;
 
 // So many bytes of lines, or no room for the longest.
-#[derive(Drop)]
+#[derive(Clone, Copy)]
 pub enum Filled {
     Bytes(usize),
     NoRoom,

@@ -4,47 +4,48 @@ ghost use Rattle.std.specs.Prelude.{◌≤◌, length};
 use crate::how::How;
 use crate::lent::WORK_FILL;
 use crate::output::{print, print_byte, print_number};
+use crate::streams::Streams;
 
 // The working buffer as it is afterwards.
-pub fn print_work(how: How, work: &[u8]) -> How {
-    let named = print(how, b", work");
+pub fn print_work(rt: &impl Streams, how: How, work: &[u8]) -> How {
+    let named = print(rt, how, b", work");
     if all(work, 0) {
-        return print(named, b" all zero");
+        return print(rt, named, b" all zero");
     }
-    print_lent(named, work, WORK_FILL)
+    print_lent(rt, named, work, WORK_FILL)
 }
 
 // An answer buffer that was lent full of this byte: so many that were written to it, and the rest.
-pub fn print_answer(how: How, answer: &[u8], written: usize, fill: u8) -> How {
+pub fn print_answer(rt: &impl Streams, how: How, answer: &[u8], written: usize, fill: u8) -> How {
     if answer.len() < written {
-        return print_each(print(how, b", more than the answer buffer"), answer);
+        return print_each(rt, print(rt, how, b", more than the answer buffer"), answer);
     }
-    let front = print_each(print(how, b", written"), &answer[0..written]);
-    print_lent(print(front, b", rest"), &answer[written..], fill)
+    let front = print_each(rt, print(rt, how, b", written"), &answer[0..written]);
+    print_lent(rt, print(rt, front, b", rest"), &answer[written..], fill)
 }
 
 // A buffer that was lent full of this byte.
-fn print_lent(how: How, bytes: &[u8], fill: u8) -> How {
+fn print_lent(rt: &impl Streams, how: How, bytes: &[u8], fill: u8) -> How {
     if all(bytes, fill) {
-        return print(how, b" unchanged");
+        return print(rt, how, b" unchanged");
     }
-    print_each(how, bytes)
+    print_each(rt, how, bytes)
 }
 
 // Those up to the last that is not zero, and how many zeros stand behind.
-pub fn print_buffer(how: How, name: &[u8], buffer: &[u8]) -> How {
+pub fn print_buffer(rt: &impl Streams, how: How, name: &[u8], buffer: &[u8]) -> How {
     let used = used(buffer);
-    let front = print_each(print(how, name), &buffer[0..used]);
-    print_number(print(front, b", zeros "), buffer.len() - used)
+    let front = print_each(rt, print(rt, how, name), &buffer[0..used]);
+    print_number(rt, print(rt, front, b", zeros "), buffer.len() - used)
 }
 
 // Each in two hexadecimal digits with a space before it.
-fn print_each(how: How, bytes: &[u8]) -> How {
+fn print_each(rt: &impl Streams, how: How, bytes: &[u8]) -> How {
     let mut now = how;
     let mut i = 0;
     while i < bytes.len() {
-        now = print(now, b" ");
-        now = print_byte(now, bytes[i]);
+        now = print(rt, now, b" ");
+        now = print_byte(rt, now, bytes[i]);
         i += 1;
     }
     now

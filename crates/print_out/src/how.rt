@@ -1,5 +1,5 @@
 // How far a program is with its input and its output.
-#[derive(Drop)]
+#[derive(Clone, Copy)]
 pub enum How {
     // there may be more
     Going,

@@ -3,68 +3,72 @@
 // What prints is handed how far the program is, and gives it back. Behind a failure nothing more is tried: what came out is the front of what is
 // meant, and the program tells at its end why it stopped.
 use crate::how::{How, is_going};
-use libc::{STDERR_FILENO, STDOUT_FILENO};
+use crate::streams::Streams;
+use std::io;
 
 // All of the text: a write that takes a part is followed by one of the rest.
-pub fn print(how: How, text: &[u8]) -> How {
+pub fn print(rt: &impl Streams, how: How, text: &[u8]) -> How {
     if !is_going(how) {
         return how;
     }
-    written(io::write_all(STDOUT_FILENO, text))
+    written(rt.output().write_all(text))
 }
 
-pub fn print_number(how: How, n: usize) -> How {
+pub fn print_number(rt: &impl Streams, how: How, n: usize) -> How {
     if !is_going(how) {
         return how;
     }
-    written(io::print_decimal(STDOUT_FILENO, n as u64))
+    written(print!(rt.output(); "{n}"))
 }
 
 // A byte in two hexadecimal digits.
-pub fn print_byte(how: How, b: u8) -> How {
+pub fn print_byte(rt: &impl Streams, how: How, b: u8) -> How {
     if !is_going(how) {
         return how;
     }
-    written(io::print_hex(STDOUT_FILENO, b as u64, 2))
+    written(print!(rt.output(); "{b:02x}"))
 }
 
 // Each with a space before it.
-pub fn print_numbers(how: How, numbers: &[usize]) -> How {
+pub fn print_numbers(rt: &impl Streams, how: How, numbers: &[usize]) -> How {
     let mut now = how;
     let mut i = 0;
     while i < numbers.len() {
-        now = print(now, b" ");
-        now = print_number(now, numbers[i]);
+        now = print(rt, now, b" ");
+        now = print_number(rt, now, numbers[i]);
         i += 1;
     }
     now
 }
 
-fn written(all: bool) -> How {
-    if all { How::Going } else { How::NotWritten }
+fn written(all: io::Result<()>) -> How {
+    match all {
+        Ok(()) => How::Going,
+        Err(_) => How::NotWritten,
+    }
 }
 
 // Tells why a program could not go on with its input or its output.
-pub fn tell_end(program: &[u8], how: How) {
+pub fn tell_end(rt: &impl Streams, program: &[u8], how: How) {
     match how {
         How::Going => {}
         How::Done => {}
         How::Stopped => {}
-        How::NotRead => tell_of(program, b": standard input can't be read\n"),
-        How::NotWritten => tell_of(program, b": standard output can't be written\n"),
+        How::NotRead => tell_of(rt, program, b": standard input can't be read\n"),
+        How::NotWritten => tell_of(rt, program, b": standard output can't be written\n"),
     }
 }
 
-fn tell_of(program: &[u8], what: &[u8]) {
-    tell(program);
-    tell(what);
+fn tell_of(rt: &impl Streams, program: &[u8], what: &[u8]) {
+    tell(rt, program);
+    tell(rt, what);
 }
 
 // Tells a failure. If that can't be written either, there is nobody left to tell.
-pub fn tell(what: &[u8]) {
-    io::write_all(STDERR_FILENO, what);
+pub fn tell(rt: &impl Streams, what: &[u8]) {
+    let _ = rt.errors().write_all(what);
 }
 
-pub fn tell_number(n: usize) {
-    io::print_decimal(STDERR_FILENO, n as u64);
+pub fn tell_number(rt: &impl Streams, n: usize) {
+    let _ = print!(rt.errors(); "{n}");
 }

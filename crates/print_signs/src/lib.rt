@@ -1,4 +1,6 @@
 // How characters are printed (request K10): those of a sheet with `ED` spelt into plain Code 39, others by their own values.
+#![tactic(auto)]
+
 ghost use Rattle.std.specs.Prelude.{◌≡◌};
 ghost use Rattle.base_editions.specs.Editions.{paper_edition};
 ghost use Rattle.paper_print.specs.TextLines.{sheet_edition};

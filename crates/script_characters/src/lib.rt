@@ -1,4 +1,6 @@
 // A character in a literal of a script for string solvers, put into a lent buffer and counted.
+#![tactic(auto)]
+
 ghost use Rattle.std.specs.Prelude.{◌≡◌, ◌<◌};
 ghost use Rattle.paper.specs.Alphabet.{edition_2};
 ghost use Rattle.paper_script.specs.Script.{hexadecimal_digit, hexadecimal, escaped, is_plain, character};

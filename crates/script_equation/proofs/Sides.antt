@@ -3,7 +3,7 @@
 --   side_alike             : side_spelt e (side_code own) (field_code + h) ≡ side_term e own h, of a good side
 --   equation_alike         : and so the equation
 -- By induction on the side: the code of a character is below that of every field.
-use Prim.Native.Nat.{ℕ, ◌+◌, ◌-◌, ◌<◌}
+use Prim.Native.Nat.{ℕ, ◌+◌, ◌<◌}
 use native.Mathlib.Omega.{arith}
 use mathlib.Core.Path.{◌≡◌, refl, sym, ap, ap₂, ◌∙◌}
 use mathlib.Core.Bool.{Bool, true, false}
@@ -69,5 +69,5 @@ side_alike e (t ∷ own) h g =
 pub equation_alike : (e : Edition) (l r : Side) → Good e l → Good e r → equation_spelt e (side_code l) (side_code r) ≡ equation e l r
 unfolding equation_spelt equation
 equation_alike e l r g k =
-    ap₂ (λ (a b : List ℕ). bytes "(assert (= " ++ a ++ (blank_sign ∷ b) ++ bytes "))\n(check_sat)\n") (side_alike e l hidden_left g)
+    ap₂ (λ (a b : List ℕ). bytes "(assert (= " ++ a ++ (blank_sign ∷ b) ++ bytes "))\n(check-sat)\n") (side_alike e l hidden_left g)
     (side_alike e r hidden_right k)

@@ -1,5 +1,5 @@
 -- The term of a side by inner codes, for all bytes: of a good side's codes it is `side_term` of the side (`Sides` of the proofs).
-use Rattle.std.specs.Prelude.{ℕ, ◌+◌, ◌-◌, Bool, false, cond, List, [], ◌∷◌, ◌++◌}
+use Rattle.std.specs.Prelude.{ℕ, ◌+◌, Bool, false, cond, List, [], ◌∷◌, ◌++◌}
 use Rattle.paper.specs.Printed.{blank_sign}
 use Rattle.paper.specs.Alphabet.{Edition}
 use Rattle.paper_script.specs.Bytes.{bytes}
@@ -33,4 +33,4 @@ side_spelt e (t ∷ side) hidden = bytes "(str.++" ++ all_arguments e (t ∷ sid
 unfoldable pub equation_spelt : Edition → List ℕ → List ℕ → List ℕ
 equation_spelt e left right =
     bytes "(assert (= " ++ side_spelt e left (field_code + hidden_left) ++ (blank_sign ∷ side_spelt e right (field_code + hidden_right))
-    ++ bytes "))\n(check_sat)\n"
+    ++ bytes "))\n(check-sat)\n"

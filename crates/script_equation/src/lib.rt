@@ -1,4 +1,6 @@
 // The equation of two sides, as a script for string solvers has it: each side is its tokens and its hidden field, joined.
+#![tactic(auto)]
+
 ghost use Rattle.std.specs.Prelude.{◌≡◌, cond, [], ◌≤◌, take};
 ghost use Rattle.paper.specs.Numbers.{longest_side};
 ghost use Rattle.paper_script.specs.Bytes.{bytes};

@@ -1,4 +1,6 @@
 // A sheet written out as a script for string solvers.
+#![tactic(auto)]
+
 mod memberships;
 
 ghost use Rattle.std.specs.Prelude.{◌≡◌, ◌+◌, ◌≤◌, ◌<◌, not, eqb, length};
@@ -21,7 +23,7 @@ use base_question::{Body, Question};
 use memberships::field_lines;
 
 // The answer to a sheet that is to be written out.
-#[derive(Drop)]
+#[derive(Clone, Copy)]
 pub enum Scripted {
     // 0: so many bytes of script stand in front of the buffer
     Written { bytes: usize },

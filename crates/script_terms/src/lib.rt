@@ -1,4 +1,6 @@
 // The expression of a pattern, as a script for string solvers has it, put into a lent buffer and counted.
+#![tactic(auto)]
+
 ghost use Rattle.std.specs.Prelude.{◌≡◌, ℕ, suc, ◌+◌, ◌-◌, ◌≤◌, ◌<◌, length, get_or};
 ghost use Rattle.paper.specs.Lists.{from, each};
 ghost use Rattle.paper.specs.Alphabet.{edition_1, edition_2, codes};
@@ -23,7 +25,7 @@ const OR_CODE: u8 = 195;
 const MANY_CODE: u8 = 196;
 
 // The place behind what was put, and the offset behind what was read.
-#[derive(Drop)]
+#[derive(Clone, Copy)]
 struct Spelt {
     end: usize,
     next: usize,

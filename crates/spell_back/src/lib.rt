@@ -1,4 +1,6 @@
 // Spelt texts of Full ASCII read back (request K10).
+#![tactic(auto)]
+
 ghost use Rattle.std.specs.Prelude.{◌≡◌};
 ghost use Rattle.paper_spell.specs.FullAscii.{read_back};
 ghost use Rattle.paper_spell.specs.Spell.{reading_spelt, ReadPromised};
@@ -10,7 +12,7 @@ use spell_table::{ASCII, NO_SHIFT, character, is_shift};
 use spell_text::Spelt;
 
 // Does the table give it so far? Then the shift sign that waits for its value, or 43, and the place behind what was put.
-#[derive(Drop)]
+#[derive(Clone, Copy)]
 pub struct Step {
     pub given: bool,
     pub shift: u8,
@@ -18,7 +20,7 @@ pub struct Step {
 }
 
 // Does the table give it? Then how many characters it has.
-#[derive(Drop)]
+#[derive(Clone, Copy)]
 pub struct Read {
     pub given: bool,
     pub bytes: usize,

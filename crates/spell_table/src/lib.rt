@@ -1,4 +1,6 @@
 // The table of Full ASCII (request K10): "128 characters and their one or two Code 39 values".
+#![tactic(auto)]
+
 mod table;
 
 ghost use Rattle.std.specs.Prelude.{◌≡◌};

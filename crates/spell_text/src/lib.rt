@@ -1,4 +1,6 @@
 // Texts of Full ASCII spelt in values of Code 39 (request K10).
+#![tactic(auto)]
+
 ghost use Rattle.std.specs.Prelude.{◌≡◌};
 ghost use Rattle.paper_spell.specs.FullAscii.{is_text as is-text-of, spelt};
 ghost use Rattle.paper_spell.specs.Spell.{spelling_text, SpellPromised};
@@ -9,7 +11,7 @@ use base_answers::{NOT_IN_TABLE, Numbers, SPELT_TOO_SHORT};
 use spell_table::{ASCII, NO_SHIFT, put_character, shift};
 
 // The answer to a text that is to be spelt, or a spelt text that is to be read back.
-#[derive(Drop)]
+#[derive(Clone, Copy)]
 pub enum Spelt {
     // 0: so many bytes stand in front of the buffer
     Written { bytes: usize },

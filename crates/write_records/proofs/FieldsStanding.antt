@@ -8,7 +8,7 @@ use mathlib.Core.Path.{◌≡◌, refl, sym, ap, ap₂, ◌∙◌}
 use mathlib.Core.Bool.{Bool, true, false, ◌&&◌, ◌||◌}
 use mathlib.Core.List.{List, [], ◌∷◌, map}
 use lib.Dec.{ltb, eqb}
-use Rattle.paper.specs.Lists.{any, member}
+use Rattle.paper.specs.Lists.{member}
 use Rattle.paper.specs.Numbers.{fields, most_characters, field_token}
 use Rattle.paper.specs.Equation.{is_field, stands_in}
 use Rattle.paper.specs.Alphabet.{Edition, edition_1, edition_2, codes_from, code, codes}

@@ -1,5 +1,7 @@
 // A record of the sheet that is to be written: judged by itself, by 01's checks in their order, in the edition of the sheet, and put if it is good. And
 // whether a field stands in the sides that are to be written.
+#![tactic(auto)]
+
 ghost use Rattle.std.specs.Prelude.{◌≡◌, ◌&&◌, ◌<◌, ltb};
 ghost use Rattle.paper.specs.Numbers.{fields};
 ghost use Rattle.paper.specs.Equation.{stands_in};
@@ -21,7 +23,7 @@ use read_pattern::Verdict;
 use read_side::SHEET_SIDE;
 
 // What the checks on a record find.
-#[derive(Drop)]
+#[derive(Clone, Copy)]
 pub struct Laid {
     pub found: Found,
     // how many bytes the record has; with a fault its place, both from the record's mark on

@@ -7,11 +7,10 @@ use native.Mathlib.Omega.{arith}
 use mathlib.Core.Path.{◌≡◌, refl, sym, ap, ◌∙◌, subst}
 use mathlib.Core.List.{List, [], ◌∷◌, ◌++◌}
 use lib.ListN.{length}
-use Rattle.paper.specs.Sheet.{refused}
 use Rattle.paper.proofs.base.Tests.{le_ltb, lt_ltb}
 use Rattle.paper_carry.specs.Spelling.{Spelling, put_into}
 use Rattle.paper.specs.Saying.{ToSay, sheet_laid}
-use Rattle.paper_write.specs.Laying.{Laying, at_fault, laying}
+use Rattle.paper_write.specs.Laying.{Laying, laying}
 use Rattle.paper_write.specs.Writing.{writing, Says, WritePromised}
 use Rattle.paper_write.proofs.LaidRead.{Whole, laying_reads}
 use Rattle.paper_write.proofs.WritePromised.{laid_fits, write_promised}

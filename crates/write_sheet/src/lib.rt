@@ -1,5 +1,7 @@
 // Sheets written by the program (request K8): "Given the two sides and the patterns by field, please write the one sheet that says them." And the
 // edition that they are given in (request K10).
+#![tactic(auto)]
+
 ghost use Rattle.std.specs.Prelude.{◌≡◌, List, ℕ, ◌+◌, ◌≤◌};
 ghost use Rattle.paper.specs.Sheet.{Mark};
 ghost use Rattle.paper.specs.Saying.{mark_bytes, edition_laid, edition_byte};
@@ -17,7 +19,7 @@ use base_put::put_all;
 use write_records::Laid;
 
 // The answer to sides and patterns that a sheet is to say. specs/SheetWritten.antt gives each its numbers.
-#[derive(Drop)]
+#[derive(Clone, Copy)]
 pub enum Written {
     // 0: so many bytes stand in front of the buffer
     Sheet { bytes: usize },

@@ -1,0 +1,13 @@
+-- `put` puts the bytes from an offset on. The loop's invariant: the first i are put. Follows from the laws of `paste`.
+use Prim.Native.Nat.{◌-◌, ◌≤◌}
+use mathlib.Core.Path.{◌≡◌}
+use lib.ListN.{length}
+use lib.Seq.{paste}
+use Rattle.catalogue_bytes.proofs.put_bytes.Given as goal
+
+abbrev pub invariant-loop-i : goal.invariant-loop-i
+invariant-loop-i l =
+    (l.i ≤ length l.bytes) × (length l.catalogue ≡ length l.initial.catalogue) × (l.catalogue ≡ paste l.initial.catalogue l.at l.bytes l.i)
+
+abbrev pub decreases-loop-i : goal.decreases-loop-i
+decreases-loop-i l = length l.bytes - l.i

@@ -1,0 +1,12 @@
+-- `find_by` meets its contract. The loop's invariant: the catalogue is read so far (`Reached`). The measure is what is left. Assumes nothing.
+use Prim.Native.Nat.{◌-◌}
+use lib.ListN.{length}
+use Rattle.catalogue_form.specs.Kept.{unfit_by}
+use Rattle.catalogue_form.proofs.Reached.{Reached}
+use Rattle.catalogue_form.proofs.find_by.Given as goal
+
+abbrev pub invariant-loop-next : goal.invariant-loop-next
+invariant-loop-next l = Reached (unfit_by l.strict) l.catalogue l.begins l.rules l.used
+
+abbrev pub decreases-loop-next : goal.decreases-loop-next
+decreases-loop-next l = length l.catalogue - l.used
