@@ -1,4 +1,6 @@
 // Sheets, rules and catalogues carried over, in numbers: what a caller in another language is told.
+#![tactic(auto)]
+
 ghost use Rattle.std.specs.Prelude.{◌≡◌};
 ghost use Rattle.paper_carry.specs.Spelling.{spelling, rule_spelling, carrying_over};
 ghost use Rattle.carry_anew.specs.Anew.{spelt_numbers};

@@ -1,4 +1,6 @@
 // The catalogue's answers in numbers: what a caller in another language is told.
+#![tactic(auto)]
+
 ghost use Rattle.std.specs.Prelude.{◌≡◌};
 ghost use Rattle.paper_catalogue.specs.Catalogue.{adding, withdrawing};
 ghost use Rattle.paper_catalogue.specs.Recheck.{rechecking};

@@ -1,4 +1,6 @@
 // The answers of a catalogue that decides, in numbers: what a caller in another language is told.
+#![tactic(auto)]
+
 ghost use Rattle.std.specs.Prelude.{◌≡◌};
 ghost use Rattle.paper_catalogue_decide.specs.DecidedPairs.{adding_decided, rechecking_decided};
 ghost use Rattle.c_catalogue.specs.Catalogued.{telling_rechecked};

@@ -1,4 +1,6 @@
 // The answer to a sheet in numbers: what a caller in another language is told.
+#![tactic(auto)]
+
 ghost use Rattle.std.specs.Prelude.{◌≡◌};
 ghost use Rattle.paper.specs.Outcome.{outcome};
 ghost use Rattle.c_clash.specs.Asking.{telling};

@@ -1,4 +1,6 @@
 // Deciding in numbers: what a caller in another language is told.
+#![tactic(auto)]
+
 ghost use Rattle.std.specs.Prelude.{◌≡◌};
 ghost use Rattle.paper_decide.specs.Deciding.{decision};
 ghost use Rattle.c_decide.specs.Decided.{telling_decided};

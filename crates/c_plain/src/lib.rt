@@ -1,4 +1,6 @@
 // The small engine for plain rules, in numbers: what a caller in another language is told.
+#![tactic(auto)]
+
 ghost use Rattle.std.specs.Prelude.{◌≡◌};
 ghost use Rattle.paper_plain.specs.Engine.{engine, needs};
 ghost use Rattle.c_plain.specs.EngineTelling.{telling_plain, telling_numbers, telling_needs};

@@ -1,4 +1,6 @@
 // The player's answer in numbers: what a caller in another language is told.
+#![tactic(auto)]
+
 ghost use Rattle.std.specs.Prelude.{◌≡◌};
 ghost use Rattle.paper_steps.specs.Player.{play};
 ghost use Rattle.c_play.specs.PlayTold.{telling_played};

@@ -1,4 +1,6 @@
 // The script of a sheet in numbers: what a caller in another language is told.
+#![tactic(auto)]
+
 ghost use Rattle.std.specs.Prelude.{◌≡◌};
 ghost use Rattle.paper_script.specs.Scripting.{scripting};
 ghost use Rattle.c_script.specs.Scripted.{telling_scripted};

@@ -1,4 +1,6 @@
 // Texts spelt and read back, in numbers: what a caller in another language is told.
+#![tactic(auto)]
+
 ghost use Rattle.std.specs.Prelude.{◌≡◌};
 ghost use Rattle.paper_spell.specs.Spell.{spelling_text, reading_spelt};
 ghost use Rattle.c_spell.specs.SpellNumbers.{telling_spell};

@@ -1,4 +1,6 @@
 // The search that writes its way, in numbers: what a caller in another language is told.
+#![tactic(auto)]
+
 ghost use Rattle.std.specs.Prelude.{◌≡◌};
 ghost use Rattle.paper_steps.specs.StepsOutcome.{steps_outcome};
 ghost use Rattle.c_steps.specs.StepsTelling.{telling_steps};

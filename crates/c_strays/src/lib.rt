@@ -1,4 +1,6 @@
 // Sheets, rules and catalogues without their stray patterns, in numbers: what a caller in another language is told.
+#![tactic(auto)]
+
 ghost use Rattle.std.specs.Prelude.{◌≡◌};
 ghost use Rattle.paper_strays.specs.Dropping.{dropping, rule_dropping, catalogue_dropping};
 ghost use Rattle.c_carry.specs.Carried.{telling_spelt};

@@ -1,4 +1,6 @@
 // What a caller in another language is told beside the number: elements of a lent slice, as many as there is room for.
+#![tactic(auto)]
+
 ghost use Rattle.std.specs.Prelude.{◌≡◌, set};
 ghost use Rattle.c_tell.specs.ToldNumbers.{with_numbers};
 

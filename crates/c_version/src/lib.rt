@@ -1,4 +1,6 @@
 // The version of the library, as callers in other languages are told it.
+#![tactic(auto)]
+
 ghost use Rattle.std.specs.Prelude.{◌≡◌};
 ghost use Rattle.c_version.specs.VersionTold.{version_told};
 

@@ -1,4 +1,6 @@
 // The answer about given texts in numbers: what a caller in another language is told.
+#![tactic(auto)]
+
 ghost use Rattle.std.specs.Prelude.{◌≡◌};
 ghost use Rattle.paper_way.specs.WayOutcome.{way};
 ghost use Rattle.c_way.specs.WayTold.{telling_way};

@@ -1,4 +1,6 @@
 // Sheets written by the program, in numbers: what a caller in another language is told.
+#![tactic(auto)]
+
 ghost use Rattle.std.specs.Prelude.{◌≡◌};
 ghost use Rattle.paper_write.specs.Writing.{writing};
 ghost use Rattle.write_sheet.specs.SheetWritten.{given};

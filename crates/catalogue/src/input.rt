@@ -1,5 +1,5 @@
 // The marks of the operations on standard input, two letters each. Behind a mark come numbers, low byte first, and bytes.
-use print_out::{How, is_going, low_first, read_next};
+use print_out::{How, Streams, is_going, low_first, read_next};
 
 // Marks, as numbers of their two letters.
 const ADD: usize = b'A' as usize + 256 * (b'D' as usize);
@@ -23,7 +23,7 @@ const ADD_DECIDED: usize = b'A' as usize + 256 * (b'E' as usize);
 const RECHECK_DECIDED: usize = b'R' as usize + 256 * (b'D' as usize);
 
 // The mark of the next operation.
-#[derive(Drop)]
+#[derive(Clone, Copy)]
 pub enum Mark {
     // `AD`
     Add,
@@ -49,9 +49,9 @@ pub enum Mark {
     None(How),
 }
 
-pub fn read_mark() -> Mark {
+pub fn read_mark(rt: &impl Streams) -> Mark {
     let mut letters = [0u8; 2];
-    let how = read_next(&mut letters);
+    let how = read_next(rt, &mut letters);
     if !is_going(how) {
         return Mark::None(how);
     }

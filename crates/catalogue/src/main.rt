@@ -118,6 +118,8 @@
 // Then those that `calls --decided 1 1000` makes, but for an operation cut short at its end: 1,000 additions and checks of either kind,
 // withdrawals and carryings over. With `CA` and `WO` as before follow those that `calls 1 4000` makes: 4,000 additions, withdrawals, checks and
 // carryings over, among them each number and, with 30, each answer of a pair. `second --calls` prints the same lines. tools/compare tries fresh ones.
+#![tactic(auto)]
+
 mod input;
 mod output;
 
@@ -126,7 +128,7 @@ use catalogue_recheck::Rechecked;
 use input::{Mark, read_mark};
 use output::{print_added, print_changed, print_rechecked};
 use print_out::{
-    How, WORK, WORK_FILL, fill, is_going, least, read_all, read_number, tell, tell_end,
+    How, Streams, WORK, WORK_FILL, fill, is_going, least, read_all, read_number, tell, tell_end,
 };
 
 // The longest rule that two bytes can tell. The list of pairs is lent in the same place: no call has both.
@@ -147,7 +149,7 @@ const DECIDED_LIST: usize = 3584;
 const LIST_FILL: u8 = 165;
 
 // How far the operations are, whether every byte of the lent buffers is printed, and how much of each is lent to a call.
-#[derive(Drop)]
+#[derive(Clone, Copy)]
 pub struct State {
     pub how: How,
     pub bytes: bool,
@@ -155,19 +157,22 @@ pub struct State {
     pub work: usize,
 }
 
-fn main() {
+fn main(rt: HostRuntime) {
     let mut given = [0u8; RULE];
     let mut catalogue = [0u8; CATALOGUE];
     let mut work = [0u8; WORK];
-    let ended = run_each(&mut given, &mut catalogue, &mut work);
+    let ended = run_each(&rt, &mut given, &mut catalogue, &mut work);
     match ended {
-        How::Stopped => tell(b"catalogue: an operation is cut short or not allowed\n"),
-        _ => tell_end(b"catalogue", ended),
+        How::Stopped => tell(
+            &rt,
+            b"catalogue: an operation is cut short or not allowed\n",
+        ),
+        _ => tell_end(&rt, b"catalogue", ended),
     }
 }
 
 // A proved loop has to end, and nothing says that a stream does: the turns are counted down from a number that no run uses up.
-fn run_each(given: &mut [u8], catalogue: &mut [u8], work: &mut [u8]) -> How {
+fn run_each(rt: &impl Streams, given: &mut [u8], catalogue: &mut [u8], work: &mut [u8]) -> How {
     let mut state = State {
         how: How::Going,
         bytes: false,
@@ -176,7 +181,7 @@ fn run_each(given: &mut [u8], catalogue: &mut [u8], work: &mut [u8]) -> How {
     };
     let mut turns = u64::MAX;
     while turns > 0 && goes_on(state) {
-        state = run_next(given, catalogue, work, state);
+        state = run_next(rt, given, catalogue, work, state);
         turns -= 1;
     }
     let how = state.how;
@@ -188,25 +193,31 @@ fn goes_on(state: State) -> bool {
     is_going(how)
 }
 
-fn run_next(given: &mut [u8], catalogue: &mut [u8], work: &mut [u8], state: State) -> State {
-    let mark = read_mark();
+fn run_next(
+    rt: &impl Streams,
+    given: &mut [u8],
+    catalogue: &mut [u8],
+    work: &mut [u8],
+    state: State,
+) -> State {
+    let mark = read_mark(rt);
     match mark {
-        Mark::Catalogue => new_catalogue(catalogue, state),
-        Mark::Work => new_work(work.len(), state),
-        Mark::Show => new_shown(state),
-        _ => call(mark, given, catalogue, work, state),
+        Mark::Catalogue => new_catalogue(rt, catalogue, state),
+        Mark::Work => new_work(rt, work.len(), state),
+        Mark::Show => new_shown(rt, state),
+        _ => call(rt, mark, given, catalogue, work, state),
     }
 }
 
 // `CA`: the catalogue's length and that of its front in two bytes each, the front. The rest are zeros.
-fn new_catalogue(catalogue: &mut [u8], state: State) -> State {
-    let length = read_number(How::Going, 2, catalogue.len());
+fn new_catalogue(rt: &impl Streams, catalogue: &mut [u8], state: State) -> State {
+    let length = read_number(rt, How::Going, 2, catalogue.len());
     let catalogue_len = length.number;
     let so_far = length.how;
-    let front = read_number(so_far, 2, catalogue_len);
+    let front = read_number(rt, so_far, 2, catalogue_len);
     let front_len = front.number;
     let headed = front.how;
-    let how = read_all(headed, &mut catalogue[0..front_len]);
+    let how = read_all(rt, headed, &mut catalogue[0..front_len]);
     fill(&mut catalogue[front_len..catalogue_len], 0);
     State {
         how,
@@ -217,8 +228,8 @@ fn new_catalogue(catalogue: &mut [u8], state: State) -> State {
 }
 
 // `WO`: the working buffer's length in four bytes.
-fn new_work(most: usize, state: State) -> State {
-    let length = read_number(How::Going, 4, most);
+fn new_work(rt: &impl Streams, most: usize, state: State) -> State {
+    let length = read_number(rt, How::Going, 4, most);
     let how = length.how;
     State {
         how,
@@ -229,8 +240,8 @@ fn new_work(most: usize, state: State) -> State {
 }
 
 // `SH`: 0 for lines, 1 for every byte, in one byte.
-fn new_shown(state: State) -> State {
-    let bytes = read_number(How::Going, 1, 1);
+fn new_shown(rt: &impl Streams, state: State) -> State {
+    let bytes = read_number(rt, How::Going, 1, 1);
     let how = bytes.how;
     State {
         how,
@@ -242,6 +253,7 @@ fn new_shown(state: State) -> State {
 
 // A call, with the fronts of the buffers.
 fn call(
+    rt: &impl Streams,
     mark: Mark,
     given: &mut [u8],
     catalogue: &mut [u8],
@@ -251,7 +263,14 @@ fn call(
     let c = least(state.catalogue, catalogue.len());
     let w = least(state.work, work.len());
     let bytes = state.bytes;
-    let how = call_by(mark, given, &mut catalogue[0..c], &mut work[0..w], bytes);
+    let how = call_by(
+        rt,
+        mark,
+        given,
+        &mut catalogue[0..c],
+        &mut work[0..w],
+        bytes,
+    );
     State {
         how,
         bytes,
@@ -261,6 +280,7 @@ fn call(
 }
 
 fn call_by(
+    rt: &impl Streams,
     mark: Mark,
     given: &mut [u8],
     catalogue: &mut [u8],
@@ -268,27 +288,35 @@ fn call_by(
     bytes: bool,
 ) -> How {
     match mark {
-        Mark::Add => add(false, given, catalogue, work, bytes),
-        Mark::AddDecided => add(true, given, catalogue, work, bytes),
-        Mark::Withdraw => withdraw(catalogue, bytes),
-        Mark::Recheck => check_again(false, LIST, catalogue, work, given, bytes),
-        Mark::RecheckDecided => check_again(true, DECIDED_LIST, catalogue, work, given, bytes),
-        Mark::Carry => carry(catalogue, bytes),
-        Mark::Drop => drop_strays(catalogue, bytes),
+        Mark::Add => add(rt, false, given, catalogue, work, bytes),
+        Mark::AddDecided => add(rt, true, given, catalogue, work, bytes),
+        Mark::Withdraw => withdraw(rt, catalogue, bytes),
+        Mark::Recheck => check_again(rt, false, LIST, catalogue, work, given, bytes),
+        Mark::RecheckDecided => check_again(rt, true, DECIDED_LIST, catalogue, work, given, bytes),
+        Mark::Carry => carry(rt, catalogue, bytes),
+        Mark::Drop => drop_strays(rt, catalogue, bytes),
         Mark::None(how) => how,
         _ => How::Stopped,
     }
 }
 
 // `AD`, and `AE` by deciding: a length in two bytes, so many bytes.
-fn add(decide: bool, rule: &mut [u8], catalogue: &mut [u8], work: &mut [u8], bytes: bool) -> How {
-    let length = read_number(How::Going, 2, rule.len());
+fn add(
+    rt: &impl Streams,
+    decide: bool,
+    rule: &mut [u8],
+    catalogue: &mut [u8],
+    work: &mut [u8],
+    bytes: bool,
+) -> How {
+    let length = read_number(rt, How::Going, 2, rule.len());
     let n = length.number;
     let so_far = length.how;
-    add_rule(so_far, decide, &mut rule[0..n], catalogue, work, bytes)
+    add_rule(rt, so_far, decide, &mut rule[0..n], catalogue, work, bytes)
 }
 
 fn add_rule(
+    rt: &impl Streams,
     so_far: How,
     decide: bool,
     rule: &mut [u8],
@@ -296,13 +324,13 @@ fn add_rule(
     work: &mut [u8],
     bytes: bool,
 ) -> How {
-    let how = read_all(so_far, rule);
+    let how = read_all(rt, so_far, rule);
     if !is_going(how) {
         return how;
     }
     fill(work, WORK_FILL);
     let told = catalogue_numbers::added(added(decide, catalogue, rule, work));
-    print_added(decide, told, catalogue, work, bytes)
+    print_added(rt, decide, told, catalogue, work, bytes)
 }
 
 fn added(decide: bool, catalogue: &mut [u8], rule: &[u8], work: &mut [u8]) -> Added {
@@ -313,18 +341,19 @@ fn added(decide: bool, catalogue: &mut [u8], rule: &[u8], work: &mut [u8]) -> Ad
 }
 
 // `WI`: a rule's number in one byte.
-fn withdraw(catalogue: &mut [u8], bytes: bool) -> How {
-    let rule = read_number(How::Going, 1, 255);
+fn withdraw(rt: &impl Streams, catalogue: &mut [u8], bytes: bool) -> How {
+    let rule = read_number(rt, How::Going, 1, 255);
     let how = rule.how;
     if !is_going(how) {
         return how;
     }
     let told = catalogue_numbers::withdrawn(catalogue_add::withdraw(catalogue, rule.number));
-    print_changed(b"withdraw", told, catalogue, bytes)
+    print_changed(rt, b"withdraw", told, catalogue, bytes)
 }
 
 // `RE`, and `RD` by deciding: the list's length in two bytes.
 fn check_again(
+    rt: &impl Streams,
     decide: bool,
     most: usize,
     catalogue: &[u8],
@@ -332,16 +361,17 @@ fn check_again(
     list: &mut [u8],
     bytes: bool,
 ) -> How {
-    let length = read_number(How::Going, 2, least(most, list.len()));
+    let length = read_number(rt, How::Going, 2, least(most, list.len()));
     let n = length.number;
     let how = length.how;
     if !is_going(how) {
         return how;
     }
-    list_pairs(decide, catalogue, work, &mut list[0..n], bytes)
+    list_pairs(rt, decide, catalogue, work, &mut list[0..n], bytes)
 }
 
 fn list_pairs(
+    rt: &impl Streams,
     decide: bool,
     catalogue: &[u8],
     work: &mut [u8],
@@ -351,7 +381,7 @@ fn list_pairs(
     fill(work, WORK_FILL);
     fill(list, LIST_FILL);
     let told = catalogue_numbers::rechecked(rechecked(decide, catalogue, work, list));
-    print_rechecked(decide, told, list, catalogue, work, bytes)
+    print_rechecked(rt, decide, told, list, catalogue, work, bytes)
 }
 
 fn rechecked(decide: bool, catalogue: &[u8], work: &mut [u8], list: &mut [u8]) -> Rechecked {
@@ -362,13 +392,13 @@ fn rechecked(decide: bool, catalogue: &[u8], work: &mut [u8], list: &mut [u8]) -
 }
 
 // `SO`
-fn carry(catalogue: &mut [u8], bytes: bool) -> How {
+fn carry(rt: &impl Streams, catalogue: &mut [u8], bytes: bool) -> How {
     let told = carry_numbers::carried(carry_open::catalogue(catalogue));
-    print_changed(b"carry", told, catalogue, bytes)
+    print_changed(rt, b"carry", told, catalogue, bytes)
 }
 
 // `DS`
-fn drop_strays(catalogue: &mut [u8], bytes: bool) -> How {
+fn drop_strays(rt: &impl Streams, catalogue: &mut [u8], bytes: bool) -> How {
     let told = carry_numbers::dropped(carry_strays::catalogue(catalogue));
-    print_changed(b"drop", told, catalogue, bytes)
+    print_changed(rt, b"drop", told, catalogue, bytes)
 }

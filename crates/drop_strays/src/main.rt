@@ -5,11 +5,13 @@
 //
 // The stored sheet: field 0 is a digit and stands on both sides; field 2 has a pattern and stands on the right; field 3 stands without a pattern.
 // Fields 1, 4 and 7 have a pattern and stand nowhere.
+#![tactic(auto)]
+
 use base_answers::Fault;
 use carry_anew::Rewritten;
 use carry_strays::StraysDropped;
 use print_failures::refuse;
-use print_out::{How, read_first, tell, tell_end};
+use print_out::{How, Streams, read_first, tell, tell_end};
 use read_side::{Cursor, Mark};
 
 // More than a catalogue of 32 of the longest rules has. A buffer as long as the sheet or the rule is always enough: `carry_strays::sheet` and
@@ -19,26 +21,26 @@ const MOST: usize = 65536;
 // and a byte by which a longer input is seen
 const INPUT: usize = MOST + 1;
 
-fn main() {
+fn main(rt: HostRuntime) {
     let mut input = [0u8; INPUT];
-    let got = read_first(&mut input);
+    let got = read_first(&rt, &mut input);
     let n = got.bytes;
     if !got.read {
-        tell_end(b"drop_strays", How::NotRead);
+        tell_end(&rt, b"drop_strays", How::NotRead);
     } else if MOST < n {
-        tell(b"drop_strays: more than 65,536 bytes\n");
+        tell(&rt, b"drop_strays: more than 65,536 bytes\n");
     } else {
-        drop_from(&mut input[0..n]);
+        drop_from(&rt, &mut input[0..n]);
     }
 }
 
 // What is no sheet and no rule by itself may be a catalogue.
-fn drop_from(bytes: &mut [u8]) {
+fn drop_from(rt: &impl Streams, bytes: &mut [u8]) {
     let mut out = [0u8; MOST];
     let kept = without_strays(bytes, &mut out);
     match kept {
-        Rewritten::Refused { fault, place } => drop_in_catalogue(bytes, fault, place),
-        _ => show(kept, &out),
+        Rewritten::Refused { fault, place } => drop_in_catalogue(rt, bytes, fault, place),
+        _ => show(rt, kept, &out),
     }
 }
 
@@ -51,29 +53,29 @@ fn without_strays(bytes: &[u8], out: &mut [u8]) -> Rewritten {
 }
 
 // No bytes at all are a sheet cut short, and not a catalogue: more likely than one without a byte is an input that went missing.
-fn drop_in_catalogue(catalogue: &mut [u8], fault: Fault, place: usize) {
+fn drop_in_catalogue(rt: &impl Streams, catalogue: &mut [u8], fault: Fault, place: usize) {
     if catalogue.len() == 0 {
-        refuse(b"drop_strays", fault, place);
+        refuse(rt, b"drop_strays", fault, place);
         return;
     }
     let dropped = carry_strays::catalogue(catalogue);
     match dropped {
-        StraysDropped::Done => print(catalogue),
-        StraysDropped::NoCatalogue => refuse(b"drop_strays", fault, place),
+        StraysDropped::Done => print(rt, catalogue),
+        StraysDropped::NoCatalogue => refuse(rt, b"drop_strays", fault, place),
     }
 }
 
 // What was written, or why nothing was.
-fn show(kept: Rewritten, out: &[u8]) {
+fn show(rt: &impl Streams, kept: Rewritten, out: &[u8]) {
     let told = carry_numbers::in_numbers(kept);
     let n = told.written;
     if told.number == 31 {
-        tell(b"drop_strays: 31: the rule names a field above 3\n");
+        tell(rt, b"drop_strays: 31: the rule names a field above 3\n");
     } else if n <= out.len() {
-        print(&out[0..n]);
+        print(rt, &out[0..n]);
     }
 }
 
-fn print(bytes: &[u8]) {
-    tell_end(b"drop_strays", print_out::print(How::Going, bytes));
+fn print(rt: &impl Streams, bytes: &[u8]) {
+    tell_end(rt, b"drop_strays", print_out::print(rt, How::Going, bytes));
 }

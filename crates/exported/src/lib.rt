@@ -1,4 +1,6 @@
 // The library for other languages: functions on slices and numbers.
+#![tactic(auto)]
+
 ghost use Rattle.std.specs.Prelude.{◌≡◌};
 ghost use Rattle.paper.specs.Outcome.{outcome};
 ghost use Rattle.paper_catalogue.specs.Catalogue.{adding, withdrawing};

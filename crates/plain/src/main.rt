@@ -3,7 +3,9 @@
 //
 // The stored sheet is one that needs all the bits: four fields a side, each any number of digits and letters, written with 63 leaves, and 20
 // characters. The two sides end in different ones.
-use print_out::{How, print, print_number, print_numbers, read_first, tell_end};
+#![tactic(auto)]
+
+use print_out::{How, Streams, print, print_number, print_numbers, read_first, tell_end};
 
 // As `clash` does: it "reads the first" 2,048 "bytes of standard input".
 const INPUT: usize = 2048;
@@ -11,28 +13,29 @@ const INPUT: usize = 2048;
 // No sheet needs more: `enough`, which `plain_sheet::plain` promises.
 const BITS: usize = 9731;
 
-fn main() {
+fn main(rt: HostRuntime) {
     let mut input = [0u8; INPUT];
-    let got = read_first(&mut input);
+    let got = read_first(&rt, &mut input);
     let n = got.bytes;
     if got.read {
-        answer(&input[0..n]);
+        answer(&rt, &input[0..n]);
     } else {
-        tell_end(b"plain", How::NotRead);
+        tell_end(&rt, b"plain", How::NotRead);
     }
 }
 
-fn answer(sheet: &[u8]) {
+fn answer(rt: &impl Streams, sheet: &[u8]) {
     let mut bits = [0u8; BITS];
-    show(sheet, &mut bits);
+    show(rt, sheet, &mut bits);
 }
 
 // "answer, count and place in decimal, one space between"
-fn show(sheet: &[u8], bits: &mut [u8]) {
+fn show(rt: &impl Streams, sheet: &[u8], bits: &mut [u8]) {
     let told = plain_sheet::in_numbers(plain_sheet::plain(sheet, bits));
     let line = print_numbers(
-        print_number(How::Going, told.number),
+        rt,
+        print_number(rt, How::Going, told.number),
         &[told.count, told.place],
     );
-    tell_end(b"plain", print(line, b"\n"));
+    tell_end(rt, b"plain", print(rt, line, b"\n"));
 }

@@ -2,10 +2,12 @@
 // the answer as `clash` does. There is no exit status: a failure is told on standard error.
 //
 // The stored input: left field 0 and `A`, right `BA`. `B` is put before field 0, which is struck, and then both hidden fields are.
+#![tactic(auto)]
+
 use base_answers::Numbers;
 use base_editions::Edition;
 use print_lines::{FIRST_LINE, Filled};
-use print_out::{How, least, low_first, read_first, tell, tell_end};
+use print_out::{How, Streams, least, low_first, read_first, tell, tell_end};
 
 // The length, the longest sheet that it can tell, and 65,535 records of the longest, a character's. "50 if it is past the 65,534th": what stands behind
 // is never looked at.
@@ -17,53 +19,57 @@ const ANSWER: usize = 4096;
 // No later line is longer than two of its records.
 const PRINTED: usize = FIRST_LINE + 2 * ANSWER;
 
-fn main() {
+fn main(rt: HostRuntime) {
     let mut input = [0u8; INPUT];
-    read_in(&mut input);
+    read_in(&rt, &mut input);
 }
 
-fn read_in(input: &mut [u8]) {
-    let got = read_first(input);
+fn read_in(rt: &impl Streams, input: &mut [u8]) {
+    let got = read_first(rt, input);
     let n = got.bytes;
     if got.read {
-        play_input(&input[0..n]);
+        play_input(rt, &input[0..n]);
     } else {
-        tell_end(b"play", How::NotRead);
+        tell_end(rt, b"play", How::NotRead);
     }
 }
 
-fn play_input(input: &[u8]) {
+fn play_input(rt: &impl Streams, input: &[u8]) {
     if input.len() < 2 {
-        tell(b"play: no length of a sheet\n");
+        tell(rt, b"play: no length of a sheet\n");
         return;
     }
     let sheet = low_first(input[0], input[1], 0, 0);
     if input.len() - 2 < sheet {
-        tell(b"play: fewer bytes than the sheet's length says\n");
+        tell(rt, b"play: fewer bytes than the sheet's length says\n");
         return;
     }
     let end = 2 + sheet;
-    print(&input[2..end], &input[end..]);
+    print(rt, &input[2..end], &input[end..]);
 }
 
-fn print(sheet: &[u8], steps: &[u8]) {
+fn print(rt: &impl Streams, sheet: &[u8], steps: &[u8]) {
     let mut answer = [0u8; ANSWER];
-    print_played(sheet, steps, &mut answer);
+    print_played(rt, sheet, steps, &mut answer);
 }
 
-fn print_played(sheet: &[u8], steps: &[u8], answer: &mut [u8]) {
+fn print_played(rt: &impl Streams, sheet: &[u8], steps: &[u8], answer: &mut [u8]) {
     let edition = print_signs::edition(sheet);
     let told = play_sheet::in_numbers(play_sheet::play(sheet, steps, answer));
     let mut out = [0u8; PRINTED];
-    print_told(edition, told, answer, &mut out);
+    print_told(rt, edition, told, answer, &mut out);
 }
 
-fn print_told(edition: Edition, told: Numbers, answer: &[u8], out: &mut [u8]) {
+fn print_told(rt: &impl Streams, edition: Edition, told: Numbers, answer: &[u8], out: &mut [u8]) {
     let filled = print_lines::put_lines(out, edition, told, answer);
     match filled {
         Filled::Bytes(n) => {
             let bytes = least(n, out.len());
-            tell_end(b"play", print_out::print(How::Going, &out[0..bytes]));
+            tell_end(
+                rt,
+                b"play",
+                print_out::print(rt, How::Going, &out[0..bytes]),
+            );
         }
         // never: the buffer has room for the longest lines
         Filled::NoRoom => {}

@@ -3,8 +3,10 @@
 //
 // The stored sheet: left `K`, field 0, `-4`, field 0, field 2; right `K7`, field 1, `.$`. Field 0 is `LT`, or a digit and any of the values 34 to 38
 // (`YZ-. `); field 2 is empty or `$`; field 1 is open.
+#![tactic(auto)]
+
 use print_failures::refuse;
-use print_out::{How, read_first, tell, tell_end};
+use print_out::{How, Streams, read_first, tell, tell_end};
 use script_sheet::Scripted;
 
 // As `clash` does: it "reads the first" 2,048 "bytes of standard input".
@@ -13,32 +15,32 @@ const INPUT: usize = 2048;
 // No script is longer: `enough`, which `script_sheet::script` promises.
 const SCRIPT: usize = 280000;
 
-fn main() {
+fn main(rt: HostRuntime) {
     let mut input = [0u8; INPUT];
-    let got = read_first(&mut input);
+    let got = read_first(&rt, &mut input);
     let n = got.bytes;
     if got.read {
-        write_out(&input[0..n]);
+        write_out(&rt, &input[0..n]);
     } else {
-        tell_end(b"script", How::NotRead);
+        tell_end(&rt, b"script", How::NotRead);
     }
 }
 
-fn write_out(sheet: &[u8]) {
+fn write_out(rt: &impl Streams, sheet: &[u8]) {
     let mut out = [0u8; SCRIPT];
-    write_in(sheet, &mut out);
+    write_in(rt, sheet, &mut out);
 }
 
-fn write_in(sheet: &[u8], out: &mut [u8]) {
+fn write_in(rt: &impl Streams, sheet: &[u8], out: &mut [u8]) {
     let scripted = script_sheet::script(sheet, out);
     match scripted {
-        Scripted::Written { bytes } => print(&out[0..bytes]),
-        Scripted::Refused { fault, place } => refuse(b"script", fault, place),
+        Scripted::Written { bytes } => print(rt, &out[0..bytes]),
+        Scripted::Refused { fault, place } => refuse(rt, b"script", fault, place),
         // never: the buffer is as long as the longest script
-        Scripted::TooShort => tell(b"script: 40: the buffer is too short\n"),
+        Scripted::TooShort => tell(rt, b"script: 40: the buffer is too short\n"),
     }
 }
 
-fn print(script: &[u8]) {
-    tell_end(b"script", print_out::print(How::Going, script));
+fn print(rt: &impl Streams, script: &[u8]) {
+    tell_end(rt, b"script", print_out::print(rt, How::Going, script));
 }

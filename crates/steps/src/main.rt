@@ -4,6 +4,8 @@
 //
 // The stored sheet: left `K`, field 0, `-`, field 1; right `K7`, field 2. Field 0 is a digit and one of `ABC`, field 1 is empty or `$`, field 2 is any
 // text that is not empty. Both rules make `K7A-`; the last `left` and the last `right` strike the hidden fields of spaces.
+#![tactic(auto)]
+
 ghost use Rattle.std.specs.Prelude.{◌≤◌};
 
 use base_answers::Numbers;
@@ -11,7 +13,7 @@ use base_editions::Edition;
 use base_put::sign;
 use base_steps::StepsNumbers;
 use print_clash::{Filled, INPUT, PRINTED};
-use print_out::{How, least, print, read_first, tell_end};
+use print_out::{How, Streams, least, print, read_first, tell_end};
 use spell_table::NO_SHIFT;
 
 // The work has room for 356 situations, and a step has at most four bytes: always enough (`enough` of `StepsPromised`).
@@ -20,40 +22,52 @@ const STEPS: usize = 4 * 356;
 // "2 a character"
 const PUT: u8 = 2;
 
-fn main() {
+fn main(rt: HostRuntime) {
     let mut input = [0u8; INPUT];
-    let got = read_first(&mut input);
+    let got = read_first(&rt, &mut input);
     let n = got.bytes;
     if got.read {
-        answer_sheet(&input[0..n]);
+        answer_sheet(&rt, &input[0..n]);
     } else {
-        tell_end(b"steps", How::NotRead);
+        tell_end(&rt, b"steps", How::NotRead);
     }
 }
 
-fn answer_sheet(sheet: &[u8]) {
+fn answer_sheet(rt: &impl Streams, sheet: &[u8]) {
     let mut work = print_clash::zeroed_work();
     let mut answer = print_clash::zeroed_answer();
     let mut steps = [0u8; STEPS];
-    print_answer(sheet, &mut work, &mut answer, &mut steps);
+    print_answer(rt, sheet, &mut work, &mut answer, &mut steps);
 }
 
-fn print_answer(sheet: &[u8], work: &mut [u8], answer: &mut [u8], steps: &mut [u8]) {
+fn print_answer(
+    rt: &impl Streams,
+    sheet: &[u8],
+    work: &mut [u8],
+    answer: &mut [u8],
+    steps: &mut [u8],
+) {
     let edition = print_signs::edition(sheet);
     let told = base_steps::in_numbers(steps_sheet::steps(sheet, work, answer, steps));
     let bytes = told.steps;
     let n = least(bytes, steps.len());
-    let lines = print_lines_of(edition, told, answer);
-    tell_end(b"steps", print_steps(lines, edition, &steps[0..n]));
+    let lines = print_lines_of(rt, edition, told, answer);
+    tell_end(rt, b"steps", print_steps(rt, lines, edition, &steps[0..n]));
 }
 
 // As `clash` prints them.
-fn print_lines_of(edition: Edition, told: StepsNumbers, answer: &[u8]) -> How {
+fn print_lines_of(rt: &impl Streams, edition: Edition, told: StepsNumbers, answer: &[u8]) -> How {
     let mut out = [0u8; PRINTED];
-    print_in(edition, told, answer, &mut out)
+    print_in(rt, edition, told, answer, &mut out)
 }
 
-fn print_in(edition: Edition, told: StepsNumbers, answer: &[u8], out: &mut [u8]) -> How {
+fn print_in(
+    rt: &impl Streams,
+    edition: Edition,
+    told: StepsNumbers,
+    answer: &[u8],
+    out: &mut [u8],
+) -> How {
     let numbers = Numbers {
         number: told.number,
         count: told.count,
@@ -64,43 +78,47 @@ fn print_in(edition: Edition, told: StepsNumbers, answer: &[u8], out: &mut [u8])
     match filled {
         Filled::Bytes(n) => {
             let end = least(n, out.len());
-            print(How::Going, &out[0..end])
+            print(rt, How::Going, &out[0..end])
         }
         Filled::NoRoom => How::NotWritten,
     }
 }
 
 // A line for each record.
-fn print_steps(how: How, edition: Edition, steps: &[u8]) -> How {
+fn print_steps(rt: &impl Streams, how: How, edition: Edition, steps: &[u8]) -> How {
     let mut now = how;
     let mut at = 0;
     while at < steps.len() {
         let kind = byte_at(steps, at + 2);
-        now = print_step(now, edition, kind, byte_at(steps, at + 3));
+        now = print_step(rt, now, edition, kind, byte_at(steps, at + 3));
         at += width(kind);
     }
     now
 }
 
-fn print_step(how: How, edition: Edition, kind: u8, value: u8) -> How {
+fn print_step(rt: &impl Streams, how: How, edition: Edition, kind: u8, value: u8) -> How {
     if kind == 0 {
-        return print(how, b"left\n");
+        return print(rt, how, b"left\n");
     }
     if kind == 1 {
-        return print(how, b"right\n");
+        return print(rt, how, b"right\n");
     }
-    print(print_character(print(how, b"put "), edition, value), b"\n")
+    print(
+        rt,
+        print_character(rt, print(rt, how, b"put "), edition, value),
+        b"\n",
+    )
 }
 
 // A character as the lines have it, by one sign or two.
-fn print_character(how: How, edition: Edition, c: u8) -> How {
+fn print_character(rt: &impl Streams, how: How, edition: Edition, c: u8) -> How {
     let shift = print_signs::shift(edition, c);
     let text = [sign(print_signs::value(edition, c))];
     if shift == NO_SHIFT {
-        return print(how, &text);
+        return print(rt, how, &text);
     }
     let before = [sign(shift)];
-    print(print(how, &before), &text)
+    print(rt, print(rt, how, &before), &text)
 }
 
 // Mark and kind; for a character its value too.

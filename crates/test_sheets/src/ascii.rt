@@ -2,7 +2,7 @@
 // them, and the length of the output buffer in two; low first.
 use crate::written::read_bytes;
 use crate::{ANSWER_FILL, print_all};
-use print_out::{How, fill, is_going, print, print_answer, read_number};
+use print_out::{How, Streams, fill, is_going, print, print_answer, read_number};
 use spell_text::{Spelt, in_numbers};
 
 // the most bytes that are handed over
@@ -14,34 +14,35 @@ const OUTPUT: usize = 2304;
 // the letter of a text to be spelt
 const TO_SPELL: usize = b'S' as usize;
 
-pub fn show_ascii() -> How {
+pub fn show_ascii(rt: &impl Streams) -> How {
     let mut bytes = [0u8; BYTES];
     let mut out = [0u8; OUTPUT];
-    show_case(&mut bytes, &mut out)
+    show_case(rt, &mut bytes, &mut out)
 }
 
-fn show_case(bytes: &mut [u8], out: &mut [u8]) -> How {
-    let first = read_number(How::Going, 1, 255);
+fn show_case(rt: &impl Streams, bytes: &mut [u8], out: &mut [u8]) -> How {
+    let first = read_number(rt, How::Going, 1, 255);
     let letter = first.number;
     let one = first.how;
-    let second = read_bytes(one, bytes);
+    let second = read_bytes(rt, one, bytes);
     let n = second.number;
     let two = second.how;
-    let third = read_number(two, 2, out.len());
+    let third = read_number(rt, two, 2, out.len());
     let o = third.number;
     let how = third.how;
-    show_bytes(how, letter, &bytes[0..n], &mut out[0..o])
+    show_bytes(rt, how, letter, &bytes[0..n], &mut out[0..o])
 }
 
 // A line: number, count, place and written length, and every byte of the output buffer.
-fn show_bytes(how: How, letter: usize, bytes: &[u8], out: &mut [u8]) -> How {
+fn show_bytes(rt: &impl Streams, how: How, letter: usize, bytes: &[u8], out: &mut [u8]) -> How {
     if !is_going(how) {
         return how;
     }
     fill(out, ANSWER_FILL);
     let told = in_numbers(spelt_or_read(letter, bytes, out));
     print(
-        print_answer(print_all(told), out, told.written, ANSWER_FILL),
+        rt,
+        print_answer(rt, print_all(rt, told), out, told.written, ANSWER_FILL),
         b"\n",
     )
 }

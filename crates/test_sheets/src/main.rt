@@ -207,12 +207,14 @@
 // 26. `WA`: the way of given texts
 //
 // First what the second program's `sheets --way-each` makes: every damage of every byte and of every record of the texts of three short sheets, then
-// single texts, among them such whose longest row has 48 tokens and such with 49, one with the most steps that a way may have and one with one more.
-// Then what `sheets --kept --way 61 300` makes: texts of clashes that were found, longer ones, and such with a damage. `second --way` prints the same.
+// single texts, among them one with the most steps that a way may have and one with one more. Then what `sheets --kept --way 61 300` makes: texts of
+// clashes that were found, longer ones, and such with a damage. `second --way` prints the same.
 //
 // 27. `WA`: the same in the second edition
 //
 // What `sheets --edition 2 --way-each` and `sheets --edition 2 --kept --way 62 120` make. `second --way` prints the same.
+#![tactic(auto)]
+
 mod ascii;
 mod fronts;
 mod part;
@@ -226,8 +228,8 @@ use base_answers::Numbers;
 use part::{Kind, Part, Shown};
 use print_clash::{FIRST_LINE, Filled, PRINTED};
 use print_out::{
-    How, WORK, WORK_FILL, fill, is_going, print, print_answer, print_number, print_numbers,
-    print_work, read_all, read_number, tell_end,
+    How, Streams, WORK, WORK_FILL, fill, is_going, print, print_answer, print_number,
+    print_numbers, print_work, read_all, read_number, tell_end,
 };
 
 // the longest sheet that two bytes can tell
@@ -239,20 +241,20 @@ const ANSWER: usize = 4096;
 // The byte with which the answer buffer is filled before each case.
 pub const ANSWER_FILL: u8 = 165;
 
-fn main() {
+fn main(rt: HostRuntime) {
     let mut sheet = [0u8; SHEET];
     let mut work = [0u8; WORK];
     let mut answer = [0u8; ANSWER];
-    let ended = answer_each(&mut sheet, &mut work, &mut answer);
-    tell_end(b"test_sheets", ended);
+    let ended = answer_each(&rt, &mut sheet, &mut work, &mut answer);
+    tell_end(&rt, b"test_sheets", ended);
 }
 
 // A proved loop has to end, and nothing says that the input does: the turns are counted down from a number that no run uses up.
-fn answer_each(sheet: &mut [u8], work: &mut [u8], answer: &mut [u8]) -> How {
+fn answer_each(rt: &impl Streams, sheet: &mut [u8], work: &mut [u8], answer: &mut [u8]) -> How {
     let mut part = part::cases(How::Going, Kind::Written, 0);
     let mut turns = u64::MAX;
     while turns > 0 && goes_on(part) {
-        part = answer_next(sheet, work, answer, part);
+        part = answer_next(rt, sheet, work, answer, part);
         turns -= 1;
     }
     let how = part.how;
@@ -265,38 +267,57 @@ fn goes_on(part: Part) -> bool {
 }
 
 // The next case of the part or, behind its last, the next part.
-fn answer_next(sheet: &mut [u8], work: &mut [u8], answer: &mut [u8], part: Part) -> Part {
+fn answer_next(
+    rt: &impl Streams,
+    sheet: &mut [u8],
+    work: &mut [u8],
+    answer: &mut [u8],
+    part: Part,
+) -> Part {
     let left = part.left;
     if left == 0 {
-        return part::next();
+        return part::next(rt);
     }
     let kind = part.kind;
-    let how = answer_one(sheet, work, answer, kind);
+    let how = answer_one(rt, sheet, work, answer, kind);
     part::cases(how, kind, left - 1)
 }
 
-fn answer_one(sheet: &mut [u8], work: &mut [u8], answer: &mut [u8], kind: Kind) -> How {
+fn answer_one(
+    rt: &impl Streams,
+    sheet: &mut [u8],
+    work: &mut [u8],
+    answer: &mut [u8],
+    kind: Kind,
+) -> How {
     match kind {
-        Kind::Sheets(shown) => answer_sheet(sheet, work, answer, shown),
-        Kind::Written => written::show_written(),
-        Kind::Edition => written::show_edition(),
-        Kind::Ascii => ascii::show_ascii(),
-        Kind::Fronts => fronts::show_fronts(),
+        Kind::Sheets(shown) => answer_sheet(rt, sheet, work, answer, shown),
+        Kind::Written => written::show_written(rt),
+        Kind::Edition => written::show_edition(rt),
+        Kind::Ascii => ascii::show_ascii(rt),
+        Kind::Fronts => fronts::show_fronts(rt),
     }
 }
 
 // The length of the working buffer and that of the answer buffer in four bytes each, the sheet's length in two, all low first, and the sheet.
-fn answer_sheet(sheet: &mut [u8], work: &mut [u8], answer: &mut [u8], shown: Shown) -> How {
-    let first = read_number(How::Going, 4, work.len());
+fn answer_sheet(
+    rt: &impl Streams,
+    sheet: &mut [u8],
+    work: &mut [u8],
+    answer: &mut [u8],
+    shown: Shown,
+) -> How {
+    let first = read_number(rt, How::Going, 4, work.len());
     let w = first.number;
     let one = first.how;
-    let second = read_number(one, 4, answer.len());
+    let second = read_number(rt, one, 4, answer.len());
     let a = second.number;
     let two = second.how;
-    let third = read_number(two, 2, sheet.len());
+    let third = read_number(rt, two, 2, sheet.len());
     let s = third.number;
     let three = third.how;
     answer_in(
+        rt,
         three,
         &mut sheet[0..s],
         &mut work[0..w],
@@ -306,94 +327,110 @@ fn answer_sheet(sheet: &mut [u8], work: &mut [u8], answer: &mut [u8], shown: Sho
 }
 
 fn answer_in(
+    rt: &impl Streams,
     headed: How,
     sheet: &mut [u8],
     work: &mut [u8],
     answer: &mut [u8],
     shown: Shown,
 ) -> How {
-    let how = read_all(headed, sheet);
+    let how = read_all(rt, headed, sheet);
     if !is_going(how) {
         return how;
     }
     fill(work, WORK_FILL);
     fill(answer, ANSWER_FILL);
-    answer_case(sheet, work, answer, shown)
+    answer_case(rt, sheet, work, answer, shown)
 }
 
-fn answer_case(sheet: &[u8], work: &mut [u8], answer: &mut [u8], shown: Shown) -> How {
+fn answer_case(
+    rt: &impl Streams,
+    sheet: &[u8],
+    work: &mut [u8],
+    answer: &mut [u8],
+    shown: Shown,
+) -> How {
     match shown {
-        Shown::Bytes => show_bytes(sheet, work, answer),
-        Shown::Decided => show_decided(sheet, work, answer),
-        Shown::Lines => show_lines(sheet, work, answer),
-        Shown::Scripts => script::show_script(sheet),
-        Shown::Spelt => spelt::show_spelt(sheet, answer),
-        Shown::Dropped => spelt::show_dropped(sheet, answer),
-        Shown::Plain => plain::show_plain(sheet, work),
-        Shown::Steps => steps::show_steps(sheet, work, answer),
-        Shown::Played => steps::show_played(sheet, answer),
-        Shown::WayOfTexts => steps::show_way_of_texts(sheet, answer),
+        Shown::Bytes => show_bytes(rt, sheet, work, answer),
+        Shown::Decided => show_decided(rt, sheet, work, answer),
+        Shown::Lines => show_lines(rt, sheet, work, answer),
+        Shown::Scripts => script::show_script(rt, sheet),
+        Shown::Spelt => spelt::show_spelt(rt, sheet, answer),
+        Shown::Dropped => spelt::show_dropped(rt, sheet, answer),
+        Shown::Plain => plain::show_plain(rt, sheet, work),
+        Shown::Steps => steps::show_steps(rt, sheet, work, answer),
+        Shown::Played => steps::show_played(rt, sheet, answer),
+        Shown::WayOfTexts => steps::show_way_of_texts(rt, sheet, answer),
     }
 }
 
-fn show_bytes(sheet: &[u8], work: &mut [u8], answer: &mut [u8]) -> How {
+fn show_bytes(rt: &impl Streams, sheet: &[u8], work: &mut [u8], answer: &mut [u8]) -> How {
     let told = base_answers::in_numbers(search_clash::clash(sheet, work, answer));
-    print(print_answered(told, work, answer), b"\n")
+    print(rt, print_answered(rt, told, work, answer), b"\n")
 }
 
-fn show_decided(sheet: &[u8], work: &mut [u8], answer: &mut [u8]) -> How {
+fn show_decided(rt: &impl Streams, sheet: &[u8], work: &mut [u8], answer: &mut [u8]) -> How {
     let made = decide_sheet::decide(sheet, work, answer);
     let given = made.answer;
     let told = base_answers::in_numbers(given);
-    let line = print(print_answered(told, work, answer), b", search ");
-    print(print_number(line, made.search as usize), b"\n")
+    let line = print(rt, print_answered(rt, told, work, answer), b", search ");
+    print(rt, print_number(rt, line, made.search as usize), b"\n")
 }
 
 // Number, count, place and written length, and every byte of the two buffers.
-fn print_answered(told: Numbers, work: &[u8], answer: &[u8]) -> How {
+fn print_answered(rt: &impl Streams, told: Numbers, work: &[u8], answer: &[u8]) -> How {
     print_work(
-        print_answer(print_all(told), answer, told.written, ANSWER_FILL),
+        rt,
+        print_answer(rt, print_all(rt, told), answer, told.written, ANSWER_FILL),
         work,
     )
 }
 
 // Number, count, place and written length.
-fn print_all(told: Numbers) -> How {
+fn print_all(rt: &impl Streams, told: Numbers) -> How {
     print_numbers(
-        print_number(How::Going, told.number),
+        rt,
+        print_number(rt, How::Going, told.number),
         &[told.count, told.place, told.written],
     )
 }
 
 // The lines, with just the room that the longest need.
-fn show_lines(sheet: &[u8], work: &mut [u8], answer: &mut [u8]) -> How {
+fn show_lines(rt: &impl Streams, sheet: &[u8], work: &mut [u8], answer: &mut [u8]) -> How {
     let mut out = [0u8; PRINTED];
     if ANSWER < answer.len() {
         return How::Going;
     }
     let room = FIRST_LINE + 2 * answer.len();
-    print_lines(sheet, work, answer, &mut out[0..room])
+    print_lines(rt, sheet, work, answer, &mut out[0..room])
 }
 
-fn print_lines(sheet: &[u8], work: &mut [u8], answer: &mut [u8], out: &mut [u8]) -> How {
+fn print_lines(
+    rt: &impl Streams,
+    sheet: &[u8],
+    work: &mut [u8],
+    answer: &mut [u8],
+    out: &mut [u8],
+) -> How {
     let made = print_clash::lines(sheet, work, answer, out);
     match made {
-        Filled::Bytes(n) => print_front(out, n),
-        Filled::NoRoom => print(How::Going, b"no room\n"),
+        Filled::Bytes(n) => print_front(rt, out, n),
+        Filled::NoRoom => print(rt, How::Going, b"no room\n"),
     }
 }
 
-fn print_front(out: &[u8], n: usize) -> How {
+fn print_front(rt: &impl Streams, out: &[u8], n: usize) -> How {
     if out.len() < n {
         return How::Going;
     }
-    print(How::Going, &out[0..n])
+    print(rt, How::Going, &out[0..n])
 }
 
 // Number, place and written length.
-fn print_told(told: Numbers) -> How {
+fn print_told(rt: &impl Streams, told: Numbers) -> How {
     print_numbers(
-        print_number(How::Going, told.number),
+        rt,
+        print_number(rt, How::Going, told.number),
         &[told.place, told.written],
     )
 }

@@ -1,8 +1,8 @@
 // A part of the input: a mark of two letters, the number of its cases in four bytes, low first, and so many cases.
-use print_out::{How, is_going, low_first, read_next};
+use print_out::{How, Streams, is_going, low_first, read_next};
 
 // What the cases of a part are.
-#[derive(Drop)]
+#[derive(Clone, Copy)]
 pub enum Kind {
     // sheets and the lengths of their buffers
     Sheets(Shown),
@@ -17,7 +17,7 @@ pub enum Kind {
 }
 
 // What is done with a sheet, and what is printed of it.
-#[derive(Drop)]
+#[derive(Clone, Copy)]
 pub enum Shown {
     // `BY`: a line: number, count, place and written length, and every byte of the two buffers as they are afterwards
     Bytes,
@@ -46,7 +46,7 @@ pub enum Shown {
 }
 
 // How far the program is, what the cases of the part are, and how many are left.
-#[derive(Drop)]
+#[derive(Clone, Copy)]
 pub struct Part {
     pub how: How,
     pub kind: Kind,
@@ -85,9 +85,9 @@ const ASCII: usize = b'F' as usize + 256 * (b'A' as usize);
 const FRONTS: usize = b'F' as usize + 256 * (b'R' as usize);
 
 // Reads the head of the next part.
-pub fn next() -> Part {
+pub fn next(rt: &impl Streams) -> Part {
     let mut head = [0u8; HEAD];
-    let how = read_next(&mut head);
+    let how = read_next(rt, &mut head);
     if !is_going(how) {
         return cases(how, Kind::Written, 0);
     }

@@ -3,22 +3,23 @@ use crate::{ANSWER_FILL, print_told};
 use base_answers::Numbers;
 use carry_anew::Rewritten;
 use carry_numbers::in_numbers;
-use print_out::{How, print, print_answer};
+use print_out::{How, Streams, print, print_answer};
 use read_side::{Cursor, Mark};
 
-pub fn show_spelt(sheet: &[u8], out: &mut [u8]) -> How {
+pub fn show_spelt(rt: &impl Streams, sheet: &[u8], out: &mut [u8]) -> How {
     let told = in_numbers(carried(sheet, out));
-    print_written(told, out)
+    print_written(rt, told, out)
 }
 
-pub fn show_dropped(sheet: &[u8], out: &mut [u8]) -> How {
+pub fn show_dropped(rt: &impl Streams, sheet: &[u8], out: &mut [u8]) -> How {
     let told = in_numbers(dropped(sheet, out));
-    print_written(told, out)
+    print_written(rt, told, out)
 }
 
-fn print_written(told: Numbers, out: &[u8]) -> How {
+fn print_written(rt: &impl Streams, told: Numbers, out: &[u8]) -> How {
     print(
-        print_answer(print_told(told), out, told.written, ANSWER_FILL),
+        rt,
+        print_answer(rt, print_told(rt, told), out, told.written, ANSWER_FILL),
         b"\n",
     )
 }

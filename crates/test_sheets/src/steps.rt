@@ -3,7 +3,7 @@
 use crate::written::read_bytes;
 use crate::{ANSWER_FILL, print_all, print_answered};
 use base_answers::Numbers;
-use print_out::{How, fill, is_going, print, print_answer, print_number, read_number};
+use print_out::{How, Streams, fill, is_going, print, print_answer, print_number, read_number};
 
 // more than the longest way in the program's room
 const STEPS: usize = 2048;
@@ -14,20 +14,33 @@ const TEXTS: usize = 65535;
 // The byte with which the steps buffer is filled before each case.
 const STEPS_FILL: u8 = 195;
 
-pub fn show_steps(sheet: &[u8], work: &mut [u8], answer: &mut [u8]) -> How {
+pub fn show_steps(rt: &impl Streams, sheet: &[u8], work: &mut [u8], answer: &mut [u8]) -> How {
     let mut steps = [0u8; STEPS];
-    show_lent(sheet, work, answer, &mut steps)
+    show_lent(rt, sheet, work, answer, &mut steps)
 }
 
-fn show_lent(sheet: &[u8], work: &mut [u8], answer: &mut [u8], steps: &mut [u8]) -> How {
-    let first = read_number(How::Going, 2, steps.len());
+fn show_lent(
+    rt: &impl Streams,
+    sheet: &[u8],
+    work: &mut [u8],
+    answer: &mut [u8],
+    steps: &mut [u8],
+) -> How {
+    let first = read_number(rt, How::Going, 2, steps.len());
     let n = first.number;
     let how = first.how;
-    show_way(how, sheet, work, answer, &mut steps[0..n])
+    show_way(rt, how, sheet, work, answer, &mut steps[0..n])
 }
 
 // A line: number, count, place and written length, every byte of the answer buffer and of the working buffer, and of the steps buffer.
-fn show_way(how: How, sheet: &[u8], work: &mut [u8], answer: &mut [u8], steps: &mut [u8]) -> How {
+fn show_way(
+    rt: &impl Streams,
+    how: How,
+    sheet: &[u8],
+    work: &mut [u8],
+    answer: &mut [u8],
+    steps: &mut [u8],
+) -> How {
     if !is_going(how) {
         return how;
     }
@@ -39,47 +52,53 @@ fn show_way(how: How, sheet: &[u8], work: &mut [u8], answer: &mut [u8], steps: &
         place: told.place,
         written: told.written,
     };
-    let line = print(print_answered(numbers, work, answer), b", steps ");
-    let counted = print_number(line, told.steps);
-    print(print_answer(counted, steps, told.steps, STEPS_FILL), b"\n")
-}
-
-pub fn show_played(sheet: &[u8], answer: &mut [u8]) -> How {
-    let mut steps = [0u8; STEPS];
-    let first = read_bytes(How::Going, &mut steps);
-    let n = first.number;
-    let how = first.how;
-    if !is_going(how) {
-        return how;
-    }
-    play(sheet, &steps[0..n], answer)
-}
-
-// A line: number, count, place and written length, and every byte of the answer buffer.
-fn play(sheet: &[u8], steps: &[u8], answer: &mut [u8]) -> How {
-    let told = play_sheet::in_numbers(play_sheet::play(sheet, steps, answer));
+    let line = print(rt, print_answered(rt, numbers, work, answer), b", steps ");
+    let counted = print_number(rt, line, told.steps);
     print(
-        print_answer(print_all(told), answer, told.written, ANSWER_FILL),
+        rt,
+        print_answer(rt, counted, steps, told.steps, STEPS_FILL),
         b"\n",
     )
 }
 
-pub fn show_way_of_texts(sheet: &[u8], steps: &mut [u8]) -> How {
-    let mut texts = [0u8; TEXTS];
-    let first = read_bytes(How::Going, &mut texts);
+pub fn show_played(rt: &impl Streams, sheet: &[u8], answer: &mut [u8]) -> How {
+    let mut steps = [0u8; STEPS];
+    let first = read_bytes(rt, How::Going, &mut steps);
     let n = first.number;
     let how = first.how;
     if !is_going(how) {
         return how;
     }
-    find_way(sheet, &texts[0..n], steps)
+    play(rt, sheet, &steps[0..n], answer)
+}
+
+// A line: number, count, place and written length, and every byte of the answer buffer.
+fn play(rt: &impl Streams, sheet: &[u8], steps: &[u8], answer: &mut [u8]) -> How {
+    let told = play_sheet::in_numbers(play_sheet::play(sheet, steps, answer));
+    print(
+        rt,
+        print_answer(rt, print_all(rt, told), answer, told.written, ANSWER_FILL),
+        b"\n",
+    )
+}
+
+pub fn show_way_of_texts(rt: &impl Streams, sheet: &[u8], steps: &mut [u8]) -> How {
+    let mut texts = [0u8; TEXTS];
+    let first = read_bytes(rt, How::Going, &mut texts);
+    let n = first.number;
+    let how = first.how;
+    if !is_going(how) {
+        return how;
+    }
+    find_way(rt, sheet, &texts[0..n], steps)
 }
 
 // A line: number, count, place and written length, and every byte of the steps buffer.
-fn find_way(sheet: &[u8], texts: &[u8], steps: &mut [u8]) -> How {
+fn find_way(rt: &impl Streams, sheet: &[u8], texts: &[u8], steps: &mut [u8]) -> How {
     let told = way_sheet::in_numbers(way_sheet::way(sheet, texts, steps));
     print(
-        print_answer(print_all(told), steps, told.written, ANSWER_FILL),
+        rt,
+        print_answer(rt, print_all(rt, told), steps, told.written, ANSWER_FILL),
         b"\n",
     )
 }

@@ -4,7 +4,7 @@
 ghost use Rattle.std.specs.Prelude.{◌≤◌, length};
 
 use crate::{ANSWER_FILL, print_all};
-use print_out::{How, Number, fill, is_going, print, print_answer, read_all, read_number};
+use print_out::{How, Number, Streams, fill, is_going, print, print_answer, read_all, read_number};
 
 // as many as one byte can tell
 const LENGTHS: usize = 255;
@@ -21,24 +21,25 @@ const OUTPUT: usize = 2048;
 // the greatest number that four bytes can tell
 const FOUR_BYTES: usize = 4294967295;
 
-pub fn show_written() -> How {
-    show_in(How::Going, 0)
+pub fn show_written(rt: &impl Streams) -> How {
+    show_in(rt, How::Going, 0)
 }
 
-pub fn show_edition() -> How {
-    let first = read_eight(How::Going);
+pub fn show_edition(rt: &impl Streams) -> How {
+    let first = read_eight(rt, How::Going);
     let edition = first.number;
     let how = first.how;
-    show_in(how, edition)
+    show_in(rt, how, edition)
 }
 
-fn show_in(how: How, edition: usize) -> How {
+fn show_in(rt: &impl Streams, how: How, edition: usize) -> How {
     let mut lengths = [0u64; LENGTHS];
     let mut patterns = [0u8; PATTERNS];
     let mut left = [0u8; TOKENS];
     let mut right = [0u8; TOKENS];
     let mut out = [0u8; OUTPUT];
     show_case(
+        rt,
         how,
         edition,
         &mut lengths,
@@ -50,6 +51,7 @@ fn show_in(how: How, edition: usize) -> How {
 }
 
 fn show_case(
+    rt: &impl Streams,
     headed: How,
     edition: usize,
     lengths: &mut [u64],
@@ -58,13 +60,14 @@ fn show_case(
     right: &mut [u8],
     out: &mut [u8],
 ) -> How {
-    let first = read_lengths(headed, lengths);
+    let first = read_lengths(rt, headed, lengths);
     let k = first.number;
     let one = first.how;
-    let second = read_bytes(one, patterns);
+    let second = read_bytes(rt, one, patterns);
     let p = second.number;
     let two = second.how;
     show_sides(
+        rt,
         two,
         edition,
         &lengths[0..k],
@@ -76,6 +79,7 @@ fn show_case(
 }
 
 fn show_sides(
+    rt: &impl Streams,
     headed: How,
     edition: usize,
     lengths: &[u64],
@@ -84,16 +88,17 @@ fn show_sides(
     right: &mut [u8],
     out: &mut [u8],
 ) -> How {
-    let first = read_bytes(headed, left);
+    let first = read_bytes(rt, headed, left);
     let l = first.number;
     let one = first.how;
-    let second = read_bytes(one, right);
+    let second = read_bytes(rt, one, right);
     let r = second.number;
     let two = second.how;
-    let third = read_number(two, 2, out.len());
+    let third = read_number(rt, two, 2, out.len());
     let o = third.number;
     let how = third.how;
     show_sheet(
+        rt,
         how,
         edition,
         lengths,
@@ -106,6 +111,7 @@ fn show_sides(
 
 // A line: number, count, place and written length, and every byte of the output buffer.
 fn show_sheet(
+    rt: &impl Streams,
     how: How,
     edition: usize,
     lengths: &[u64],
@@ -122,19 +128,20 @@ fn show_sheet(
         edition, patterns, lengths, left, right, out,
     ));
     print(
-        print_answer(print_all(told), out, told.written, ANSWER_FILL),
+        rt,
+        print_answer(rt, print_all(rt, told), out, told.written, ANSWER_FILL),
         b"\n",
     )
 }
 
 // The number of the lengths, and so many.
-fn read_lengths(how: How, lengths: &mut [u64]) -> Number
+fn read_lengths(rt: &impl Streams, how: How, lengths: &mut [u64]) -> Number
     ensures { result.number ≤ length lengths.old }
 {
-    let first = read_number(how, 1, lengths.len());
+    let first = read_number(rt, how, 1, lengths.len());
     let k = first.number;
     let headed = first.how;
-    let all = read_each(headed, &mut lengths[0..k]);
+    let all = read_each(rt, headed, &mut lengths[0..k]);
     Number {
         how: all,
         number: k,
@@ -142,11 +149,11 @@ fn read_lengths(how: How, lengths: &mut [u64]) -> Number
 }
 
 // A length in every element.
-fn read_each(how: How, lengths: &mut [u64]) -> How {
+fn read_each(rt: &impl Streams, how: How, lengths: &mut [u64]) -> How {
     let mut now = how;
     let mut i = 0;
     while i < lengths.len() {
-        let its = read_eight(now);
+        let its = read_eight(rt, now);
         lengths[i] = its.number as u64;
         now = its.how;
         i += 1;
@@ -155,10 +162,10 @@ fn read_each(how: How, lengths: &mut [u64]) -> How {
 }
 
 // A number in eight bytes.
-pub fn read_eight(how: How) -> Number {
-    let low = read_number(how, 4, FOUR_BYTES);
+pub fn read_eight(rt: &impl Streams, how: How) -> Number {
+    let low = read_number(rt, how, 4, FOUR_BYTES);
     let so_far = low.how;
-    let high = read_number(so_far, 4, FOUR_BYTES);
+    let high = read_number(rt, so_far, 4, FOUR_BYTES);
     let how = high.how;
     Number {
         how,
@@ -167,13 +174,13 @@ pub fn read_eight(how: How) -> Number {
 }
 
 // The number of the bytes, and so many.
-pub fn read_bytes(how: How, bytes: &mut [u8]) -> Number
+pub fn read_bytes(rt: &impl Streams, how: How, bytes: &mut [u8]) -> Number
     ensures { result.number ≤ length bytes.old }
 {
-    let first = read_number(how, 2, bytes.len());
+    let first = read_number(rt, how, 2, bytes.len());
     let n = first.number;
     let headed = first.how;
-    let all = read_all(headed, &mut bytes[0..n]);
+    let all = read_all(rt, headed, &mut bytes[0..n]);
     Number {
         how: all,
         number: n,

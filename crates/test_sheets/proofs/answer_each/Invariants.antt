@@ -1,0 +1,11 @@
+-- `answer_each` is safe and ends: the slices keep their lengths. The measure is the number of turns that are left.
+use mathlib.Core.Path.{◌≡◌}
+use lib.ListN.{length}
+use Rattle.test_sheets.proofs.answer_each.Given as goal
+
+abbrev pub invariant-loop-turns : goal.invariant-loop-turns
+invariant-loop-turns g l =
+    (length l.sheet ≡ length l.initial.sheet) × (length l.work ≡ length l.initial.work) × (length l.answer ≡ length l.initial.answer)
+
+abbrev pub decreases-loop-turns : goal.decreases-loop-turns
+decreases-loop-turns g l = l.turns
