@@ -13,8 +13,8 @@
 
 enum { STACK = 1 << 20, FILL = 165, MOST = 8192, LONGEST = 192, MANY = 68, MANY_SECOND = 196, SITUATIONS = 300 };
 
-/* "at most about 90 KiB", as the C header says. */
-enum { MOST_TAKEN = 90 * 1024 };
+/* "at most about 140 KiB", "about 120" and "the others about 105", as the C header says. */
+enum { DEEPEST = 140 * 1024, DEEP = 120 * 1024, OTHERS = 105 * 1024 };
 
 static uint8_t sheet[LONGEST + 32], rule[LONGEST + 32], other[] = {'R', 'U', 'L', 'E', 3, 10, 4, 10};
 static uint8_t catalogue[MOST], work[BRADOVUSC_WORK_BYTES(SITUATIONS)], answer[MOST], steps[BRADOVUSC_STEPS_BYTES(SITUATIONS)], texts[MOST];
@@ -75,38 +75,40 @@ static uint32_t read_spelt(void) { return bradovusc_read_spelt(other + 5, 3, out
 static uint32_t fronts_differ(void) { return bradovusc_fronts_differ(0, sheet + 4 + LONGEST, 6, other + 5, 3); }
 static uint32_t version(void) { return bradovusc_version(); }
 
-/* What is called, how many rules the catalogue has before, and which number is to come back, so that a call that did nothing is seen. */
+/* What is called, how many rules the catalogue has before, which number is to come back, so that a call that did nothing is seen, and how much
+ * stack the header allows it. */
 static const struct called {
     const char *name;
     uint32_t (*call)(void);
     int rules;
     uint32_t number;
+    size_t most;
 } all_calls[] = {
-    {"bradovusc_clash", clash, 0, BRADOVUSC_NO_ROOM},
-    {"bradovusc_decide", decide, 0, BRADOVUSC_NO_ROOM},
-    {"bradovusc_steps", search_steps, 0, BRADOVUSC_NO_ROOM},
-    {"bradovusc_play", play, 0, 0},
-    {"bradovusc_way", way, 0, 0},
-    {"bradovusc_plain", plain, 0, 42},
-    {"bradovusc_plain_bytes", plain_bytes, 0, 42},
-    {"bradovusc_script", script, 0, 0},
-    {"bradovusc_write", write_one, 0, 0},
-    {"bradovusc_write_edition", write_second, 0, 0},
-    {"bradovusc_add", add, 1, 30},
-    {"bradovusc_add_decided", add_decided, 1, 30},
-    {"bradovusc_recheck", recheck, 2, 0},
-    {"bradovusc_recheck_decided", recheck_decided, 2, 0},
-    {"bradovusc_withdraw", withdraw, 2, 0},
-    {"bradovusc_spell_open", spell_open, 0, 0},
-    {"bradovusc_spell_open_rule", spell_open_rule, 0, 0},
-    {"bradovusc_spell_open_catalogue", spell_open_catalogue, 2, 0},
-    {"bradovusc_drop_strays", drop_strays, 0, 0},
-    {"bradovusc_drop_strays_rule", drop_strays_rule, 0, 0},
-    {"bradovusc_drop_strays_catalogue", drop_strays_catalogue, 2, 0},
-    {"bradovusc_spell", spell, 0, 0},
-    {"bradovusc_read_spelt", read_spelt, 0, 0},
-    {"bradovusc_fronts_differ", fronts_differ, 0, 0},
-    {"bradovusc_version", version, 0, 0},
+    {"bradovusc_clash", clash, 0, BRADOVUSC_NO_ROOM, OTHERS},
+    {"bradovusc_decide", decide, 0, BRADOVUSC_NO_ROOM, OTHERS},
+    {"bradovusc_steps", search_steps, 0, BRADOVUSC_NO_ROOM, OTHERS},
+    {"bradovusc_play", play, 0, 0, OTHERS},
+    {"bradovusc_way", way, 0, 0, OTHERS},
+    {"bradovusc_plain", plain, 0, 42, OTHERS},
+    {"bradovusc_plain_bytes", plain_bytes, 0, 42, OTHERS},
+    {"bradovusc_script", script, 0, 0, OTHERS},
+    {"bradovusc_write", write_one, 0, 0, OTHERS},
+    {"bradovusc_write_edition", write_second, 0, 0, OTHERS},
+    {"bradovusc_add", add, 1, 30, OTHERS},
+    {"bradovusc_add_decided", add_decided, 1, 30, DEEPEST},
+    {"bradovusc_recheck", recheck, 2, 0, DEEP},
+    {"bradovusc_recheck_decided", recheck_decided, 2, 0, DEEP},
+    {"bradovusc_withdraw", withdraw, 2, 0, OTHERS},
+    {"bradovusc_spell_open", spell_open, 0, 0, OTHERS},
+    {"bradovusc_spell_open_rule", spell_open_rule, 0, 0, OTHERS},
+    {"bradovusc_spell_open_catalogue", spell_open_catalogue, 2, 0, DEEP},
+    {"bradovusc_drop_strays", drop_strays, 0, 0, OTHERS},
+    {"bradovusc_drop_strays_rule", drop_strays_rule, 0, 0, OTHERS},
+    {"bradovusc_drop_strays_catalogue", drop_strays_catalogue, 2, 0, DEEP},
+    {"bradovusc_spell", spell, 0, 0, OTHERS},
+    {"bradovusc_read_spelt", read_spelt, 0, 0, OTHERS},
+    {"bradovusc_fronts_differ", fronts_differ, 0, 0, OTHERS},
+    {"bradovusc_version", version, 0, 0, OTHERS},
 };
 
 static ucontext_t here, there;
@@ -154,7 +156,7 @@ int main(void) {
             printf("%s gave %" PRIu32 " and not %" PRIu32 "\n", called->name, number, called->number);
             right = false;
         }
-        if (bytes > MOST_TAKEN) {
+        if (bytes > called->most) {
             printf("%s takes more than the C header says\n", called->name);
             right = false;
         }

@@ -30,10 +30,10 @@
  * bradovusc_recheck, bradovusc_recheck_decided, bradovusc_spell_open, bradovusc_spell_open_rule, bradovusc_spell_open_catalogue,
  * bradovusc_drop_strays, bradovusc_drop_strays_rule, bradovusc_drop_strays_catalogue, bradovusc_fronts_differ and bradovusc_version.
  * They keep nothing from one call to the next, ask for no memory, and touch nothing but what they are lent, so calls in several
- * threads don't meet. bradovusc_recheck_decided takes at most about 90 KiB of stack, the others less: 85 were measured of it, 82 of
- * bradovusc_add_decided, 73 of bradovusc_spell_open_catalogue and bradovusc_drop_strays_catalogue, 67 of bradovusc_recheck, 66 of
- * bradovusc_way, 60 of bradovusc_decide, 59 of bradovusc_add and 37 of bradovusc_clash, bradovusc_steps and bradovusc_play. So a
- * thread with 128 KiB is enough for all.
+ * threads don't meet. bradovusc_add_decided takes at most about 140 KiB of stack, bradovusc_recheck_decided, bradovusc_recheck,
+ * bradovusc_spell_open_catalogue and bradovusc_drop_strays_catalogue about 120, the others about 105; 132, 117, 108, 112, 112 and 99
+ * were measured, 97 of bradovusc_way, 82 of bradovusc_decide and 63 of bradovusc_clash, bradovusc_steps and bradovusc_play. So a
+ * thread with 128 KiB is enough for all but the first, and one with 256 KiB for that.
  * All else is in this header:
  * bradovusc_ask, bradovusc_settle, bradovusc_find_steps, bradovusc_play_steps, bradovusc_find_way, bradovusc_ask_plain,
  * bradovusc_measure_plain, bradovusc_write_sheet, bradovusc_write_sheet_edition, bradovusc_spell_text, bradovusc_read_back,

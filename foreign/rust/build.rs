@@ -1,5 +1,5 @@
 //! Finds the static library: in the folder that `BRADOVUSC_LIB_DIR` names, and then in no other;
-//! else where `rt staticlib exported` writes it; else in `dist`, which the repository carries.
+//! else where `tools/build exported` writes it; else in `dist`, which the repository carries.
 
 use std::env;
 use std::path::{Path, PathBuf};
@@ -40,7 +40,7 @@ fn found_in(folder: &Path) -> Option<&'static str> {
 fn missing_in(folders: &[PathBuf]) -> String {
     let folders: Vec<_> = folders.iter().map(|folder| folder.display().to_string()).collect();
     format!(
-        "no {} in {}: write it by `rt staticlib exported`, or name its folder in {VARIABLE}",
+        "no {} in {}: write it by `tools/build exported`, or name its folder in {VARIABLE}",
         NAMES.map(file).join(" or "),
         folders.join(" or ")
     )
@@ -49,7 +49,7 @@ fn missing_in(folders: &[PathBuf]) -> String {
 /// The folders of this repository in which the library may stand: what was built here comes first.
 fn carried_here() -> Vec<PathBuf> {
     let top = Path::new(&cargo("CARGO_MANIFEST_DIR")).join("../..");
-    vec![top.join("target/staticlib"), top.join("dist")]
+    vec![top.join("crates/exported/out"), top.join("dist")]
 }
 
 /// A variable that cargo sets for every build script.
