@@ -4,18 +4,16 @@ use mathlib.Core.Path.{◌≡◌, refl, sym, ap, ◌∙◌}
 use mathlib.Core.Bool.{cond}
 use mathlib.Core.List.{List}
 use lib.Dec.{eqb, lit<}
+use Rattle.std.proofs.Common.{Ok, Err}
 use Rattle.paper.specs.Lists.{member}
 use Rattle.paper.specs.Buffers.{sheet_numbers}
 use Rattle.paper.specs.Outcome.{Outcome}
 use Rattle.paper.specs.Sheet as Paper
 use Rattle.base_answers.specs.Faults.{fault_of}
-use Rattle.base_answers.specs.AnswerNumbers.{how_number, number_in_pair, as_numbers, told}
-use Rattle.base_answers.specs.declared.Fault.TheVariants.{CutShort, WrongMark, WrongField, WrongLength, NotOnePattern, TooManyLeaves, WrongToken, WrongEdition, StrayPattern}
+use Rattle.base_answers.specs.AnswerNumbers.{how_number, number_in_pair, Answer, as_numbers, told}
 use Rattle.base_answers.specs.declared.How.{How}
 use Rattle.base_answers.specs.declared.How.TheVariants.{Clash, NoClash, NoRoom, SideTooLong, AnswerTooShort}
-use Rattle.base_answers.specs.declared.Answer.{Answer}
-use Rattle.base_answers.specs.declared.Answer.TheVariants.{Searched, Refused}
-use Rattle.base_answers.proofs.Same.{fault_from}
+use Rattle.base_answers.proofs.Same.{fault_from, fault_among, fault_numbered}
 
 -- the end with this number
 how_from : ℕ → ℕ → How
@@ -28,12 +26,12 @@ how_from n written =
 -- the answer with these numbers
 answer_from : Outcome → Answer
 answer_from o =
-    cond (member o.number sheet_numbers) (Refused (fault_from o.number) o.place)
-    (Searched (record { how = how_from o.number o.written; count = o.count }))
+    cond (member o.number sheet_numbers) (Err (record { fault = fault_from o.number; place = o.place }))
+    (Ok (record { how = how_from o.number o.written; count = o.count }))
 
 module _ (answer work : List ℕ) where
   end_told : (how : How) (n : ℕ) →
-      let r = Searched (record { how = how; count = n }) in answer_from (told r answer work) ≡ r
+      let r : Answer = Ok (record { how = how; count = n }) in answer_from (told r answer work) ≡ r
   unfolding answer_from how_from
   end_told (Clash written) n = refl
   end_told NoClash n = refl
@@ -42,17 +40,9 @@ module _ (answer work : List ℕ) where
   end_told AnswerTooShort n = refl
 
   answer_told : (r : Answer) → answer_from (told r answer work) ≡ r
-  unfolding answer_from fault_from
-  answer_told (Searched e) = end_told e.how e.count
-  answer_told (Refused CutShort at) = refl
-  answer_told (Refused WrongMark at) = refl
-  answer_told (Refused WrongField at) = refl
-  answer_told (Refused WrongLength at) = refl
-  answer_told (Refused NotOnePattern at) = refl
-  answer_told (Refused TooManyLeaves at) = refl
-  answer_told (Refused WrongToken at) = refl
-  answer_told (Refused WrongEdition at) = refl
-  answer_told (Refused StrayPattern at) = refl
+  unfolding answer_from
+  answer_told (Ok e) = end_told e.how e.count
+  answer_told (Err r) = rw (fault_among r.fault, fault_numbered r.fault) refl
 
 -- two answers that tell the same are the same
 pub one_answer : (r r' : Answer) (a a' w w' : List ℕ) → told r a w ≡ told r' a' w' → r ≡ r'
@@ -78,8 +68,8 @@ how_below AnswerTooShort = lit< tt
 
 -- 44 is the last of a sheet's numbers
 pub number_below : (a : Answer) → (as_numbers a).number < 45
-number_below (Searched e) = how_below e.how
-number_below (Refused x at) = fault_below (fault_of x)
+number_below (Ok e) = how_below e.how
+number_below (Err r) = fault_below (fault_of r.fault)
 
 pub pair_below : (how : How) → number_in_pair how < 20
 pair_below (Clash written) = lit< tt

@@ -1,12 +1,12 @@
 -- What the library's answer says, in document 01's numbers.
-use Rattle.std.specs.Prelude.{ℕ, cond, List, ltb}
+use Rattle.std.specs.Prelude.{ℕ, cond, List, ltb, Result, Ok, Err}
 use Rattle.paper.specs.Outcome.{Outcome}
 use Rattle.paper.specs.Sheet.{fault_number}
 use Rattle.base_answers.specs.Faults.{fault_of}
 use Rattle.base_answers.specs.declared.How.{How}
 use Rattle.base_answers.specs.declared.How.TheVariants.{Clash, NoClash, NoRoom, SideTooLong, AnswerTooShort}
-use Rattle.base_answers.specs.declared.Answer.{Answer}
-use Rattle.base_answers.specs.declared.Answer.TheVariants.{Searched, Refused}
+use Rattle.base_answers.specs.declared.Ended.{Ended}
+use Rattle.base_answers.specs.declared.Refusal.{Refusal}
 use Rattle.base_answers.specs.declared.Numbers.{Numbers}
 
 -- "For an answer that is an enum, a definition gives this paper's number and values for each case."
@@ -33,9 +33,23 @@ clash_is_0 n = cond (ltb n 20) n 0
 abbrev pub number_in_pair : How → ℕ
 number_in_pair how = clash_is_0 (how_number how)
 
+-- so many bytes were written; a number of which nothing else is told; and what a sheet or a rule is refused for
+abbrev pub written_numbers : ℕ → Numbers
+written_numbers written = record { number = 0; count = 0; place = 0; written = written }
+
+abbrev pub number_alone : ℕ → Numbers
+number_alone number = record { number = number; count = 0; place = 0; written = 0 }
+
+abbrev pub refusal_numbers : Refusal → Numbers
+refusal_numbers r = record { number = fault_number (fault_of r.fault); count = 0; place = r.place; written = 0 }
+
+-- the answer to a sheet: how its search ended, or what it is refused for
+abbrev pub Answer : Type 0
+Answer = Result Ended Refusal
+
 abbrev pub as_numbers : Answer → Numbers
-as_numbers (Searched e) = record { number = how_number e.how; count = e.count; place = 0; written = how_written e.how }
-as_numbers (Refused x at) = record { number = fault_number (fault_of x); count = 0; place = at; written = 0 }
+as_numbers (Ok e) = record { number = how_number e.how; count = e.count; place = 0; written = how_written e.how }
+as_numbers (Err r) = refusal_numbers r
 
 -- the outcome that an answer tells, with both buffers as they are afterwards
 abbrev pub told : Answer → List ℕ → List ℕ → Outcome

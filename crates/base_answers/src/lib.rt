@@ -4,7 +4,7 @@
 ghost use Rattle.std.specs.Prelude.{◌≡◌};
 ghost use Rattle.paper.specs.Sheet.{fault_number};
 ghost use Rattle.base_answers.specs.Faults.{fault_of};
-ghost use Rattle.base_answers.specs.AnswerNumbers.{how_number, number_in_pair, how_written, as_numbers};
+ghost use Rattle.base_answers.specs.AnswerNumbers.{how_number, number_in_pair, how_written, written_numbers, number_alone, refusal_numbers, as_numbers};
 
 // "The first fault met decides."
 #[derive(Clone, Copy)]
@@ -20,28 +20,30 @@ pub enum Fault {
     StrayPattern,
 }
 
-// The fault's number.
-pub fn number(x: Fault) -> u8
-    ensures { result ≡ fault_number (fault_of x) }
-{
-    match x {
-        Fault::CutShort => 11,
-        Fault::WrongMark => 12,
-        Fault::WrongField => 13,
-        Fault::WrongLength => 14,
-        Fault::NotOnePattern => 15,
-        Fault::TooManyLeaves => 16,
-        Fault::WrongToken => 17,
-        Fault::WrongEdition => 44,
-        Fault::StrayPattern => 22,
+impl Fault {
+    // The fault's number.
+    pub fn number(self) -> u8
+        ensures { result ≡ fault_number (fault_of self) }
+    {
+        match self {
+            Fault::CutShort => 11,
+            Fault::WrongMark => 12,
+            Fault::WrongField => 13,
+            Fault::WrongLength => 14,
+            Fault::NotOnePattern => 15,
+            Fault::TooManyLeaves => 16,
+            Fault::WrongToken => 17,
+            Fault::WrongEdition => 44,
+            Fault::StrayPattern => 22,
+        }
     }
 }
 
-// What the checks on a record find.
+// What a sheet or a rule is refused for: the first fault met, and the offset of its byte.
 #[derive(Clone, Copy)]
-pub enum Found {
-    NoFault,
-    Refused(Fault),
+pub struct Refusal {
+    pub fault: Fault,
+    pub place: usize,
 }
 
 // How a search ends.
@@ -66,13 +68,9 @@ pub struct Ended {
     pub count: usize,
 }
 
-// The answer to a sheet. specs/Told.antt gives each its number, count, place and written length.
-#[derive(Clone, Copy)]
-pub enum Answer {
-    Searched { ended: Ended },
-    // 11 to 17, 22 and 44: the sheet is at fault
-    Refused { fault: Fault, place: usize },
-}
+// The answer to a sheet: how its search ended, or what it is refused for. specs/AnswerNumbers.antt gives each its number, count, place and written
+// length.
+pub type Answer = Result<Ended, Refusal>;
 
 // "a side above 48 tokens gives 19"
 pub const SIDE_TOO_LONG: usize = 19;
@@ -80,37 +78,36 @@ pub const SIDE_TOO_LONG: usize = 19;
 // From this number on a clash was found, and not all that tells of it is written.
 pub const ANSWER_TOO_SHORT: usize = 20;
 
-// The number of a search's end.
-pub fn how_number(how: How) -> usize
-    ensures { result ≡ how_number how }
-{
-    match how {
-        How::Clash { written: _ } => 0,
-        How::NoClash => 1,
-        How::NoRoom => 18,
-        How::SideTooLong => SIDE_TOO_LONG,
-        How::AnswerTooShort => ANSWER_TOO_SHORT,
+impl How {
+    // The number of a search's end.
+    pub fn number(self) -> usize
+        ensures { result ≡ how_number self }
+    {
+        match self {
+            How::Clash { written: _ } => 0,
+            How::NoClash => 1,
+            How::NoRoom => 18,
+            How::SideTooLong => SIDE_TOO_LONG,
+            How::AnswerTooShort => ANSWER_TOO_SHORT,
+        }
     }
-}
 
-// Its number in a pair: "a pair's texts are not written, so it can't give 20".
-pub fn pair_number(how: How) -> usize
-    ensures { result ≡ number_in_pair how }
-{
-    let number = how_number(how);
-    if number < ANSWER_TOO_SHORT { number } else { 0 }
-}
+    // Its number in a pair: "a pair's texts are not written, so it can't give 20".
+    pub fn pair_number(self) -> usize
+        ensures { result ≡ number_in_pair self }
+    {
+        let number = self.number();
+        if number < ANSWER_TOO_SHORT { number } else { 0 }
+    }
 
-// The answer bytes written.
-fn how_written(how: How) -> usize
-    ensures { result ≡ how_written how }
-{
-    match how {
-        How::Clash { written } => written,
-        How::NoClash => 0,
-        How::NoRoom => 0,
-        How::SideTooLong => 0,
-        How::AnswerTooShort => 0,
+    // The answer bytes written.
+    fn written(self) -> usize
+        ensures { result ≡ how_written self }
+    {
+        match self {
+            How::Clash { written } => written,
+            How::NoClash | How::NoRoom | How::SideTooLong | How::AnswerTooShort => 0,
+        }
     }
 }
 
@@ -159,25 +156,56 @@ pub struct Numbers {
     pub written: usize,
 }
 
-fn numbers_of(number: usize, count: usize, place: usize, written: usize) -> Numbers
-    ensures { result ≡ record { number = number; count = count; place = place; written = written } }
-{
-    Numbers {
-        number,
-        count,
-        place,
-        written,
+impl Numbers {
+    // So many bytes were written, and nothing else is told.
+    pub fn of_written(written: usize) -> Self
+        ensures { result ≡ written_numbers written }
+    {
+        Numbers {
+            written,
+            ..Numbers::of_number(0)
+        }
+    }
+
+    // A number of which nothing else is told.
+    pub fn of_number(number: usize) -> Self
+        ensures { result ≡ number_alone number }
+    {
+        Numbers {
+            number,
+            count: 0,
+            place: 0,
+            written: 0,
+        }
     }
 }
 
-pub fn in_numbers(a: Answer) -> Numbers
-    ensures { result ≡ as_numbers a }
-{
-    match a {
-        Answer::Searched { ended } => {
-            let how = ended.how;
-            numbers_of(how_number(how), ended.count, 0, how_written(how))
+impl From<Refusal> for Numbers {
+    ghost from_gives = { λ r n. n ≡ refusal_numbers r };
+
+    fn from(refusal: Refusal) -> Self
+        ensures { result ≡ refusal_numbers refusal }
+    {
+        Numbers {
+            place: refusal.place,
+            ..Numbers::of_number(refusal.fault.number() as usize)
         }
-        Answer::Refused { fault, place } => numbers_of(number(fault) as usize, 0, place, 0),
+    }
+}
+
+impl From<Answer> for Numbers {
+    ghost from_gives = { λ a n. n ≡ as_numbers a };
+
+    fn from(a: Answer) -> Self
+        ensures { result ≡ as_numbers a }
+    {
+        match a {
+            Ok(ended) => Numbers {
+                count: ended.count,
+                written: ended.how.written(),
+                ..Numbers::of_number(ended.how.number())
+            },
+            Err(refusal) => Numbers::from(refusal),
+        }
     }
 }

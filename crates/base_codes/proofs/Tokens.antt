@@ -4,15 +4,17 @@ use Prim.Native.Nat.{ℕ, zero, suc, ◌+◌, ◌-◌, ◌≤◌, ◌<◌}
 use native.Mathlib.Numerals.{add-one}
 use native.Mathlib.Omega.{arith}
 use mathlib.Core.Path.{◌≡◌, refl, sym}
-use mathlib.Core.Bool.{Bool, true, false}
+use mathlib.Core.Bool.{Bool, true, false, cond, not}
 use mathlib.Core.List.{List, [], ◌∷◌, ◌++◌}
-use lib.Dec.{eqb}
+use lib.Dec.{eqb, ltb}
+use Rattle.std.proofs.Common.{Option, Some, None, unwrap_or}
+use Rattle.std.specs.List.{prefix_len}
 use lib.ListN.{length, get_or, take, drop, replicate, drop_of_length-le}
 use lib.Seq.{drop-cons}
 use Rattle.paper.specs.Lists.{all}
 use Rattle.paper.specs.Numbers.{longest_side}
 use Rattle.paper.proofs.base.Lists.{cons_eq}
-use Rattle.paper.proofs.base.Tests.{cond_by, both_true, and_left, and_right, not_is_true, false_not, eqb_true}
+use Rattle.paper.proofs.base.Tests.{cond_by, both_true, and_left, and_right, ltb_false, not_is_true, false_not, eqb_true}
 use Rattle.base_codes.specs.Inner.{no_token, is_code, front, tokens, padded}
 use Rattle.base_codes.specs.Coded.{none}
 
@@ -59,6 +61,21 @@ tokens_before n (b ∷ l) h =
 
 pub tokens_padded : (l : List ℕ) → all is_code l ≡ true → tokens (padded l) ≡ l
 tokens_padded l h = tokens_before (longest_side - length l) l h
+
+-- how many there are: as many as stand before the first byte that is none
+pub tokens_count : (l : List ℕ) → length (tokens l) ≡ prefix_len is_code l
+tokens_count [] = refl
+tokens_count (b ∷ l) =
+    cond_by (λ (t : List ℕ). length t ≡ cond (not (eqb b no_token)) (1 + prefix_len is_code l) 0) (eqb b no_token)
+    (λ e. rw e refl)
+    (λ e. rw e (omega (arith, tokens_count l)))
+
+-- a place at most the last, told as one before it or as none
+pub place_or_last : (n last : ℕ) → n ≤ last → unwrap_or (cond (ltb n last) (Some n) None) last ≡ n
+place_or_last n last h =
+    cond_by (λ (o : Option ℕ). unwrap_or o last ≡ n) (ltb n last)
+    (λ _. refl)
+    (λ e. let k : last ≤ n = ltb_false n last e in omega arith)
 
 -- The tokens of a side, from a byte on: that byte and those behind it, or none.
 pub tokens_more : (l : List ℕ) (n : ℕ) → n < length l → eqb (get_or l n 0) no_token ≡ false → length (tokens (drop n l)) ≡ suc (length (tokens (drop (n + 1) l)))

@@ -51,29 +51,23 @@ pub fn field_of(b: u8) -> usize
 pub fn length_of(side: CodedSide) -> usize
     ensures { (result ≤ longest_side) × (result ≡ length (tokens side)) × (take result side ≡ tokens side) }
 {
-    let mut n: usize = 0;
-    while n < LONGEST_SIDE {
-        if side[n] == NO_TOKEN {
-            return n;
-        }
-        n += 1;
-    }
-    n
+    side.iter()
+        .position(|&b| b == NO_TOKEN)
+        .unwrap_or(LONGEST_SIDE)
+}
+
+// The tokens of a side: its bytes before the first 255.
+pub fn tokens_of(side: &CodedSide) -> &[u8]
+    ensures { result.now ≡ tokens side.now }
+{
+    &side[..length_of(*side)]
 }
 
 // Does the token stand among these?
 pub fn stands(side: &[u8], token: u8) -> bool
     ensures { result ≡ member token side.now }
 {
-    let mut i: usize = 0;
-    while i < side.len() {
-        let x = side[i];
-        if token == x {
-            return true;
-        }
-        i += 1;
-    }
-    false
+    side.contains(&token)
 }
 
 // "A situation is the two token lists and the place set of each field still standing in them." A side ends at its first 255; the set of a

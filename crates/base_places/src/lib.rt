@@ -63,7 +63,7 @@ fn joined(one: PlaceSet, other: PlaceSet) -> PlaceSet
 pub fn within(n: usize) -> usize
     ensures { (result ≡ within n) × (result ≤ most_characters) }
 {
-    if n <= CHARACTERS { n } else { CHARACTERS }
+    n.min(CHARACTERS)
 }
 
 // All places that may follow some place of the set. The set after a character is what of these takes it. Only the places of the set are looked at:
@@ -73,6 +73,7 @@ pub fn followers(follow: &[PlaceSet; PLACES], set: PlaceSet) -> PlaceSet
 {
     let mut r = 0;
     let mut i: usize = 0;
+    // Kept: no count, but a step from each place of the set to the next, of as many as there are zeros between.
     while i < PLACES {
         let rest = set >> i;
         if rest == 0 {

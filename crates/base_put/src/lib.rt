@@ -6,16 +6,13 @@ ghost use Rattle.std.specs.Prelude.{[], ◌∷◌, ◌≡◌};
 ghost use Rattle.paper.specs.Printed.{sign as sign_of};
 ghost use Rattle.base_put.specs.Counted.{Counted, next_place};
 
-// No place is behind this one.
-const LAST: usize = 18446744073709551615;
-
 // The characters by value.
 const SIGNS: [u8; 43] = *b"0123456789ABCDEFGHIJKLMNOPQRSTUVWXYZ-. $/+%";
 
 fn next_place(at: usize) -> usize
     ensures { result ≡ next_place at }
 {
-    if at < LAST { at + 1 } else { at }
+    at.saturating_add(1)
 }
 
 // One byte.
@@ -34,10 +31,8 @@ pub fn put_all(out: &mut [u8], at: usize, bytes: &[u8]) -> usize
     ensures { Counted out.old out.new at result bytes.now }
 {
     let mut end = at;
-    let mut i = 0;
-    while i < bytes.len() {
-        end = put(out, end, bytes[i]);
-        i += 1;
+    for &byte in bytes {
+        end = put(out, end, byte);
     }
     end
 }
@@ -46,6 +41,5 @@ pub fn put_all(out: &mut [u8], at: usize, bytes: &[u8]) -> usize
 pub fn sign(value: u8) -> u8
     ensures { result ≡ sign_of value }
 {
-    let at = value as usize;
-    if at < SIGNS.len() { SIGNS[at] } else { 0 }
+    SIGNS.get(value as usize).copied().unwrap_or(0)
 }

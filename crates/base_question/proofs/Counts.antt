@@ -1,47 +1,48 @@
 -- Counting the tokens of a side, one after the other, and filling a list of counts.
---   count_end, count_more, count_none : the tokens from a byte on; count_here, count-behind: the byte is the token, or another
+--   counts_kept, length_keep          : what the library counts; stands_counted: a code that stands is counted
 --   count_append                      : those of two sides; count_left, count-right: one of the first, or none
 --   Counted                           : the counts below f are there; none yet, one more, all
 -- Follows from the definitions of `tokens` and `keep`, and from the laws of `set`.
 use Prim.Native.Nat.{ℕ, suc, ◌+◌, ◌≤◌, ◌<◌}
-use native.Mathlib.Numerals.{add-one}
 use native.Mathlib.Omega.{arith}
-use mathlib.Core.Path.{◌≡◌, sym, ◌∙◌}
-use mathlib.Core.Bool.{true, false}
+use mathlib.Core.Path.{◌≡◌, refl, sym, ap, ◌∙◌}
+use mathlib.Core.Bool.{Bool, true, false, not}
+use Rattle.std.specs.List.{filter, count_by}
+use Rattle.std.proofs.lemmas.List.Sums.{length-filter}
 use mathlib.Core.List.{List, [], ◌∷◌, ◌++◌, map}
 use lib.Dec.{eqb}
-use lib.ListN.{length, get_or, set, drop, drop_of_length-le, length-append, length-set, length-map}
-use lib.Seq.{drop-cons, ext_get_or, get_or-set_same, get_or-set_other}
-use Rattle.paper.specs.Lists.{upto, only, keep}
-use Rattle.paper.proofs.base.Lists.{length_from}
+use lib.ListN.{length, get_or, set, length-append, length-set, length-map}
+use lib.Seq.{ext_get_or, get_or-set_same, get_or-set_other}
+use Rattle.paper.specs.Lists.{upto, only, keep, member}
+use Rattle.paper.proofs.base.Lists.{length_from, cons_eq}
 use Rattle.paper.proofs.base.Listed.{get_or_map_upto}
 use Rattle.paper.proofs.base.Tests.{by_bool, eqb_true, eqb_false, neq_eqb}
-use Rattle.base_codes.specs.Inner.{no_token, tokens}
 use Rattle.base_question.specs.Standings.{count}
 
+-- those that pass a test are kept
+filter_keeps : (p : ℕ → Bool) (l : List ℕ) → filter p l ≡ keep p l
+filter_keeps p [] = refl
+filter_keeps p (b ∷ l) = by_bool (p b) (λ e. rw e (cons_eq refl (filter_keeps p l))) (λ e. rw e (filter_keeps p l))
+
+pub counts_kept : (p : ℕ → Bool) (l : List ℕ) → count_by p l ≡ length (keep p l)
+counts_kept p l = sym (length-filter p l) ∙ ap length (filter_keeps p l)
+
+-- no more than there are
+pub length_keep : (p : ℕ → Bool) (l : List ℕ) → length (keep p l) ≤ length l
+length_keep p [] = omega arith
+length_keep p (b ∷ l) =
+    by_bool (p b)
+    (λ e. rw e (omega (arith, length_keep p l)))
+    (λ e. rw e (omega (arith, length_keep p l)))
+
 module _ (code : ℕ) where
-  pub count_end : (side : List ℕ) (i : ℕ) → i < length side → eqb (get_or side i 0) no_token ≡ true → count code (tokens (drop i side)) ≡ 0
-  count_end side i h e = rw (drop-cons side i 0 h, e)
-
-  pub count_more : (side : List ℕ) (i : ℕ) → i < length side → eqb (get_or side i 0) no_token ≡ false
-      → count code (tokens (drop i side)) ≡ length (only (eqb code (get_or side i 0)) (get_or side i 0)) + count code (tokens (drop (i + 1) side))
-  count_more side i h e =
-      let b = get_or side i 0 in
-      rw (add-one, drop-cons side i 0 h, e) (length-append (only (eqb code b) b) (keep (eqb code) (tokens (drop (suc i) side))))
-
-  -- the token itself, and another
-  pub count_here : (side : List ℕ) (i : ℕ) → i < length side → eqb (get_or side i 0) no_token ≡ false → eqb code (get_or side i 0) ≡ true
-      → eqb (count code (tokens (drop i side))) 0 ≡ false
-  count_here side i h e k =
-      let n = count code (tokens (drop i side)) in
-      neq_eqb n 0 (λ (z : n ≡ 0). omega (arith, rw k at (count_more side i h e)))
-
-  pub count_behind : (side : List ℕ) (i : ℕ) → i < length side → eqb (get_or side i 0) no_token ≡ false → eqb code (get_or side i 0) ≡ false
-      → count code (tokens (drop i side)) ≡ count code (tokens (drop (i + 1) side))
-  count_behind side i h e k = omega (arith, rw k at (count_more side i h e))
-
-  pub count_none : (side : List ℕ) (i : ℕ) → length side ≤ i → count code (tokens (drop i side)) ≡ 0
-  count_none side i h = rw (drop_of_length-le side h)
+  -- it stands among them, if one of them is it
+  pub stands_counted : (l : List ℕ) → member code l ≡ not (eqb (count code l) 0)
+  stands_counted [] = refl
+  stands_counted (b ∷ l) =
+      by_bool (eqb code b)
+      (λ e. let n = length (keep (eqb code) l) in rw e (ap not (sym (neq_eqb (suc n) 0 (λ (z : suc n ≡ 0). omega arith)))))
+      (λ e. rw e (stands_counted l))
 
   pub count_append : (l m : List ℕ) → count code (l ++ m) ≡ count code l + count code m
   count_append [] m = omega arith

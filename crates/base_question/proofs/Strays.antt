@@ -1,7 +1,7 @@
 -- Patterns for fields that stand in neither side: the first of them, one field after the other, and that they are the paper's.
 --   first_here, first_behind, strays_from : the fields from f on
 --   first_is   : the first of them is one of the fields, and has a pattern
---   some_stray : ltb (first_of strays) fields ≡ ltb 0 (length strays)
+--   some_stray : is_some (first_of strays) ≡ ltb 0 (length strays)
 --   strays_are : strays_coded bodies left right ≡ strays_of held (l ++ r), where left and right are the good sides l and r by their codes
 -- Follows from the definition of `keep`, from how often the fields stand (`HowOften`) and from the sides being read back (`SidesBack`).
 use Prim.Native.Nat.{ℕ, suc, ◌+◌, ◌≤◌, ◌<◌}
@@ -12,6 +12,7 @@ use mathlib.Core.Bool.{Bool, true, false, not, ◌&&◌}
 use mathlib.Core.List.{List, [], ◌∷◌, ◌++◌, Memᴰ}
 use lib.Dec.{ltb, eqb}
 use lib.ListN.{length, get_or}
+use Rattle.std.proofs.Common.{Some, is_some}
 use Rattle.paper.specs.Lists.{from, upto, keep}
 use Rattle.paper.specs.Numbers.{most_characters, fields}
 use Rattle.paper.specs.Pattern.{Held, some_text}
@@ -35,7 +36,7 @@ not_twice false = refl
 
 -- the fields from f on
 module _ (p : ℕ → Bool) (f n : ℕ) where
-  pub first_here : p f ≡ true → first_of (keep p (from f (suc n))) ≡ f
+  pub first_here : p f ≡ true → first_of (keep p (from f (suc n))) ≡ Some f
   first_here e = rw e
 
   pub first_behind : p f ≡ false → keep p (from f (suc n)) ≡ keep p (from (f + 1) n)
@@ -54,13 +55,13 @@ module _ (bodies : List Body) (left right : List ℕ) where
       let n = (get_or bodies f nowhere).length in
       (mem_upto fields d, ltb_true 0 n (and_left (ltb 0 n) (eqb (count (field_code + f) (tokens left ++ tokens right)) 0) t))
 
-  -- there is one where the first of them is a field
-  pub some_stray : ltb (first_of (strays_coded bodies left right)) fields ≡ ltb 0 (length (strays_coded bodies left right))
-  some_stray = by_strays (strays_coded bodies left right) refl
+  -- there is one where there is a first of them
+  pub some_stray : is_some (first_of (strays_coded bodies left right)) ≡ ltb 0 (length (strays_coded bodies left right))
+  some_stray = by_strays (strays_coded bodies left right)
     where
-      by_strays : (l : List ℕ) → strays_coded bodies left right ≡ l → ltb (first_of l) fields ≡ ltb 0 (length l)
-      by_strays [] e = refl
-      by_strays (f ∷ fs) e = lt_ltb f fields (first_is f fs e).0 ∙ sym (lt_ltb 0 (suc (length fs)) (omega arith))
+      by_strays : (l : List ℕ) → is_some (first_of l) ≡ ltb 0 (length l)
+      by_strays [] = refl
+      by_strays (f ∷ fs) = sym (lt_ltb 0 (suc (length fs)) (omega arith))
 
 -- of sides and of what the fields may hold, as they were read
 module _ (n : ℕ) (most : n ≤ most_characters) (l r : Side) (g : GoodSide n l) (h : GoodSide n r) (bodies : List Body) (held : List Held)

@@ -1,8 +1,7 @@
 // The question: its alphabet, both sides, what is worked out of each field's pattern, and where that pattern stands.
 #![tactic(auto)]
 
-ghost use Rattle.std.specs.Prelude.{◌≡◌, not, ◌++◌, ◌≤◌, eqb, length};
-ghost use Rattle.paper.specs.Lists.{only};
+ghost use Rattle.std.specs.Prelude.{◌≡◌, not, ◌++◌, ◌≤◌, eqb};
 ghost use Rattle.paper.specs.Numbers.{longest_side};
 ghost use Rattle.base_codes.specs.Inner.{tokens};
 ghost use Rattle.base_question.specs.Bodies.{no_bodies, mark_of};
@@ -10,7 +9,7 @@ ghost use Rattle.base_question.specs.Asked.{no_question};
 ghost use Rattle.base_question.specs.Standings.{count, standing_times};
 ghost use Rattle.base_question.specs.StraysCoded.{first_of, strays_coded};
 
-use base_codes::{CodedSide, FIELD_CODE, FIELDS, LONGEST_SIDE, NO_TOKEN, SHEET_FIELDS};
+use base_codes::{CodedSide, FIELD_CODE, FIELDS, LONGEST_SIDE, NO_TOKEN, SHEET_FIELDS, tokens_of};
 use base_editions::{Alphabet, Edition};
 use base_places::PlaceTables;
 
@@ -50,11 +49,7 @@ pub fn no_bodies() -> [Body; SHEET_FIELDS]
 pub fn mark_of(body: Body) -> usize
     ensures { result ≡ mark_of body }
 {
-    let start = body.start;
-    if start < HEAD {
-        return 0;
-    }
-    start - HEAD
+    body.start.saturating_sub(HEAD)
 }
 
 // Nothing is asked: no tokens, and every field is open. The alphabet is Code 39.
@@ -78,84 +73,44 @@ pub fn no_question() -> Question
 pub fn standings(left: CodedSide, right: CodedSide) -> [usize; FIELDS]
     ensures { result ≡ standing_times left right }
 {
-    let mut counts: [usize; FIELDS] = [0; FIELDS];
-    let mut f: usize = 0;
-    while f < FIELDS {
+    let mut counts = [0; FIELDS];
+    for f in 0..FIELDS {
         let token = FIELD_CODE + f as u8;
-        counts[f] = times(left, token) + times(right, token);
-        f += 1;
+        counts[f] = times(&left, token) + times(&right, token);
     }
     counts
 }
 
-// The first field with a pattern that stands in neither side; SHEET_FIELDS where there is none. Only fields with a pattern are looked up.
-pub fn first_stray(bodies: [Body; SHEET_FIELDS], left: CodedSide, right: CodedSide) -> usize
+// The first field with a pattern that stands in neither side. Only fields with a pattern are looked up.
+pub fn first_stray(bodies: [Body; SHEET_FIELDS], left: CodedSide, right: CodedSide) -> Option<usize>
     ensures { result ≡ first_of (strays_coded bodies left right) }
 {
-    let mut f: usize = 0;
-    while f < SHEET_FIELDS {
-        let body = bodies[f];
-        if body.length > 0 {
-            if in_neither(left, right, FIELD_CODE + f as u8) {
-                return f;
-            }
+    for f in 0..SHEET_FIELDS {
+        if bodies[f].length > 0 && in_neither(&left, &right, FIELD_CODE + f as u8) {
+            return Some(f);
         }
-        f += 1;
     }
-    f
+    None
 }
 
 // Is no token of either side this one?
-fn in_neither(left: CodedSide, right: CodedSide, token: u8) -> bool
-    ensures { result ≡ eqb (count token (tokens left ++ tokens right)) 0 }
+fn in_neither(left: &CodedSide, right: &CodedSide, token: u8) -> bool
+    ensures { result ≡ eqb (count token (tokens left.now ++ tokens right.now)) 0 }
 {
-    if in_side(left, token) {
-        return false;
-    }
-    !in_side(right, token)
+    !in_side(left, token) && !in_side(right, token)
 }
 
 // Is a token of the side this one? The first that is ends the walk.
-fn in_side(side: CodedSide, token: u8) -> bool
-    ensures { result ≡ not (eqb (count token (tokens side)) 0) }
+fn in_side(side: &CodedSide, token: u8) -> bool
+    ensures { result ≡ not (eqb (count token (tokens side.now)) 0) }
 {
-    let mut i: usize = 0;
-    while i < LONGEST_SIDE {
-        let b = side[i];
-        if b == NO_TOKEN {
-            return false;
-        }
-        if token == b {
-            return true;
-        }
-        i += 1;
-    }
-    false
+    tokens_of(side).contains(&token)
 }
 
 // How many tokens of a side are this one.
-fn times(side: CodedSide, token: u8) -> usize
-    ensures { (result ≤ longest_side) × (result ≡ count token (tokens side)) }
+fn times(side: &CodedSide, token: u8) -> usize
+    ensures few { result ≤ longest_side }
+    ensures times { result ≡ count token (tokens side.now) }
 {
-    let mut n: usize = 0;
-    let mut i: usize = 0;
-    while i < LONGEST_SIDE {
-        let b = side[i];
-        if b == NO_TOKEN {
-            return n;
-        }
-        n += one_if(b, token);
-        i += 1;
-    }
-    n
-}
-
-// 1 for the token itself, 0 for any other.
-fn one_if(b: u8, token: u8) -> usize
-    ensures { (result ≤ 1) × (result ≡ length (only (eqb token b) b)) }
-{
-    if token == b {
-        return 1;
-    }
-    0
+    tokens_of(side).iter().filter(|&&b| b == token).count()
 }

@@ -7,16 +7,14 @@ use mathlib.Core.List.{List}
 use lib.Dec.{eqb, lit<}
 use Rattle.paper.specs.Lists.{member}
 use Rattle.paper.specs.Buffers.{sheet_numbers}
+use Rattle.std.proofs.Common.{Ok, Err}
 use Rattle.paper_steps.specs.StepsOutcome.{StepsOutcome}
 use Rattle.base_answers.specs.Faults.{fault_of}
-use Rattle.base_answers.specs.declared.Fault.TheVariants.{CutShort, WrongMark, WrongField, WrongLength, NotOnePattern, TooManyLeaves, WrongToken, WrongEdition, StrayPattern}
-use Rattle.base_answers.proofs.Same.{fault_from}
+use Rattle.base_answers.proofs.Same.{fault_from, fault_among, fault_numbered}
 use Rattle.base_answers.proofs.FaultNumbers.{fault_below}
-use Rattle.base_steps.specs.StepsNumbered.{end_numbers, steps_numbers, told_steps}
+use Rattle.base_steps.specs.StepsNumbered.{StepsAnswer, end_numbers, steps_numbers, told_steps}
 use Rattle.base_steps.specs.declared.StepsHow.{StepsHow}
 use Rattle.base_steps.specs.declared.StepsHow.TheVariants.{Clash, NoClash, NoRoom, SideTooLong, AnswerTooShort, StepsTooShort}
-use Rattle.base_steps.specs.declared.StepsAnswer.{StepsAnswer}
-use Rattle.base_steps.specs.declared.StepsAnswer.TheVariants.{Searched, Refused}
 
 -- the end with this number
 how_from : ℕ → ℕ → ℕ → StepsHow
@@ -30,12 +28,12 @@ how_from n written steps =
 -- the answer with these numbers
 answer_from : StepsOutcome → StepsAnswer
 answer_from o =
-    cond (member o.number sheet_numbers) (Refused (fault_from o.number) o.place)
-    (Searched (record { how = how_from o.number o.written o.step_bytes; count = o.count }))
+    cond (member o.number sheet_numbers) (Err (record { fault = fault_from o.number; place = o.place }))
+    (Ok (record { how = how_from o.number o.written o.step_bytes; count = o.count }))
 
 module _ (answer work steps : List ℕ) where
   end_told : (how : StepsHow) (n : ℕ) →
-      let r = Searched (record { how = how; count = n }) in answer_from (told_steps r answer work steps) ≡ r
+      let r : StepsAnswer = Ok (record { how = how; count = n }) in answer_from (told_steps r answer work steps) ≡ r
   unfolding answer_from how_from
   end_told (Clash written many) n = refl
   end_told NoClash n = refl
@@ -45,17 +43,9 @@ module _ (answer work steps : List ℕ) where
   end_told StepsTooShort n = refl
 
   answer_told : (r : StepsAnswer) → answer_from (told_steps r answer work steps) ≡ r
-  unfolding answer_from fault_from
-  answer_told (Searched e) = end_told e.how e.count
-  answer_told (Refused CutShort at) = refl
-  answer_told (Refused WrongMark at) = refl
-  answer_told (Refused WrongField at) = refl
-  answer_told (Refused WrongLength at) = refl
-  answer_told (Refused NotOnePattern at) = refl
-  answer_told (Refused TooManyLeaves at) = refl
-  answer_told (Refused WrongToken at) = refl
-  answer_told (Refused WrongEdition at) = refl
-  answer_told (Refused StrayPattern at) = refl
+  unfolding answer_from
+  answer_told (Ok e) = end_told e.how e.count
+  answer_told (Err r) = rw (fault_among r.fault, fault_numbered r.fault) refl
 
 -- Two answers that tell the same are the same.
 pub one_steps_answer : (r r' : StepsAnswer) (a a' w w' s s' : List ℕ) → told_steps r a w s ≡ told_steps r' a' w' s' → r ≡ r'
@@ -71,5 +61,5 @@ end_below StepsTooShort n = lit< tt
 
 -- 51 is the last of its numbers.
 pub steps_number_below : (a : StepsAnswer) → (steps_numbers a).number < 52
-steps_number_below (Searched e) = end_below e.how e.count
-steps_number_below (Refused x at) = omega (arith, fault_below (fault_of x))
+steps_number_below (Ok e) = end_below e.how e.count
+steps_number_below (Err r) = omega (arith, fault_below (fault_of r.fault))

@@ -1,12 +1,12 @@
 -- What the answer of the search that writes its way says, in numbers.
-use Rattle.std.specs.Prelude.{ℕ, List}
+use Rattle.std.specs.Prelude.{ℕ, List, Result, Ok, Err}
 use Rattle.paper.specs.Sheet.{fault_number}
 use Rattle.paper_steps.specs.StepsOutcome.{StepsOutcome}
 use Rattle.base_answers.specs.Faults.{fault_of}
 use Rattle.base_steps.specs.declared.StepsHow.{StepsHow}
 use Rattle.base_steps.specs.declared.StepsHow.TheVariants.{Clash, NoClash, NoRoom, SideTooLong, AnswerTooShort, StepsTooShort}
-use Rattle.base_steps.specs.declared.StepsAnswer.{StepsAnswer}
-use Rattle.base_steps.specs.declared.StepsAnswer.TheVariants.{Searched, Refused}
+use Rattle.base_answers.specs.declared.Refusal.{Refusal}
+use Rattle.base_steps.specs.declared.StepsEnded.{StepsEnded}
 use Rattle.base_steps.specs.declared.StepsNumbers.{StepsNumbers}
 
 -- no byte is written
@@ -21,9 +21,13 @@ end_numbers SideTooLong n = bare_numbers 19 n 0
 end_numbers AnswerTooShort n = bare_numbers 20 n 0
 end_numbers StepsTooShort n = bare_numbers 51 n 0
 
+-- the answer to a sheet: how its search ended, or what it is refused for
+abbrev pub StepsAnswer : Type 0
+StepsAnswer = Result StepsEnded Refusal
+
 abbrev pub steps_numbers : StepsAnswer → StepsNumbers
-steps_numbers (Searched e) = end_numbers e.how e.count
-steps_numbers (Refused x at) = bare_numbers (fault_number (fault_of x)) 0 at
+steps_numbers (Ok e) = end_numbers e.how e.count
+steps_numbers (Err r) = bare_numbers (fault_number (fault_of r.fault)) 0 r.place
 
 -- the outcome that an answer tells, with the three buffers as they are afterwards
 abbrev pub told_steps : StepsAnswer → List ℕ → List ℕ → List ℕ → StepsOutcome

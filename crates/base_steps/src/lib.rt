@@ -4,7 +4,7 @@
 ghost use Rattle.std.specs.Prelude.{◌≡◌};
 ghost use Rattle.base_steps.specs.StepsNumbered.{bare_numbers, end_numbers, steps_numbers};
 
-use base_answers::{Fault, STEPS_TOO_SHORT};
+use base_answers::{Refusal, STEPS_TOO_SHORT};
 
 // How a search ends that writes its way.
 #[derive(Clone, Copy)]
@@ -27,13 +27,8 @@ pub struct StepsEnded {
     pub count: usize,
 }
 
-// The answer to a sheet.
-#[derive(Clone, Copy)]
-pub enum StepsAnswer {
-    Searched { ended: StepsEnded },
-    // 11 to 17, 22 and 44: the sheet is at fault
-    Refused { fault: Fault, place: usize },
-}
+// The answer to a sheet: how its search ended, or what it is refused for.
+pub type StepsAnswer = Result<StepsEnded, Refusal>;
 
 // An answer in numbers.
 #[derive(Clone, Copy)]
@@ -77,18 +72,15 @@ fn of_end(how: StepsHow, count: usize) -> StepsNumbers
     }
 }
 
-pub fn in_numbers(a: StepsAnswer) -> StepsNumbers
-    ensures { result ≡ steps_numbers a }
-{
-    match a {
-        StepsAnswer::Searched { ended } => {
-            let how = ended.how;
-            of_end(how, ended.count)
+impl From<StepsAnswer> for StepsNumbers {
+    ghost from_gives = { λ a n. n ≡ steps_numbers a };
+
+    fn from(a: StepsAnswer) -> Self
+        ensures { result ≡ steps_numbers a }
+    {
+        match a {
+            Ok(ended) => of_end(ended.how, ended.count),
+            Err(refusal) => bare(refusal.fault.number() as usize, 0, refusal.place),
         }
-        StepsAnswer::Refused { fault, place } => bare(
-            base_answers::number(fault) as usize,
-            0,
-            place,
-        ),
     }
 }

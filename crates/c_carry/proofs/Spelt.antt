@@ -10,29 +10,30 @@ use Rattle.paper_carry.specs.Spelling as Spelling
 use Rattle.paper_carry.proofs.CarryPromised.{fault_between}
 use Rattle.base_answers.specs.Faults.{fault_of}
 use Rattle.carry_anew.specs.Anew.{spelt_numbers, told_spelt}
-use Rattle.carry_anew.specs.declared.Rewritten.{Rewritten}
-use Rattle.carry_anew.specs.declared.Rewritten.TheVariants.{Written, Refused, ForeignField, TooShort}
+use Rattle.std.specs.Prelude.{Result, Ok, Err}
+use Rattle.carry_anew.specs.declared.RewriteError.{RewriteError}
+use Rattle.carry_anew.specs.declared.RewriteError.TheVariants.{Refused, ForeignField, TooShort}
 use Rattle.carry_open.specs.CarriedOver.{carried_number}
-use Rattle.carry_open.specs.declared.CarriedOver.{CarriedOver}
-use Rattle.carry_open.specs.declared.CarriedOver.TheVariants.{Done, Full, NoCatalogue}
+use Rattle.carry_open.specs.declared.CarryError.{CarryError}
+use Rattle.carry_open.specs.declared.CarryError.TheVariants.{Full, NoCatalogue}
 use Rattle.c_tell.specs.ToldNumbers.{with_numbers}
 use Rattle.c_carry.specs.Carried.{telling_spelt}
 
 -- 44 is the last of them
-pub spelt_below : (s : Rewritten) → (spelt_numbers s).number < 45
-spelt_below (Written bytes) = lit< tt
-spelt_below (Refused x at) = let (low, high) = fault_between (fault_of x) in omega arith
-spelt_below ForeignField = lit< tt
-spelt_below TooShort = lit< tt
+pub spelt_below : (s : Result ℕ RewriteError) → (spelt_numbers s).number < 45
+spelt_below (Ok bytes) = lit< tt
+spelt_below (Err (Refused r)) = let (low, high) = fault_between (fault_of r.fault) in omega arith
+spelt_below (Err ForeignField) = lit< tt
+spelt_below (Err TooShort) = lit< tt
 
-pub carried_below : (c : CarriedOver) → carried_number c < 35
-carried_below Done = lit< tt
-carried_below Full = lit< tt
-carried_below NoCatalogue = lit< tt
+pub carried_below : (c : Result (Unit {0}) CarryError) → carried_number c < 35
+carried_below (Ok u) = lit< tt
+carried_below (Err Full) = lit< tt
+carried_below (Err NoCatalogue) = lit< tt
 
 -- an answer that tells what was written, with its numbers told
 pub spelt_promised :
-    (s : Rewritten) {n : ℕ} {out : List ℕ} {o : Spelling} (before : List ℕ) {after : List ℕ} → told_spelt s out ≡ o
+    (s : Result ℕ RewriteError) {n : ℕ} {out : List ℕ} {o : Spelling} (before : List ℕ) {after : List ℕ} → told_spelt s out ≡ o
     → n ≡ (spelt_numbers s).number
     → after ≡ with_numbers before 0 (spelt_numbers s).place (spelt_numbers s).written
     → (n ≡ o.number) × ((after ≡ telling_spelt before o) × (out ≡ o.out))

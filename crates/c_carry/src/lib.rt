@@ -8,7 +8,7 @@ ghost use Rattle.c_tell.specs.ToldNumbers.{with_numbers};
 ghost use Rattle.c_carry.specs.Carried.{telling_spelt};
 
 use c_tell::tell;
-use carry_anew::Rewritten;
+use carry_anew::RewriteError;
 
 // The sheet with 68 65 0 42 for every standing field without a pattern: the number; count (which is 0), place and written length go into the first
 // three elements of `told`, as many as there is room for.
@@ -41,7 +41,7 @@ pub fn catalogue(catalogue: &mut [u8]) -> u32
 }
 
 // What a sheet or a rule that was written anew is told as: the number, and the three elements.
-pub fn tell_spelt(spelt: Rewritten, told: &mut [u64]) -> u32
+pub fn tell_spelt(spelt: Result<usize, RewriteError>, told: &mut [u64]) -> u32
     ensures number { result ≡ (spelt_numbers spelt).number }
     ensures told { told.new ≡ with_numbers told.old 0 (spelt_numbers spelt).place (spelt_numbers spelt).written }
 {

@@ -9,13 +9,15 @@ use Rattle.paper_catalogue.specs.Catalogue as Catalogue
 use Rattle.paper_catalogue.specs.Recheck as Recheck
 use Rattle.base_answers.specs.Faults.{fault_of}
 use Rattle.catalogue_add.specs.Addition.{told_added, told_withdrawn}
-use Rattle.catalogue_add.specs.declared.Added.{Added}
-use Rattle.catalogue_add.specs.declared.Added.TheVariants.{Entered, Refused, NotApart, ForeignField, Full, NoCatalogue}
-use Rattle.catalogue_add.specs.declared.Withdrawn.{Withdrawn}
-use Rattle.catalogue_add.specs.declared.Withdrawn.TheVariants as Withdrawn-as
+use Rattle.std.specs.Prelude.{Result, Ok, Err}
+use Rattle.catalogue_add.specs.declared.AddError.{AddError}
+use Rattle.catalogue_add.specs.declared.AddError.TheVariants.{Refused, NotApart, ForeignField, Full, NoCatalogue}
+use Rattle.catalogue_add.specs.declared.WithdrawError.{WithdrawError}
+use Rattle.catalogue_add.specs.declared.WithdrawError.TheVariants as Withdraw-error
 use Rattle.catalogue_recheck.specs.PairList.{told_rechecked}
-use Rattle.catalogue_recheck.specs.declared.Rechecked.{Rechecked}
-use Rattle.catalogue_recheck.specs.declared.Rechecked.TheVariants as Rechecked-as
+use Rattle.catalogue_recheck.specs.declared.Listed.{Listed}
+use Rattle.catalogue_recheck.specs.declared.RecheckError.{RecheckError}
+use Rattle.catalogue_recheck.specs.declared.RecheckError.TheVariants as Recheck-error
 use Rattle.catalogue_numbers.specs.CatalogueNumbers.{numbers_of_added, number_of_withdrawn, as_totals}
 use Rattle.catalogue_numbers.specs.declared.Numbers.{Numbers}
 use Rattle.catalogue_numbers.specs.declared.Totals.{Totals}
@@ -23,24 +25,24 @@ use Rattle.c_catalogue.specs.Catalogued.{telling_numbers, telling_added, telling
 use Rattle.base_answers.proofs.FaultNumbers.{fault_below}
 
 -- 34 is the last of request K1's numbers; a fault's is below 45
-pub added_below : (a : Added) → (numbers_of_added a).number < 45
-added_below Entered = lit< tt
-added_below (Refused x at) = omega (arith, fault_below (fault_of x))
-added_below (NotApart i p) = lit< tt
-added_below ForeignField = lit< tt
-added_below Full = lit< tt
-added_below NoCatalogue = lit< tt
+pub added_below : (a : Result (Unit {0}) AddError) → (numbers_of_added a).number < 45
+added_below (Ok u) = lit< tt
+added_below (Err (Refused r)) = omega (arith, fault_below (fault_of r.fault))
+added_below (Err (NotApart n)) = lit< tt
+added_below (Err ForeignField) = lit< tt
+added_below (Err Full) = lit< tt
+added_below (Err NoCatalogue) = lit< tt
 
-pub withdrawn_below : (w : Withdrawn) → number_of_withdrawn w < 35
-withdrawn_below Withdrawn-as.Gone = lit< tt
-withdrawn_below Withdrawn-as.NoRule = lit< tt
-withdrawn_below Withdrawn-as.NoCatalogue = lit< tt
+pub withdrawn_below : (w : Result (Unit {0}) WithdrawError) → number_of_withdrawn w < 35
+withdrawn_below (Ok u) = lit< tt
+withdrawn_below (Err Withdraw-error.NoRule) = lit< tt
+withdrawn_below (Err Withdraw-error.NoCatalogue) = lit< tt
 
 -- and 35 of request K3's
-pub rechecked_below : (r : Rechecked) → (as_totals r).number < 36
-rechecked_below (Rechecked-as.Listed pairs written) = lit< tt
-rechecked_below Rechecked-as.TooShort = lit< tt
-rechecked_below Rechecked-as.NoCatalogue = lit< tt
+pub rechecked_below : (r : Result Listed RecheckError) → (as_totals r).number < 36
+rechecked_below (Ok l) = lit< tt
+rechecked_below (Err Recheck-error.TooShort) = lit< tt
+rechecked_below (Err Recheck-error.NoCatalogue) = lit< tt
 
 -- what an answer tells is its numbers, whatever the buffers hold
 abbrev in_numbers : Numbers → List ℕ → List ℕ → Catalogue.Added
@@ -55,33 +57,33 @@ in_numbers n catalogue work =
       work = work;
     }
 
-added_numbers : (a : Added) (catalogue work : List ℕ) → in_numbers (numbers_of_added a) catalogue work ≡ told_added a catalogue work
-added_numbers Entered catalogue work = refl
-added_numbers (Refused x at) catalogue work = refl
-added_numbers (NotApart i p) catalogue work = refl
-added_numbers ForeignField catalogue work = refl
-added_numbers Full catalogue work = refl
-added_numbers NoCatalogue catalogue work = refl
+added_numbers : (a : Result (Unit {0}) AddError) (catalogue work : List ℕ) → in_numbers (numbers_of_added a) catalogue work ≡ told_added a catalogue work
+added_numbers (Ok u) catalogue work = refl
+added_numbers (Err (Refused r)) catalogue work = refl
+added_numbers (Err (NotApart n)) catalogue work = refl
+added_numbers (Err ForeignField) catalogue work = refl
+added_numbers (Err Full) catalogue work = refl
+added_numbers (Err NoCatalogue) catalogue work = refl
 
 abbrev in_number : ℕ → List ℕ → Catalogue.Withdrawn
 in_number n catalogue = record { number = n; catalogue = catalogue }
 
-withdrawn_number : (w : Withdrawn) (catalogue : List ℕ) → in_number (number_of_withdrawn w) catalogue ≡ told_withdrawn w catalogue
-withdrawn_number Withdrawn-as.Gone catalogue = refl
-withdrawn_number Withdrawn-as.NoRule catalogue = refl
-withdrawn_number Withdrawn-as.NoCatalogue catalogue = refl
+withdrawn_number : (w : Result (Unit {0}) WithdrawError) (catalogue : List ℕ) → in_number (number_of_withdrawn w) catalogue ≡ told_withdrawn w catalogue
+withdrawn_number (Ok u) catalogue = refl
+withdrawn_number (Err Withdraw-error.NoRule) catalogue = refl
+withdrawn_number (Err Withdraw-error.NoCatalogue) catalogue = refl
 
 abbrev in_totals : Totals → List ℕ → List ℕ → Recheck.Rechecked
 in_totals t list work = record { number = t.number; pairs = t.pairs; written = t.written; list = list; work = work }
 
-rechecked_totals : (r : Rechecked) (list work : List ℕ) → in_totals (as_totals r) list work ≡ told_rechecked r list work
-rechecked_totals (Rechecked-as.Listed pairs written) list work = refl
-rechecked_totals Rechecked-as.TooShort list work = refl
-rechecked_totals Rechecked-as.NoCatalogue list work = refl
+rechecked_totals : (r : Result Listed RecheckError) (list work : List ℕ) → in_totals (as_totals r) list work ≡ told_rechecked r list work
+rechecked_totals (Ok l) list work = refl
+rechecked_totals (Err Recheck-error.TooShort) list work = refl
+rechecked_totals (Err Recheck-error.NoCatalogue) list work = refl
 
 -- an answer that tells the addition, with its numbers named and written
 pub added_promised :
-    (a : Added) (numbers : Numbers) {catalogue work : List ℕ} {o : Catalogue.Added} (before : List ℕ) {four : List ℕ}
+    (a : Result (Unit {0}) AddError) (numbers : Numbers) {catalogue work : List ℕ} {o : Catalogue.Added} (before : List ℕ) {four : List ℕ}
     → told_added a catalogue work ≡ o
     → numbers ≡ numbers_of_added a
     → four ≡ telling_numbers before numbers
@@ -97,7 +99,7 @@ added_promised a numbers {catalogue = catalogue} {work = work} before whole name
 
 -- an answer that tells the withdrawal, with its number named
 pub withdrawn_promised :
-    (w : Withdrawn) (n : ℕ) {catalogue : List ℕ} {o : Catalogue.Withdrawn} → told_withdrawn w catalogue ≡ o
+    (w : Result (Unit {0}) WithdrawError) (n : ℕ) {catalogue : List ℕ} {o : Catalogue.Withdrawn} → told_withdrawn w catalogue ≡ o
     → n ≡ number_of_withdrawn w
     → (n ≡ o.number) × (catalogue ≡ o.catalogue)
 withdrawn_promised w n {catalogue = catalogue} whole named =
@@ -106,7 +108,7 @@ withdrawn_promised w n {catalogue = catalogue} whole named =
 
 -- an answer that tells the list, with its totals named and written
 pub rechecked_promised :
-    (r : Rechecked) (totals : Totals) {list work : List ℕ} {o : Recheck.Rechecked} (before : List ℕ) {two : List ℕ}
+    (r : Result Listed RecheckError) (totals : Totals) {list work : List ℕ} {o : Recheck.Rechecked} (before : List ℕ) {two : List ℕ}
     → told_rechecked r list work ≡ o
     → totals ≡ as_totals r
     → two ≡ telling_totals before totals

@@ -18,7 +18,7 @@ pub fn add(catalogue: &mut [u8], rule: &[u8], work: &mut [u8], told: &mut [u64])
     ensures work { work.new ≡ (adding catalogue.old rule.now work.old).work }
 {
     let added = catalogue_add::add(catalogue, rule, work);
-    let numbers = catalogue_numbers::added(added);
+    let numbers = Numbers::from(added);
     tell_added(told, numbers);
     numbers.number as u32
 }
@@ -49,7 +49,7 @@ pub fn recheck(catalogue: &[u8], work: &mut [u8], list: &mut [u8], told: &mut [u
     ensures work { work.new ≡ (rechecking catalogue.now work.old list.old).work }
 {
     let rechecked = catalogue_recheck::recheck(catalogue, work, list);
-    let totals = catalogue_numbers::rechecked(rechecked);
+    let totals = Totals::from(rechecked);
     tell_rechecked(told, totals);
     totals.number as u32
 }

@@ -5,7 +5,8 @@ use mathlib.Core.List.{List}
 use lib.ListN.{set}
 use Rattle.paper_catalogue.specs.Catalogue.{AddedBy}
 use Rattle.catalogue_add.specs.Addition.{told_added_by}
-use Rattle.catalogue_add.specs.declared.Added.{Added}
+use Rattle.std.specs.Prelude.{Result}
+use Rattle.catalogue_add.specs.declared.AddError.{AddError}
 use Rattle.catalogue_numbers.specs.CatalogueNumbers.{numbers_of_added}
 use Rattle.catalogue_numbers.specs.declared.Numbers.{Numbers}
 use Rattle.c_catalogue.specs.Catalogued.{telling_numbers}
@@ -14,7 +15,7 @@ use Rattle.c_catalogue_decide.specs.CatalogueDecided.{telling_added_by}
 
 -- an answer that tells the addition, with its numbers named and written
 pub decided_promised :
-    (a : Added) (numbers : Numbers) {catalogue work : List ℕ} {o : AddedBy} (before : List ℕ) {four five : List ℕ}
+    (a : Result (Unit {0}) AddError) (numbers : Numbers) {catalogue work : List ℕ} {o : AddedBy} (before : List ℕ) {four five : List ℕ}
     → told_added_by a catalogue work ≡ o
     → numbers ≡ numbers_of_added a
     → four ≡ telling_numbers before numbers

@@ -8,6 +8,7 @@ ghost use Rattle.c_catalogue_decide.specs.CatalogueDecided.{telling_added_by};
 
 use c_catalogue::{tell_added, tell_rechecked};
 use c_tell::put;
+use catalogue_numbers::{Numbers, Totals};
 
 // Enters a rule behind the last one, if its pair with every rule present is decided 1: the number; count, place, the rule's number, the pair's answer
 // and the attempt that gave it go into the first five elements of `told`, as many as there is room for.
@@ -18,7 +19,7 @@ pub fn add_decided(catalogue: &mut [u8], rule: &[u8], work: &mut [u8], told: &mu
     ensures work { work.new ≡ (adding_decided catalogue.old rule.now work.old).added.work }
 {
     let added = catalogue_add::add_decided(catalogue, rule, work);
-    let numbers = catalogue_numbers::added(added);
+    let numbers = Numbers::from(added);
     tell_added(told, numbers);
     put(told, 4, numbers.search);
     numbers.number as u32
@@ -33,7 +34,7 @@ pub fn recheck_decided(catalogue: &[u8], work: &mut [u8], list: &mut [u8], told:
     ensures work { work.new ≡ (rechecking_decided catalogue.now work.old list.old).work }
 {
     let rechecked = catalogue_recheck::recheck_decided(catalogue, work, list);
-    let totals = catalogue_numbers::rechecked(rechecked);
+    let totals = Totals::from(rechecked);
     tell_rechecked(told, totals);
     totals.number as u32
 }

@@ -3,8 +3,7 @@ use Prim.Native.Nat.{ℕ}
 use mathlib.Core.Path.{◌≡◌, refl, ap, ◌∙◌}
 use mathlib.Core.List.{List, [], ◌∷◌}
 use Rattle.paper.specs.Outcome.{Outcome}
-use Rattle.base_answers.specs.AnswerNumbers.{as_numbers, told}
-use Rattle.base_answers.specs.declared.Answer.{Answer}
+use Rattle.base_answers.specs.AnswerNumbers.{Answer, as_numbers, told}
 use Rattle.base_answers.specs.declared.Numbers.{Numbers}
 use Rattle.c_tell.specs.ToldNumbers.{with_numbers}
 use Rattle.c_clash.specs.Asking.{telling}

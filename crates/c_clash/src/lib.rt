@@ -5,6 +5,7 @@ ghost use Rattle.std.specs.Prelude.{◌≡◌};
 ghost use Rattle.paper.specs.Outcome.{outcome};
 ghost use Rattle.c_clash.specs.Asking.{telling};
 
+use base_answers::Numbers;
 use c_tell::tell;
 
 // Can the two rules of the sheet make the same label? The number; count, place and written length go into the first three elements of `told`, as
@@ -16,7 +17,7 @@ pub fn sheet(sheet: &[u8], work: &mut [u8], answer: &mut [u8], told: &mut [u64])
     ensures work { work.new ≡ (outcome sheet.now work.old answer.old).work }
 {
     let given = search_clash::clash(sheet, work, answer);
-    let numbers = base_answers::in_numbers(given);
+    let numbers = Numbers::from(given);
     tell(told, numbers.count, numbers.place, numbers.written);
     numbers.number as u32
 }

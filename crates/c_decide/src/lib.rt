@@ -5,6 +5,7 @@ ghost use Rattle.std.specs.Prelude.{◌≡◌};
 ghost use Rattle.paper_decide.specs.Deciding.{decision};
 ghost use Rattle.c_decide.specs.Decided.{telling_decided};
 
+use base_answers::Numbers;
 use c_tell::{put, tell};
 
 // Can the two rules of the sheet make the same label? The number; count, place, written length and the number of the attempt that decided go into
@@ -16,8 +17,7 @@ pub fn sheet(sheet: &[u8], work: &mut [u8], answer: &mut [u8], told: &mut [u64])
     ensures work { work.new ≡ (decision sheet.now work.old answer.old).outcome.work }
 {
     let made = decide_sheet::decide(sheet, work, answer);
-    let given = made.answer;
-    let numbers = base_answers::in_numbers(given);
+    let numbers = Numbers::from(made.answer);
     tell(told, numbers.count, numbers.place, numbers.written);
     put(told, 3, made.search as usize);
     numbers.number as u32

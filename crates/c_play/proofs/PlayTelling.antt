@@ -4,8 +4,7 @@ use mathlib.Core.Path.{◌≡◌, ap, ◌∙◌}
 use mathlib.Core.List.{List}
 use Rattle.paper_steps.specs.Player.{Play}
 use Rattle.base_answers.specs.declared.Numbers.{Numbers}
-use Rattle.play_sheet.specs.PlayNumbers.{play_numbers, told_play}
-use Rattle.play_sheet.specs.declared.Playing.{Playing}
+use Rattle.play_sheet.specs.PlayNumbers.{Playing, play_numbers, told_play}
 use Rattle.c_tell.specs.ToldNumbers.{with_numbers}
 use Rattle.c_play.specs.PlayTold.{telling_played}
 

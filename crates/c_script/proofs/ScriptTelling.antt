@@ -9,21 +9,22 @@ use Rattle.paper_script.specs.Scripting.{Scripting, scripting_told}
 use Rattle.base_answers.specs.Faults.{fault_of}
 use Rattle.base_answers.specs.declared.Numbers.{Numbers}
 use Rattle.script_sheet.specs.WrittenOut.{scripted_numbers, told_scripted}
-use Rattle.script_sheet.specs.declared.Scripted.{Scripted}
-use Rattle.script_sheet.specs.declared.Scripted.TheVariants.{Written, Refused, TooShort}
+use Rattle.std.proofs.Common.{Result, Ok, Err}
+use Rattle.script_sheet.specs.declared.ScriptError.{ScriptError}
+use Rattle.script_sheet.specs.declared.ScriptError.TheVariants.{Refused, TooShort}
 use Rattle.c_tell.specs.ToldNumbers.{with_numbers}
 use Rattle.c_script.specs.Scripted.{telling_scripted}
 use Rattle.base_answers.proofs.FaultNumbers.{fault_below}
 
 -- 44, for a wrong edition, is the last of its numbers
-pub scripted_below : (s : Scripted) → (scripted_numbers s).number < 45
-scripted_below (Written bytes) = lit< tt
-scripted_below (Refused x at) = omega (arith, fault_below (fault_of x))
-scripted_below TooShort = lit< tt
+pub scripted_below : (s : Result ℕ ScriptError) → (scripted_numbers s).number < 45
+scripted_below (Ok bytes) = lit< tt
+scripted_below (Err (Refused r)) = omega (arith, fault_below (fault_of r.fault))
+scripted_below (Err TooShort) = lit< tt
 
 -- an answer that tells the script, with its numbers named and written
 pub scripted_promised :
-    (s : Scripted) (numbers : Numbers) {script : List ℕ} {o : Scripting} (before : List ℕ) {after : List ℕ} → told_scripted s script ≡ o
+    (s : Result ℕ ScriptError) (numbers : Numbers) {script : List ℕ} {o : Scripting} (before : List ℕ) {after : List ℕ} → told_scripted s script ≡ o
     → numbers ≡ scripted_numbers s
     → after ≡ with_numbers before 0 numbers.place numbers.written
     → (numbers.number ≡ o.number) × ((after ≡ telling_scripted before o) × (script ≡ o.script))

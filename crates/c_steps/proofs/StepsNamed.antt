@@ -4,8 +4,7 @@ use mathlib.Core.Path.{◌≡◌, refl, ap, ◌∙◌}
 use mathlib.Core.List.{List, [], ◌∷◌}
 use lib.ListN.{set}
 use Rattle.paper_steps.specs.StepsOutcome.{StepsOutcome}
-use Rattle.base_steps.specs.StepsNumbered.{steps_numbers, told_steps}
-use Rattle.base_steps.specs.declared.StepsAnswer.{StepsAnswer}
+use Rattle.base_steps.specs.StepsNumbered.{StepsAnswer, steps_numbers, told_steps}
 use Rattle.base_steps.specs.declared.StepsNumbers.{StepsNumbers}
 use Rattle.c_tell.specs.ToldNumbers.{with_numbers}
 use Rattle.c_steps.specs.StepsTelling.{telling_steps}

@@ -5,6 +5,7 @@ ghost use Rattle.std.specs.Prelude.{◌≡◌};
 ghost use Rattle.paper_steps.specs.StepsOutcome.{steps_outcome};
 ghost use Rattle.c_steps.specs.StepsTelling.{telling_steps};
 
+use base_steps::StepsNumbers;
 use c_tell::{put, tell};
 
 // Can the two rules of the sheet make the same label, and by which way? The number; count, place, written length and the bytes of steps go into the
@@ -23,7 +24,7 @@ pub fn sheet(
     ensures work { work.new ≡ (steps_outcome sheet.now work.old answer.old steps.old).work }
 {
     let given = steps_sheet::steps(sheet, work, answer, steps);
-    let numbers = base_steps::in_numbers(given);
+    let numbers = StepsNumbers::from(given);
     tell(told, numbers.count, numbers.place, numbers.written);
     put(told, 3, numbers.steps);
     numbers.number as u32

@@ -4,8 +4,7 @@ use mathlib.Core.Path.{◌≡◌, ap, ◌∙◌}
 use mathlib.Core.List.{List}
 use Rattle.paper_way.specs.WayOutcome.{Way}
 use Rattle.base_answers.specs.declared.Numbers.{Numbers}
-use Rattle.way_sheet.specs.WayNumbers.{way_numbers, told_way}
-use Rattle.way_sheet.specs.declared.WayAnswer.{WayAnswer}
+use Rattle.way_sheet.specs.WayNumbers.{WayAnswer, way_numbers, told_way}
 use Rattle.c_tell.specs.ToldNumbers.{with_numbers}
 use Rattle.c_way.specs.WayTold.{telling_way}
 

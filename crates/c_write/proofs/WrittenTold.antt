@@ -9,20 +9,21 @@ use Rattle.paper_carry.proofs.CarryPromised.{fault_between}
 use Rattle.base_answers.specs.Faults.{fault_of}
 use Rattle.base_answers.specs.declared.Numbers.{Numbers}
 use Rattle.write_sheet.specs.SheetWritten.{written_numbers, told_written}
-use Rattle.write_sheet.specs.declared.Written.{Written}
-use Rattle.write_sheet.specs.declared.Written.TheVariants.{Sheet, Refused, TooShort}
+use Rattle.std.proofs.Common.{Result, Ok, Err}
+use Rattle.write_sheet.specs.declared.WriteError.{WriteError}
+use Rattle.write_sheet.specs.declared.WriteError.TheVariants.{Refused, TooShort}
 use Rattle.c_tell.specs.ToldNumbers.{with_numbers}
 use Rattle.c_write.specs.WrittenNumbers.{telling_written}
 
 -- 44 is the last of them
-pub written_below : (w : Written) → (written_numbers w).number < 45
-written_below (Sheet bytes) = lit< tt
-written_below (Refused x at) = let (low, high) = fault_between (fault_of x) in omega arith
-written_below TooShort = lit< tt
+pub written_below : (w : Result ℕ WriteError) → (written_numbers w).number < 45
+written_below (Ok bytes) = lit< tt
+written_below (Err (Refused r)) = let (low, high) = fault_between (fault_of r.fault) in omega arith
+written_below (Err TooShort) = lit< tt
 
 -- an answer that tells what was written, with its numbers named and written
 pub written_promised :
-    (w : Written) (numbers : Numbers) {out : List ℕ} {o : Spelling} (before : List ℕ) {after : List ℕ} → told_written w out ≡ o
+    (w : Result ℕ WriteError) (numbers : Numbers) {out : List ℕ} {o : Spelling} (before : List ℕ) {after : List ℕ} → told_written w out ≡ o
     → numbers ≡ written_numbers w
     → after ≡ with_numbers before 0 numbers.place numbers.written
     → (numbers.number ≡ o.number) × ((after ≡ telling_written before o) × (out ≡ o.out))

@@ -9,8 +9,9 @@ ghost use Rattle.base_editions.specs.Editions.{paper_edition};
 ghost use Rattle.base_put.specs.Counted.{last_place};
 ghost use Rattle.carry_put.specs.Putting.{records_from, put_whole};
 ghost use Rattle.carry_anew.specs.Anew.{told_spelt, sheet_rewritten, SheetRead, rule_rewritten, RuleRead};
+ghost use Rattle.carry_anew.specs.declared.RewriteError.TheVariants.{Refused};
 
-use base_answers::{Fault, Found};
+use base_answers::Refusal;
 use base_codes::{FIELDS, SHEET_FIELDS};
 use base_editions::Edition;
 use base_question::Body;
@@ -19,59 +20,49 @@ use carry_records::Change;
 use read_rule::Rule;
 use read_sheet::Sheet;
 
-// The answer to a sheet or a rule that is to be written anew. specs/Anew.antt gives each its numbers.
+// Why a sheet or a rule is not written anew. specs/Anew.antt gives each its numbers.
 #[derive(Clone, Copy)]
-pub enum Rewritten {
-    // 0: so many bytes stand in front of the buffer
-    Written { bytes: usize },
+pub enum RewriteError {
     // 11 to 17, 22 and 44: the sheet or the rule is at fault
-    Refused { fault: Fault, place: usize },
+    Refused(Refusal),
     // 31: the rule names a field above 3
     ForeignField,
     // 41: the output buffer is too short
     TooShort,
 }
 
-// A sheet of which this was read, in the edition that it has.
-pub fn sheet(sheet: &[u8], read: Sheet, change: Change, out: &mut [u8]) -> Rewritten
+impl From<Refusal> for RewriteError {
+    ghost from_gives = { λ refusal error. error ≡ Refused refusal };
+
+    fn from(refusal: Refusal) -> RewriteError {
+        RewriteError::Refused(refusal)
+    }
+}
+
+// A sheet of which this was read, in the edition that it has: how many bytes stand in front of the buffer.
+pub fn sheet(
+    sheet: &[u8],
+    read: Sheet,
+    change: Change,
+    out: &mut [u8],
+) -> Result<usize, RewriteError>
     ensures { (x : Reading) → SheetRead change sheet.now x read → told_spelt result out.new ≡ sheet_rewritten change x out.old }
 {
-    let found = read.found;
-    if let Found::Refused(fault) = found {
-        return Rewritten::Refused {
-            fault,
-            place: read.place,
-        };
-    }
     let question = read.question;
-    let left = question.left;
-    let right = question.right;
-    let bodies = question.bodies;
-    let counts = base_question::standings(left, right);
-    let edition = read.edition;
-    let from = records_from(edition);
-    write_out(sheet, from, bodies, counts, change, out)
+    let counts = base_question::standings(question.left, question.right);
+    let from = records_from(read.edition);
+    write_out(sheet, from, question.bodies, counts, change, out)
 }
 
 // A rule of which this was read.
-pub fn rule(rule: &[u8], read: Rule, change: Change, out: &mut [u8]) -> Rewritten
+pub fn rule(rule: &[u8], read: Rule, change: Change, out: &mut [u8]) -> Result<usize, RewriteError>
     ensures { (x : Records Paper.Rule) → RuleRead change rule.now x read → told_spelt result out.new ≡ rule_rewritten change x out.old }
 {
-    let found = read.found;
-    if let Found::Refused(fault) = found {
-        return Rewritten::Refused {
-            fault,
-            place: read.place,
-        };
+    if read.foreign {
+        return Err(RewriteError::ForeignField);
     }
-    let foreign = read.foreign;
-    if foreign {
-        return Rewritten::ForeignField;
-    }
-    let side = read.side;
-    let bodies = read.bodies;
-    let counts = rule_counts(side);
-    write_out(rule, RULE_MARK, bodies, counts, change, out)
+    let counts = rule_counts(read.side);
+    write_out(rule, RULE_MARK, read.bodies, counts, change, out)
 }
 
 // Where the records of a sheet begin: behind `ED` and its byte.
@@ -92,13 +83,13 @@ fn write_out(
     counts: [usize; FIELDS],
     change: Change,
     out: &mut [u8],
-) -> Rewritten
+) -> Result<usize, RewriteError>
     ensures { length (put_whole change s.now from bodies counts) ≤ last_place → told_spelt result out.new ≡ put_into (put_whole change s.now from bodies counts) out.old }
 {
     let length = put_whole(&mut out[0..0], 0, s, from, bodies, counts, change);
     if out.len() < length {
-        return Rewritten::TooShort;
+        return Err(RewriteError::TooShort);
     }
     let bytes = put_whole(out, 0, s, from, bodies, counts, change);
-    Rewritten::Written { bytes }
+    Ok(bytes)
 }

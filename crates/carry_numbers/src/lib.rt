@@ -7,60 +7,37 @@ ghost use Rattle.carry_open.specs.CarriedOver.{carried_number};
 ghost use Rattle.carry_strays.specs.StraysDropped.{dropped_number};
 
 use base_answers::{CATALOGUE_FULL, FOREIGN_FIELD, NO_CATALOGUE, Numbers, SHEET_TOO_SHORT};
-use carry_anew::Rewritten;
-use carry_open::CarriedOver;
-use carry_strays::StraysDropped;
+use carry_anew::RewriteError;
+use carry_open::CarryError;
+use carry_strays::NoCatalogue;
 
+// Kept: an impl of `From` needs a type of its own crate, and neither these results nor the numbers are of this one.
 // Of a sheet or a rule.
-pub fn in_numbers(s: Rewritten) -> Numbers
+pub fn in_numbers(s: Result<usize, RewriteError>) -> Numbers
     ensures { result ≡ spelt_numbers s }
 {
     match s {
-        Rewritten::Written { bytes } => Numbers {
-            number: 0,
-            count: 0,
-            place: 0,
-            written: bytes,
-        },
-        Rewritten::Refused { fault, place } => Numbers {
-            number: base_answers::number(fault) as usize,
-            count: 0,
-            place,
-            written: 0,
-        },
-        Rewritten::ForeignField => only(FOREIGN_FIELD),
-        Rewritten::TooShort => only(SHEET_TOO_SHORT),
-    }
-}
-
-fn only(number: usize) -> Numbers
-    ensures { result ≡ record { number = number; count = 0; place = 0; written = 0 } }
-{
-    Numbers {
-        number,
-        count: 0,
-        place: 0,
-        written: 0,
+        Ok(bytes) => Numbers::of_written(bytes),
+        Err(RewriteError::Refused(refusal)) => Numbers::from(refusal),
+        Err(RewriteError::ForeignField) => Numbers::of_number(FOREIGN_FIELD),
+        Err(RewriteError::TooShort) => Numbers::of_number(SHEET_TOO_SHORT),
     }
 }
 
 // Of a catalogue that was carried over.
-pub fn carried(c: CarriedOver) -> usize
+pub fn carried(c: Result<(), CarryError>) -> usize
     ensures { result ≡ carried_number c }
 {
     match c {
-        CarriedOver::Done => 0,
-        CarriedOver::Full => CATALOGUE_FULL,
-        CarriedOver::NoCatalogue => NO_CATALOGUE,
+        Ok(()) => 0,
+        Err(CarryError::Full) => CATALOGUE_FULL,
+        Err(CarryError::NoCatalogue) => NO_CATALOGUE,
     }
 }
 
 // Of a catalogue whose strays were taken out.
-pub fn dropped(d: StraysDropped) -> usize
+pub fn dropped(d: Result<(), NoCatalogue>) -> usize
     ensures { result ≡ dropped_number d }
 {
-    match d {
-        StraysDropped::Done => 0,
-        StraysDropped::NoCatalogue => NO_CATALOGUE,
-    }
+    if d.is_ok() { 0 } else { NO_CATALOGUE }
 }

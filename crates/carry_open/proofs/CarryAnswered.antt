@@ -28,67 +28,91 @@ use Rattle.paper_carry.proofs.CarryPromised.{promised, rule_promised, catalogue_
 use Rattle.paper_strays.proofs.Dropped.{before_laid}
 use Rattle.base_put.specs.Counted.{Counted}
 use Rattle.base_put.proofs.Counting.{counted_length, counted_in_front}
-use Rattle.base_editions.specs.Editions.{paper_edition}
+use Rattle.std.specs.Prelude.{Ok, Err}
+use Rattle.base_answers.specs.declared.Refusal.{Refusal}
+use Rattle.base_editions.specs.Editions.{paper_edition, edition_code}
 use Rattle.base_editions.specs.declared.Edition.TheVariants.{First}
 use Rattle.base_editions.proofs.Same.{same_edition}
 use Rattle.read_sheet.specs.SheetRead.{bodies_of, sheet_of}
 use Rattle.read_sheet.specs.declared.Sheet.{Sheet}
+use Rattle.read_sheet.proofs.SheetStruct.{reading_refused}
+use Rattle.base_question.specs.Asked.{question_of}
 use Rattle.read_rule.specs.RuleRead.{rule_bodies, rule_of}
 use Rattle.read_rule.specs.declared.Rule as Read
+use Rattle.read_rule.proofs.RuleStruct.{rule_fault}
+use Rattle.carry_anew.specs.declared.RewriteError.TheVariants.{Refused}
 use Rattle.catalogue_bytes.specs.Moving.{put_at}
 use Rattle.catalogue_bytes.proofs.Within.{is_put}
 use Rattle.carry_records.specs.declared.Change.{Change}
 use Rattle.carry_records.specs.declared.Change.TheVariants.{Open}
 use Rattle.carry_put.specs.Putting.{rules_put}
 use Rattle.carry_put.proofs.RulesPut.{rules_whole, new_short}
-use Rattle.carry_anew.specs.Anew.{sheet_rewritten, SheetRead, rule_rewritten, RuleRead}
+use Rattle.carry_anew.specs.Anew.{told_spelt, sheet_rewritten, SheetRead, rule_rewritten, RuleRead}
 use Rattle.carry_open.specs.CarriedOver.{told_carried}
-use Rattle.carry_open.specs.declared.CarriedOver.TheVariants.{Done, Full, NoCatalogue}
+use Rattle.carry_open.specs.declared.CarryError.TheVariants.{Full, NoCatalogue}
 
 -- Sheets.
-module _ (s out : List ℕ) (read : Sheet) (e : read ≡ sheet_of (bodies_of s) (read_sheet s)) where
-  abbrev its_change : Change
-  its_change = Open read.edition
+module _ (s out : List ℕ) where
+  and_all : (t : Spelling) → t ≡ spelling s out → (t ≡ spelling s out) × CarryPromised s out t
+  and_all t whole = (whole, subst (CarryPromised s out) (sym whole) (promised s out))
 
-  -- the edition that was read is the question's
-  its_edition : (q : Question) → read_sheet s ≡ asked q → paper_edition read.edition ≡ edition_of q.alphabet
-  its_edition q k = ap (λ (z : Sheet). paper_edition z.edition) (e ∙ ap (sheet_of (bodies_of s)) k) ∙ same_edition (edition_of q.alphabet)
-
-  sheet_read : SheetRead its_change s (read_sheet s) read
-  sheet_read = record { is = e; before = λ q k. asked_before s q k; in_edition = its_edition }
-
-  opened_by : (x : Reading) → read_sheet s ≡ x → sheet_rewritten its_change x out ≡ spelling_of x out
-  opened_by (refused f at) k = refl
-  opened_by (asked q) k =
-      ap (λ (n : ℕ). put_into (sheet_saying (question_changed (with_open n) q)) out)
-      (ap (λ (d : Edition). (alphabet_of d).characters) (its_edition q k) ∙ sym (ap (λ (a : Alphabet). a.characters) (sheet_good s q k).alphabet))
-
-  pub sheet_carried : (t : Spelling) → ((x : Reading) → SheetRead its_change s x read → t ≡ sheet_rewritten its_change x out)
-      → (t ≡ spelling s out) × CarryPromised s out t
+  pub sheet_at_fault : (e : Refusal) → Err e ≡ sheet_of (bodies_of s) (read_sheet s)
+      → (told_spelt (Err (Refused e)) out ≡ spelling s out) × CarryPromised s out (told_spelt (Err (Refused e)) out)
   unfolding spelling
-  sheet_carried t h =
-      let whole = h (read_sheet s) sheet_read ∙ opened_by (read_sheet s) refl in
-      (whole, subst (CarryPromised s out) (sym whole) (promised s out))
+  sheet_at_fault e h = and_all (told_spelt (Err (Refused e)) out) (rw (reading_refused s (read_sheet s) e (sym h)))
+
+  module _ (read : Sheet) (e : Ok read ≡ sheet_of (bodies_of s) (read_sheet s)) where
+    abbrev its_change : Change
+    its_change = Open read.edition
+
+    -- the edition that was read is the question's
+    its_edition : (q : Question) → read_sheet s ≡ asked q → paper_edition read.edition ≡ edition_of q.alphabet
+    its_edition q k =
+        let h : Ok read ≡ sheet_of (bodies_of s) (asked q) = e ∙ ap (sheet_of (bodies_of s)) k in
+        let same : read ≡ record { edition = edition_code (edition_of q.alphabet); question = question_of q (bodies_of s) } = cc in
+        ap (λ (z : Sheet). paper_edition z.edition) same ∙ same_edition (edition_of q.alphabet)
+
+    sheet_read : SheetRead its_change s (read_sheet s) read
+    sheet_read = record { is = e; before = λ q k. asked_before s q k; in_edition = its_edition }
+
+    opened_by : (x : Reading) → read_sheet s ≡ x → sheet_rewritten its_change x out ≡ spelling_of x out
+    opened_by (refused f at) k = refl
+    opened_by (asked q) k =
+        ap (λ (n : ℕ). put_into (sheet_saying (question_changed (with_open n) q)) out)
+        (ap (λ (d : Edition). (alphabet_of d).characters) (its_edition q k) ∙ sym (ap (λ (a : Alphabet). a.characters) (sheet_good s q k).alphabet))
+
+    pub sheet_carried : (t : Spelling) → ((x : Reading) → SheetRead its_change s x read → t ≡ sheet_rewritten its_change x out)
+        → (t ≡ spelling s out) × CarryPromised s out t
+    unfolding spelling
+    sheet_carried t h = and_all t (h (read_sheet s) sheet_read ∙ opened_by (read_sheet s) refl)
 
 -- Rules.
-module _ (s out : List ℕ) (read : Read.Rule) (e : read ≡ rule_of (rule_bodies s) (read_rule s)) where
-  rule_opened_by : (x : Records Rule) → rule_rewritten (Open First) x out ≡ rule_spelling_of x out
-  unfolding rule_open
-  rule_opened_by (faulty f at) = refl
-  rule_opened_by (records r n) = refl
+module _ (s out : List ℕ) where
+  rule_and_all : (t : Spelling) → t ≡ rule_spelling s out → (t ≡ rule_spelling s out) × RulePromised s out t
+  rule_and_all t whole = (whole, subst (RulePromised s out) (sym whole) (rule_promised s out))
 
-  pub rule_carried : (t : Spelling) → ((x : Records Rule) → RuleRead (Open First) s x read → t ≡ rule_rewritten (Open First) x out)
-      → (t ≡ rule_spelling s out) × RulePromised s out t
+  pub rule_at_fault : (e : Refusal) → Err e ≡ rule_of (rule_bodies s) (read_rule s)
+      → (told_spelt (Err (Refused e)) out ≡ rule_spelling s out) × RulePromised s out (told_spelt (Err (Refused e)) out)
   unfolding rule_spelling
-  rule_carried t h =
-      let whole = h (read_rule s) (record { is = e; before = λ r n k. rule_before s k; in_edition = refl }) ∙ rule_opened_by (read_rule s) in
-      (whole, subst (RulePromised s out) (sym whole) (rule_promised s out))
+  rule_at_fault e h = rule_and_all (told_spelt (Err (Refused e)) out) (rw (rule_fault (rule_bodies s) (read_rule s) e (sym h)))
+
+  module _ (read : Read.Rule) (e : Ok read ≡ rule_of (rule_bodies s) (read_rule s)) where
+    rule_opened_by : (x : Records Rule) → rule_rewritten (Open First) x out ≡ rule_spelling_of x out
+    unfolding rule_open
+    rule_opened_by (faulty f at) = refl
+    rule_opened_by (records r n) = refl
+
+    pub rule_carried : (t : Spelling) → ((x : Records Rule) → RuleRead (Open First) s x read → t ≡ rule_rewritten (Open First) x out)
+        → (t ≡ rule_spelling s out) × RulePromised s out t
+    unfolding rule_spelling
+    rule_carried t h =
+        rule_and_all t (h (read_rule s) (record { is = e; before = λ r n k. rule_before s k; in_edition = refl }) ∙ rule_opened_by (read_rule s))
 
 -- A catalogue.
 pub and_promised : (c : List ℕ) (s : Spelling.CarriedOver) → s ≡ carrying_over c → (s ≡ carrying_over c) × CataloguePromised c s
 and_promised c s e = (e, subst (CataloguePromised c) (sym e) (catalogue_promised c))
 
-pub none_kept : (c : List ℕ) → form c ≡ no_catalogue → told_carried NoCatalogue c ≡ carrying_over c
+pub none_kept : (c : List ℕ) → form c ≡ no_catalogue → told_carried (Err NoCatalogue) c ≡ carrying_over c
 unfolding carrying_over
 none_kept c e = rw e
 
@@ -111,7 +135,7 @@ module _ (c : List ℕ) (l : List Present) (e : form c ≡ rules l) {before byte
   pub within : n ≤ longest_rules
   within = omega (arith, its_length, all_fit)
 
-  pub too_full : length c < n → told_carried Full c ≡ carrying_over c
+  pub too_full : length c < n → told_carried (Err Full) c ≡ carrying_over c
   unfolding carrying_over
   too_full h = rw (e, lt_ltb (length c) (length (rules_open l)) (omega (arith, its_length)))
 
@@ -122,7 +146,7 @@ module _ (c : List ℕ) (l : List Present) (e : form c ≡ rules l) {before byte
         ap (take n) (counted_in_front its_rules (omega (arith, all_fit)) (omega (arith, room, all_fit)))
         ∙ take_at (rules_open l) (drop (length (rules_open l)) before) n (omega (arith, its_length))
 
-    pub all_put : n ≤ length c → (part filled : List ℕ) → part ≡ take n bytes → filled ≡ put_at 0 part c → told_carried Done filled ≡ carrying_over c
+    pub all_put : n ≤ length c → (part filled : List ℕ) → part ≡ take n bytes → filled ≡ put_at 0 part c → told_carried (Ok tt) filled ≡ carrying_over c
     unfolding carrying_over
     all_put h part filled i f =
         let all = rules_open l in

@@ -8,49 +8,47 @@ ghost use Rattle.carry_anew.specs.Anew.{told_spelt};
 ghost use Rattle.carry_open.specs.CarriedOver.{told_carried};
 
 use base_editions::Edition;
-use carry_anew::Rewritten;
+use carry_anew::RewriteError;
 use carry_put::{no_bytes, put_rules};
 use carry_records::Change;
 
-// The answer to a catalogue that is to be carried over in its own buffer.
+// Why a catalogue is not carried over in its own buffer.
 #[derive(Clone, Copy)]
-pub enum CarriedOver {
-    // 0: every rule is
-    Done,
+pub enum CarryError {
     // 32: the records would no longer fit
     Full,
     // 34: the buffer is no catalogue
     NoCatalogue,
 }
 
+// Kept: `carry_strays` has these three with another reader and another change. What each promises is a theorem of its own, and what they share is in
+// `carry_anew` and `carry_put`: one function of both would be no shorter.
 // Writes the sheet, in its edition, with 68 65 0 42, behind `ED` 196 193 0 127, for every standing field without a pattern.
-pub fn sheet(sheet: &[u8], out: &mut [u8]) -> Rewritten
+pub fn sheet(sheet: &[u8], out: &mut [u8]) -> Result<usize, RewriteError>
     ensures whole { told_spelt result out.new ≡ spelling sheet.now out.old }
     ensures promised { CarryPromised sheet.now out.old (told_spelt result out.new) }
 {
-    let read = read_sheet::read(sheet);
-    let edition = read.edition;
-    carry_anew::sheet(sheet, read, Change::Open(edition), out)
+    let read = read_sheet::read(sheet)?;
+    carry_anew::sheet(sheet, read, Change::Open(read.edition), out)
 }
 
 // Writes the rule likewise.
-pub fn rule(rule: &[u8], out: &mut [u8]) -> Rewritten
+pub fn rule(rule: &[u8], out: &mut [u8]) -> Result<usize, RewriteError>
     ensures whole { told_spelt result out.new ≡ rule_spelling rule.now out.old }
     ensures promised { RulePromised rule.now out.old (told_spelt result out.new) }
 {
-    let read = read_rule::read(rule);
+    let read = read_rule::read(rule)?;
     carry_anew::rule(rule, read, Change::Open(Edition::First), out)
 }
 
 // Carries every rule of the catalogue over, in its own buffer.
-pub fn catalogue(catalogue: &mut [u8]) -> CarriedOver
+pub fn catalogue(catalogue: &mut [u8]) -> Result<(), CarryError>
     ensures whole { told_carried result catalogue.new ≡ carrying_over catalogue.old }
     ensures promised { CataloguePromised catalogue.old (told_carried result catalogue.new) }
 {
-    let kept = catalogue_form::find(catalogue);
-    if !kept.good {
-        return CarriedOver::NoCatalogue;
-    }
+    let Some(kept) = catalogue_form::find(catalogue) else {
+        return Err(CarryError::NoCatalogue);
+    };
     let mut bytes = no_bytes();
     let n = put_rules(
         &mut bytes,
@@ -59,8 +57,8 @@ pub fn catalogue(catalogue: &mut [u8]) -> CarriedOver
         Change::Open(Edition::First),
     );
     if catalogue.len() < n {
-        return CarriedOver::Full;
+        return Err(CarryError::Full);
     }
     catalogue_bytes::put(catalogue, 0, &bytes[0..n]);
-    CarriedOver::Done
+    Ok(())
 }

@@ -6,11 +6,11 @@
 // right.
 #![tactic(auto)]
 
-use base_answers::Fault;
-use carry_anew::Rewritten;
-use carry_open::CarriedOver;
+use base_answers::Refusal;
+use carry_anew::RewriteError;
+use carry_open::CarryError;
 use print_failures::refuse;
-use print_out::{How, Streams, read_first, tell, tell_end};
+use print_out::{Failure, Streams, print, read_first, tell, tell_end};
 use read_side::{Cursor, Mark};
 
 // more than a catalogue of 32 of the longest rules has
@@ -23,64 +23,58 @@ const INPUT: usize = MOST + 1;
 const LONGEST: usize = 1625;
 
 fn main(rt: HostRuntime) {
+    tell_end(&rt, b"carry_over", run(&rt));
+}
+
+fn run(rt: &impl Streams) -> Result<(), Failure> {
     let mut input = [0u8; INPUT];
-    let got = read_first(&rt, &mut input);
-    let n = got.bytes;
-    if !got.read {
-        tell_end(&rt, b"carry_over", How::NotRead);
-    } else if MOST < n {
-        tell(&rt, b"carry_over: more than 65,536 bytes\n");
-    } else {
-        carry(&rt, &mut input[0..n]);
+    let n = read_first(rt, &mut input)?;
+    if MOST < n {
+        tell(rt, b"carry_over: more than 65,536 bytes\n");
+        return Ok(());
     }
+    carry(rt, &mut input[..n])
 }
 
 // What is no sheet and no rule by itself may be a catalogue.
-fn carry(rt: &impl Streams, bytes: &mut [u8]) {
+fn carry(rt: &impl Streams, bytes: &mut [u8]) -> Result<(), Failure> {
     let mut out = [0u8; LONGEST];
-    let spelt = spelt_open(bytes, &mut out);
-    match spelt {
-        Rewritten::Refused { fault, place } => carry_catalogue(rt, bytes, fault, place),
-        _ => show(rt, spelt, &out),
+    match carried(bytes, &mut out) {
+        Ok(n) => print(rt, &out[..n.min(LONGEST)]),
+        Err(RewriteError::Refused(refusal)) => carry_catalogue(rt, bytes, refusal),
+        Err(RewriteError::ForeignField) => {
+            tell(rt, b"carry_over: 31: the rule names a field above 3\n");
+            Ok(())
+        }
+        // never: the buffer is as long as the longest sheet
+        Err(RewriteError::TooShort) => Ok(()),
     }
 }
 
-fn spelt_open(bytes: &[u8], out: &mut [u8]) -> Rewritten {
-    let start = Cursor { at: 0 };
-    if start.next_is(bytes, Mark::RU) {
+fn carried(bytes: &[u8], out: &mut [u8]) -> Result<usize, RewriteError> {
+    if (Cursor { at: 0 }).next_is(bytes, Mark::RU) {
         return carry_open::rule(bytes, out);
     }
     carry_open::sheet(bytes, out)
 }
 
 // No bytes at all are a sheet cut short, and not a catalogue: more likely than one without a byte is an input that went missing.
-fn carry_catalogue(rt: &impl Streams, catalogue: &mut [u8], fault: Fault, place: usize) {
-    if catalogue.len() == 0 {
-        refuse(rt, b"carry_over", fault, place);
-        return;
+fn carry_catalogue(
+    rt: &impl Streams,
+    catalogue: &mut [u8],
+    refusal: Refusal,
+) -> Result<(), Failure> {
+    if catalogue.is_empty() {
+        refuse(rt, b"carry_over", refusal);
+        return Ok(());
     }
-    let carried = carry_open::catalogue(catalogue);
-    match carried {
-        CarriedOver::Done => print(rt, catalogue),
-        CarriedOver::Full => tell(
+    match carry_open::catalogue(catalogue) {
+        Ok(()) => print(rt, catalogue)?,
+        Err(CarryError::Full) => tell(
             rt,
             b"carry_over: 32: the rules no longer fit the catalogue\n",
         ),
-        CarriedOver::NoCatalogue => refuse(rt, b"carry_over", fault, place),
+        Err(CarryError::NoCatalogue) => refuse(rt, b"carry_over", refusal),
     }
-}
-
-// What was written, or why nothing was.
-fn show(rt: &impl Streams, spelt: Rewritten, out: &[u8]) {
-    let told = carry_numbers::in_numbers(spelt);
-    let n = told.written;
-    if told.number == 31 {
-        tell(rt, b"carry_over: 31: the rule names a field above 3\n");
-    } else if n <= out.len() {
-        print(rt, &out[0..n]);
-    }
-}
-
-fn print(rt: &impl Streams, bytes: &[u8]) {
-    tell_end(rt, b"carry_over", print_out::print(rt, How::Going, bytes));
+    Ok(())
 }

@@ -27,30 +27,37 @@ use Rattle.catalogue_form.specs.Kept.{rule_there}
 use Rattle.paper_carry.specs.Spelling.{longest_rule}
 use Rattle.paper_carry.proofs.Lengths.{rule_length}
 use Rattle.paper_carry.proofs.SaidBack.{rule_said_back}
+use Rattle.std.specs.Prelude.{Ok, Err}
+use Rattle.base_answers.specs.declared.Refusal.{Refusal}
 use Rattle.base_codes.specs.Inner.{side_code, padded}
 use Rattle.base_question.specs.Standings.{standing_times}
 use Rattle.base_put.specs.Counted.{Counted}
 use Rattle.base_put.proofs.Counting.{counted_none, counted_then}
 use Rattle.carry_records.specs.Changing.{InEdition}
 use Rattle.carry_records.specs.declared.Change.{Change}
-use Rattle.carry_put.specs.Putting.{put_whole, rule_put, rules_put, rule_anew}
+use Rattle.carry_put.specs.Putting.{put_whole, put_of, rule_put, bytes_there, rules_put, rule_anew}
 use Rattle.carry_put.proofs.PutWhole.{have_bytes, rule_whole, rule_short}
 
 -- The rule in front.
-within_of : (s : List ℕ) (x : Records Rule) → rule_front s ≡ x → (rule_of (rule_bodies s) x).bytes ≤ length s
+within_of : (s : List ℕ) (x : Records Rule) → rule_front s ≡ x → bytes_there (rule_of (rule_bodies s) x) ≤ length s
 within_of s (faulty x at) e = omega arith
 within_of s (records r n) e = let (low, high) = rule_bounds s e in high
 
-pub there_within : (s : List ℕ) → (rule_there s).bytes ≤ length s
+pub there_within : (s : List ℕ) → bytes_there (rule_there s) ≤ length s
 there_within s = within_of s (rule_front s) refl
 
 -- what is put of it, by what was read
-pub put_is : (c : Change) (s : List ℕ) (r : Read.Rule) → r ≡ rule_there s → (part : List ℕ) → part ≡ take r.bytes s
+pub put_is : (c : Change) (s : List ℕ) (r : Read.Rule) → Ok r ≡ rule_there s → (part : List ℕ) → part ≡ take r.bytes s
     → (counts : List ℕ) → counts ≡ standing_times r.side (padded []) → put_whole c part 2 r.bodies counts ≡ rule_put c s
 unfolding rule_put
 put_is c s r e part i counts k =
     ap₂ (λ (p m : List ℕ). put_whole c p 2 r.bodies m) i k
-    ∙ ap (λ (x : Read.Rule). put_whole c (take x.bytes s) 2 x.bodies (standing_times x.side (padded []))) e
+    ∙ ap (put_of c s) e
+
+-- nothing, where none was read
+pub none_put : (c : Change) (s : List ℕ) (e : Refusal) → Err e ≡ rule_there s → [] ≡ rule_put c s
+unfolding rule_put
+none_put c s e h = ap (put_of c s) h
 
 -- The rules before number i are put, and what is put for the others comes behind.
 pub record Walking (c : Change) (before bytes : List ℕ) (end : ℕ) (s : List ℕ) (rules at i : ℕ) : Type 0 where
@@ -63,7 +70,7 @@ walk_start c bytes s rules =
     record { put = []; counted = counted_none; left = λ n k. ap (λ (m : ℕ). rules_put c m s) (sym (add-zero n) ∙ k) }
 
 module _ {c : Change} {before bytes : List ℕ} {end : ℕ} {s : List ℕ} {rules at i : ℕ} (w : Walking c before bytes end s rules at i) where
-  pub walk_on : {after : List ℕ} {next further : ℕ} → further ≡ at + (rule_there (drop at s)).bytes → Counted bytes after end next (rule_put c (drop at s))
+  pub walk_on : {after : List ℕ} {next further : ℕ} → further ≡ at + bytes_there (rule_there (drop at s)) → Counted bytes after end next (rule_put c (drop at s))
       → Walking c before after next s rules further (i + 1)
   walk_on e p =
       let one = rule_put c (drop at s) in
@@ -71,8 +78,8 @@ module _ {c : Change} {before bytes : List ℕ} {end : ℕ} {s : List ℕ} {rule
         put = w.put ++ one;
         counted = counted_then w.counted p;
         left = λ n k.
-            rw (e, ← drop-drop (rule_there (drop at s)).bytes at s)
-            (append_assoc w.put one (rules_put c n (drop (rule_there (drop at s)).bytes (drop at s))) ∙ w.left (suc n) (omega arith));
+            rw (e, ← drop-drop (bytes_there (rule_there (drop at s))) at s)
+            (append_assoc w.put one (rules_put c n (drop (bytes_there (rule_there (drop at s))) (drop at s))) ∙ w.left (suc n) (omega arith));
       }
 
   pub walk_ends : i ≡ rules → Counted before bytes 0 end (rules_put c rules s)
@@ -107,7 +114,7 @@ module _ (c : Change) (i : InEdition edition_1 c) where
   rules_whole (zeros z) = refl
   rules_whole (rule {s = s} {l = l} e own rest) =
       ap₂ (λ (a b : List ℕ). a ++ b) (one_whole s e own)
-      (ap (λ (x : Records Rule). rules_put c (length l) (drop (rule_of (rule_bodies s) x).bytes s)) e ∙ rules_whole rest)
+      (ap (λ (x : Records Rule). rules_put c (length l) (drop (bytes_there (rule_of (rule_bodies s) x)) s)) e ∙ rules_whole rest)
 
   pub new_short : {s : List ℕ} {l : List Present} → LaidOut foreign_field s l → length (each (λ (p : Present). rule_anew c p.rule) l) ≤ length l * longest_rule
   new_short (zeros z) = omega arith

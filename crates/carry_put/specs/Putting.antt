@@ -1,12 +1,14 @@
 -- What is put of a sheet, of a rule and of the rules of a catalogue, from their bytes, by where the fields' patterns stand in them and by how often
 -- each field does: for all bytes. And a rule that is changed, as bytes.
-use Rattle.std.specs.Prelude.{ℕ, zero, suc, List, [], ◌++◌, take, drop}
+use Rattle.std.specs.Prelude.{ℕ, zero, suc, List, [], ◌++◌, take, drop, Result, Ok, Err}
 use Rattle.paper.specs.Alphabet.{Edition, edition_1, edition_2}
 use Rattle.paper.specs.Rule.{Rule}
 use Rattle.paper_carry.specs.Opened.{rule_saying, held_changed}
+use Rattle.base_answers.specs.declared.Refusal.{Refusal}
 use Rattle.base_codes.specs.Inner.{padded}
 use Rattle.base_question.specs.Standings.{standing_times}
 use Rattle.base_question.specs.declared.Body.{Body}
+use Rattle.read_rule.specs.declared.Rule as Read
 use Rattle.catalogue_form.specs.Kept.{rule_there}
 use Rattle.carry_records.specs.Changing.{how_changed, changed_from}
 use Rattle.carry_records.specs.declared.Change.{Change}
@@ -20,16 +22,24 @@ records_from edition_2 = 3
 abbrev pub put_whole : Change → List ℕ → ℕ → List Body → List ℕ → List ℕ
 put_whole c s from bodies counts = take from s ++ changed_from c s from bodies counts
 
--- the rule in front of the bytes, behind "the mark `RU`"
+-- of a rule that was read of these bytes, behind "the mark `RU`"; nothing where none was
+abbrev pub put_of : Change → List ℕ → Result Read.Rule Refusal → List ℕ
+put_of c s (Ok r) = put_whole c (take r.bytes s) 2 r.bodies (standing_times r.side (padded []))
+put_of c s (Err e) = []
+
+-- the rule in front of the bytes
 unfoldable pub rule_put : Change → List ℕ → List ℕ
-rule_put c s =
-    let r = rule_there s in
-    put_whole c (take r.bytes s) 2 r.bodies (standing_times r.side (padded []))
+rule_put c s = put_of c s (rule_there s)
+
+-- how many bytes it has; none where none was read
+abbrev pub bytes_there : Result Read.Rule Refusal → ℕ
+bytes_there (Ok r) = r.bytes
+bytes_there (Err e) = 0
 
 -- so many rules, one behind the other
 abbrev pub rules_put : Change → ℕ → List ℕ → List ℕ
 rules_put c zero s = []
-rules_put c (suc n) s = rule_put c s ++ rules_put c n (drop (rule_there s).bytes s)
+rules_put c (suc n) s = rule_put c s ++ rules_put c n (drop (bytes_there (rule_there s)) s)
 
 -- a rule that is changed
 abbrev pub rule_anew : Change → Rule → List ℕ

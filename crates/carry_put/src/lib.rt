@@ -25,10 +25,7 @@ pub const LONGEST_RULES: usize = CATALOGUE_RULES * (RULE_MARK + 4 * 196 + 27);
 fn put_front(out: &mut [u8], at: usize, s: &[u8], from: usize) -> usize
     ensures { Counted out.old out.new at result (take from s.now) }
 {
-    if s.len() < from {
-        return put_all(out, at, s);
-    }
-    put_all(out, at, &s[0..from])
+    put_all(out, at, s.get(..from).unwrap_or(s))
 }
 
 // The bytes in front of the patterns, then the records: as far as there is room, and the place behind them.
@@ -74,24 +71,21 @@ pub fn put_rules(bytes: &mut [u8], catalogue: &[u8], rules: usize, change: Chang
 {
     let mut end = 0;
     let mut at = 0;
-    let mut i = 0;
-    while i < rules {
-        let rule = catalogue_form::rule_at(catalogue, at);
-        let next = at + rule.bytes;
-        let side = rule.side;
-        let bodies = rule.bodies;
-        let counts = rule_counts(side);
-        end = put_whole(
-            bytes,
-            end,
-            &catalogue[at..next],
-            RULE_MARK,
-            bodies,
-            counts,
-            change,
-        );
-        at = next;
-        i += 1;
+    for _ in 0..rules {
+        if let Ok(rule) = catalogue_form::rule_at(catalogue, at) {
+            let next = at + rule.bytes;
+            let counts = rule_counts(rule.side);
+            end = put_whole(
+                bytes,
+                end,
+                &catalogue[at..next],
+                RULE_MARK,
+                rule.bodies,
+                counts,
+                change,
+            );
+            at = next;
+        }
     }
     end
 }

@@ -32,21 +32,14 @@ fn written_out(edition: Edition) -> [u8; 5]
     }
 }
 
+// Kept: a length and no Option, for the next offset adds it (`record_length`).
 // How many bytes the record of a pattern of so many has, if they are there from the offset on; 0 where there is no pattern.
+#[tactic(auto, unfolding(crate::specs::Changing::record_length))]
 fn record_at(s: &[u8], at: usize, length: usize) -> usize
     ensures { result ≡ record_length s.now at length }
 {
-    if length == 0 {
-        return 0;
-    }
-    if s.len() < at {
-        return 0;
-    }
-    let left = s.len() - at;
-    if left < 4 {
-        return 0;
-    }
-    if left - 4 < length {
+    let left = s.len().saturating_sub(at);
+    if length == 0 || left < 4 || left - 4 < length {
         return 0;
     }
     4 + length
@@ -140,14 +133,11 @@ pub fn put_from(
 {
     let mut end = at;
     let mut next = from;
-    let mut f = 0;
-    while f < SHEET_FIELDS {
+    for f in 0..SHEET_FIELDS {
         let body = bodies[f];
-        let length = body.length;
-        let placed = put_field(out, end, s, next, f, length, counts[f], change);
+        let placed = put_field(out, end, s, next, f, body.length, counts[f], change);
         end = placed.end;
         next = placed.next;
-        f += 1;
     }
     put_rest(out, end, s, next)
 }
@@ -156,8 +146,5 @@ pub fn put_from(
 fn put_rest(out: &mut [u8], at: usize, s: &[u8], from: usize) -> usize
     ensures { Counted out.old out.new at result (drop from s.now) }
 {
-    if s.len() < from {
-        return at;
-    }
-    put_all(out, at, &s[from..])
+    put_all(out, at, s.get(from..).unwrap_or(&[]))
 }

@@ -24,51 +24,72 @@ use Rattle.base_put.specs.Counted.{Counted}
 use Rattle.base_put.proofs.Counting.{counted_in_front}
 use Rattle.read_sheet.specs.SheetRead.{bodies_of, sheet_of}
 use Rattle.read_sheet.specs.declared.Sheet.{Sheet}
+use Rattle.read_sheet.proofs.SheetStruct.{reading_refused}
+use Rattle.std.specs.Prelude.{Ok, Err}
+use Rattle.base_answers.specs.declared.Refusal.{Refusal}
 use Rattle.read_rule.specs.RuleRead.{rule_bodies, rule_of}
 use Rattle.read_rule.specs.declared.Rule as Read
+use Rattle.read_rule.proofs.RuleStruct.{rule_fault}
+use Rattle.carry_anew.specs.declared.RewriteError.TheVariants.{Refused}
 use Rattle.catalogue_bytes.specs.Moving.{put_at}
 use Rattle.catalogue_bytes.proofs.Within.{is_put}
 use Rattle.carry_records.specs.declared.Change.TheVariants.{Drop}
 use Rattle.carry_put.specs.Putting.{rules_put}
 use Rattle.carry_put.proofs.RulesPut.{used_short, rules_whole}
-use Rattle.carry_anew.specs.Anew.{sheet_rewritten, SheetRead, rule_rewritten, RuleRead}
+use Rattle.carry_anew.specs.Anew.{told_spelt, sheet_rewritten, SheetRead, rule_rewritten, RuleRead}
 use Rattle.carry_strays.specs.StraysDropped.{told_dropped}
-use Rattle.carry_strays.specs.declared.StraysDropped.TheVariants.{Done, NoCatalogue}
+use Rattle.carry_strays.specs.declared.NoCatalogue.{NoCatalogue}
 
 -- Sheets.
-module _ (s out : List ℕ) (read : Sheet) (e : read ≡ sheet_of (bodies_of s) (read_before s)) where
-  dropped_by : (x : Reading) → sheet_rewritten Drop x out ≡ dropping_of x out
-  dropped_by (refused f at) = refl
-  dropped_by (asked q) = refl
+module _ (s out : List ℕ) where
+  and_all : (t : Spelling) → t ≡ dropping s out → (t ≡ dropping s out) × DropPromised s out t
+  and_all t whole = (whole, subst (DropPromised s out) (sym whole) (drop_promised s out))
 
-  pub sheet_dropped : (t : Spelling) → ((x : Reading) → SheetRead Drop s x read → t ≡ sheet_rewritten Drop x out)
-      → (t ≡ dropping s out) × DropPromised s out t
+  pub sheet_at_fault : (e : Refusal) → Err e ≡ sheet_of (bodies_of s) (read_before s)
+      → (told_spelt (Err (Refused e)) out ≡ dropping s out) × DropPromised s out (told_spelt (Err (Refused e)) out)
   unfolding dropping
-  sheet_dropped t h =
-      let whole = h (read_before s) (record { is = e; before = λ q k. k; in_edition = λ q k. tt }) ∙ dropped_by (read_before s) in
-      (whole, subst (DropPromised s out) (sym whole) (drop_promised s out))
+  sheet_at_fault e h = and_all (told_spelt (Err (Refused e)) out) (rw (reading_refused s (read_before s) e (sym h)))
+
+  module _ (read : Sheet) (e : Ok read ≡ sheet_of (bodies_of s) (read_before s)) where
+    dropped_by : (x : Reading) → sheet_rewritten Drop x out ≡ dropping_of x out
+    dropped_by (refused f at) = refl
+    dropped_by (asked q) = refl
+
+    pub sheet_dropped : (t : Spelling) → ((x : Reading) → SheetRead Drop s x read → t ≡ sheet_rewritten Drop x out)
+        → (t ≡ dropping s out) × DropPromised s out t
+    unfolding dropping
+    sheet_dropped t h =
+        and_all t (h (read_before s) (record { is = e; before = λ q k. k; in_edition = λ q k. tt }) ∙ dropped_by (read_before s))
 
 -- Rules.
-module _ (s out : List ℕ) (read : Read.Rule) (e : read ≡ rule_of (rule_bodies s) (read_rule_before s)) where
-  rule_dropped_by : (x : Records Rule) → rule_rewritten Drop x out ≡ rule_dropping_of x out
-  unfolding rule_kept
-  rule_dropped_by (faulty f at) = refl
-  rule_dropped_by (records r n) = refl
+module _ (s out : List ℕ) where
+  rule_and_all : (t : Spelling) → t ≡ rule_dropping s out → (t ≡ rule_dropping s out) × RuleDropPromised s out t
+  rule_and_all t whole = (whole, subst (RuleDropPromised s out) (sym whole) (rule_drop_promised s out))
 
-  pub rule_dropped : (t : Spelling) → ((x : Records Rule) → RuleRead Drop s x read → t ≡ rule_rewritten Drop x out)
-      → (t ≡ rule_dropping s out) × RuleDropPromised s out t
+  pub rule_at_fault : (e : Refusal) → Err e ≡ rule_of (rule_bodies s) (read_rule_before s)
+      → (told_spelt (Err (Refused e)) out ≡ rule_dropping s out) × RuleDropPromised s out (told_spelt (Err (Refused e)) out)
   unfolding rule_dropping
-  rule_dropped t h =
-      let whole = h (read_rule_before s) (record { is = e; before = λ r n k. k; in_edition = tt }) ∙ rule_dropped_by (read_rule_before s) in
-      (whole, subst (RuleDropPromised s out) (sym whole) (rule_drop_promised s out))
+  rule_at_fault e h = rule_and_all (told_spelt (Err (Refused e)) out) (rw (rule_fault (rule_bodies s) (read_rule_before s) e (sym h)))
+
+  module _ (read : Read.Rule) (e : Ok read ≡ rule_of (rule_bodies s) (read_rule_before s)) where
+    rule_dropped_by : (x : Records Rule) → rule_rewritten Drop x out ≡ rule_dropping_of x out
+    unfolding rule_kept
+    rule_dropped_by (faulty f at) = refl
+    rule_dropped_by (records r n) = refl
+
+    pub rule_dropped : (t : Spelling) → ((x : Records Rule) → RuleRead Drop s x read → t ≡ rule_rewritten Drop x out)
+        → (t ≡ rule_dropping s out) × RuleDropPromised s out t
+    unfolding rule_dropping
+    rule_dropped t h =
+        rule_and_all t (h (read_rule_before s) (record { is = e; before = λ r n k. k; in_edition = tt }) ∙ rule_dropped_by (read_rule_before s))
 
 -- A catalogue.
 pub and_promised : (c : List ℕ) (d : CarriedOver) → d ≡ catalogue_dropping c → (d ≡ catalogue_dropping c) × CatalogueDropPromised c d
 and_promised c d e = (e, subst (CatalogueDropPromised c) (sym e) (catalogue_drop_promised c))
 
-pub none_kept : (c : List ℕ) → form_before c ≡ no_catalogue → told_dropped NoCatalogue c ≡ catalogue_dropping c
+pub none_kept : (c : List ℕ) → form_before c ≡ no_catalogue → (e : NoCatalogue) → told_dropped (Err e) c ≡ catalogue_dropping c
 unfolding catalogue_dropping
-none_kept c e = rw e
+none_kept c e x = rw e
 
 -- Bytes before zeros, as far as an offset behind them; and all that is behind it zero too.
 module _ (all : List ℕ) (u : ℕ) (short : length all ≤ u) where
@@ -121,7 +142,7 @@ module _ (c : List ℕ) (l : List Present) (e : form_before c ≡ rules l) where
         ap (take (used l)) (counted_in_front its_rules (omega (arith, fewer, within)) (omega (arith, fewer, within, room)))
         ∙ before_zeros kept (used l) fewer longest_rules within
 
-    pub all_dropped : (part filled : List ℕ) → part ≡ take (used l) bytes → filled ≡ put_at 0 part c → told_dropped Done filled ≡ catalogue_dropping c
+    pub all_dropped : (part filled : List ℕ) → part ≡ take (used l) bytes → filled ≡ put_at 0 part c → told_dropped (Ok tt) filled ≡ catalogue_dropping c
     unfolding catalogue_dropping
     all_dropped part filled i f =
         let low = inside laid in

@@ -1,12 +1,11 @@
 -- What the answer to a catalogue whose strays are taken out tells, in numbers.
-use Rattle.std.specs.Prelude.{ℕ, List}
+use Rattle.std.specs.Prelude.{ℕ, List, Result, Ok, Err}
 use Rattle.paper_carry.specs.Spelling.{CarriedOver}
-use Rattle.carry_strays.specs.declared.StraysDropped.{StraysDropped}
-use Rattle.carry_strays.specs.declared.StraysDropped.TheVariants.{Done, NoCatalogue}
+use Rattle.carry_strays.specs.declared.NoCatalogue.{NoCatalogue}
 
-abbrev pub dropped_number : StraysDropped → ℕ
-dropped_number Done = 0
-dropped_number NoCatalogue = 34
+abbrev pub dropped_number : Result (Unit {0}) NoCatalogue → ℕ
+dropped_number (Ok u) = 0
+dropped_number (Err e) = 34
 
-abbrev pub told_dropped : StraysDropped → List ℕ → CarriedOver
+abbrev pub told_dropped : Result (Unit {0}) NoCatalogue → List ℕ → CarriedOver
 told_dropped d catalogue = record { number = dropped_number d; catalogue = catalogue }

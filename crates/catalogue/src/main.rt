@@ -123,13 +123,10 @@
 mod input;
 mod output;
 
-use catalogue_add::Added;
-use catalogue_recheck::Rechecked;
-use input::{Mark, read_mark};
+use catalogue_numbers::{Numbers, Totals, withdrawn};
+use input::{Call, Mark, read_mark};
 use output::{print_added, print_changed, print_rechecked};
-use print_out::{
-    How, Streams, WORK, WORK_FILL, fill, is_going, least, read_all, read_number, tell, tell_end,
-};
+use print_out::{Failure, Streams, WORK, WORK_FILL, fill, read_all, read_number, tell, tell_end};
 
 // The longest rule that two bytes can tell. The list of pairs is lent in the same place: no call has both.
 const RULE: usize = 65535;
@@ -148,10 +145,9 @@ const DECIDED_LIST: usize = 3584;
 // each byte of the list before a call
 const LIST_FILL: u8 = 165;
 
-// How far the operations are, whether every byte of the lent buffers is printed, and how much of each is lent to a call.
+// Whether every byte of the lent buffers is printed, and how much of each is lent to a call.
 #[derive(Clone, Copy)]
 pub struct State {
-    pub how: How,
     pub bytes: bool,
     pub catalogue: usize,
     pub work: usize,
@@ -162,141 +158,109 @@ fn main(rt: HostRuntime) {
     let mut catalogue = [0u8; CATALOGUE];
     let mut work = [0u8; WORK];
     let ended = run_each(&rt, &mut given, &mut catalogue, &mut work);
-    match ended {
-        How::Stopped => tell(
+    if let Err(Failure::NotAllowed) = ended {
+        tell(
             &rt,
             b"catalogue: an operation is cut short or not allowed\n",
-        ),
-        _ => tell_end(&rt, b"catalogue", ended),
+        );
     }
+    tell_end(&rt, b"catalogue", ended);
 }
 
-// A proved loop has to end, and nothing says that a stream does: the turns are counted down from a number that no run uses up.
-fn run_each(rt: &impl Streams, given: &mut [u8], catalogue: &mut [u8], work: &mut [u8]) -> How {
+// A proved loop has to end, and nothing says that a stream does: the turns go up to a number that no run uses up.
+fn run_each(
+    rt: &impl Streams,
+    given: &mut [u8],
+    catalogue: &mut [u8],
+    work: &mut [u8],
+) -> Result<(), Failure> {
     let mut state = State {
-        how: How::Going,
         bytes: false,
         catalogue: CATALOGUE,
         work: FIRST_WORK,
     };
-    let mut turns = u64::MAX;
-    while turns > 0 && goes_on(state) {
-        state = run_next(rt, given, catalogue, work, state);
-        turns -= 1;
+    for _ in 0..u64::MAX {
+        let Some(mark) = read_mark(rt)? else {
+            return Ok(());
+        };
+        state = run(rt, mark, given, catalogue, work, state)?;
     }
-    let how = state.how;
-    how
+    Ok(())
 }
 
-fn goes_on(state: State) -> bool {
-    let how = state.how;
-    is_going(how)
-}
-
-fn run_next(
+fn run(
     rt: &impl Streams,
+    mark: Mark,
     given: &mut [u8],
     catalogue: &mut [u8],
     work: &mut [u8],
     state: State,
-) -> State {
-    let mark = read_mark(rt);
+) -> Result<State, Failure> {
     match mark {
         Mark::Catalogue => new_catalogue(rt, catalogue, state),
-        Mark::Work => new_work(rt, work.len(), state),
-        Mark::Show => new_shown(rt, state),
-        _ => call(rt, mark, given, catalogue, work, state),
+        // `WO`: the working buffer's length in four bytes.
+        Mark::Work => Ok(State {
+            work: read_number(rt, 4, work.len())?,
+            ..state
+        }),
+        // `SH`: 0 for lines, 1 for every byte, in one byte.
+        Mark::Show => Ok(State {
+            bytes: read_number(rt, 1, 1)? == 1,
+            ..state
+        }),
+        Mark::Call(call) => {
+            let c = state.catalogue.min(catalogue.len());
+            let w = state.work.min(work.len());
+            make(
+                rt,
+                call,
+                given,
+                &mut catalogue[..c],
+                &mut work[..w],
+                state.bytes,
+            )?;
+            Ok(state)
+        }
     }
 }
 
 // `CA`: the catalogue's length and that of its front in two bytes each, the front. The rest are zeros.
-fn new_catalogue(rt: &impl Streams, catalogue: &mut [u8], state: State) -> State {
-    let length = read_number(rt, How::Going, 2, catalogue.len());
-    let catalogue_len = length.number;
-    let so_far = length.how;
-    let front = read_number(rt, so_far, 2, catalogue_len);
-    let front_len = front.number;
-    let headed = front.how;
-    let how = read_all(rt, headed, &mut catalogue[0..front_len]);
-    fill(&mut catalogue[front_len..catalogue_len], 0);
-    State {
-        how,
-        bytes: state.bytes,
-        catalogue: catalogue_len,
-        work: state.work,
-    }
-}
-
-// `WO`: the working buffer's length in four bytes.
-fn new_work(rt: &impl Streams, most: usize, state: State) -> State {
-    let length = read_number(rt, How::Going, 4, most);
-    let how = length.how;
-    State {
-        how,
-        bytes: state.bytes,
-        catalogue: state.catalogue,
-        work: length.number,
-    }
-}
-
-// `SH`: 0 for lines, 1 for every byte, in one byte.
-fn new_shown(rt: &impl Streams, state: State) -> State {
-    let bytes = read_number(rt, How::Going, 1, 1);
-    let how = bytes.how;
-    State {
-        how,
-        bytes: bytes.number == 1,
-        catalogue: state.catalogue,
-        work: state.work,
-    }
+fn new_catalogue(rt: &impl Streams, catalogue: &mut [u8], state: State) -> Result<State, Failure> {
+    let length = read_number(rt, 2, catalogue.len())?;
+    let front = read_number(rt, 2, length)?;
+    read_all(rt, &mut catalogue[..front])?;
+    fill(&mut catalogue[front..length], 0);
+    Ok(State {
+        catalogue: length,
+        ..state
+    })
 }
 
 // A call, with the fronts of the buffers.
-fn call(
+fn make(
     rt: &impl Streams,
-    mark: Mark,
-    given: &mut [u8],
-    catalogue: &mut [u8],
-    work: &mut [u8],
-    state: State,
-) -> State {
-    let c = least(state.catalogue, catalogue.len());
-    let w = least(state.work, work.len());
-    let bytes = state.bytes;
-    let how = call_by(
-        rt,
-        mark,
-        given,
-        &mut catalogue[0..c],
-        &mut work[0..w],
-        bytes,
-    );
-    State {
-        how,
-        bytes,
-        catalogue: state.catalogue,
-        work: state.work,
-    }
-}
-
-fn call_by(
-    rt: &impl Streams,
-    mark: Mark,
+    call: Call,
     given: &mut [u8],
     catalogue: &mut [u8],
     work: &mut [u8],
     bytes: bool,
-) -> How {
-    match mark {
-        Mark::Add => add(rt, false, given, catalogue, work, bytes),
-        Mark::AddDecided => add(rt, true, given, catalogue, work, bytes),
-        Mark::Withdraw => withdraw(rt, catalogue, bytes),
-        Mark::Recheck => check_again(rt, false, LIST, catalogue, work, given, bytes),
-        Mark::RecheckDecided => check_again(rt, true, DECIDED_LIST, catalogue, work, given, bytes),
-        Mark::Carry => carry(rt, catalogue, bytes),
-        Mark::Drop => drop_strays(rt, catalogue, bytes),
-        Mark::None(how) => how,
-        _ => How::Stopped,
+) -> Result<(), Failure> {
+    match call {
+        Call::Add => add(rt, false, given, catalogue, work, bytes),
+        Call::AddDecided => add(rt, true, given, catalogue, work, bytes),
+        Call::Withdraw => withdraw(rt, catalogue, bytes),
+        Call::Recheck => check_again(rt, false, LIST, catalogue, work, given, bytes),
+        Call::RecheckDecided => check_again(rt, true, DECIDED_LIST, catalogue, work, given, bytes),
+        // `SO`
+        Call::Carry => {
+            let told = carry_numbers::carried(carry_open::catalogue(catalogue));
+            print_changed(rt, b"carry", told, catalogue, bytes)
+        }
+        // `DS`
+        Call::Drop => {
+            let told = carry_numbers::dropped(carry_strays::catalogue(catalogue));
+            print_changed(rt, b"drop", told, catalogue, bytes)
+        }
     }
 }
 
@@ -304,50 +268,27 @@ fn call_by(
 fn add(
     rt: &impl Streams,
     decide: bool,
-    rule: &mut [u8],
+    given: &mut [u8],
     catalogue: &mut [u8],
     work: &mut [u8],
     bytes: bool,
-) -> How {
-    let length = read_number(rt, How::Going, 2, rule.len());
-    let n = length.number;
-    let so_far = length.how;
-    add_rule(rt, so_far, decide, &mut rule[0..n], catalogue, work, bytes)
-}
-
-fn add_rule(
-    rt: &impl Streams,
-    so_far: How,
-    decide: bool,
-    rule: &mut [u8],
-    catalogue: &mut [u8],
-    work: &mut [u8],
-    bytes: bool,
-) -> How {
-    let how = read_all(rt, so_far, rule);
-    if !is_going(how) {
-        return how;
-    }
+) -> Result<(), Failure> {
+    let n = read_number(rt, 2, given.len())?;
+    let rule = &mut given[..n];
+    read_all(rt, rule)?;
     fill(work, WORK_FILL);
-    let told = catalogue_numbers::added(added(decide, catalogue, rule, work));
+    let told = if decide {
+        Numbers::from(catalogue_add::add_decided(catalogue, rule, work))
+    } else {
+        Numbers::from(catalogue_add::add(catalogue, rule, work))
+    };
     print_added(rt, decide, told, catalogue, work, bytes)
 }
 
-fn added(decide: bool, catalogue: &mut [u8], rule: &[u8], work: &mut [u8]) -> Added {
-    if decide {
-        return catalogue_add::add_decided(catalogue, rule, work);
-    }
-    catalogue_add::add(catalogue, rule, work)
-}
-
 // `WI`: a rule's number in one byte.
-fn withdraw(rt: &impl Streams, catalogue: &mut [u8], bytes: bool) -> How {
-    let rule = read_number(rt, How::Going, 1, 255);
-    let how = rule.how;
-    if !is_going(how) {
-        return how;
-    }
-    let told = catalogue_numbers::withdrawn(catalogue_add::withdraw(catalogue, rule.number));
+fn withdraw(rt: &impl Streams, catalogue: &mut [u8], bytes: bool) -> Result<(), Failure> {
+    let number = read_number(rt, 1, 255)?;
+    let told = withdrawn(catalogue_add::withdraw(catalogue, number));
     print_changed(rt, b"withdraw", told, catalogue, bytes)
 }
 
@@ -358,47 +299,17 @@ fn check_again(
     most: usize,
     catalogue: &[u8],
     work: &mut [u8],
-    list: &mut [u8],
+    given: &mut [u8],
     bytes: bool,
-) -> How {
-    let length = read_number(rt, How::Going, 2, least(most, list.len()));
-    let n = length.number;
-    let how = length.how;
-    if !is_going(how) {
-        return how;
-    }
-    list_pairs(rt, decide, catalogue, work, &mut list[0..n], bytes)
-}
-
-fn list_pairs(
-    rt: &impl Streams,
-    decide: bool,
-    catalogue: &[u8],
-    work: &mut [u8],
-    list: &mut [u8],
-    bytes: bool,
-) -> How {
+) -> Result<(), Failure> {
+    let n = read_number(rt, 2, most.min(given.len()))?;
+    let list = &mut given[..n];
     fill(work, WORK_FILL);
     fill(list, LIST_FILL);
-    let told = catalogue_numbers::rechecked(rechecked(decide, catalogue, work, list));
+    let told = if decide {
+        Totals::from(catalogue_recheck::recheck_decided(catalogue, work, list))
+    } else {
+        Totals::from(catalogue_recheck::recheck(catalogue, work, list))
+    };
     print_rechecked(rt, decide, told, list, catalogue, work, bytes)
-}
-
-fn rechecked(decide: bool, catalogue: &[u8], work: &mut [u8], list: &mut [u8]) -> Rechecked {
-    if decide {
-        return catalogue_recheck::recheck_decided(catalogue, work, list);
-    }
-    catalogue_recheck::recheck(catalogue, work, list)
-}
-
-// `SO`
-fn carry(rt: &impl Streams, catalogue: &mut [u8], bytes: bool) -> How {
-    let told = carry_numbers::carried(carry_open::catalogue(catalogue));
-    print_changed(rt, b"carry", told, catalogue, bytes)
-}
-
-// `DS`
-fn drop_strays(rt: &impl Streams, catalogue: &mut [u8], bytes: bool) -> How {
-    let told = carry_numbers::dropped(carry_strays::catalogue(catalogue));
-    print_changed(rt, b"drop", told, catalogue, bytes)
 }

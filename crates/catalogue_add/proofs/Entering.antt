@@ -19,12 +19,12 @@ use Rattle.catalogue_form.specs.declared.Kept.{Kept}
 use Rattle.catalogue_form.proofs.RulesStanding.{begin_in, begins_are, next_begin}
 use Rattle.catalogue_bytes.specs.Moving.{put_at, closed_at}
 use Rattle.catalogue_bytes.proofs.Within.{is_put, is_closed}
-use Rattle.catalogue_question.specs.declared.Pair.{Pair}
 use Rattle.read_rule.specs.declared.Rule as Code
-use Rattle.catalogue_add.specs.declared.Asked.TheVariants.{Apart, NotApart}
+use Rattle.std.specs.Prelude.{Ok, Err}
+use Rattle.catalogue_add.specs.declared.NotApart.{NotApart}
+use Rattle.catalogue_add.specs.declared.AddError.TheVariants as Add-error
 use Rattle.catalogue_add.specs.Addition.{full_of, PairsAsked, Ready}
 use Rattle.catalogue_add.specs.Addition as Told
-use Rattle.catalogue_add.specs.declared.Added.TheVariants as Added
 
 -- 32, by what was read
 pub full_is : (k : Kept) (l : List Present) (c bytes : List ℕ) (b : Bool) → k.rules ≡ length l → k.used ≡ used l
@@ -54,17 +54,17 @@ module _ {c bytes : List ℕ} {kept : Kept} {new : Code.Rule} (x : Ready c bytes
   is_read : read_rule bytes ≡ records x.asks.rule x.asks.its_bytes
   is_read = x.asks.is_read
 
-  pub adds_rule : PairsAsked a x.asks.standing.rules_present x.asks.rule work after Apart → (catalogue : List ℕ) → catalogue ≡ put_at kept.used bytes c
-      → Told.told_added_by Added.Entered catalogue after ≡ adding_by a c bytes work
+  pub adds_rule : PairsAsked a x.asks.standing.rules_present x.asks.rule work after (Ok tt) → (catalogue : List ℕ) → catalogue ≡ put_at kept.used bytes c
+      → Told.told_added_by (Ok tt) catalogue after ≡ adding_by a c bytes work
   unfolding adding_by
   adds_rule p catalogue e =
       let put = is_put (used x.asks.standing.rules_present) bytes c (rule_fits c x.asks.standing.of_form bytes x.room) in
       rw (e, x.asks.standing.its_used, put, adding_by, x.asks.standing.of_form, is_read, x.asks.own, x.room, ← p.pairs, p.after_work)
 
-  pub adds_not : (i : ℕ) (p : Pair) → PairsAsked a x.asks.standing.rules_present x.asks.rule work after (NotApart i p)
-      → Told.told_added_by (Added.NotApart i p) c after ≡ adding_by a c bytes work
+  pub adds_not : (n : NotApart) → PairsAsked a x.asks.standing.rules_present x.asks.rule work after (Err n)
+      → Told.told_added_by (Err (Add-error.NotApart n)) c after ≡ adding_by a c bytes work
   unfolding adding_by
-  adds_not i p k = rw (adding_by, x.asks.standing.of_form, is_read, x.asks.own, x.room, ← k.pairs, k.after_work)
+  adds_not n k = rw (adding_by, x.asks.standing.of_form, is_read, x.asks.own, x.room, ← k.pairs, k.after_work)
 
 -- Withdrawing.
 module _ (c : List ℕ) (i : ℕ) where

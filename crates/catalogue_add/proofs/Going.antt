@@ -17,7 +17,6 @@ use Rattle.paper_catalogue.specs.Catalogue.{Present, pairs_by, work_behind}
 use Rattle.paper_catalogue.specs.Calls.{rule_at}
 use Rattle.paper_catalogue.proofs.Local.{rule_whole, rule_before}
 use Rattle.paper_catalogue.proofs.GoodRule.{new_good}
-use Rattle.base_places.specs.declared.PlaceTables.{PlaceTables}
 use Rattle.base_question.specs.declared.Body.{Body}
 use Rattle.plain_question.specs.Reached.{Meets, Says}
 use Rattle.read_fields.proofs.PatternsStanding.{AllStand}
@@ -26,13 +25,13 @@ use Rattle.read_rule.proofs.RulePatterns.{front_stands}
 use Rattle.catalogue_form.specs.Kept.{rule_there}
 use Rattle.catalogue_form.specs.declared.Kept.{Kept}
 use Rattle.catalogue_form.proofs.RulesStanding.{in_front, begin_in, standing_good, standing_side, standing_fields, standing_bodies}
-use Rattle.catalogue_question.specs.PairCoded.{pair_bodies, pair_question}
+use Rattle.catalogue_question.specs.PairCoded.{rules_question}
 use Rattle.catalogue_question.specs.AskedBy.{asking_coded, told_pair}
 use Rattle.catalogue_question.specs.declared.Asking.{Asking}
 use Rattle.catalogue_question.specs.declared.Pair.{Pair}
 use Rattle.catalogue_pair.specs.Ask.{pair_by}
 use Rattle.catalogue_pair.proofs.InRoom.{told_in_room}
-use Rattle.catalogue_add.specs.declared.Asked.TheVariants.{Apart, NotApart}
+use Rattle.std.specs.Prelude.{Ok, Err}
 use Rattle.catalogue_add.specs.Addition.{ReadyToAsk, PairsAsked}
 
 pub record Going (a : PairAsking) (l : List Present) (new : Rule) (lent work : List ℕ) (i : ℕ) : Type 0 where
@@ -63,7 +62,7 @@ module _ {a : PairAsking} {l : List Present} {new : Rule} where
     same_length : length work ≡ length lent
     same_length = ap length g.behind ∙ behind_length (take i l) lent
 
-    pub going_ends : length l ≤ i → PairsAsked a l new lent work Apart
+    pub going_ends : length l ≤ i → PairsAsked a l new lent work (Ok tt)
     going_ends h =
         record {
           pairs = sym (g.pairs ∙ rw (drop_of_length-le l {i = i} h));
@@ -83,7 +82,7 @@ module _ {a : PairAsking} {l : List Present} {new : Rule} where
             behind = cleared_lent ∙ sym (rw (add-one i) (some_behind l i lent h));
           }
 
-      pub going_stops : eqb pair.answer 1 ≡ false → PairsAsked a l new lent after (NotApart i pair)
+      pub going_stops : eqb pair.answer 1 ≡ false → PairsAsked a l new lent after (Err (record { rule = i; pair = pair }))
       going_stops d =
           record {
             pairs = sym (g.pairs ∙ rw (in_front l i h, ← told, d));
@@ -91,15 +90,13 @@ module _ {a : PairAsking} {l : List Present} {new : Rule} where
           }
 
 -- What asking the pair of a rule that stands with the new one tells.
-pub asked_told : (how : Asking) {catalogue bytes : List ℕ} {kept : Kept} {side : List ℕ} {fields : List PlaceTables} {bodies : List Body}
-    (x : ReadyToAsk catalogue bytes kept side fields bodies) (i : ℕ) → i < length x.standing.rules_present
-    → (present : Code.Rule) → present ≡ rule_there (drop (begin_in kept i) catalogue)
+pub asked_told : (how : Asking) {catalogue bytes : List ℕ} {kept : Kept} {rule : Code.Rule}
+    (x : ReadyToAsk catalogue bytes kept rule) (i : ℕ) → i < length x.standing.rules_present
+    → (present : Code.Rule) → Ok present ≡ rule_there (drop (begin_in kept i) catalogue)
     → (work lent : List ℕ) → length work ≡ length lent → (pair : Pair)
     → ((m : Bool)
-    → Says m (Meets (pair_question present.side side present.fields fields (pair_bodies present.bodies bodies)))
-    → pair
-    ≡ pair_by how (pair_question present.side side present.fields fields (pair_bodies present.bodies bodies)) m (drop (begin_in kept i) catalogue)
-    bytes (length work))
+    → Says m (Meets (rules_question present rule))
+    → pair ≡ pair_by how (rules_question present rule) m (drop (begin_in kept i) catalogue) bytes (length work))
     → told_pair pair ≡ (asking_coded how).asks (rule_at x.standing.rules_present i) x.rule (room_of lent)
 asked_told how {catalogue} {bytes} {kept} x i h present p work lent same pair a =
     let s = x.standing in

@@ -5,59 +5,51 @@ use mathlib.Core.Path.{◌≡◌, refl, sym, ap, ◌∙◌}
 use mathlib.Core.Bool.{cond}
 use mathlib.Core.List.{List}
 use lib.Dec.{eqb}
+use Rattle.paper.specs.Lists.{member}
+use Rattle.paper.specs.Buffers.{sheet_numbers}
 use Rattle.paper_catalogue.specs.PairAsking.{by_search}
 use Rattle.paper_catalogue.specs.Catalogue.{AddedBy, adding, adding_by, withdrawing}
 use Rattle.paper_catalogue.specs.Catalogue as Catalogue
 use Rattle.paper_catalogue_decide.specs.DecidedPairs.{adding_decided}
-use Rattle.base_answers.specs.declared.Fault.TheVariants.{CutShort, WrongMark, WrongField, WrongLength, NotOnePattern, TooManyLeaves, WrongToken, WrongEdition, StrayPattern}
-use Rattle.base_answers.proofs.Same.{fault_from}
+use Rattle.base_answers.proofs.Same.{fault_from, fault_among, fault_numbered}
 use Rattle.catalogue_add.specs.Addition.{told_added, search_of, told_added_by, told_withdrawn}
-use Rattle.catalogue_add.specs.declared.Added.{Added}
-use Rattle.catalogue_add.specs.declared.Added.TheVariants as Added-as
-use Rattle.catalogue_add.specs.declared.Withdrawn.{Withdrawn}
-use Rattle.catalogue_add.specs.declared.Withdrawn.TheVariants as Withdrawn-as
+use Rattle.std.specs.Prelude.{Result, Ok, Err}
+use Rattle.catalogue_add.specs.declared.AddError.{AddError}
+use Rattle.catalogue_add.specs.declared.AddError.TheVariants as Add-error
+use Rattle.catalogue_add.specs.declared.WithdrawError.{WithdrawError}
+use Rattle.catalogue_add.specs.declared.WithdrawError.TheVariants as Withdraw-error
 
 -- the answers with these numbers
-added_from : AddedBy → Added
+added_from : AddedBy → Result (Unit {0}) AddError
 added_from o =
     let t = o.added in
-    cond (eqb t.number 0) Added-as.Entered
-    (cond (eqb t.number 30) (Added-as.NotApart t.rule (record { answer = t.answer; count = t.count; search = o.search }))
-    (cond (eqb t.number 31) Added-as.ForeignField
-    (cond (eqb t.number 32) Added-as.Full
-    (cond (eqb t.number 34) Added-as.NoCatalogue
-    (Added-as.Refused (fault_from t.number) t.place)))))
+    cond (member t.number sheet_numbers) (Err (Add-error.Refused (record { fault = fault_from t.number; place = t.place })))
+    (cond (eqb t.number 0) (Ok tt)
+    (cond (eqb t.number 30) (Err (Add-error.NotApart (record { rule = t.rule; pair = record { answer = t.answer; count = t.count; search = o.search } })))
+    (cond (eqb t.number 31) (Err Add-error.ForeignField) (cond (eqb t.number 32) (Err Add-error.Full) (Err Add-error.NoCatalogue)))))
 
-withdrawn_from : Catalogue.Withdrawn → Withdrawn
+withdrawn_from : Catalogue.Withdrawn → Result (Unit {0}) WithdrawError
 withdrawn_from t =
-    cond (eqb t.number 0) Withdrawn-as.Gone (cond (eqb t.number 33) Withdrawn-as.NoRule Withdrawn-as.NoCatalogue)
+    cond (eqb t.number 0) (Ok tt) (cond (eqb t.number 33) (Err Withdraw-error.NoRule) (Err Withdraw-error.NoCatalogue))
 
-added_back : (r : Added) (catalogue work : List ℕ) →
+added_back : (r : Result (Unit {0}) AddError) (catalogue work : List ℕ) →
     let o = told_added_by r catalogue work in (added_from o ≡ r) × (o.added.catalogue ≡ catalogue) × (o.added.work ≡ work)
-unfolding added_from fault_from
-added_back Added-as.Entered catalogue work = (refl, refl, refl)
-added_back (Added-as.Refused CutShort at) catalogue work = (refl, refl, refl)
-added_back (Added-as.Refused WrongMark at) catalogue work = (refl, refl, refl)
-added_back (Added-as.Refused WrongField at) catalogue work = (refl, refl, refl)
-added_back (Added-as.Refused WrongLength at) catalogue work = (refl, refl, refl)
-added_back (Added-as.Refused NotOnePattern at) catalogue work = (refl, refl, refl)
-added_back (Added-as.Refused TooManyLeaves at) catalogue work = (refl, refl, refl)
-added_back (Added-as.Refused WrongToken at) catalogue work = (refl, refl, refl)
-added_back (Added-as.Refused WrongEdition at) catalogue work = (refl, refl, refl)
-added_back (Added-as.Refused StrayPattern at) catalogue work = (refl, refl, refl)
-added_back (Added-as.NotApart i p) catalogue work = (refl, refl, refl)
-added_back Added-as.ForeignField catalogue work = (refl, refl, refl)
-added_back Added-as.Full catalogue work = (refl, refl, refl)
-added_back Added-as.NoCatalogue catalogue work = (refl, refl, refl)
+unfolding added_from
+added_back (Ok u) catalogue work = (refl, refl, refl)
+added_back (Err (Add-error.Refused r)) catalogue work = (rw (fault_among r.fault, fault_numbered r.fault) refl, refl, refl)
+added_back (Err (Add-error.NotApart n)) catalogue work = (refl, refl, refl)
+added_back (Err Add-error.ForeignField) catalogue work = (refl, refl, refl)
+added_back (Err Add-error.Full) catalogue work = (refl, refl, refl)
+added_back (Err Add-error.NoCatalogue) catalogue work = (refl, refl, refl)
 
-withdrawn_back : (r : Withdrawn) (catalogue : List ℕ) →
+withdrawn_back : (r : Result (Unit {0}) WithdrawError) (catalogue : List ℕ) →
     let t = told_withdrawn r catalogue in (withdrawn_from t ≡ r) × (t.catalogue ≡ catalogue)
 unfolding withdrawn_from
-withdrawn_back Withdrawn-as.Gone catalogue = (refl, refl)
-withdrawn_back Withdrawn-as.NoRule catalogue = (refl, refl)
-withdrawn_back Withdrawn-as.NoCatalogue catalogue = (refl, refl)
+withdrawn_back (Ok u) catalogue = (refl, refl)
+withdrawn_back (Err Withdraw-error.NoRule) catalogue = (refl, refl)
+withdrawn_back (Err Withdraw-error.NoCatalogue) catalogue = (refl, refl)
 
-one_added : {o : AddedBy} (r r' : Added) (c c' w w' : List ℕ) → told_added_by r c w ≡ o → told_added_by r' c' w' ≡ o
+one_added : {o : AddedBy} (r r' : Result (Unit {0}) AddError) (c c' w w' : List ℕ) → told_added_by r c w ≡ o → told_added_by r' c' w' ≡ o
     → (r ≡ r') × (c ≡ c') × (w ≡ w')
 one_added r r' c c' w w' e e' =
     let same = e ∙ sym e' in
@@ -68,7 +60,7 @@ one_added r r' c c' w w' e e' =
       sym one.2 ∙ ap (λ (o : AddedBy). o.added.work) same ∙ other.2,
     )
 
-module _ (catalogue bytes work : List ℕ) (r r' : Added) (c c' w w' : List ℕ) where
+module _ (catalogue bytes work : List ℕ) (r r' : Result (Unit {0}) AddError) (c c' w w' : List ℕ) where
   pub one_addition : (told_added r c w ≡ adding catalogue bytes work) × (search_of r ≡ (adding_by by_search catalogue bytes work).search)
       → (told_added r' c' w' ≡ adding catalogue bytes work) × (search_of r' ≡ (adding_by by_search catalogue bytes work).search)
       → (r ≡ r') × (c ≡ c') × (w ≡ w')
@@ -79,7 +71,7 @@ module _ (catalogue bytes work : List ℕ) (r r' : Added) (c c' w w' : List ℕ)
       → (r ≡ r') × (c ≡ c') × (w ≡ w')
   one_decided_addition = one_added r r' c c' w w'
 
-pub one_withdrawal : (catalogue : List ℕ) (number : ℕ) (r r' : Withdrawn) (c c' : List ℕ)
+pub one_withdrawal : (catalogue : List ℕ) (number : ℕ) (r r' : Result (Unit {0}) WithdrawError) (c c' : List ℕ)
     → told_withdrawn r c ≡ withdrawing catalogue number → told_withdrawn r' c' ≡ withdrawing catalogue number
     → (r ≡ r') × (c ≡ c')
 one_withdrawal catalogue number r r' c c' e e' =

@@ -23,11 +23,7 @@ fn put_bytes(catalogue: &mut [u8], at: usize, bytes: &[u8])
     requires { at + length bytes.now ≤ length catalogue.old }
     ensures { catalogue.new ≡ with_record at bytes.now catalogue.old }
 {
-    let mut i = 0;
-    while i < bytes.len() {
-        catalogue[at + i] = bytes[i];
-        i += 1;
-    }
+    catalogue[at..at + bytes.len()].copy_from_slice(bytes);
 }
 
 // Takes n bytes from the offset on away, if they are there: those behind move up, and the freed bytes at the end are zero.
@@ -49,9 +45,6 @@ fn close_gap(catalogue: &mut [u8], at: usize, n: usize)
     ensures { catalogue.new ≡ without_record at n catalogue.old }
 {
     let freed = catalogue.len() - n;
-    let mut i = at;
-    while i < catalogue.len() {
-        catalogue[i] = if i < freed { catalogue[i + n] } else { 0 };
-        i += 1;
-    }
+    catalogue.copy_within(at + n.., at);
+    catalogue[freed..].fill(0);
 }

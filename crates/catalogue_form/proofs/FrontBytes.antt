@@ -1,32 +1,30 @@
--- The bytes of the rule at the front: what they are by the struct of a rule, and what they say, whichever rules are unfit. Where they are 0 no rule may
--- stand there, else one stands there that passes its own checks and is not unfit.
+-- The bytes of the rule at the front: what they are by the struct of a rule, and what they say, whichever rules are unfit. Where there are none no rule
+-- may stand there, else one stands there that passes its own checks and is not unfit.
 -- Follows from the definition of `front_bytes` by the tests that it makes; a rule that is read has bytes (`rule_bounds`).
-use Prim.Native.Nat.{ℕ, zero, suc, ◌+◌, ◌≤◌, ◌<◌}
+use Prim.Native.Nat.{ℕ, zero, suc, ◌+◌, ◌<◌}
 use native.Mathlib.Omega.{arith}
-use mathlib.Core.Path.{◌≡◌, refl, ap, ap₂, ◌∙◌}
+use mathlib.Core.Path.{◌≡◌, refl, sym, ap, ap₂, ◌∙◌}
 use mathlib.Core.Bool.{Bool, true, false, ◌||◌, or-false}
 use mathlib.Core.List.{List, []}
 use lib.Dec.{leb, ltb}
 use lib.ListN.{length}
+use Rattle.std.specs.Prelude.{None, Some}
 use Rattle.paper.specs.Numbers.{catalogue_rules}
 use Rattle.paper.specs.Sheet.{Records, faulty, records}
 use Rattle.paper.specs.Rule.{Rule, rule_front}
 use Rattle.paper_catalogue.specs.Catalogue.{no_catalogue, all_zero, form_within}
-use Rattle.paper.proofs.base.Tests.{by_bool, le_leb, lt_leb, leb_false}
-use Rattle.paper_catalogue.proofs.Local.{rule_bounds}
-use Rattle.base_answers.specs.declared.Fault.{Fault}
-use Rattle.base_answers.specs.declared.Found.TheVariants.{Refused}
+use Rattle.paper.proofs.base.Tests.{by_bool, lt_leb, leb_false}
 use Rattle.base_codes.specs.Inner.{padded}
 use Rattle.base_question.proofs.Strays.{some_stray}
 use Rattle.read_rule.specs.RuleRead.{rule_bodies, rule_strays_coded}
 use Rattle.read_rule.specs.declared.Rule as Code
 use Rattle.read_rule.proofs.RulePatterns.{front_strays}
-use Rattle.read_rule.proofs.RuleStruct.{RuleTold, rule_fault}
-use Rattle.catalogue_form.specs.Kept.{unfit_by, unfit_coded, front_bytes, rule_there}
+use Rattle.read_rule.proofs.RuleStruct.{RuleTold}
+use Rattle.catalogue_form.specs.Kept.{unfit_by, unfit_coded, front_bytes}
 
 -- a rule is unfit by what was read of it, where it is
 pub unfit_told : (strict : Bool) (s : List ℕ) (r : Code.Rule) (t : RuleTold (rule_bodies s) (rule_front s) r)
-    → unfit_coded strict r.foreign r.bodies r.side ≡ unfit_by strict t.rule
+    → unfit_coded strict r ≡ unfit_by strict t.rule
 unfit_told true s r t =
     ap₂ ◌||◌ t.foreign
     (some_stray r.bodies r.side (padded [])
@@ -34,20 +32,12 @@ unfit_told true s r t =
 unfit_told false s r t = or-false r.foreign ∙ t.foreign
 
 module _ (unfit : Rule → Bool) (n : ℕ) (s : List ℕ) where
-  -- By the struct of the rule.
-  pub full : catalogue_rules ≤ n → front_bytes unfit n s ≡ 0
-  full h = rw (le_leb catalogue_rules n h)
+  module _ (few : n < catalogue_rules) (r : Code.Rule) (t : RuleTold (rule_bodies s) (rule_front s) r) where
+    pub front_unfit : unfit t.rule ≡ true → front_bytes unfit n s ≡ None
+    front_unfit k = rw (lt_leb catalogue_rules n few, t.reads, k)
 
-  module _ (few : n < catalogue_rules) (r : Code.Rule) (e : r ≡ rule_there s) where
-    pub front_fault : (f : Fault) → r.found ≡ Refused f → front_bytes unfit n s ≡ 0
-    front_fault f h = let k = rule_fault r _ (rule_front s) f e h in rw (lt_leb catalogue_rules n few, k)
-
-    module _ (t : RuleTold (rule_bodies s) (rule_front s) r) where
-      pub front_unfit : unfit t.rule ≡ true → front_bytes unfit n s ≡ 0
-      front_unfit k = rw (lt_leb catalogue_rules n few, t.reads, k)
-
-      pub front_fit : unfit t.rule ≡ false → front_bytes unfit n s ≡ r.bytes
-      front_fit k = rw (lt_leb catalogue_rules n few, t.reads, k)
+    pub front_fit : unfit t.rule ≡ false → front_bytes unfit n s ≡ Some r.bytes
+    front_fit k = rw (lt_leb catalogue_rules n few, t.reads, k)
 
 -- a rule of so many bytes stands at the front that is not unfit, and one may stand behind n
 pub record Next (unfit : Rule → Bool) (n : ℕ) (s : List ℕ) (bytes : ℕ) : Type 0 where
@@ -58,26 +48,29 @@ pub record Next (unfit : Rule → Bool) (n : ℕ) (s : List ℕ) (bytes : ℕ) :
 
 module _ (unfit : Rule → Bool) (n : ℕ) (s : List ℕ) where
   -- the bytes of a rule
-  module _ (bytes : ℕ) (e : bytes ≡ front_bytes unfit n s) (some : bytes ≡ 0 → ⊥) where
+  module _ (bytes : ℕ) (e : Some bytes ≡ front_bytes unfit n s) where
     next_of : (x : Records Rule) → rule_front s ≡ x → leb catalogue_rules n ≡ false → Next unfit n s bytes
-    next_of (faulty x at) f h = absurd (some (e ∙ rw (h, f)))
+    next_of (faulty x at) f h = let k : Some bytes ≡ None = e ∙ rw (h, f) in cc
     next_of (records r next) f h =
         by_bool (unfit r)
-        (λ g. absurd (some (e ∙ rw (h, f, g))))
-        (λ g. record { rule = r; few = leb_false catalogue_rules n h; reads = f ∙ rw (e, h, f, g); fit = g })
+        (λ g. let k : Some bytes ≡ None = e ∙ rw (h, f, g) in cc)
+        (λ g.
+        let k : Some bytes ≡ Some next = e ∙ rw (h, f, g) in
+        let same : next ≡ bytes = cc in
+        record { rule = r; few = leb_false catalogue_rules n h; reads = f ∙ ap (records r) same; fit = g })
 
     pub some_front : Next unfit n s bytes
-    some_front = by_bool (leb catalogue_rules n) (λ h. absurd (some (e ∙ rw h))) (next_of (rule_front s) refl)
+    some_front = by_bool (leb catalogue_rules n) (λ h. let k : Some bytes ≡ None = e ∙ rw h in cc) (next_of (rule_front s) refl)
 
   -- no rule, and not zero bytes
-  none_of : (left : ℕ) (x : Records Rule) → rule_front s ≡ x → leb catalogue_rules n ≡ false → all_zero s ≡ false → front_bytes unfit n s ≡ 0
+  none_of : (left : ℕ) (x : Records Rule) → rule_front s ≡ x → leb catalogue_rules n ≡ false → all_zero s ≡ false → front_bytes unfit n s ≡ None
       → form_within unfit (suc left) s ≡ no_catalogue
   none_of left (faulty x at) e h z none = rw (z, e)
   none_of left (records r next) e h z none =
       by_bool (unfit r)
       (λ f. rw (z, e, f))
-      (λ f. let (low, high) = rule_bounds s e in let k : next ≡ 0 = rw (h, e, f) at none in absurd (omega arith))
+      (λ f. let k : Some next ≡ None = sym (rw (h, e, f)) ∙ none in cc)
 
-  pub no_front : (left : ℕ) → left + n ≡ catalogue_rules → all_zero s ≡ false → front_bytes unfit n s ≡ 0 → form_within unfit left s ≡ no_catalogue
+  pub no_front : (left : ℕ) → left + n ≡ catalogue_rules → all_zero s ≡ false → front_bytes unfit n s ≡ None → form_within unfit left s ≡ no_catalogue
   no_front zero k z none = rw z
   no_front (suc left) k z none = none_of left (rule_front s) refl (lt_leb catalogue_rules n (omega arith)) z none

@@ -9,6 +9,7 @@ use mathlib.Core.Bool.{Bool, true, false}
 use mathlib.Core.List.{List, []}
 use lib.ListN.{length, set, drop, length-drop}
 use lib.Seq.{drop-drop}
+use Rattle.std.specs.Prelude.{Option, None, Some}
 use Rattle.paper.specs.Numbers.{catalogue_rules}
 use Rattle.paper.specs.Rule.{Rule}
 use Rattle.paper_catalogue.specs.Catalogue.{Present, no_catalogue, rules, rule_behind, all_zero, form_within, form_by}
@@ -51,7 +52,7 @@ reached_start unfit catalogue begins e =
 
 module _ {unfit : Rule → Bool} {catalogue begins : List ℕ} {rules used : ℕ} (r : Reached unfit catalogue begins rules used) where
   pub reached_end : all_zero (drop used catalogue) ≡ true →
-      ◌≡◌ {A = Kept} (record { good = true; rules = rules; used = used; begins = begins }) (kept_of (form_by unfit catalogue))
+      ◌≡◌ {A = Option Kept} (Some (record { rules = rules; used = used; begins = begins })) (kept_of (form_by unfit catalogue))
   reached_end z =
       let left = zero_end unfit r.left (drop used catalogue) z in
       let e : form_by unfit catalogue ≡ Catalogue.rules r.done = r.forms ∙ ap (behind_all r.done) left ∙ behind_end r.done in
@@ -65,7 +66,7 @@ module _ {unfit : Rule → Bool} {catalogue begins : List ℕ} {rules used : ℕ
 
   -- bytes are left that are not all zero
   module _ (z : all_zero (drop used catalogue) ≡ false) where
-    pub reached_none : front_bytes unfit rules (drop used catalogue) ≡ 0 → form_by unfit catalogue ≡ no_catalogue
+    pub reached_none : front_bytes unfit rules (drop used catalogue) ≡ None → form_by unfit catalogue ≡ no_catalogue
     reached_none none =
         r.forms ∙ ap (behind_all r.done) (no_front unfit rules (drop used catalogue) r.left r.most z none) ∙ behind_none r.done
 

@@ -29,6 +29,8 @@ use Rattle.read_fields.proofs.PatternsStanding.{AllStand}
 use Rattle.read_rule.specs.RuleRead.{rule_bodies, rule_of}
 use Rattle.read_rule.specs.declared.Rule as Code
 use Rattle.read_rule.proofs.RulePatterns.{front_stands}
+use Rattle.read_rule.proofs.RuleStruct.{RuleTold, rule_stands}
+use Rattle.std.specs.Prelude.{Ok}
 use Rattle.catalogue_form.specs.Kept.{OfFormBy, OfForm, OfFormBefore, rule_there}
 use Rattle.catalogue_form.specs.declared.Kept.{Kept}
 use Rattle.catalogue_form.proofs.OneMore.{begins_at}
@@ -71,21 +73,30 @@ module _ {unfit : Rule → Bool} {catalogue : List ℕ} {kept : Kept} (x : OfFor
     standing_fit = (at_offset laid_out.0 i h).1
 
     -- what is read there
-    module _ (present : Code.Rule) (p : present ≡ rule_there (drop its_begin catalogue)) where
-      standing_is : present ≡ rule_of (rule_bodies (drop its_begin catalogue)) (records (rule_at l i) (present_at l i).bytes)
-      standing_is = p ∙ ap (rule_of (rule_bodies (drop its_begin catalogue))) standing_reads
+    pub standing_there : rule_there (drop its_begin catalogue) ≡ rule_of (rule_bodies (drop its_begin catalogue)) (records (rule_at l i) (present_at l i).bytes)
+    standing_there = ap (rule_of (rule_bodies (drop its_begin catalogue))) standing_reads
+
+    module _ (present : Code.Rule) (p : Ok present ≡ rule_there (drop its_begin catalogue)) where
+      standing_told : RuleTold (rule_bodies (drop its_begin catalogue)) (rule_front (drop its_begin catalogue)) present
+      standing_told = rule_stands (rule_bodies (drop its_begin catalogue)) (rule_front (drop its_begin catalogue)) present (sym p)
+
+      its_rule : records standing_told.rule present.bytes ≡ records (rule_at l i) (present_at l i).bytes
+      its_rule = sym standing_told.reads ∙ standing_reads
+
+      same_rule : standing_told.rule ≡ rule_at l i
+      same_rule = let e = its_rule in cc
 
       pub standing_side : present.side ≡ padded (side_code (rule_at l i).side)
-      standing_side = ap (λ (r : Code.Rule). r.side) standing_is
+      standing_side = standing_told.side ∙ ap (λ (r : Rule). padded (side_code r.side)) same_rule
 
       pub standing_fields : present.fields ≡ map worked_out (rule_at l i).fields.held
-      standing_fields = ap (λ (r : Code.Rule). r.fields) standing_is
+      standing_fields = standing_told.fields ∙ ap (λ (r : Rule). map worked_out r.fields.held) same_rule
 
       pub standing_bytes : present.bytes ≡ (present_at l i).bytes
-      standing_bytes = ap (λ (r : Code.Rule). r.bytes) standing_is
+      standing_bytes = let e = its_rule in cc
 
       pub standing_bodies_are : present.bodies ≡ rule_bodies (drop its_begin catalogue)
-      standing_bodies_are = ap (λ (r : Code.Rule). r.bodies) standing_is
+      standing_bodies_are = standing_told.bodies_are
 
       pub standing_bodies : AllStand edition_1 (drop its_begin catalogue) present.bodies (rule_at l i).fields.held
       standing_bodies =

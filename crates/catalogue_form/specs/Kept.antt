@@ -1,12 +1,12 @@
--- What reading a catalogue hands on: whether it is of its form, how many rules stand, how many bytes their records have, and where each begins.
-use Rattle.std.specs.Prelude.{ℕ, suc, ◌≡◌, Bool, true, false, cond, ◌&&◌, ◌||◌, List, map, leb, ltb, length, take, replicate}
+-- What reading a catalogue of its form hands on: how many rules stand, how many bytes their records have, and where each begins.
+use Rattle.std.specs.Prelude.{ℕ, suc, ◌≡◌, Bool, true, false, cond, ◌&&◌, ◌||◌, List, map, leb, length, take, replicate, Option, None, Some, Result, is_some}
 use Rattle.paper.specs.Lists.{upto}
-use Rattle.paper.specs.Numbers.{fields, catalogue_rules}
+use Rattle.paper.specs.Numbers.{catalogue_rules}
 use Rattle.paper.specs.Sheet.{Records, faulty, records}
 use Rattle.paper.specs.Rule.{Rule, rule_front, foreign_field}
 use Rattle.paper_catalogue.specs.Catalogue.{Present, Form, no_catalogue, rules, unfit, form_by, used}
 use Rattle.base_question.specs.StraysCoded.{first_of}
-use Rattle.base_question.specs.declared.Body.{Body}
+use Rattle.base_answers.specs.declared.Refusal.{Refusal}
 use Rattle.read_rule.specs.RuleRead.{rule_bodies, rule_of, rule_strays_coded}
 use Rattle.read_rule.specs.declared.Rule as Code
 use Rattle.catalogue_form.specs.declared.Kept.{Kept}
@@ -22,29 +22,29 @@ begins_of l = map (begin_of l) (upto (suc catalogue_rules))
 unfoldable pub no_begins : List ℕ
 no_begins = replicate (suc catalogue_rules) 0
 
-abbrev pub kept_of : Form → Kept
-kept_of no_catalogue = record { good = false; rules = 0; used = 0; begins = no_begins }
-kept_of (rules l) = record { good = true; rules = length l; used = used l; begins = begins_of l }
+abbrev pub kept_of : Form → Option Kept
+kept_of no_catalogue = None
+kept_of (rules l) = Some (record { rules = length l; used = used l; begins = begins_of l })
 
 -- which rules may not stand: by the rule of today, and by the one before request K13
 abbrev pub unfit_by : Bool → Rule → Bool
 unfit_by true = unfit
 unfit_by false = foreign_field
 
--- by what was read of the rule: whether it names a field above 3, where its patterns stand, and its side
-abbrev pub unfit_coded : Bool → Bool → List Body → List ℕ → Bool
-unfit_coded strict foreign bodies side = foreign || (strict && ltb (first_of (rule_strays_coded bodies side)) fields)
+-- by what was read of the rule: whether it names a field above 3, and whether a pattern is a stray
+abbrev pub unfit_coded : Bool → Code.Rule → Bool
+unfit_coded strict r = r.foreign || (strict && is_some (first_of (rule_strays_coded r.bodies r.side)))
 
--- how many bytes the rule at the front has, if it passes its own checks, is not unfit, and one may stand behind so many; else 0
-abbrev pub front_length : (Rule → Bool) → Records Rule → ℕ
-front_length unfit (faulty x at) = 0
-front_length unfit (records r next) = cond (unfit r) 0 next
+-- how many bytes the rule at the front has, if it passes its own checks, is not unfit, and one may stand behind so many
+abbrev pub front_length : (Rule → Bool) → Records Rule → Option ℕ
+front_length unfit (faulty x at) = None
+front_length unfit (records r next) = cond (unfit r) None (Some next)
 
-abbrev pub front_bytes : (Rule → Bool) → ℕ → List ℕ → ℕ
-front_bytes unfit n s = cond (leb catalogue_rules n) 0 (front_length unfit (rule_front s))
+abbrev pub front_bytes : (Rule → Bool) → ℕ → List ℕ → Option ℕ
+front_bytes unfit n s = cond (leb catalogue_rules n) None (front_length unfit (rule_front s))
 
 -- what reading the rule at the front of the bytes hands on
-abbrev pub rule_there : List ℕ → Code.Rule
+abbrev pub rule_there : List ℕ → Result Code.Rule Refusal
 rule_there s = rule_of (rule_bodies s) (rule_front s)
 
 -- what was read is a catalogue of its form, whichever rules are unfit

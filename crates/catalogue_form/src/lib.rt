@@ -5,9 +5,7 @@ ghost use Rattle.std.specs.Prelude.{◌≡◌, false, drop};
 ghost use Rattle.paper_catalogue.specs.Catalogue.{all_zero, form_by, form, form_before};
 ghost use Rattle.catalogue_form.specs.Kept.{no_begins, unfit_by, unfit_coded, front_bytes, kept_of, rule_there};
 
-use base_answers::Found;
-use base_codes::{CodedSide, SHEET_FIELDS};
-use base_question::Body;
+use base_answers::Refusal;
 use read_rule::Rule;
 
 // "a catalogue of up to 32 rules"
@@ -19,8 +17,6 @@ pub const BEGINS: usize = CATALOGUE_RULES + 1;
 // What stands in a catalogue.
 #[derive(Clone, Copy)]
 pub struct Kept {
-    // is the buffer of this form?
-    pub good: bool,
     // how many rules stand, and how many bytes their records have
     pub rules: usize,
     pub used: usize,
@@ -28,54 +24,39 @@ pub struct Kept {
     pub begins: [usize; BEGINS],
 }
 
-// Reads a catalogue.
-pub fn find(catalogue: &[u8]) -> Kept
+// Reads a catalogue; none where the buffer is not of this form.
+pub fn find(catalogue: &[u8]) -> Option<Kept>
     ensures { result ≡ kept_of (form catalogue.now) }
 {
     find_by(catalogue, true)
 }
 
 // By the rule before request K13: its rules may have stray patterns.
-pub fn find_before(catalogue: &[u8]) -> Kept
+pub fn find_before(catalogue: &[u8]) -> Option<Kept>
     ensures { result ≡ kept_of (form_before catalogue.now) }
 {
     find_by(catalogue, false)
 }
 
 // In one pass: its rules, and where each begins.
-fn find_by(catalogue: &[u8], strict: bool) -> Kept
+// Kept: a switch between the two rules; a closure over what was read would have to promise what the two tests of `is_unfit` say, and is no plainer.
+fn find_by(catalogue: &[u8], strict: bool) -> Option<Kept>
     ensures { result ≡ kept_of (form_by (unfit_by strict) catalogue.now) }
 {
     let mut begins = no_begins();
     let mut rules = 0;
     let mut used = 0;
     while !is_zero(&catalogue[used..]) {
-        let next = front_bytes(&catalogue[used..], rules, strict);
-        if next == 0 {
-            return no_catalogue();
-        }
+        let next = front_bytes(&catalogue[used..], rules, strict)?;
         used += next;
         rules += 1;
         begins[rules] = used;
     }
-    Kept {
-        good: true,
+    Some(Kept {
         rules,
         used,
         begins,
-    }
-}
-
-fn no_catalogue() -> Kept
-    ensures { result ≡ record { good = false; rules = 0; used = 0; begins = no_begins } }
-{
-    let begins = no_begins();
-    Kept {
-        good: false,
-        rules: 0,
-        used: 0,
-        begins,
-    }
+    })
 }
 
 fn no_begins() -> [usize; BEGINS]
@@ -88,56 +69,33 @@ fn no_begins() -> [usize; BEGINS]
 fn is_zero(s: &[u8]) -> bool
     ensures { result ≡ all_zero s.now }
 {
-    let mut i = 0;
-    while i < s.len() {
-        if s[i] != 0 {
-            return false;
-        }
-        i += 1;
-    }
-    true
+    s.iter().all(|&b| b == 0)
 }
 
-// How many bytes the rule at the front has, if it is not unfit and one may stand behind so many; else 0.
-fn front_bytes(s: &[u8], rules: usize, strict: bool) -> usize
+// How many bytes the rule at the front has, if it is not unfit and one may stand behind so many.
+fn front_bytes(s: &[u8], rules: usize, strict: bool) -> Option<usize>
     ensures { result ≡ front_bytes (unfit_by strict) rules s.now }
 {
     if CATALOGUE_RULES <= rules {
-        return 0;
+        return None;
     }
-    let r = read_rule::front(s);
-    let found = r.found;
-    if let Found::Refused(_) = found {
-        return 0;
+    let rule = read_rule::front(s).ok()?;
+    if is_unfit(strict, &rule) {
+        return None;
     }
-    let foreign = r.foreign;
-    let bodies = r.bodies;
-    let side = r.side;
-    if is_unfit(strict, foreign, bodies, side) {
-        return 0;
-    }
-    r.bytes
+    Some(rule.bytes)
 }
 
 // May the rule not stand? It names a field above 3; or, where that is asked, it has a stray pattern.
-fn is_unfit(strict: bool, foreign: bool, bodies: [Body; SHEET_FIELDS], side: CodedSide) -> bool
-    ensures { result ≡ unfit_coded strict foreign bodies side }
+fn is_unfit(strict: bool, rule: &Rule) -> bool
+    ensures { result ≡ unfit_coded strict rule.now }
 {
-    if foreign {
-        return true;
-    }
-    if !strict {
-        return false;
-    }
-    read_rule::first_stray(bodies, side) < SHEET_FIELDS
+    rule.foreign || (strict && read_rule::first_stray(rule.bodies, rule.side).is_some())
 }
 
 // The rule that begins at the offset; behind the end there is none, and it is cut short.
-pub fn rule_at(catalogue: &[u8], at: usize) -> Rule
+pub fn rule_at(catalogue: &[u8], at: usize) -> Result<Rule, Refusal>
     ensures { result ≡ rule_there (drop at catalogue.now) }
 {
-    if catalogue.len() < at {
-        return read_rule::front(&catalogue[0..0]);
-    }
-    read_rule::front(&catalogue[at..])
+    read_rule::front(catalogue.get(at..).unwrap_or(&[]))
 }

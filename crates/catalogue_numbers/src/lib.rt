@@ -7,8 +7,8 @@ ghost use Rattle.catalogue_numbers.specs.CatalogueNumbers.{numbers_of_added, num
 use base_answers::{
     CATALOGUE_FULL, FOREIGN_FIELD, LIST_TOO_SHORT, NO_CATALOGUE, NO_RULE, NOT_APART,
 };
-use catalogue_add::{Added, Withdrawn};
-use catalogue_recheck::Rechecked;
+use catalogue_add::{AddError, NotApart, WithdrawError};
+use catalogue_recheck::{Listed, RecheckError};
 
 // What adding a rule tells. Each is 0 where nothing is said of it.
 #[derive(Clone, Copy)]
@@ -23,23 +23,27 @@ pub struct Numbers {
     pub search: usize,
 }
 
-pub fn added(a: Added) -> Numbers
-    ensures { result ≡ numbers_of_added a }
-{
-    match a {
-        Added::Entered => refusal(0, 0),
-        Added::Refused { fault, place } => refusal(base_answers::number(fault) as usize, place),
-        Added::NotApart { rule, pair } => Numbers {
-            number: NOT_APART,
-            count: pair.count,
-            place: 0,
-            rule,
-            answer: pair.answer,
-            search: pair.search as usize,
-        },
-        Added::ForeignField => refusal(FOREIGN_FIELD, 0),
-        Added::Full => refusal(CATALOGUE_FULL, 0),
-        Added::NoCatalogue => refusal(NO_CATALOGUE, 0),
+impl From<Result<(), AddError>> for Numbers {
+    ghost from_gives = { λ a n. n ≡ numbers_of_added a };
+
+    fn from(a: Result<(), AddError>) -> Self
+        ensures { result ≡ numbers_of_added a }
+    {
+        match a {
+            Ok(()) => refusal(0, 0),
+            Err(AddError::Refused(it)) => refusal(it.fault.number() as usize, it.place),
+            Err(AddError::NotApart(NotApart { rule, pair })) => Numbers {
+                number: NOT_APART,
+                count: pair.count,
+                place: 0,
+                rule,
+                answer: pair.answer,
+                search: pair.search as usize,
+            },
+            Err(AddError::ForeignField) => refusal(FOREIGN_FIELD, 0),
+            Err(AddError::Full) => refusal(CATALOGUE_FULL, 0),
+            Err(AddError::NoCatalogue) => refusal(NO_CATALOGUE, 0),
+        }
     }
 }
 
@@ -56,13 +60,14 @@ fn refusal(number: usize, place: usize) -> Numbers
     }
 }
 
-pub fn withdrawn(w: Withdrawn) -> usize
+// Kept: an impl of `From` needs a type of its own crate, and neither this result nor the number is of this one.
+pub fn withdrawn(w: Result<(), WithdrawError>) -> usize
     ensures { result ≡ number_of_withdrawn w }
 {
     match w {
-        Withdrawn::Gone => 0,
-        Withdrawn::NoRule => NO_RULE,
-        Withdrawn::NoCatalogue => NO_CATALOGUE,
+        Ok(()) => 0,
+        Err(WithdrawError::NoRule) => NO_RULE,
+        Err(WithdrawError::NoCatalogue) => NO_CATALOGUE,
     }
 }
 
@@ -75,17 +80,21 @@ pub struct Totals {
     pub written: usize,
 }
 
-pub fn rechecked(r: Rechecked) -> Totals
-    ensures { result ≡ as_totals r }
-{
-    match r {
-        Rechecked::Listed { pairs, written } => Totals {
-            number: 0,
-            pairs,
-            written,
-        },
-        Rechecked::TooShort => none_listed(LIST_TOO_SHORT),
-        Rechecked::NoCatalogue => none_listed(NO_CATALOGUE),
+impl From<Result<Listed, RecheckError>> for Totals {
+    ghost from_gives = { λ r t. t ≡ as_totals r };
+
+    fn from(r: Result<Listed, RecheckError>) -> Self
+        ensures { result ≡ as_totals r }
+    {
+        match r {
+            Ok(Listed { pairs, written }) => Totals {
+                number: 0,
+                pairs,
+                written,
+            },
+            Err(RecheckError::TooShort) => none_listed(LIST_TOO_SHORT),
+            Err(RecheckError::NoCatalogue) => none_listed(NO_CATALOGUE),
+        }
     }
 }
 

@@ -3,34 +3,29 @@
 
 ghost use Rattle.std.specs.Prelude.{Bool, ◌≡◌, length, replicate};
 ghost use Rattle.plain_question.specs.Reached.{Meets, Says};
-ghost use Rattle.catalogue_question.specs.PairCoded.{pair_question};
+ghost use Rattle.catalogue_question.specs.PairCoded.{rules_question};
 ghost use Rattle.catalogue_pair.specs.Ask.{searched_pair, decided_pair, pair_by};
 
-use base_codes::{CodedSide, SHEET_FIELDS};
-use base_places::PlaceTables;
-use base_question::{Body, Question};
+use base_question::Question;
 use catalogue_question::{Asking, Pair};
+use read_rule::Rule;
 
-// Can the two rules make the same label? Their sides by inner codes, what is worked out of their fields' patterns, where these stand, and the bytes of
-// both rules, in which they do.
+// Can the two rules make the same label? The rules as they were read, and the bytes of both, in which their patterns stand.
 pub fn ask(
     how: Asking,
-    left: CodedSide,
-    right: CodedSide,
-    first: [PlaceTables; SHEET_FIELDS],
-    second: [PlaceTables; SHEET_FIELDS],
-    bodies: [Body; SHEET_FIELDS],
-    present: &[u8],
-    new: &[u8],
+    present: &Rule,
+    new: &Rule,
+    present_bytes: &[u8],
+    new_bytes: &[u8],
     work: &mut [u8],
 ) -> Pair
-    ensures answer { (m : Bool) → Says m (Meets (pair_question left right first second bodies)) → result ≡ pair_by how (pair_question left right first second bodies) m present.now new.now (length work.old) }
+    ensures answer { (m : Bool) → Says m (Meets (rules_question present.now new.now)) → result ≡ pair_by how (rules_question present.now new.now) m present_bytes.now new_bytes.now (length work.old) }
     ensures work { work.new ≡ replicate (length work.old) 0 }
 {
-    let question = catalogue_question::asked(left, right, first, second, bodies);
+    let question = catalogue_question::asked(present, new);
     match how {
         Asking::Search => search(question, work),
-        Asking::Decide => decide(question, present, new, work),
+        Asking::Decide => decide(question, present_bytes, new_bytes, work),
     }
 }
 

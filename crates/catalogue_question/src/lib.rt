@@ -2,19 +2,19 @@
 // it is answered.
 #![tactic(auto)]
 
-ghost use Rattle.std.specs.Prelude.{◌≡◌, map, eqb, ◌<◌};
+ghost use Rattle.std.specs.Prelude.{◌≡◌, map, eqb, length};
 ghost use Rattle.paper.specs.Numbers.{fields};
 ghost use Rattle.base_answers.specs.AnswerNumbers.{number_in_pair};
-ghost use Rattle.catalogue_question.specs.PairCoded.{moved_code, joined, body_of, pair_bodies, pair_question};
+ghost use Rattle.catalogue_question.specs.PairCoded.{moved_code, joined, rules_question};
 
 use base_answers::How;
-use base_codes::{CodedSide, FIELD_CODE, LONGEST_SIDE, SHEET_FIELDS};
+use base_codes::{CodedSide, FIELD_CODE, SHEET_FIELDS};
 use base_editions::Edition;
-use base_places::PlaceTables;
-use base_question::{Body, Question};
-use read_rule::RULE_FIELDS;
+use base_question::Question;
+use read_rule::{RULE_FIELDS, Rule};
 
 // How a pair is asked.
+// Kept: a switch, for the definitions and theorems of both ways take it (`asking_coded`, `pair_by`).
 #[derive(Clone, Copy)]
 pub enum Asking {
     // by 01's search
@@ -34,52 +34,23 @@ pub struct Pair {
 // The codes from that of field 0 on whose field can be moved up.
 const MOVABLE: u8 = 251;
 
-// What the pair asks: the two rules' sides by inner codes, what is worked out of their fields' patterns, and where these stand. A rule is of the first
-// edition, so a pair is in Code 39.
-pub fn asked(
-    left: CodedSide,
-    right: CodedSide,
-    first: [PlaceTables; SHEET_FIELDS],
-    second: [PlaceTables; SHEET_FIELDS],
-    bodies: [Body; SHEET_FIELDS],
-) -> Question
-    ensures { result ≡ pair_question left right first second bodies }
+// What the pair asks: the two rules' sides by inner codes, what is worked out of their fields' patterns, and where these stand, each in its own rule's
+// bytes. A rule is of the first edition, so a pair is in Code 39.
+pub fn asked(present: &Rule, new: &Rule) -> Question
+    ensures { result ≡ rules_question present.now new.now }
 {
-    let moved = moved_up(right);
-    let fields = joined(first, second);
+    let left = present.side;
+    let right = moved_up(new.side);
+    let fields = joined(present.fields, new.fields);
+    let bodies = joined(present.bodies, new.bodies);
     let alphabet = base_editions::alphabet_of(Edition::First);
     Question {
         alphabet,
         left,
-        right: moved,
+        right,
         fields,
         bodies,
     }
-}
-
-// Where the patterns of both rules stand, by the fields' numbers in the pair: the first rule's, then the second's, each in its own rule's bytes.
-pub fn bodies(first: [Body; SHEET_FIELDS], second: [Body; SHEET_FIELDS]) -> [Body; SHEET_FIELDS]
-    ensures { result ≡ pair_bodies first second }
-{
-    let mut both = base_question::no_bodies();
-    let mut f: usize = 0;
-    while f < SHEET_FIELDS {
-        let its = body_of(first, second, f);
-        both[f] = its;
-        f += 1;
-    }
-    both
-}
-
-// That of the pair's field f.
-fn body_of(first: [Body; SHEET_FIELDS], second: [Body; SHEET_FIELDS], f: usize) -> Body
-    requires { f < fields }
-    ensures { result ≡ body_of first second f }
-{
-    if f < RULE_FIELDS {
-        return first[f];
-    }
-    second[f - RULE_FIELDS]
 }
 
 // "a pair's texts are not written, so it can't give 20"
@@ -87,7 +58,7 @@ pub fn answered(how: How, count: usize, search: u8) -> Pair
     ensures { result ≡ record { answer = number_in_pair how; count = count; search = search } }
 {
     Pair {
-        answer: base_answers::pair_number(how),
+        answer: how.pair_number(),
         count,
         search,
     }
@@ -104,13 +75,7 @@ pub fn is_apart(pair: Pair) -> bool
 fn moved_up(side: CodedSide) -> CodedSide
     ensures { result ≡ map moved_code side }
 {
-    let mut moved = side;
-    let mut i = 0;
-    while i < LONGEST_SIDE {
-        moved[i] = moved_code(side[i]);
-        i += 1;
-    }
-    moved
+    side.map(moved_code)
 }
 
 // The code of a field 4 higher; a character stays, and so does no token.
@@ -126,19 +91,14 @@ fn moved_code(b: u8) -> u8
     b + RULE_FIELDS as u8
 }
 
-// The first rule's fields, then the second's.
-fn joined(
-    first: [PlaceTables; SHEET_FIELDS],
-    second: [PlaceTables; SHEET_FIELDS],
-) -> [PlaceTables; SHEET_FIELDS]
-    ensures { result ≡ joined first second }
+// What the first rule has for its fields, then the second's.
+fn joined<T: Copy>(first: [T; SHEET_FIELDS], second: [T; SHEET_FIELDS]) -> [T; SHEET_FIELDS]
+    ensures both { result ≡ joined first second }
+    ensures each { (length first ≡ fields) × (length second ≡ fields) }
 {
-    let mut fields = first;
-    let mut f = 0;
-    while f < RULE_FIELDS {
-        let tables = second[f];
-        fields[RULE_FIELDS + f] = tables;
-        f += 1;
+    let mut both = first;
+    for f in 0..RULE_FIELDS {
+        both[RULE_FIELDS + f] = second[f];
     }
-    fields
+    both
 }

@@ -8,21 +8,23 @@ use Rattle.paper_catalogue.specs.Recheck.{rechecking}
 use Rattle.paper_catalogue.specs.Recheck as Recheck
 use Rattle.paper_catalogue_decide.specs.DecidedPairs.{rechecking_decided}
 use Rattle.catalogue_recheck.specs.PairList.{told_rechecked}
-use Rattle.catalogue_recheck.specs.declared.Rechecked.{Rechecked}
-use Rattle.catalogue_recheck.specs.declared.Rechecked.TheVariants.{Listed, TooShort, NoCatalogue}
+use Rattle.std.specs.Prelude.{Result, Ok, Err}
+use Rattle.catalogue_recheck.specs.declared.Listed.{Listed}
+use Rattle.catalogue_recheck.specs.declared.RecheckError.{RecheckError}
+use Rattle.catalogue_recheck.specs.declared.RecheckError.TheVariants.{TooShort, NoCatalogue}
 
 -- the answer with these numbers
-rechecked_from : Recheck.Rechecked → Rechecked
-rechecked_from t = cond (eqb t.number 0) (Listed t.pairs t.written) (cond (eqb t.number 35) TooShort NoCatalogue)
+rechecked_from : Recheck.Rechecked → Result Listed RecheckError
+rechecked_from t = cond (eqb t.number 0) (Ok (record { pairs = t.pairs; written = t.written })) (cond (eqb t.number 35) (Err TooShort) (Err NoCatalogue))
 
-rechecked_back : (r : Rechecked) (list work : List ℕ) →
+rechecked_back : (r : Result Listed RecheckError) (list work : List ℕ) →
     let t = told_rechecked r list work in (rechecked_from t ≡ r) × (t.list ≡ list) × (t.work ≡ work)
 unfolding rechecked_from
-rechecked_back (Listed pairs written) list work = (refl, refl, refl)
-rechecked_back TooShort list work = (refl, refl, refl)
-rechecked_back NoCatalogue list work = (refl, refl, refl)
+rechecked_back (Ok l) list work = (refl, refl, refl)
+rechecked_back (Err TooShort) list work = (refl, refl, refl)
+rechecked_back (Err NoCatalogue) list work = (refl, refl, refl)
 
-one_rechecked : {o : Recheck.Rechecked} (r r' : Rechecked) (l l' w w' : List ℕ) → told_rechecked r l w ≡ o → told_rechecked r' l' w' ≡ o
+one_rechecked : {o : Recheck.Rechecked} (r r' : Result Listed RecheckError) (l l' w w' : List ℕ) → told_rechecked r l w ≡ o → told_rechecked r' l' w' ≡ o
     → (r ≡ r') × (l ≡ l') × (w ≡ w')
 one_rechecked r r' l l' w w' e e' =
     let same = e ∙ sym e' in
@@ -33,7 +35,7 @@ one_rechecked r r' l l' w w' e e' =
       sym one.2 ∙ ap (λ (t : Recheck.Rechecked). t.work) same ∙ other.2,
     )
 
-module _ (catalogue work list : List ℕ) (r r' : Rechecked) (l l' w w' : List ℕ) where
+module _ (catalogue work list : List ℕ) (r r' : Result Listed RecheckError) (l l' w w' : List ℕ) where
   pub one_recheck : told_rechecked r l w ≡ rechecking catalogue work list → told_rechecked r' l' w' ≡ rechecking catalogue work list
       → (r ≡ r') × (l ≡ l') × (w ≡ w')
   one_recheck = one_rechecked r r' l l' w w'

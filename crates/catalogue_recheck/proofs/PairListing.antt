@@ -20,14 +20,14 @@ use Rattle.paper_catalogue.proofs.Form.{rules_at_most}
 use Rattle.paper_catalogue.proofs.GoodRule.{GoodRule}
 use Rattle.paper_catalogue.proofs.Rechecked.{count_in_bytes}
 use Rattle.paper_catalogue_decide.proofs.PairDecided.{decided_count}
-use Rattle.base_places.specs.declared.PlaceTables.{PlaceTables}
+use Rattle.std.specs.Prelude.{Ok}
 use Rattle.base_question.specs.declared.Body.{Body}
 use Rattle.plain_question.specs.Reached.{Meets, Says}
 use Rattle.read_fields.proofs.PatternsStanding.{AllStand}
 use Rattle.read_rule.specs.declared.Rule.{Rule}
 use Rattle.read_rule.proofs.RulePatterns.{front_stands}
 use Rattle.catalogue_form.proofs.RulesStanding.{in_front, begin_in, standing_reads, standing_good, standing_side, standing_fields, standing_bodies, standing_bodies_are}
-use Rattle.catalogue_question.specs.PairCoded.{pair_bodies, pair_question}
+use Rattle.catalogue_question.specs.PairCoded.{rules_question}
 use Rattle.catalogue_question.specs.AskedBy.{asking_coded, told_pair}
 use Rattle.catalogue_question.specs.declared.Asking.{Asking}
 use Rattle.catalogue_question.specs.declared.Asking.TheVariants.{Search, Decide}
@@ -110,31 +110,29 @@ count_below Search r s g h work = omega (arith, count_in_bytes r s work)
 count_below Decide r s g h work = omega (arith, decided_count r s g h work [])
 
 -- What asking the pair of the rule with another behind it tells.
-module _ (how : Asking) {catalogue : List ℕ} {kept : Kept} {lower : ℕ} {side : List ℕ} {fields : List PlaceTables} {bodies : List Body} {lent before : List ℕ}
-    {n : ℕ} (x : ReadyToList (asking_coded how) catalogue kept lower side fields bodies lent before n) (j : ℕ) (h : j < length x.standing.rules_present)
-    (other : Rule) (p : other ≡ rule_there (drop (begin_in kept j) catalogue)) (work : List ℕ) (same : length work ≡ length lent) (pair : Pair)
+module _ (how : Asking) {catalogue : List ℕ} {kept : Kept} {lower : ℕ} {rule : Rule} {lent before : List ℕ}
+    {n : ℕ} (x : ReadyToList (asking_coded how) catalogue kept lower rule lent before n) (j : ℕ) (h : j < length x.standing.rules_present)
+    (other : Rule) (p : Ok other ≡ rule_there (drop (begin_in kept j) catalogue)) (work : List ℕ) (same : length work ≡ length lent) (pair : Pair)
     (e : (m : Bool)
-    → Says m (Meets (pair_question side other.side fields other.fields (pair_bodies bodies other.bodies)))
-    → pair
-    ≡ pair_by how (pair_question side other.side fields other.fields (pair_bodies bodies other.bodies)) m (drop (begin_in kept lower) catalogue)
-    (drop (begin_in kept j) catalogue) (length work)) where
+    → Says m (Meets (rules_question rule other))
+    → pair ≡ pair_by how (rules_question rule other) m (drop (begin_in kept lower) catalogue) (drop (begin_in kept j) catalogue) (length work)) where
   abbrev s : OfForm catalogue kept
   s = x.standing
 
-  abbrev lower_code : CodeOf (rule_at s.rules_present lower) side fields
+  abbrev lower_code : CodeOf (rule_at s.rules_present lower) rule.side rule.fields
   lower_code = record { good = standing_good s lower x.there; side_is = x.side_is; fields_are = x.fields_are }
 
   abbrev other_code : CodeOf (rule_at s.rules_present j) other.side other.fields
   other_code = record { good = standing_good s j h; side_is = standing_side s j h other p; fields_are = standing_fields s j h other p }
 
-  lower_stands : AllStand edition_1 (drop (begin_in kept lower) catalogue) bodies (rule_at s.rules_present lower).fields.held
+  lower_stands : AllStand edition_1 (drop (begin_in kept lower) catalogue) rule.bodies (rule_at s.rules_present lower).fields.held
   lower_stands =
       subst (λ (b : List Body). AllStand edition_1 (drop (begin_in kept lower) catalogue) b (rule_at s.rules_present lower).fields.held) (sym x.bodies_are)
       (front_stands (drop (begin_in kept lower) catalogue) (standing_reads s lower x.there))
 
   pub asked_told : told_pair pair ≡ (asking_coded how).asks (rule_at x.standing.rules_present lower) (rule_at x.standing.rules_present j) (room_of lent)
   asked_told =
-      told_in_room lower_code other_code (drop (begin_in kept lower) catalogue) (drop (begin_in kept j) catalogue) bodies other.bodies lower_stands
+      told_in_room lower_code other_code (drop (begin_in kept lower) catalogue) (drop (begin_in kept j) catalogue) rule.bodies other.bodies lower_stands
       (standing_bodies s j h other p) how work pair e lent same
 
   -- its numbers fit their bytes
@@ -147,7 +145,7 @@ module _ (how : Asking) {catalogue : List ℕ} {kept : Kept} {lower : ℕ} {side
         lower_byte = omega (arith, x.there, few);
         higher_byte = omega (arith, h, few);
         answer_byte =
-            answer_byte lower_code other_code (drop (begin_in kept lower) catalogue) (drop (begin_in kept j) catalogue) bodies other.bodies lower_stands
+            answer_byte lower_code other_code (drop (begin_in kept lower) catalogue) (drop (begin_in kept j) catalogue) rule.bodies other.bodies lower_stands
             (standing_bodies s j h other p) how work pair e;
         count_bytes =
             subst (λ (p : PairAnswered). p.count < above_count how) (sym asked_told) (count_below how (rule_at l lower) (rule_at l j) (standing_good x.standing lower x.there) (standing_good x.standing j h) lent);
@@ -202,8 +200,8 @@ module _ {a : PairAsking} {l : List Present} where
 
 -- What is known where the pairs of a rule that stands are asked.
 abbrev pub ready_with : (a : PairAsking) {catalogue : List ℕ} {kept : Kept} (x : OfForm catalogue kept) (i : ℕ) → i < length x.rules_present
-    → (rule : Rule) → rule ≡ rule_there (drop (begin_in kept i) catalogue) → (work bytes : List ℕ) (end : ℕ)
-    → end + length (list_with a x.rules_present i work) ≤ length bytes → ReadyToList a catalogue kept i rule.side rule.fields rule.bodies work bytes end
+    → (rule : Rule) → Ok rule ≡ rule_there (drop (begin_in kept i) catalogue) → (work bytes : List ℕ) (end : ℕ)
+    → end + length (list_with a x.rules_present i work) ≤ length bytes → ReadyToList a catalogue kept i rule work bytes end
 ready_with a x i h rule p work bytes end room =
     record {
       standing = x;

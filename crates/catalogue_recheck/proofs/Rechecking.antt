@@ -24,7 +24,7 @@ use Rattle.catalogue_question.specs.declared.Asking.TheVariants.{Search, Decide}
 use Rattle.catalogue_recheck.specs.PairList.{told_rechecked, longest_list, AllListed}
 use Rattle.catalogue_form.specs.Kept.{OfForm}
 use Rattle.catalogue_form.specs.declared.Kept.{Kept}
-use Rattle.catalogue_recheck.specs.declared.Rechecked.TheVariants.{Listed}
+use Rattle.std.specs.Prelude.{Ok}
 
 pub rechecks_none : (a : PairAsking) (catalogue work list : List ℕ) → form catalogue ≡ no_catalogue → not_listed 34 list work ≡ rechecking_by a catalogue work list
 unfolding rechecking_by
@@ -66,7 +66,7 @@ module _ (how : Asking) {catalogue : List ℕ} {kept : Kept} (x : OfForm catalog
         ∙ take_at all (drop (length all) before) n (omega (arith, its_length))
 
     pub rechecks_listed : (list : List ℕ) → n ≤ length list → (part filled : List ℕ) → part ≡ take n bytes → filled ≡ put_at 0 part list
-        → told_rechecked (Listed (n / (asking_coded how).pair_bytes) n) filled after ≡ rechecking_by (asking_coded how) catalogue work list
+        → told_rechecked (Ok (record { pairs = n / (asking_coded how).pair_bytes; written = n })) filled after ≡ rechecking_by (asking_coded how) catalogue work list
     unfolding rechecking_by
     rechecks_listed list h part filled p f =
         let fits : 0 + length all ≤ length list = omega (arith, its_length) in

@@ -1,5 +1,5 @@
 -- What checking again tells, in request K3's numbers; and what its pairs give on the way.
-use Rattle.std.specs.Prelude.{ℕ, suc, ◌+◌, ◌≤◌, ◌<◌, ◌≡◌, cond, List, [], map, eqb, length, get_or, drop}
+use Rattle.std.specs.Prelude.{ℕ, suc, ◌+◌, ◌≤◌, ◌<◌, ◌≡◌, cond, List, [], map, eqb, length, get_or, drop, Result, Ok, Err}
 use Rattle.paper.specs.Outcome.{room_of}
 use Rattle.paper_catalogue.specs.PairAsking.{PairAsking, record_by}
 use Rattle.paper_catalogue.specs.Catalogue.{Present, work_behind}
@@ -10,22 +10,22 @@ use Rattle.catalogue_form.specs.Kept.{OfForm}
 use Rattle.catalogue_form.specs.declared.Kept.{Kept}
 use Rattle.base_codes.specs.Inner.{side_code, padded}
 use Rattle.base_places.specs.WorkedOut.{worked_out}
-use Rattle.base_places.specs.declared.PlaceTables.{PlaceTables}
-use Rattle.base_question.specs.declared.Body.{Body}
 use Rattle.read_rule.specs.RuleRead.{rule_bodies}
+use Rattle.read_rule.specs.declared.Rule.{Rule}
 use Rattle.catalogue_question.specs.AskedBy.{asking_coded, told_pair}
 use Rattle.catalogue_question.specs.declared.Asking.{Asking}
 use Rattle.catalogue_question.specs.declared.Asking.TheVariants.{Search, Decide}
 use Rattle.catalogue_question.specs.declared.Pair.{Pair}
 use Rattle.print_lines.specs.Writing.{Puts}
-use Rattle.catalogue_recheck.specs.declared.Rechecked.{Rechecked}
-use Rattle.catalogue_recheck.specs.declared.Rechecked.TheVariants.{Listed, TooShort, NoCatalogue}
+use Rattle.catalogue_recheck.specs.declared.Listed.{Listed}
+use Rattle.catalogue_recheck.specs.declared.RecheckError.{RecheckError}
+use Rattle.catalogue_recheck.specs.declared.RecheckError.TheVariants.{TooShort, NoCatalogue}
 
 -- what checking again tells, with both buffers as they are afterwards
-abbrev pub told_rechecked : Rechecked → List ℕ → List ℕ → Recheck.Rechecked
-told_rechecked (Listed pairs written) list work = record { number = 0; pairs = pairs; written = written; list = list; work = work }
-told_rechecked TooShort list work = not_listed 35 list work
-told_rechecked NoCatalogue list work = not_listed 34 list work
+abbrev pub told_rechecked : Result Listed RecheckError → List ℕ → List ℕ → Recheck.Rechecked
+told_rechecked (Ok l) list work = record { number = 0; pairs = l.pairs; written = l.written; list = list; work = work }
+told_rechecked (Err TooShort) list work = not_listed 35 list work
+told_rechecked (Err NoCatalogue) list work = not_listed 34 list work
 
 -- the bytes of a pair in the list: none if it is answered 1
 abbrev pub pair_bytes_of : PairAsking → ℕ → ℕ → Pair → List ℕ
@@ -48,14 +48,13 @@ pub record PairFits (how : Asking) (bytes : List ℕ) (n lower higher : ℕ) (p 
 abbrev pub list_with : PairAsking → List Present → ℕ → List ℕ → List ℕ
 list_with a l lower work = listed_with_by a lower (rule_at l lower) (suc lower) (drop (suc lower) l) (room_of work)
 
--- what is known where they are asked: side, fields and bodies are those of the rule with the lower number, and the list fits behind the first n bytes
-pub record ReadyToList (a : PairAsking) (catalogue : List ℕ) (kept : Kept) (lower : ℕ) (side : List ℕ) (fields : List PlaceTables) (bodies : List Body)
-    (work bytes : List ℕ) (n : ℕ) : Type 0 where
+-- what is known where they are asked: the rule with the lower number was read, and the list fits behind the first n bytes
+pub record ReadyToList (a : PairAsking) (catalogue : List ℕ) (kept : Kept) (lower : ℕ) (rule : Rule) (work bytes : List ℕ) (n : ℕ) : Type 0 where
   pub standing : OfForm catalogue kept
   pub there : lower < length standing.rules_present
-  pub side_is : side ≡ padded (side_code (rule_at standing.rules_present lower).side)
-  pub fields_are : fields ≡ map worked_out (rule_at standing.rules_present lower).fields.held
-  pub bodies_are : bodies ≡ rule_bodies (drop (get_or kept.begins lower 0) catalogue)
+  pub side_is : rule.side ≡ padded (side_code (rule_at standing.rules_present lower).side)
+  pub fields_are : rule.fields ≡ map worked_out (rule_at standing.rules_present lower).fields.held
+  pub bodies_are : rule.bodies ≡ rule_bodies (drop (get_or kept.begins lower 0) catalogue)
   pub room : n + length (list_with a standing.rules_present lower work) ≤ length bytes
 
 -- what asking them gives

@@ -22,11 +22,16 @@ pub const DECIDED_BYTES: usize = 7;
 // The 496 pairs of 32 rules.
 const LONGEST_LIST: usize = 496 * DECIDED_BYTES;
 
-// What checking again gives. specs/PairList.antt gives each its number.
+// So many pairs stand in front of the list, in so many bytes.
 #[derive(Clone, Copy)]
-pub enum Rechecked {
-    // 0: so many pairs stand in front of the list, in so many bytes
-    Listed { pairs: usize, written: usize },
+pub struct Listed {
+    pub pairs: usize,
+    pub written: usize,
+}
+
+// Why no pair is listed. specs/PairList.antt gives each its number.
+#[derive(Clone, Copy)]
+pub enum RecheckError {
     // 35: the list is too short for all of them
     TooShort,
     // 34: the buffer is no catalogue
@@ -34,36 +39,44 @@ pub enum Rechecked {
 }
 
 // Lists the pairs that are not answered 1, by lower, then higher number, each in five bytes.
-pub fn recheck(catalogue: &[u8], work: &mut [u8], list: &mut [u8]) -> Rechecked
+pub fn recheck(catalogue: &[u8], work: &mut [u8], list: &mut [u8]) -> Result<Listed, RecheckError>
     ensures { told_rechecked result list.new work.new ≡ rechecking catalogue.now work.old list.old }
 {
     recheck_by(Asking::Search, catalogue, work, list)
 }
 
 // As `recheck`, but each pair is asked as `decide` asks, and has seven bytes.
-pub fn recheck_decided(catalogue: &[u8], work: &mut [u8], list: &mut [u8]) -> Rechecked
+pub fn recheck_decided(
+    catalogue: &[u8],
+    work: &mut [u8],
+    list: &mut [u8],
+) -> Result<Listed, RecheckError>
     ensures { told_rechecked result list.new work.new ≡ rechecking_decided catalogue.now work.old list.old }
 {
     recheck_by(Asking::Decide, catalogue, work, list)
 }
 
-fn recheck_by(how: Asking, catalogue: &[u8], work: &mut [u8], list: &mut [u8]) -> Rechecked
+fn recheck_by(
+    how: Asking,
+    catalogue: &[u8],
+    work: &mut [u8],
+    list: &mut [u8],
+) -> Result<Listed, RecheckError>
     ensures { told_rechecked result list.new work.new ≡ rechecking_by (asking_coded how) catalogue.now work.old list.old }
 {
-    let kept = catalogue_form::find(catalogue);
-    if !kept.good {
-        return Rechecked::NoCatalogue;
-    }
+    let Some(kept) = catalogue_form::find(catalogue) else {
+        return Err(RecheckError::NoCatalogue);
+    };
     let mut bytes = no_bytes();
-    let n = list_all(how, catalogue, kept, work, &mut bytes);
+    let n = list_all(how, catalogue, &kept, work, &mut bytes);
     if list.len() < n {
-        return Rechecked::TooShort;
+        return Err(RecheckError::TooShort);
     }
     catalogue_bytes::put(list, 0, &bytes[0..n]);
-    Rechecked::Listed {
+    Ok(Listed {
         pairs: n / pair_bytes(how),
         written: n,
-    }
+    })
 }
 
 // The bytes of a listed pair.
@@ -83,18 +96,16 @@ fn no_bytes() -> [u8; LONGEST_LIST]
 }
 
 // Puts every pair of the rules that is not answered 1 in front of the bytes, and tells how many bytes that makes.
-fn list_all(how: Asking, catalogue: &[u8], kept: Kept, work: &mut [u8], bytes: &mut [u8]) -> usize
-    requires catalogue { OfForm catalogue.now kept }
+fn list_all(how: Asking, catalogue: &[u8], kept: &Kept, work: &mut [u8], bytes: &mut [u8]) -> usize
+    requires catalogue { OfForm catalogue.now kept.now }
     requires bytes { length bytes.old ≡ longest_list }
-    ensures { (x : OfForm catalogue.now kept) → AllListed (asking_coded how) x.rules_present work.old work.new bytes.old bytes.new result }
+    ensures { (x : OfForm catalogue.now kept.now) → AllListed (asking_coded how) x.rules_present work.old work.new bytes.old bytes.new result }
 {
-    let mut i = 0;
     let mut n = 0;
-    while i < kept.rules {
+    for i in 0..kept.rules {
         let at = kept.begins[i];
-        let rule = catalogue_form::rule_at(catalogue, at);
-        n = list_with(how, catalogue, kept, i, rule, work, bytes, n);
-        i += 1;
+        let rule = catalogue_form::rule_at(catalogue, at).unwrap();
+        n = list_with(how, catalogue, kept, i, &rule, work, bytes, n);
     }
     n
 }
@@ -103,42 +114,30 @@ fn list_all(how: Asking, catalogue: &[u8], kept: Kept, work: &mut [u8], bytes: &
 fn list_with(
     how: Asking,
     catalogue: &[u8],
-    kept: Kept,
+    kept: &Kept,
     lower: usize,
-    rule: Rule,
+    rule: &Rule,
     work: &mut [u8],
     bytes: &mut [u8],
     n: usize,
 ) -> usize
-    requires { ReadyToList (asking_coded how) catalogue.now kept lower rule.side rule.fields rule.bodies work.old bytes.old n }
-    ensures { (x : ReadyToList (asking_coded how) catalogue.now kept lower rule.side rule.fields rule.bodies work.old bytes.old n) → WithListed (asking_coded how) x.standing.rules_present lower work.old work.new bytes.old bytes.new n result }
+    requires { ReadyToList (asking_coded how) catalogue.now kept.now lower rule.now work.old bytes.old n }
+    ensures { (x : ReadyToList (asking_coded how) catalogue.now kept.now lower rule.now work.old bytes.old n) → WithListed (asking_coded how) x.standing.rules_present lower work.old work.new bytes.old bytes.new n result }
 {
-    let left = rule.side;
-    let first = rule.fields;
-    let standing = rule.bodies;
     let from = kept.begins[lower];
-    let mut j = lower + 1;
     let mut end = n;
-    while j < kept.rules {
+    for j in lower + 1..kept.rules {
         let at = kept.begins[j];
-        let other = catalogue_form::rule_at(catalogue, at);
-        let right = other.side;
-        let second = other.fields;
-        let own = other.bodies;
-        let bodies = catalogue_question::bodies(standing, own);
+        let other = catalogue_form::rule_at(catalogue, at).unwrap();
         let pair = catalogue_pair::ask(
             how,
-            left,
-            right,
-            first,
-            second,
-            bodies,
+            rule,
+            &other,
             &catalogue[from..],
             &catalogue[at..],
             work,
         );
         end = put_pair(how, bytes, end, lower, j, pair);
-        j += 1;
     }
     end
 }

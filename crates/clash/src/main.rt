@@ -3,21 +3,20 @@
 #![tactic(auto)]
 
 use print_clash::{INPUT, PRINTED};
-use print_out::{How, Streams, read_first, tell_end};
+use print_out::{Failure, Streams, print, read_first, tell_end};
 
 fn main(rt: HostRuntime) {
-    let mut input = [0u8; INPUT];
-    let got = read_first(&rt, &mut input);
-    let n = got.bytes;
-    if got.read {
-        print(&rt, &input[0..n]);
-    } else {
-        tell_end(&rt, b"clash", How::NotRead);
-    }
+    tell_end(&rt, b"clash", run(&rt));
 }
 
-fn print(rt: &impl Streams, input: &[u8]) {
+fn run(rt: &impl Streams) -> Result<(), Failure> {
+    let mut input = [0u8; INPUT];
+    let n = read_first(rt, &mut input)?;
+    answer(rt, &input[..n])
+}
+
+fn answer(rt: &impl Streams, input: &[u8]) -> Result<(), Failure> {
     let mut out = [0u8; PRINTED];
     let n = print_clash::printed(input, &mut out);
-    tell_end(rt, b"clash", print_out::print(rt, How::Going, &out[0..n]));
+    print(rt, &out[..n])
 }

@@ -1,6 +1,8 @@
 -- the loops
 pub mod AlikeTurns
 pub mod Marks
+pub mod FromFn
+pub mod InRange
 -- from the codes and masks back to the definitions
 pub mod First
 pub mod LeastRead

@@ -2,7 +2,7 @@
 -- take it: equal masks say that every leaf takes both or neither. The characters are those below n, of any edition (request K10); marks have room for
 -- the characters of Full ASCII.
 -- Everything here is a step between the code and the definitions of the crate `paper_decide`; proofs/AlikeTies.antt ties it to them.
-use Rattle.std.specs.Prelude.{ℕ, zero, suc, ◌+◌, Bool, true, false, cond, ◌&&◌, ◌||◌, not, List, [], ◌++◌, map, ltb, eqb, get_or, set, replicate}
+use Rattle.std.specs.Prelude.{ℕ, Option, Some, None, zero, suc, ◌+◌, Bool, true, false, cond, ◌&&◌, ◌||◌, not, List, [], ◌++◌, map, ltb, eqb, get_or, set, replicate}
 use Rattle.paper.specs.Lists.{upto, any, all, member}
 use Rattle.paper.specs.Numbers.{most_characters, set_fields}
 use Rattle.base_places.specs.Masks.{places, in_mask, within}
@@ -85,6 +85,10 @@ taken_coded among row p c = get_or among c false && in_mask (get_or row c 0) p
 -- the first of these that the place takes; behind the last character, where it takes none
 unfoldable pub first_taken : ℕ → List Bool → List ℕ → ℕ → ℕ
 first_taken n among row p = first_from (taken_coded among row p) 0 n
+
+-- a number below n; none where it is not below
+abbrev pub if_below : ℕ → ℕ → Option ℕ
+if_below n c = cond (ltb c n) (Some c) None
 
 -- the least ones that stand fixed in no side
 unfoldable pub free_coded : ℕ → List Bool → List Bool → List Bool

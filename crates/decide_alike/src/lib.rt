@@ -2,158 +2,89 @@
 // there are n (request K10: Code 39 has 43, Full ASCII has 128).
 #![tactic(auto)]
 
-ghost use Rattle.std.specs.Prelude.{cond, ◌&&◌, ◌||◌, not, ◌++◌, ◌≡◌, ◌≤◌, ◌<◌, eqb};
+ghost use Rattle.std.specs.Prelude.{◌&&◌, ◌++◌, ◌≡◌, ◌≤◌, ◌<◌};
 ghost use Rattle.paper.specs.Lists.{member};
 ghost use Rattle.paper.specs.Numbers.{most_characters};
 ghost use Rattle.base_places.specs.Masks.{in_mask};
 ghost use Rattle.base_codes.specs.Inner.{tokens};
-ghost use Rattle.decide_alike.specs.AlikeCoded.{fixed_coded, standing_coded, same_places, alike_coded, is_least_coded, least_from, ones_from};
+ghost use Rattle.decide_alike.specs.AlikeCoded.{fixed_coded, standing_coded, same_places, alike_coded, is_least_coded, least_from, ones_from, if_below};
 ghost use Rattle.decide_alike.specs.AlikeCoded.{first_taken, free_coded, choice_coded, chosen_at, chosen_within, chosen_coded, some_coded, few_from, characters_coded};
 
-use base_codes::{
-    CodedSide, FIELD_CODE, FIELDS, HIDDEN_LEFT, HIDDEN_RIGHT, LONGEST_SIDE, NO_TOKEN,
-};
+use base_codes::{CodedSide, FIELD_CODE, FIELDS, HIDDEN_LEFT, HIDDEN_RIGHT, tokens_of};
 use base_places::{CHARACTERS, PLACES, PlaceSet, when_holds, within};
 use base_question::Question;
+use std::array;
 
 // Does the token stand in the side?
 fn stands(side: CodedSide, token: u8) -> bool
     ensures { result ≡ member token (tokens side) }
 {
-    let mut i: usize = 0;
-    while i < LONGEST_SIDE {
-        let x = side[i];
-        if x == NO_TOKEN {
-            return false;
-        }
-        if token == x {
-            return true;
-        }
-        i += 1;
-    }
-    false
+    tokens_of(&side).contains(&token)
 }
 
 // Does it stand in either side?
 fn stands_in_either(left: CodedSide, right: CodedSide, token: u8) -> bool
     ensures { result ≡ member token (tokens left ++ tokens right) }
 {
-    if stands(left, token) {
-        return true;
-    }
-    stands(right, token)
+    stands(left, token) || stands(right, token)
 }
 
 // The characters that stand fixed in a side.
 fn fixed_ones(left: CodedSide, right: CodedSide, n: usize) -> [bool; CHARACTERS]
-    requires { n ≤ most_characters }
     ensures { result ≡ fixed_coded n (tokens left ++ tokens right) }
 {
-    let mut fixed = [false; CHARACTERS];
-    let mut c: usize = 0;
-    while c < n {
-        fixed[c] = stands_in_either(left, right, c as u8);
-        c += 1;
-    }
-    fixed
+    array::from_fn(|c| c < n && stands_in_either(left, right, c as u8))
 }
 
 // The fields that stand.
 fn standing_fields(left: CodedSide, right: CodedSide) -> [bool; FIELDS]
     ensures { result ≡ standing_coded (tokens left ++ tokens right) }
 {
-    let mut standing = [false; FIELDS];
-    let mut f: usize = 0;
-    while f < FIELDS {
-        standing[f] = stands_in_either(left, right, FIELD_CODE + f as u8);
-        f += 1;
-    }
-    standing
+    array::from_fn(|f| stands_in_either(left, right, FIELD_CODE + f as u8))
 }
 
-// Are the masks of two characters the same in a field, if it stands?
-fn same_masks(stands: bool, a: PlaceSet, b: PlaceSet) -> bool
-    ensures { result ≡ (not stands || eqb a b) }
-{
-    if stands { a == b } else { true }
-}
-
-// Does every leaf of every standing field take both or neither?
-fn same_places(
-    standing: [bool; FIELDS],
-    taking: &[[PlaceSet; CHARACTERS]; FIELDS],
-    a: usize,
-    b: usize,
-) -> bool
-    requires { (a < most_characters) × (b < most_characters) }
-    ensures { result ≡ same_places standing taking.now a b }
-{
-    let mut field: usize = 0;
-    while field < FIELDS {
-        if !same_masks(standing[field], taking[field][a], taking[field][b]) {
-            return false;
-        }
-        field += 1;
-    }
-    true
-}
-
-// "Two characters are alike on a sheet if neither is a fixed character of a side and every leaf of every standing field takes both or neither."
-fn alike(
+// What tells the characters that are alike.
+#[derive(Clone, Copy)]
+struct Signs<'a> {
+    // the characters that stand fixed in a side
     fixed: [bool; CHARACTERS],
+    // the fields that stand
     standing: [bool; FIELDS],
-    taking: &[[PlaceSet; CHARACTERS]; FIELDS],
-    a: usize,
-    b: usize,
-) -> bool
-    requires { (a < most_characters) × (b < most_characters) }
-    ensures { result ≡ alike_coded fixed standing taking.now a b }
-{
-    if fixed[a] {
-        return false;
-    }
-    if fixed[b] {
-        return false;
-    }
-    same_places(standing, taking, a, b)
+    // what the places of each field take
+    taking: &'a [[PlaceSet; CHARACTERS]; FIELDS],
 }
 
-// Is no smaller character alike?
-fn is_least(
-    fixed: [bool; CHARACTERS],
-    standing: [bool; FIELDS],
-    taking: &[[PlaceSet; CHARACTERS]; FIELDS],
-    c: usize,
-) -> bool
-    requires { c < most_characters }
-    ensures { result ≡ is_least_coded fixed standing taking.now c }
-{
-    let mut a: usize = 0;
-    while a < c {
-        if alike(fixed, standing, taking, a, c) {
-            return false;
-        }
-        a += 1;
+impl<'a> Signs<'a> {
+    // Does every leaf of every standing field take both or neither?
+    fn same_places(&self, a: usize, b: usize) -> bool
+        requires { (a < most_characters) × (b < most_characters) }
+        ensures { result ≡ same_places self.now.standing self.now.taking.now a b }
+    {
+        (0..FIELDS).all(|f| !self.standing[f] || self.taking[f][a] == self.taking[f][b])
     }
-    true
-}
 
-fn least_from(
-    fixed: [bool; CHARACTERS],
-    standing: [bool; FIELDS],
-    taking: &[[PlaceSet; CHARACTERS]; FIELDS],
-    n: usize,
-) -> [bool; CHARACTERS]
-    requires { n ≤ most_characters }
-    ensures { result ≡ least_from n fixed standing taking.now }
-{
-    let mut least = [false; CHARACTERS];
-    let mut c: usize = 0;
-    while c < n {
-        least[c] = is_least(fixed, standing, taking, c);
-        c += 1;
+    // "Two characters are alike on a sheet if neither is a fixed character of a side and every leaf of every standing field takes both or neither."
+    #[tactic(auto, unfolding(crate::specs::AlikeCoded::alike_coded))]
+    fn alike(&self, a: usize, b: usize) -> bool
+        requires { (a < most_characters) × (b < most_characters) }
+        ensures { result ≡ alike_coded self.now.fixed self.now.standing self.now.taking.now a b }
+    {
+        !self.fixed[a] && !self.fixed[b] && self.same_places(a, b)
     }
-    least
+
+    // Is no smaller character alike?
+    fn is_least(&self, c: usize) -> bool
+        requires { c < most_characters }
+        ensures { result ≡ is_least_coded self.now.fixed self.now.standing self.now.taking.now c }
+    {
+        !(0..c).any(|a| self.alike(a, c))
+    }
+
+    fn least(&self, n: usize) -> [bool; CHARACTERS]
+        ensures { result ≡ least_from n self.now.fixed self.now.standing self.now.taking.now }
+    {
+        array::from_fn(|c| c < n && self.is_least(c))
+    }
 }
 
 // The least ones of those alike, and what tells them.
@@ -173,12 +104,16 @@ fn least_ones(
     taking: &[[PlaceSet; CHARACTERS]; FIELDS],
     n: usize,
 ) -> LeastOnes
-    requires { n ≤ most_characters }
     ensures { result ≡ ones_from n (tokens left ++ tokens right) taking.now }
 {
     let fixed = fixed_ones(left, right, n);
     let standing = standing_fields(left, right);
-    let least = least_from(fixed, standing, taking, n);
+    let signs = Signs {
+        fixed,
+        standing,
+        taking,
+    };
+    let least = signs.least(n);
     LeastOnes {
         fixed,
         standing,
@@ -190,147 +125,88 @@ fn least_ones(
 fn is_taken(among: bool, mask: PlaceSet, p: usize) -> bool
     ensures { result ≡ (among && in_mask mask p) }
 {
-    if among {
-        when_holds(mask, p, 1) == 1
-    } else {
-        false
-    }
+    among && when_holds(mask, p, 1) == 1
 }
 
-// The first of these that the place p takes; behind the last character, where it takes none.
-fn first_taken(among: [bool; CHARACTERS], row: [PlaceSet; CHARACTERS], p: usize, n: usize) -> usize
+// The first of these that the place p takes.
+fn first_taken(
+    among: &[bool; CHARACTERS],
+    row: &[PlaceSet; CHARACTERS],
+    p: usize,
+    n: usize,
+) -> Option<usize>
     requires { n ≤ most_characters }
-    ensures { result ≡ first_taken n among row p }
+    ensures { result ≡ if_below n (first_taken n among.now row.now p) }
 {
-    let mut c: usize = 0;
-    while c < n {
-        if is_taken(among[c], row[c], p) {
-            return c;
-        }
-        c += 1;
-    }
-    c
-}
-
-fn is_free(least: bool, fixed: bool) -> bool
-    ensures { result ≡ (least && not fixed) }
-{
-    if least { !fixed } else { false }
+    (0..n).find(|&c| is_taken(among[c], row[c], p))
 }
 
 // The least ones that stand fixed in no side.
 fn free_ones(fixed: [bool; CHARACTERS], least: [bool; CHARACTERS], n: usize) -> [bool; CHARACTERS]
-    requires { n ≤ most_characters }
     ensures { result ≡ free_coded n fixed least }
 {
-    let mut free = [false; CHARACTERS];
-    let mut c: usize = 0;
-    while c < n {
-        free[c] = is_free(least[c], fixed[c]);
-        c += 1;
-    }
-    free
+    array::from_fn(|c| c < n && least[c] && !fixed[c])
 }
 
-// "the least of the least ones that it takes and that stands fixed in no side, or where there is none the least that it takes"
-fn choice(
-    free: [bool; CHARACTERS],
+// What is chosen from: of the first `many` characters the least ones, and those of these that stand fixed in no side.
+#[derive(Clone, Copy)]
+struct Choices {
+    many: usize,
     least: [bool; CHARACTERS],
-    row: [PlaceSet; CHARACTERS],
-    p: usize,
-    n: usize,
-) -> usize
-    requires { n ≤ most_characters }
-    ensures { result ≡ choice_coded n free least row p }
-{
-    let c = first_taken(free, row, p, n);
-    if c < n {
-        return c;
-    }
-    first_taken(least, row, p, n)
+    free: [bool; CHARACTERS],
+    ghost in_room: { many ≤ most_characters },
 }
 
-// "for each leaf .. that takes none chosen so far"
-fn chosen_at(
-    free: [bool; CHARACTERS],
-    least: [bool; CHARACTERS],
-    row: [PlaceSet; CHARACTERS],
-    p: usize,
-    n: usize,
-    mut chosen: [bool; CHARACTERS],
-) -> [bool; CHARACTERS]
-    requires { n ≤ most_characters }
-    ensures { result ≡ chosen_at n free least row p chosen }
-{
-    let has = first_taken(chosen, row, p, n);
-    if has < n {
-        return chosen;
+impl Choices {
+    // "the least of the least ones that it takes and that stands fixed in no side, or where there is none the least that it takes"
+    fn choice(&self, row: &[PlaceSet; CHARACTERS], p: usize) -> Option<usize>
+        ensures { result ≡ if_below self.now.many (choice_coded self.now.many self.now.free self.now.least row.now p) }
+    {
+        first_taken(&self.free, row, p, self.many).or_else(|| first_taken(
+            &self.least,
+            row,
+            p,
+            self.many,
+        ))
     }
-    let c = choice(free, least, row, p, n);
-    if c < n {
-        chosen[c] = true;
-    }
-    chosen
-}
 
-// With those chosen for the places of a field.
-fn chosen_within(
-    free: [bool; CHARACTERS],
-    least: [bool; CHARACTERS],
-    row: [PlaceSet; CHARACTERS],
-    n: usize,
-    earlier: [bool; CHARACTERS],
-) -> [bool; CHARACTERS]
-    requires { n ≤ most_characters }
-    ensures { result ≡ chosen_within n free least row earlier }
-{
-    let mut chosen = earlier;
-    let mut p: usize = 0;
-    while p < PLACES {
-        let with_more = chosen_at(free, least, row, p, n, chosen);
-        chosen = with_more;
-        p += 1;
+    // "for each leaf .. that takes none chosen so far"
+    fn choose_at(&self, row: &[PlaceSet; CHARACTERS], p: usize, chosen: &mut [bool; CHARACTERS])
+        ensures { chosen.new ≡ chosen_at self.now.many self.now.free self.now.least row.now p chosen.old }
+    {
+        if first_taken(chosen, row, p, self.many).is_some() {
+            return;
+        }
+        if let Some(c) = self.choice(row, p) {
+            chosen[c] = true;
+        }
     }
-    chosen
-}
 
-// "fields rising": of those that stand
-fn chosen_of(
-    free: [bool; CHARACTERS],
-    least: [bool; CHARACTERS],
-    stands: bool,
-    row: [PlaceSet; CHARACTERS],
-    n: usize,
-    chosen: [bool; CHARACTERS],
-) -> [bool; CHARACTERS]
-    requires { n ≤ most_characters }
-    ensures { result ≡ cond stands (chosen_within n free least row chosen) chosen }
-{
-    if stands {
-        return chosen_within(free, least, row, n, chosen);
+    // With those chosen for the places of a field.
+    fn choose_within(&self, row: &[PlaceSet; CHARACTERS], chosen: &mut [bool; CHARACTERS])
+        ensures { chosen.new ≡ chosen_within self.now.many self.now.free self.now.least row.now chosen.old }
+    {
+        for p in 0..PLACES {
+            self.choose_at(row, p, chosen);
+        }
     }
-    chosen
-}
 
-fn chosen_ones(
-    free: [bool; CHARACTERS],
-    least: [bool; CHARACTERS],
-    standing: [bool; FIELDS],
-    taking: &[[PlaceSet; CHARACTERS]; FIELDS],
-    n: usize,
-) -> [bool; CHARACTERS]
-    requires { n ≤ most_characters }
-    ensures { result ≡ chosen_coded n free least standing taking.now }
-{
-    let mut chosen = [false; CHARACTERS];
-    let mut f: usize = 0;
-    while f < FIELDS {
-        let row = taking[f];
-        let with_more = chosen_of(free, least, standing[f], row, n, chosen);
-        chosen = with_more;
-        f += 1;
+    // "fields rising": of those that stand
+    fn chosen_ones(
+        &self,
+        standing: [bool; FIELDS],
+        taking: &[[PlaceSet; CHARACTERS]; FIELDS],
+    ) -> [bool; CHARACTERS]
+        ensures { result ≡ chosen_coded self.now.many self.now.free self.now.least standing taking.now }
+    {
+        let mut chosen = [false; CHARACTERS];
+        for f in 0..FIELDS {
+            if standing[f] {
+                self.choose_within(&taking[f], &mut chosen);
+            }
+        }
+        chosen
     }
-    chosen
 }
 
 // "where nothing is chosen, the least of all"
@@ -338,14 +214,9 @@ fn some(mut chosen: [bool; CHARACTERS], n: usize) -> [bool; CHARACTERS]
     requires { n ≤ most_characters }
     ensures { result ≡ some_coded n chosen }
 {
-    let mut c: usize = 0;
-    while c < n {
-        if chosen[c] {
-            return chosen;
-        }
-        c += 1;
+    if !chosen[..n].contains(&true) {
+        chosen[0] = true;
     }
-    chosen[0] = true;
     chosen
 }
 
@@ -354,30 +225,30 @@ fn few(taking: &[[PlaceSet; CHARACTERS]; FIELDS], n: usize, ones: LeastOnes) -> 
     requires { n ≤ most_characters }
     ensures { result ≡ few_from n taking.now ones }
 {
-    let fixed = ones.fixed;
-    let standing = ones.standing;
     let least = ones.least;
-    let free = free_ones(fixed, least, n);
-    let chosen = chosen_ones(free, least, standing, taking, n);
-    some(chosen, n)
+    let choices = Choices {
+        many: n,
+        least,
+        free: free_ones(ones.fixed, least, n),
+    };
+    some(choices.chosen_ones(ones.standing, taking), n)
 }
 
 // The characters of a question, with its hidden fields, that are searched: the least ones, or a few of them.
+#[tactic(auto, unfolding(crate::specs::AlikeCoded::characters_coded, crate::specs::AlikeCoded::few_coded, crate::specs::AlikeCoded::least_coded))]
 pub fn characters(question: Question, fewer: bool) -> [bool; CHARACTERS]
     ensures { result ≡ characters_coded question fewer }
 {
     let alphabet = question.alphabet;
-    let own_left = question.left;
-    let own_right = question.right;
-    let own = question.fields;
     let n = within(alphabet.characters);
-    let left = search_hidden::side(own_left, HIDDEN_LEFT);
-    let right = search_hidden::side(own_right, HIDDEN_RIGHT);
+    let left = search_hidden::side(question.left, HIDDEN_LEFT);
+    let right = search_hidden::side(question.right, HIDDEN_RIGHT);
     let hidden = search_hidden::spaces(alphabet.space);
-    let taking = search_tables::taking_behind(own, hidden);
+    let taking = search_tables::taking_behind(question.fields, hidden);
     let ones = least_ones(left, right, &taking, n);
     if fewer {
-        return few(&taking, n, ones);
+        few(&taking, n, ones)
+    } else {
+        ones.least
     }
-    ones.least
 }

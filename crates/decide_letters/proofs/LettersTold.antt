@@ -27,7 +27,8 @@ use Rattle.base_codes.specs.Inner.{field_code, token_code, side_code, padded}
 use Rattle.base_question.specs.Bodies.{nowhere}
 use Rattle.base_question.specs.declared.Body.{Body}
 use Rattle.base_question.proofs.SidesBack.{side_back}
-use Rattle.decide_letters.specs.LettersCoded.{times_coded, weight_coded, body_weights, field_weights, total_over, totals_over, uneven_totals, uneven_coded, uneven_by_one, letters_coded}
+use Rattle.decide_letters.specs.SideCoded.{times_coded, weight_coded}
+use Rattle.decide_letters.specs.LettersCoded.{body_weights, field_weights, total_over, totals_over, uneven_totals, uneven_coded, uneven_by_one, letters_coded}
 use Rattle.decide_letters.proofs.PatternRead.{Says, body_read}
 
 -- A token, by its code.

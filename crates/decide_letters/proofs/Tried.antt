@@ -20,7 +20,9 @@ use Rattle.paper.proofs.base.Tests.{by_bool, true_false, right_false, left_true,
 use Rattle.paper_decide.specs.Letters.{Weights, this_one, all_but}
 use Rattle.base_codes.specs.Inner.{field_code, is_char, tokens}
 use Rattle.base_codes.proofs.Tokens.{tokens_length}
-use Rattle.decide_letters.specs.LettersCoded.{times_coded, times_listed, totals_over, uneven_by_one, Seen}
+use Rattle.decide_letters.specs.SideCoded.{times_coded, times_listed}
+use Rattle.decide_letters.specs.LettersCoded.{totals_over, uneven_by_one}
+use Rattle.decide_letters.specs.Uneven.{Seen}
 use Rattle.decide_letters.proofs.InSides.{times_le, listed_at}
 
 -- a token by which the sides are uneven, and one by which they are not

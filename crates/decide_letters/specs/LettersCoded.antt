@@ -1,31 +1,18 @@
 -- Letters by inner codes, for all sides, bodies and bytes. Of what a question asks, its sides coded and its patterns where the bodies say, they are
 -- `letters_differ` (`LettersTold` of the proofs).
-use Rattle.std.specs.Prelude.{ℕ, ◌+◌, ◌-◌, ◌*◌, ◌%◌, ◌^◌, ◌≤◌, ◌<◌, ◌≡◌, Bool, true, false, cond, not, ◌&&◌, ◌||◌, List, [], ◌∷◌, ◌++◌, map, ltb, eqb, length, get_or, take, drop}
+use Rattle.std.specs.Prelude.{ℕ, ◌+◌, ◌-◌, ◌*◌, ◌%◌, ◌^◌, ◌≤◌, ◌<◌, ◌≡◌, Bool, cond, not, ◌&&◌, ◌||◌, List, ◌++◌, ltb, eqb, get_or, take, drop}
 use Rattle.paper.specs.Lists.{upto, any}
 use Rattle.paper.specs.Numbers.{fields, rule_fields, pattern_bytes}
 use Rattle.paper.specs.Alphabet.{Edition, codes}
 use Rattle.paper.specs.Pattern.{some_text}
-use Rattle.paper_decide.specs.Letters.{one_if, divisor, between, Weights, held_weights, sum_of, divisor_of, this_one, all_but}
-use Rattle.base_codes.specs.Inner.{field_code, is_char, tokens}
-use Rattle.base_editions.specs.Editions.{paper_edition}
+use Rattle.paper_decide.specs.Letters.{divisor, between, Weights, held_weights, sum_of, divisor_of, this_one, all_but}
+use Rattle.base_codes.specs.Inner.{is_char, tokens}
 use Rattle.base_question.specs.Bodies.{nowhere}
 use Rattle.base_question.specs.declared.Body.{Body}
 use Rattle.decide_letters.specs.PatternStack.{weightless, stack_of}
 use Rattle.decide_letters.specs.declared.totals.Total.{Total}
 use Rattle.decide_letters.specs.declared.totals.Totals.{Totals}
-use Rattle.decide_letters.specs.declared.Asked.{Asked}
-
--- how often a field stands among the tokens, and how many of their characters count
-abbrev pub times_coded : ℕ → List ℕ → ℕ
-times_coded f [] = 0
-times_coded f (b ∷ side) = one_if (eqb (field_code + f) b) + times_coded f side
-
-abbrev pub weight_coded : (ℕ → Bool) → List ℕ → ℕ
-weight_coded counts [] = 0
-weight_coded counts (b ∷ side) = one_if (is_char b && counts b) + weight_coded counts side
-
-unfoldable pub times_listed : List ℕ → List ℕ
-times_listed side = map (λ (f : ℕ). times_coded f side) (upto fields)
+use Rattle.decide_letters.specs.SideCoded.{times_coded, weight_coded}
 
 -- r is the lesser of n and a limit
 pub record Least (n limit r : ℕ) : Type 0 where
@@ -113,17 +100,3 @@ unfoldable pub letters_coded : Edition → List ℕ → List ℕ → ℕ → Lis
 letters_coded e left right space bodies first second =
     let uneven = uneven_coded e (tokens left) (tokens right) bodies first second in
     uneven (all_but space) || any (uneven_by_one uneven space) (tokens left ++ tokens right)
-
--- the same of the struct of the code
-abbrev pub uneven_asked : Asked → List ℕ → List ℕ → (ℕ → Bool) → Bool
-uneven_asked a first second = uneven_coded (paper_edition a.edition) (tokens a.left) (tokens a.right) a.bodies first second
-
--- how often each field stands was counted
-pub record CountedIn (a : Asked) : Type 0 where
-  pub lefts : a.left_times ≡ times_listed (tokens a.left)
-  pub rights : a.right_times ≡ times_listed (tokens a.right)
-
--- The characters that were tried have a mark, and by none of them the sides are uneven.
-pub record Seen (uneven : (ℕ → Bool) → Bool) (marks : List Bool) : Type 0 where
-  pub long : length marks ≡ field_code
-  pub even : (c : ℕ) → get_or marks c false ≡ true → uneven (this_one c) ≡ false

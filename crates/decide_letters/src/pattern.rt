@@ -30,8 +30,7 @@ pub fn body_weights(
     body: Body,
     stack: &mut [Weights; PATTERN_BYTES],
 ) -> Weights
-    requires { length stack.old ≡ pattern_bytes }
-    ensures { (result ≡ packed (body_weights (counted counting) (paper_edition edition) s.now body)) × (length stack.new ≡ pattern_bytes) }
+    ensures { result ≡ packed (body_weights (counted counting) (paper_edition edition) s.now body) }
 {
     let wanted = body.length;
     if wanted == 0 {
@@ -56,15 +55,13 @@ fn pattern_weights(
     bytes: &[u8],
     stack: &mut [Weights; PATTERN_BYTES],
 ) -> Weights
-    requires { (length bytes.now ≤ pattern_bytes) × (length stack.old ≡ pattern_bytes) }
-    ensures { (result ≡ packed (get_or (stack_of (counted counting) (codes (paper_edition edition) bytes.now)) 0 weightless)) × (length stack.new ≡ pattern_bytes) }
+    requires { length bytes.now ≤ pattern_bytes }
+    ensures { result ≡ packed (get_or (stack_of (counted counting) (codes (paper_edition edition) bytes.now)) 0 weightless) }
 {
     let mut top = PATTERN_BYTES;
     let mut lo = 0;
     let mut hi = 0;
-    let mut i = bytes.len();
-    while 0 < i {
-        i -= 1;
+    for i in (0..bytes.len()).rev() {
         let c = base_editions::code(edition, bytes[i]);
         let w = made(counting, c, lo, hi, stack, top);
         top = put(stack, top, uses(c), w);
@@ -92,7 +89,6 @@ fn uses(c: u8) -> usize
 
 // What is on the stack at a place, from its top on; what is missing has no weight.
 fn at(stack: &[Weights; PATTERN_BYTES], i: usize) -> Weights
-    requires { length stack.now ≡ pattern_bytes }
     ensures { result ≡ get_or stack.now i 0 }
 {
     if i < PATTERN_BYTES { stack[i] } else { 0 }
@@ -107,7 +103,7 @@ fn made(
     stack: &[Weights; PATTERN_BYTES],
     top: usize,
 ) -> Weights
-    requires { (length stack.now ≡ pattern_bytes) × (top ≤ pattern_bytes) }
+    requires { top ≤ pattern_bytes }
     ensures { result ≡ packed (made (counted counting) c lo hi (unpacked (get_or stack.now top 0)) (unpacked (get_or stack.now (top + 1) 0))) }
 {
     if c < EMPTY_CODE {
@@ -133,7 +129,7 @@ fn made(
 
 // Takes so many off the stack, and puts this on it.
 fn put(stack: &mut [Weights; PATTERN_BYTES], top: usize, used: usize, w: Weights) -> usize
-    requires { (length stack.old ≡ pattern_bytes) × (top ≤ pattern_bytes) × (0 < top + used) × (used ≤ 2) }
+    requires { (top ≤ pattern_bytes) × (0 < top + used) × (used ≤ 2) }
     ensures { (stack.new ≡ set stack.old result w) × (Least (top + used) pattern_bytes (result + 1)) }
 {
     let next = at_most(top + used, PATTERN_BYTES) - 1;

@@ -4,23 +4,17 @@ ghost use Rattle.paper.specs.Numbers.{longest_side};
 ghost use Rattle.paper_decide.specs.Letters.{one_if};
 ghost use Rattle.base_codes.specs.Inner.{is_char, tokens};
 ghost use Rattle.decide_letters.specs.PatternStack.{counted};
-ghost use Rattle.decide_letters.specs.LettersCoded.{weight_coded, times_listed};
+ghost use Rattle.decide_letters.specs.SideCoded.{weight_coded, times_listed};
 
 use crate::weights::{Counting, counts, one_if};
-use base_codes::{CodedSide, FIELD_CODE, LONGEST_SIDE, NO_TOKEN, SHEET_FIELDS};
+use base_codes::{CodedSide, FIELD_CODE, SHEET_FIELDS, tokens_of};
 
 // How often each field stands.
 pub fn field_times(side: CodedSide) -> [u64; SHEET_FIELDS]
     ensures { result ≡ times_listed (tokens side) }
 {
     let mut times: [u64; SHEET_FIELDS] = [0; SHEET_FIELDS];
-    let mut i: usize = 0;
-    while i < LONGEST_SIDE {
-        let b = side[i];
-        if b == NO_TOKEN {
-            return times;
-        }
-        i += 1;
+    for &b in tokens_of(&side) {
         if FIELD_CODE <= b {
             let f = base_codes::field_of(b);
             if f < SHEET_FIELDS {
@@ -35,17 +29,7 @@ pub fn field_times(side: CodedSide) -> [u64; SHEET_FIELDS]
 pub fn fixed_weight(counting: Counting, side: CodedSide) -> u64
     ensures { (result ≤ longest_side) × (result ≡ weight_coded (counted counting) (tokens side)) }
 {
-    let mut n: u64 = 0;
-    let mut i: usize = 0;
-    while i < LONGEST_SIDE {
-        let b = side[i];
-        if b == NO_TOKEN {
-            return n;
-        }
-        n += weight(counting, b);
-        i += 1;
-    }
-    n
+    tokens_of(&side).iter().map(|&b| weight(counting, b)).sum()
 }
 
 // 1 for a character that counts, 0 for any other token.

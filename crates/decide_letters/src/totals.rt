@@ -7,6 +7,7 @@ ghost use Rattle.decide_letters.specs.LettersCoded.{side_with, with_field, HasRo
 use crate::weights::{Weights, between, divisor, endless, least, most, step, surplus};
 
 // The least and the most that a side weighs, and whether there is no most.
+// Kept: (a) the paper's `Weights` have a most beside `endless`, and `total_over`, `lighter` and their laws are of both.
 #[derive(Clone, Copy)]
 pub struct Total {
     pub least: u64,

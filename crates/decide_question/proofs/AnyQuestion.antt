@@ -19,8 +19,7 @@ use Rattle.base_answers.specs.AnswerNumbers.{number_in_pair}
 use Rattle.search_children.specs.Children.{Tables, children_coded}
 use Rattle.search_slots.specs.Slots.{Slot, slot_at}
 use Rattle.search_records.specs.Records.{answer_given}
-use Rattle.search_records.specs.declared.Given.{Given}
-use Rattle.search_records.specs.declared.Given.TheVariants as Given-as
+use Rattle.std.specs.Prelude.{Option, Some, None}
 use Rattle.search_run.specs.Run.{Running, is_going, enter_slot, offer_going, offer_slot, offer_slots, take_slot, slot_turns, slot_search}
 use Rattle.search_run.specs.Way.{text_at}
 use Rattle.search_run.specs.Ended.{room_for, clash_how, how_by, buffer_by, run_concluded, concluded_buffer, ended_with, buffer_with}
@@ -77,9 +76,9 @@ room_most : (bytes : ℕ) → room_for bytes ≤ most_room
 room_most bytes = omega arith
 
 -- A clash, which decides, is the only end with bytes.
-found_decides : (g : Given) (no_clash : Bool) → decides_number no_clash (number_in_pair (clash_how g)) ≡ true
-found_decides Given-as.TooShort no_clash = refl
-found_decides (Given-as.Bytes bytes) no_clash = refl
+found_decides : (g : Option ℕ) (no_clash : Bool) → decides_number no_clash (number_in_pair (clash_how g)) ≡ true
+found_decides None no_clash = refl
+found_decides (Some bytes) no_clash = refl
 
 status_unchanged : (x : Status) (ss : List Slot) (sets buffer : List ℕ) (no_clash : Bool)
     → decides_number no_clash (number_in_pair (how_by x ss sets buffer)) ≡ false → buffer_by x ss sets buffer ≡ buffer

@@ -1,29 +1,27 @@
 -- Settling attempt by attempt, of any question:
---   says_same                    : two tests that say the same are equal
---   made_by                      : an attempt that is what its number says
---   Going, going_first, going_on : what holds where the attempt k is to be made
---   going_told, none_left        : it decides, or none is left
---   first_told, first_undecided  : the first search decides, or the others do
+--   says_same                      : two tests that say the same are equal
+--   made_by, made_test_by          : an attempt that is what its number says
+--   Going, going_first, still_zero : what holds where the attempt k is to be made
+--   first_told, first_undecided    : the first search decides, or the others do
 -- Follows from the definitions and from what each attempt leaves alone (`Harmless`).
-use Prim.Native.Nat.{ℕ, suc, ◌+◌, ◌-◌, ◌*◌, ◌≤◌, ◌<◌}
-use native.Mathlib.Numerals.{add-one}
+use Prim.Native.Nat.{ℕ, ◌-◌, ◌*◌, ◌≤◌}
 use native.Mathlib.Omega.{arith}
-use mathlib.Core.Path.{◌≡◌, refl, sym, ap, ◌∙◌, subst}
+use mathlib.Core.Path.{◌≡◌, refl, ap, ◌∙◌}
 use mathlib.Core.Bool.{Bool, true, false}
-use mathlib.Core.List.{List, [], ◌∷◌}
+use mathlib.Core.List.{List}
 use lib.ListN.{length, replicate, length-replicate}
+use Rattle.std.specs.Prelude.{Result, OnErr}
 use Rattle.paper.specs.Lists.{from}
 use Rattle.paper.specs.Numbers.{most_room}
-use Rattle.paper.proofs.base.Tests.{same_tests}
+use Rattle.paper.proofs.base.Tests.{same_tests, by_bool}
 use Rattle.base_answers.specs.declared.Ended.{Ended}
 use Rattle.base_question.specs.declared.Question as Code
 use Rattle.plain_question.specs.Reached.{Meets, Says}
 use Rattle.search_question.specs.Over.{ended_all, buffer_all}
-use Rattle.decide_question.specs.Attempt.{decides_coded, with_count, Attempted, Harmless, attempt_coded}
+use Rattle.decide_question.specs.Attempt.{decides_coded, with_count, tested_coded, as_result, entered_in, Attempted, GivesAs, Harmless, by_test, attempt_coded}
 use Rattle.decide_question.specs.Settling.{later, settled_from, settled_coded}
 use Rattle.decide_question.specs.declared.Settled.{Settled}
-use Rattle.decide_question.specs.declared.Tried.{Tried}
-use Rattle.decide_question.proofs.AnyQuestion.{own_at_most, own_unchanged}
+use Rattle.decide_question.proofs.AnyQuestion.{own_at_most, own_unchanged, test_harmless}
 
 pub says_same : {P : Type 0} {a b : Bool} → Says a P → Says b P → a ≡ b
 says_same {a = a} {b = b} x y = same_tests a b (λ e. y.told (x.holds e)) (λ e. x.told (y.holds e))
@@ -32,38 +30,48 @@ says_same {a = a} {b = b} x y = same_tests a b (λ e. y.told (x.holds e)) (λ e.
 abbrev from_here : ℕ → List ℕ
 from_here k = from k (8 - k)
 
-next_number : (k : ℕ) → k < 8 → from_here k ≡ k ∷ from_here (suc k)
-next_number k h = let e : 8 - k ≡ suc (8 - suc k) = omega arith in ap (from k) e
-
-none_from : (k : ℕ) → 8 ≤ k → from_here k ≡ []
-none_from k h = let e : 8 - k ≡ 0 = omega arith in ap (from k) e
-
--- By what each attempt gives.
-module _ (gives : ℕ → Attempted) (own : Ended) (answer : List ℕ) (k n : ℕ) (ks : List ℕ) (t : Tried) (after : List ℕ)
-    (x : record { tried = t; buffer = after } ≡ gives k) where
-  settled_here : t.decides ≡ true
-      → record { settled = record { ended = with_count (n + t.ended.count) t.ended; search = k }; buffer = after } ≡ settled_from gives own answer n (k ∷ ks)
-  settled_here d = let y : (gives k).tried.decides ≡ true = sym (ap (λ (a : Attempted). a.tried.decides) x) ∙ d in
-      rw y (ap (λ (a : Attempted). record { settled = record { ended = with_count (n + a.tried.ended.count) a.tried.ended; search = k }; buffer = a.buffer }) x)
-
-  settled_behind : t.decides ≡ false → settled_from gives own answer (n + t.ended.count) ks ≡ settled_from gives own answer n (k ∷ ks)
-  settled_behind d = let y : (gives k).tried.decides ≡ false = sym (ap (λ (a : Attempted). a.tried.decides) x) ∙ d in
-      rw y (ap (λ (a : Attempted). settled_from gives own answer (n + a.tried.ended.count) ks) x)
-
 -- what is promised of an attempt that is made
-abbrev pub AttemptMade : Code.Question → List ℕ → List ℕ → ℕ → List ℕ → List ℕ → Tried → List ℕ → List ℕ → Type 0
-AttemptMade s first second k work answer t after worked =
+abbrev pub AttemptMade : Code.Question → List ℕ → List ℕ → ℕ → List ℕ → List ℕ → Result Ended ℕ → List ℕ → List ℕ → Type 0
+AttemptMade s first second k work answer r after worked =
     record {
-      tried : (m : Bool) → Says m (Meets s) → record { tried = t; buffer = after } ≡ attempt_coded s (length work) answer m first second k;
-      harmless : Harmless answer (record { tried = t; buffer = after });
+      tried : (m : Bool) → Says m (Meets s) → GivesAs (attempt_coded s (length work) answer m first second k) r after;
+      entered : entered_in r ≤ most_room;
+      unchanged : OnErr r (after ≡ answer);
       work : worked ≡ work;
     }
 
-pub made_by : (s : Code.Question) (first second : List ℕ) (k : ℕ) (work answer : List ℕ) {x : Attempted} {t : Tried} {after worked : List ℕ}
-    → Harmless answer x → record { tried = t; buffer = after } ≡ x
+entered_as : (answer : List ℕ) (x : Attempted) → Harmless answer x → entered_in (as_result x.tried) ≤ most_room
+entered_as answer x h = by_bool x.tried.decides (λ (d : x.tried.decides ≡ true). rw d h.at_most) (λ (d : x.tried.decides ≡ false). rw d h.at_most)
+
+unchanged_as : (answer : List ℕ) (x : Attempted) → Harmless answer x → OnErr (as_result x.tried) (x.buffer ≡ answer)
+unchanged_as answer x h = by_bool x.tried.decides (λ (d : x.tried.decides ≡ true). rw d tt) (λ (d : x.tried.decides ≡ false). rw d (h.unchanged d))
+
+pub made_by : (s : Code.Question) (first second : List ℕ) (k : ℕ) (work answer : List ℕ) {x : Attempted} {r : Result Ended ℕ} {after worked : List ℕ}
+    → Harmless answer x → r ≡ as_result x.tried → after ≡ x.buffer
     → ((m : Bool) → x ≡ attempt_coded s (length work) answer m first second k) → worked ≡ work
-    → AttemptMade s first second k work answer t after worked
-made_by s first second k work answer h e n w = record { tried = λ m y. e ∙ n m; harmless = subst (Harmless answer) (sym e) h; work = w }
+    → AttemptMade s first second k work answer r after worked
+made_by s first second k work answer {x = x} h e b n w =
+    record {
+      tried = λ m y. record { result = e ∙ ap (λ (z : Attempted). as_result z.tried) (n m); answer = b ∙ ap (λ (z : Attempted). z.buffer) (n m) };
+      entered = rw e (entered_as answer x h);
+      unchanged = rw (e, b) (unchanged_as answer x h);
+      work = w;
+    }
+
+-- a test, whose answer is that of any m that says whether a label is read
+pub made_test_by : (s : Code.Question) (first second : List ℕ) (k : ℕ) (work answer : List ℕ) (b : Bool) {r : Result Ended ℕ}
+    → r ≡ as_result (tested_coded b)
+    → ((m : Bool) → Says m (Meets s) → by_test s (length work) answer b ≡ attempt_coded s (length work) answer m first second k)
+    → AttemptMade s first second k work answer r answer work
+made_test_by s first second k work answer b e n =
+    let x = by_test s (length work) answer b in
+    let h = test_harmless s (length work) answer b in
+    record {
+      tried = λ m y. record { result = e ∙ ap (λ (z : Attempted). as_result z.tried) (n m y); answer = ap (λ (z : Attempted). z.buffer) (n m y) };
+      entered = rw e (entered_as answer x h);
+      unchanged = rw e (unchanged_as answer x h);
+      work = refl;
+    }
 
 -- what is promised of settling by the attempts behind the first, after so many situations
 abbrev pub Promised : Code.Question → List ℕ → List ℕ → Ended → ℕ → List ℕ → List ℕ → Settled → List ℕ → List ℕ → Type 0
@@ -104,56 +112,6 @@ module _ {s : Code.Question} {first second : List ℕ} {own : Ended} {entered : 
     (g : Going s first second own entered lent lent_answer k n work answer) where
   pub still_zero : work ≡ replicate (length work) 0
   still_zero = rw g.same_work g.clear
-
-  -- one more is made
-  module _ (next : k < 8) (t : Tried) (after worked : List ℕ) (x : AttemptMade s first second k work answer t after worked) where
-    its_attempt : (m : Bool) → Says m (Meets s)
-        → record { tried = t; buffer = after } ≡ attempt_coded s (length lent) lent_answer m first second k
-    its_attempt m y = rw (g.same_work, g.same_answer) at (x.tried m y)
-
-    pub going_bound : n + t.ended.count ≤ 8 * most_room
-    going_bound = omega (arith, g.bound, next, x.harmless.at_most)
-
-    pub going_on : t.decides ≡ false → Going s first second own entered lent lent_answer (k + 1) (n + t.ended.count) worked after
-    going_on d =
-        record {
-          clear = g.clear;
-          same_work = x.work ∙ g.same_work;
-          same_answer = x.harmless.unchanged d ∙ g.same_answer;
-          low = omega (arith, g.low);
-          high = omega arith;
-          bound = omega (arith, g.bound, x.harmless.at_most);
-          settled =
-              λ m y.
-              rw (add-one k)
-              (settled_behind (attempt_coded s (length lent) lent_answer m first second) own lent_answer k n (from_here (suc k)) t after (its_attempt m y) d
-              ∙ ap (settled_from (attempt_coded s (length lent) lent_answer m first second) own lent_answer n) (sym (next_number k next)) ∙ g.settled m y);
-        }
-
-    pub going_told : t.decides ≡ true → (r : Settled) → r ≡ record { ended = with_count (n + t.ended.count) t.ended; search = k }
-        → Promised s first second own entered lent lent_answer r after worked
-    going_told d r z =
-        record {
-          settled =
-              λ m y.
-              ap (λ (u : Settled). record { settled = u; buffer = after }) z
-              ∙ settled_here (attempt_coded s (length lent) lent_answer m first second) own lent_answer k n (from_here (suc k)) t after (its_attempt m y) d
-              ∙ ap (settled_from (attempt_coded s (length lent) lent_answer m first second) own lent_answer n) (sym (next_number k next)) ∙ g.settled m y;
-          work = x.work ∙ g.same_work;
-        }
-
-  -- none is left
-  pub none_left : 8 ≤ k → (r : Settled) → r ≡ record { ended = with_count n own; search = 0 }
-      → Promised s first second own entered lent lent_answer r answer work
-  none_left over r z =
-      record {
-        settled =
-            λ m y.
-            ap (λ (u : Settled). record { settled = u; buffer = answer }) z
-            ∙ ap (λ (a : List ℕ). record { settled = record { ended = with_count n own; search = 0 }; buffer = a }) g.same_answer
-            ∙ ap (settled_from (attempt_coded s (length lent) lent_answer m first second) own lent_answer n) (sym (none_from k over)) ∙ g.settled m y;
-        work = g.same_work;
-      }
 
 -- The first search.
 module _ (s : Code.Question) (first second work answer after worked : List ℕ) (e : Ended)

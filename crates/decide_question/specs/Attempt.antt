@@ -1,5 +1,5 @@
 -- The attempts behind the first, by inner codes: of any question, bytes of patterns, number and buffers. What each gives, and the answer buffer then.
-use Rattle.std.specs.Prelude.{ℕ, ◌*◌, ◌≤◌, ◌≡◌, Bool, true, false, cond, not, ◌&&◌, List, eqb, leb}
+use Rattle.std.specs.Prelude.{ℕ, ◌*◌, ◌≤◌, ◌≡◌, Bool, true, false, cond, not, ◌&&◌, List, eqb, leb, Result, Ok, Err}
 use Rattle.paper.specs.Alphabet.{Edition, edition_1, edition_2}
 use Rattle.paper.specs.Numbers.{characters, situation_bytes, most_room}
 use Rattle.paper_decide.specs.Deciding.{longer}
@@ -13,7 +13,6 @@ use Rattle.decide_texts.specs.TextsCoded.{texts_coded}
 use Rattle.base_answers.specs.AnswerNumbers.{number_in_pair}
 use Rattle.base_answers.specs.declared.Ended.{Ended}
 use Rattle.base_answers.specs.declared.How.TheVariants.{NoClash}
-use Rattle.decide_question.specs.declared.Tried.{Tried}
 
 -- does the end with this number in a pair decide? A clash does, and no clash does or does not.
 abbrev pub decides_number : Bool → ℕ → Bool
@@ -26,6 +25,19 @@ decides_coded no_clash e = decides_number no_clash (number_in_pair e.how)
 abbrev pub with_count : ℕ → Ended → Ended
 with_count m e = record { how = e.how; count = m }
 
+-- what an attempt gives: whether it decides, and how it ended
+pub record Tried : Type 0 where
+  pub decides : Bool
+  pub ended : Ended
+
+-- of what it gives the code keeps how it ended, where that decides, and else how many situations it entered
+abbrev pub as_result : Tried → Result Ended ℕ
+as_result t = cond t.decides (Ok t.ended) (Err t.ended.count)
+
+abbrev pub entered_in : Result Ended ℕ → ℕ
+entered_in (Ok e) = e.count
+entered_in (Err n) = n
+
 -- a test, which says no clash or nothing and enters no situation; a search
 abbrev pub tested_coded : Bool → Tried
 tested_coded no_clash = record { decides = no_clash; ended = record { how = NoClash; count = 0 } }
@@ -37,6 +49,11 @@ searched_coded no_clash e = record { decides = decides_coded no_clash e; ended =
 pub record Attempted : Type 0 where
   pub tried : Tried
   pub buffer : List ℕ
+
+-- this result and this answer buffer are what it gives
+pub record GivesAs (x : Attempted) (r : Result Ended ℕ) (after : List ℕ) : Type 0 where
+  pub result : r ≡ as_result x.tried
+  pub answer : after ≡ x.buffer
 
 -- it enters no more situations than there can be room for, and where it does not decide the answer buffer is as it was
 pub record Harmless (answer : List ℕ) (x : Attempted) : Type 0 where

@@ -2,3 +2,5 @@
 pub mod Attempt
 -- the attempts one after the other
 pub mod Settling
+-- the attempts by their numbers
+pub mod Order

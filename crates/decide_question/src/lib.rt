@@ -1,31 +1,39 @@
 // A question decided: attempts one after the other in the same working buffer. A sheet asks one, and so does a pair of rules.
 #![tactic(auto)]
 
-ghost use Rattle.std.specs.Prelude.{Bool, not, ◌≡◌, ◌≤◌, length, replicate};
+ghost use Rattle.std.specs.Prelude.{Bool, ◌≡◌, ◌≤◌, length, replicate, OnErr};
 ghost use Rattle.paper.specs.Numbers.{most_room};
 ghost use Rattle.base_editions.specs.Editions.{paper_edition};
 ghost use Rattle.plain_question.specs.Reached.{Meets, Says};
 ghost use Rattle.search_question.specs.Over.{ended_all, buffer_all};
 ghost use Rattle.decide_texts.specs.TextsCoded.{texts_coded};
-ghost use Rattle.decide_question.specs.Attempt.{decides_coded, with_count, tested_coded, searched_coded, edition_by, letters_asked, apart_asked, attempt_coded, Harmless};
+ghost use Rattle.decide_question.specs.Attempt.{decides_coded, with_count, tested_coded, searched_coded, as_result, entered_in, edition_by, letters_asked, apart_asked, attempt_coded, GivesAs};
 ghost use Rattle.decide_question.specs.Settling.{later, settled_from, settled_coded};
 
 use base_answers::{Ended, How};
 use base_editions::{Alphabet, Edition};
 use base_question::Question;
 
-// The attempts, by their numbers: 1 is 01's search, 7 the last.
-const LETTERS: u8 = 2;
+// The attempts behind 01's search.
+#[derive(Clone, Copy)]
+enum Attempt {
+    Letters,
+    Apart,
+    Shortest,
+    Longer,
+    Alike,
+    Few,
+}
 
-const APART: u8 = 3;
-
-const SHORTEST: u8 = 4;
-
-const LONGER: u8 = 5;
-
-const ALIKE: u8 = 6;
-
-const LAST: u8 = 7;
+// They are made in this order.
+const LATER: [Attempt; 6] = [
+    Attempt::Letters,
+    Attempt::Apart,
+    Attempt::Shortest,
+    Attempt::Longer,
+    Attempt::Alike,
+    Attempt::Few,
+];
 
 // The texts of the longer ones have so many characters or more, where they can.
 const LONGER_TEXT: usize = 3;
@@ -36,20 +44,17 @@ const CODE_39: usize = 43;
 // The bits of a situation's bytes.
 const SITUATION_BITS: usize = 8 * 184;
 
-// How the attempt that decided ended, with the situations of all the attempts made, and which it was: 1 to 7. Where none decided it is 0, and the end
-// is the first search's.
+// How the attempt that decided ended, with the situations of all the attempts made, and which it was: 1 is 01's search, 2 to 7 are those behind it.
+// Where none decided it is 0, and the end is the first search's.
+// Kept: (a) `search` is the number that `Decision` and the C interface tell, 0 where none decided.
 #[derive(Clone, Copy)]
 pub struct Settled {
     pub ended: Ended,
     pub search: u8,
 }
 
-// What an attempt gives: whether it decides, and how it ended.
-#[derive(Clone, Copy)]
-struct Tried {
-    decides: bool,
-    ended: Ended,
-}
+// What an attempt gives: how it ended, where that decides; else how many situations it entered.
+type Tried = Result<Ended, usize>;
 
 // Has the question a solution? "1. 01's search. Where it gives 0 or 1, that is the answer". The patterns of the fields 0 to 3 stand in `first`, those
 // of the fields 4 to 7 in `second`, where the question's bodies say.
@@ -64,8 +69,7 @@ pub fn decide(
     ensures work { work.new ≡ replicate (length work.old) 0 }
 {
     let mut none = [0; 1];
-    let search = search_question::search_told(question, work, answer, &mut none[0..0], false);
-    let ended = search.plain;
+    let ended: Ended = search_question::search_told(question, work, answer, &mut none[0..0]);
     let count = ended.count;
     if decides(ended, true) {
         return told(ended, count, 1);
@@ -89,61 +93,67 @@ fn further(
     ensures work { work.new ≡ work.old }
 {
     let mut count = entered;
-    let mut k: u8 = LETTERS;
-    while k <= LAST {
-        let t = attempt(k, question, first, second, work, answer);
-        let ended = t.ended;
-        let its = ended.count;
-        count += its;
-        if t.decides {
-            return told(ended, count, k);
+    for &attempt in &LATER {
+        match attempt.made(question, first, second, work, answer) {
+            Ok(ended) => return told(ended, count + ended.count, attempt.number()),
+            Err(its) => count += its,
         }
-        k += 1;
     }
     told(own, count, 0)
 }
 
-// The attempt k. A test leaves both buffers as they are; a search writes texts only where it finds a clash, and that decides.
-fn attempt(
-    k: u8,
-    question: Question,
-    first: &[u8],
-    second: &[u8],
-    work: &mut [u8],
-    answer: &mut [u8],
-) -> Tried
-    requires { work.old ≡ replicate (length work.old) 0 }
-    ensures tried { (m : Bool) → Says m (Meets question) → record { tried = result; buffer = answer.new } ≡ attempt_coded question (length work.old) answer.old m first.now second.now k }
-    ensures harmless { Harmless answer.old (record { tried = result; buffer = answer.new }) }
-    ensures work { work.new ≡ work.old }
-{
-    // "Letters": where they differ there is no clash.
-    if k == LETTERS {
-        return tested(letters(question, first, second));
+impl Attempt {
+    ghost use Rattle.decide_question.specs.Order.{number_of};
+
+    // Its number, as 01's search has 1.
+    fn number(self) -> u8
+        ensures { result ≡ number_of self }
+    {
+        match self {
+            Attempt::Letters => 2,
+            Attempt::Apart => 3,
+            Attempt::Shortest => 4,
+            Attempt::Longer => 5,
+            Attempt::Alike => 6,
+            Attempt::Few => 7,
+        }
     }
-    // "Each standing apart": its no clash is a no clash.
-    if k == APART {
-        return tested(apart(question, work.len()));
+
+    // It is made. A test leaves both buffers as they are; a search writes texts only where it finds a clash, and that decides.
+    fn made(
+        self,
+        question: Question,
+        first: &[u8],
+        second: &[u8],
+        work: &mut [u8],
+        answer: &mut [u8],
+    ) -> Tried
+        requires { work.old ≡ replicate (length work.old) 0 }
+        ensures tried { (m : Bool) → Says m (Meets question) → GivesAs (attempt_coded question (length work.old) answer.old m first.now second.now (number_of self)) result answer.new }
+        ensures entered { entered_in result ≤ most_room }
+        ensures unchanged { OnErr result (answer.new ≡ answer.old) }
+        ensures work { work.new ≡ work.old }
+    {
+        match self {
+            // "Letters": where they differ there is no clash.
+            Attempt::Letters => tested(letters(question, first, second)),
+            // "Each standing apart": its no clash is a no clash.
+            Attempt::Apart => tested(apart(question, work.len())),
+            // "A text for each field that stands twice: the shortest, then the next ones". Its clash is a clash of the question.
+            Attempt::Shortest => searched(text(question, 0, work, answer), false),
+            Attempt::Longer => searched(text(question, LONGER_TEXT, work, answer), false),
+            // "Characters alike. .. Its 0 carries texts that solve the question; its 1 is a no clash."
+            Attempt::Alike => {
+                let least = decide_alike::characters(question, false);
+                searched(search_question::search(question, least, work, answer), true)
+            }
+            // "Few characters. .. Its 0 carries texts that solve the question; its 1 says nothing."
+            Attempt::Few => {
+                let few = decide_alike::characters(question, true);
+                searched(search_question::search(question, few, work, answer), false)
+            }
+        }
     }
-    // "A text for each field that stands twice: the shortest, then the next ones". Its clash is a clash of the question.
-    if k == SHORTEST {
-        let ended = text(question, 0, work, answer);
-        return searched(ended, false);
-    }
-    if k == LONGER {
-        let ended = text(question, LONGER_TEXT, work, answer);
-        return searched(ended, false);
-    }
-    // "Characters alike. .. Its 0 carries texts that solve the question; its 1 is a no clash."
-    if k == ALIKE {
-        let least = decide_alike::characters(question, false);
-        let ended = search_question::search(question, least, work, answer);
-        return searched(ended, true);
-    }
-    // "Few characters. .. Its 0 carries texts that solve the question; its 1 says nothing."
-    let few = decide_alike::characters(question, true);
-    let ended = search_question::search(question, few, work, answer);
-    searched(ended, false)
 }
 
 // Do the letters of both sides differ, whatever the fields hold?
@@ -151,22 +161,27 @@ fn letters(question: Question, first: &[u8], second: &[u8]) -> bool
     ensures { result ≡ letters_asked question first.now second.now }
 {
     let alphabet = question.alphabet;
-    let left = question.left;
-    let right = question.right;
-    let bodies = question.bodies;
     let edition = edition_of(alphabet);
-    decide_letters::letters_differ(left, right, alphabet.space, edition, bodies, first, second)
+    decide_letters::letters_differ(
+        question.left,
+        question.right,
+        alphabet.space,
+        edition,
+        question.bodies,
+        first,
+        second,
+    )
 }
 
 // The edition whose alphabet it is.
 fn edition_of(alphabet: Alphabet) -> Edition
     ensures { paper_edition result ≡ edition_by alphabet.characters }
 {
-    let characters = alphabet.characters;
-    if characters == CODE_39 {
-        return Edition::First;
+    if alphabet.characters == CODE_39 {
+        Edition::First
+    } else {
+        Edition::Second
     }
-    Edition::Second
 }
 
 // Is no label read by both sides, each standing apart? Told only where the bits fit: "those of 8 × 184 × room".
@@ -193,24 +208,26 @@ fn text(question: Question, n: usize, work: &mut [u8], answer: &mut [u8]) -> End
 
 // What a test gives: no clash, or nothing.
 fn tested(no_clash: bool) -> Tried
-    ensures { result ≡ tested_coded no_clash }
+    ensures { result ≡ as_result (tested_coded no_clash) }
 {
-    let how = How::NoClash;
-    let ended = Ended { how, count: 0 };
-    Tried {
-        decides: no_clash,
-        ended,
+    if no_clash {
+        Ok(Ended {
+            how: How::NoClash,
+            count: 0,
+        })
+    } else {
+        Err(0)
     }
 }
 
 // What a search gives, whose no clash does or does not decide.
 fn searched(ended: Ended, no_clash: bool) -> Tried
-    ensures { result ≡ searched_coded no_clash ended }
+    ensures { result ≡ as_result (searched_coded no_clash ended) }
 {
-    let its = decides(ended, no_clash);
-    Tried {
-        decides: its,
-        ended,
+    if decides(ended, no_clash) {
+        Ok(ended)
+    } else {
+        Err(ended.count)
     }
 }
 
@@ -218,15 +235,11 @@ fn searched(ended: Ended, no_clash: bool) -> Tried
 fn decides(ended: Ended, no_clash: bool) -> bool
     ensures { result ≡ decides_coded no_clash ended }
 {
-    let how = ended.how;
-    let number = base_answers::pair_number(how);
-    if number == 0 {
-        return true;
+    match ended.how {
+        How::Clash { written: _ } | How::AnswerTooShort => true,
+        How::NoClash => no_clash,
+        How::NoRoom | How::SideTooLong => false,
     }
-    if number == 1 {
-        return no_clash;
-    }
-    false
 }
 
 // The end of an attempt, with the situations of all the attempts made.
@@ -234,9 +247,8 @@ fn told(ended: Ended, count: usize, search: u8) -> Settled
     ensures { result ≡ record { ended = with_count count ended; search = search } }
 {
     let how = ended.how;
-    let counted = Ended { how, count };
     Settled {
-        ended: counted,
+        ended: Ended { how, count },
         search,
     }
 }

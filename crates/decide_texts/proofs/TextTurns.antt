@@ -18,7 +18,8 @@ use Rattle.paper_decide.specs.OneText.{one_from, lengths_tried}
 use Rattle.base_places.specs.Masks.{places, mask_of, in_mask, followers_of}
 use Rattle.base_places.specs.declared.PlaceTables.{PlaceTables}
 use Rattle.base_places.proofs.MaskOf.{mask_of_same, mask_of_or, mask_of_cond, mask_of_none, mask_of_digits}
-use Rattle.decide_texts.specs.TextsCoded.{meets, start, taken_by, leading_to, ending, EndingsOf, first_to, text_from, spelt_tables, text_tables}
+use Rattle.decide_texts.specs.declared.Ends.{Ends}
+use Rattle.decide_texts.specs.TextsCoded.{meets, start, taken_by, leading_to, ending, length_coded, EndingsOf, first_to, text_from, spelt_tables, text_tables}
 
 -- below one more, of a number that is not that one
 pub ltb_other : (j n : ℕ) → (j ≡ n → ⊥) → ltb j (n + 1) ≡ ltb j n
@@ -145,20 +146,23 @@ module _ (n : ℕ) (follow taking : List ℕ) where
       rw (h k (omega arith)) (cons_eq refl (text_same e f k (bit_and next (get_or taking c 0)) (λ j l. h j (omega arith))))
 
 -- what is worked out of a field, whose text has k characters, or which has none
-module _ (n asked : ℕ) (t : PlaceTables) (taken k : ℕ) (all : List ℕ) (u : taken ≡ taken_by n t.taking)
-    (x : EndingsOf (ending t.follow taken t.last) asked k all) where
+module _ (n asked : ℕ) (t : PlaceTables) (taken : ℕ) (u : taken ≡ taken_by n t.taking) where
   abbrev ends : ℕ → ℕ
   ends = ending t.follow taken t.last
 
-  text_by : text_tables n asked t ≡ cond (ltb k lengths_tried) (spelt_tables (text_from n t.follow t.taking ends k start)) t
+  text_by : (k : ℕ) → k ≡ length_coded ends asked
+      → text_tables n asked t ≡ cond (ltb k lengths_tried) (spelt_tables (text_from n t.follow t.taking ends k start)) t
   unfolding text_tables
-  text_by = rw (x.its_length, u)
+  text_by k e = rw (e, u)
 
-  pub one_text : k < lengths_tried → spelt_tables (text_from n t.follow t.taking (λ (j : ℕ). get_or all j 0) k start) ≡ text_tables n asked t
-  one_text h =
-      ap spelt_tables (text_same n t.follow t.taking (λ (j : ℕ). get_or all j 0) ends k start x.shorter)
-      ∙ sym (text_by ∙ cond_true (ltb k lengths_tried) (spelt_tables (text_from n t.follow t.taking ends k start)) t (lt_ltb k lengths_tried h))
+  pub one_text : (its : Ends) → EndingsOf ends asked its.length its.ends → its.length < lengths_tried
+      → spelt_tables (text_from n t.follow t.taking (λ (j : ℕ). get_or its.ends j 0) its.length start) ≡ text_tables n asked t
+  one_text its x h =
+      let k = its.length in
+      ap spelt_tables (text_same n t.follow t.taking (λ (j : ℕ). get_or its.ends j 0) ends k start x.shorter)
+      ∙ sym (text_by k x.its_length ∙ cond_true (ltb k lengths_tried) (spelt_tables (text_from n t.follow t.taking ends k start)) t (lt_ltb k lengths_tried h))
 
-  pub no_one_text : lengths_tried ≤ k → t ≡ text_tables n asked t
+  pub no_one_text : lengths_tried ≤ length_coded ends asked → t ≡ text_tables n asked t
   no_one_text h =
-      sym (text_by ∙ cond_false (ltb k lengths_tried) (spelt_tables (text_from n t.follow t.taking ends k start)) t (le_ltb k lengths_tried h))
+      let k = length_coded ends asked in
+      sym (text_by k refl ∙ cond_false (ltb k lengths_tried) (spelt_tables (text_from n t.follow t.taking ends k start)) t (le_ltb k lengths_tried h))

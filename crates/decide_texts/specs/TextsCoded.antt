@@ -1,7 +1,7 @@
 -- One text for each field that stands twice, by tables and masks: of any tables of the fields and any two sides by inner codes. Of an alphabet of n
 -- characters those below n are tried.
 -- Everything here is a step between the code and the definitions of `paper_decide`, specs/OneText.antt; proofs/TextsTies.antt ties it to them.
-use Rattle.std.specs.Prelude.{ℕ, zero, suc, ◌<◌, ◌≡◌, Bool, cond, not, List, [], ◌∷◌, map, ltb, eqb, get_or}
+use Rattle.std.specs.Prelude.{ℕ, zero, suc, ◌<◌, ◌≤◌, ◌≡◌, Option, Some, None, Bool, cond, not, List, [], ◌∷◌, map, ltb, eqb, get_or}
 use Rattle.std.specs.Int.Bits.{bit_and}
 use Rattle.paper.specs.Lists.{upto, any, keep}
 use Rattle.paper.specs.Numbers.{fields}
@@ -12,6 +12,7 @@ use Rattle.base_places.specs.WorkedOut.{worked_out}
 use Rattle.base_places.specs.declared.PlaceTables.{PlaceTables}
 use Rattle.base_question.specs.Standings.{standing_times}
 use Rattle.base_question.specs.declared.Question.{Question}
+use Rattle.decide_texts.specs.declared.Ends.{Ends}
 
 -- the two sets have a place in common
 abbrev pub meets : ℕ → ℕ → Bool
@@ -42,6 +43,11 @@ length_coded ends asked = one_from lengths_tried (keep (λ (k : ℕ). meets star
 pub record EndingsOf (ends : ℕ → ℕ) (asked length : ℕ) (all : List ℕ) : Type 0 where
   pub its_length : length ≡ length_coded ends asked
   pub shorter : (k : ℕ) → k < length → get_or all k 0 ≡ ends k
+
+-- what is told: that length, if it is tried, and those places
+abbrev pub EndingsSaid : (ℕ → ℕ) → ℕ → Option Ends → Type 0
+EndingsSaid ends asked (Some its) = EndingsOf ends asked its.length its.ends × (its.length < lengths_tried)
+EndingsSaid ends asked None = lengths_tried ≤ length_coded ends asked
 
 -- The first character that leads to a place of `ends`, where `next` are the places that may come next; 0, where none does.
 abbrev pub leads : List ℕ → ℕ → ℕ → ℕ → Bool

@@ -5,7 +5,7 @@ ghost use Rattle.std.specs.Prelude.{cond, [], ◌≡◌, ℕ, ◌^◌, ◌≤◌
 ghost use Rattle.paper.specs.Numbers.{most_characters};
 ghost use Rattle.paper_decide.specs.OneText.{longest_tried};
 ghost use Rattle.base_places.specs.Masks.{places, mask_of};
-ghost use Rattle.decide_texts.specs.TextsCoded.{meets, start, taken_by, leading_to, ending, length_coded, EndingsOf};
+ghost use Rattle.decide_texts.specs.TextsCoded.{meets, start, taken_by, leading_to, ending, EndingsSaid};
 ghost use Rattle.decide_texts.specs.TextsCoded.{first_to, text_from, spelt_tables, text_tables, texts_coded};
 
 use base_codes::SHEET_FIELDS;
@@ -21,8 +21,10 @@ const LENGTHS: usize = LONGEST_TRIED + 1;
 // The set that holds the start alone.
 const START: PlaceSet = 1;
 
-// How many characters the text has, the number behind the last one that is tried where there is none; and for each smaller number the places from
-// which a text of so many may end.
+// A field that stands more often holds one text.
+const ONCE: usize = 1;
+
+// How many characters the text has, and for each smaller number the places from which a text of so many may end.
 #[derive(Clone, Copy)]
 struct Ends {
     length: usize,
@@ -39,14 +41,12 @@ pub fn with_texts(mut question: Question, asked: usize) -> Question
     let left = question.left;
     let right = question.right;
     let counts = standings(left, right);
-    let mut f: usize = 0;
-    while f < SHEET_FIELDS {
-        if 1 < counts[f] {
+    for f in 0..SHEET_FIELDS {
+        if ONCE < counts[f] {
             let own = question.fields[f];
             let its = with_text(own, n, asked);
             question.fields[f] = its;
         }
-        f += 1;
     }
     question
 }
@@ -56,16 +56,10 @@ fn with_text(own: PlaceTables, n: usize, asked: usize) -> PlaceTables
     requires { n ≤ most_characters }
     ensures { result ≡ text_tables n asked own }
 {
-    let follow = own.follow;
-    let taking = own.taking;
-    let last = own.last;
-    let its = endings(&follow, taken(&taking, n), last, asked);
-    let length = its.length;
-    if length < LENGTHS {
-        let ends = its.ends;
-        return spelt(&follow, &taking, n, ends, length);
+    match endings(&own.follow, taken(&own.taking, n), own.last, asked) {
+        Some(its) => spelt(&own.follow, &own.taking, n, its.ends, its.length),
+        None => own,
     }
-    own
 }
 
 // A set of a lent table. (Only a function that it is handed to knows that it has 64 bits.)
@@ -81,10 +75,8 @@ fn taken(taking: &[PlaceSet; CHARACTERS], n: usize) -> PlaceSet
     ensures { result ≡ taken_by n taking.now }
 {
     let mut r = 0;
-    let mut c: usize = 0;
-    while c < n {
-        r = r | known(taking[c]);
-        c += 1;
+    for &its in &taking[..n] {
+        r |= known(its);
     }
     r
 }
@@ -108,34 +100,39 @@ fn leading_to(follow: &[PlaceSet; PLACES], set: PlaceSet) -> PlaceSet
     ensures { result ≡ leading_to follow.now set }
 {
     let mut r = 0;
-    let mut i: usize = 0;
-    while i < PLACES {
-        r = r | place_if(follow[i], set, i);
-        i += 1;
+    for (i, &next) in follow.iter().enumerate() {
+        r |= place_if(next, set, i);
     }
     r
 }
 
 // The length of the text, and the places from which texts shorter than that may end: the lengths rise, up to the first of so many characters or more.
-fn endings(follow: &[PlaceSet; PLACES], taken: PlaceSet, last: PlaceSet, asked: usize) -> Ends
-    ensures { EndingsOf (ending follow.now taken last) asked result.length result.ends }
+// There is none where no text that is tried may end.
+fn endings(
+    follow: &[PlaceSet; PLACES],
+    taken: PlaceSet,
+    last: PlaceSet,
+    asked: usize,
+) -> Option<Ends>
+    ensures { EndingsSaid (ending follow.now taken last) asked result }
 {
     let mut ends = [0; LENGTHS];
-    let mut length = LENGTHS;
+    let mut length = None;
     let mut here = last;
-    let mut k: usize = 0;
-    while k < LENGTHS {
+    for k in 0..LENGTHS {
         if meets(START, here) {
-            length = k;
             if asked <= k {
-                return Ends { length, ends };
+                return Some(Ends { length: k, ends });
             }
+            length = Some(k);
         }
         ends[k] = here;
         here = leading_to(follow, taken & here);
-        k += 1;
     }
-    Ends { length, ends }
+    Some(Ends {
+        length: length?,
+        ends,
+    })
 }
 
 // The first character that leads from what may come next to a place of `ends`; 0, where none does.
@@ -143,12 +140,10 @@ fn first_to(taking: &[PlaceSet; CHARACTERS], n: usize, next: PlaceSet, ends: Pla
     requires { n ≤ most_characters }
     ensures { (result < most_characters) × (result ≡ first_to n taking.now next ends) }
 {
-    let mut c: usize = 0;
-    while c < n {
+    for c in 0..n {
         if meets(next & taking[c], ends) {
             return c;
         }
-        c += 1;
     }
     0
 }
@@ -177,18 +172,14 @@ fn spelt(
 {
     let mut tables = no_text();
     let mut set = START;
-    let mut left = length;
-    let mut at: usize = 0;
-    while 0 < left {
-        left -= 1;
+    for at in 0..length {
         let next = followers(follow, set);
-        let c = first_to(taking, n, next, ends[left]);
+        let c = first_to(taking, n, next, ends[length - 1 - at]);
         set = next & taking[c];
         let its = place(at + 1);
         tables.follow[at] = its;
         tables.taking[c] = tables.taking[c] | its;
         tables.last = its;
-        at += 1;
     }
     tables
 }

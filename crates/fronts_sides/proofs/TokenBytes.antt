@@ -1,16 +1,14 @@
 -- Whether a byte is a token of the edition, by the byte itself; and the bytes of a side one by one.
 --   character_token, before_none, by_field : a character, a byte before the fields' tokens, a byte from the first of these on
---   tokens_on, tokens_not, tokens_none     : what is left of a side
+--   tokens_all                             : of all bytes of a side
 -- Follows from the laws of a byte's code.
 use Prim.Native.Nat.{ℕ, ◌+◌, ◌-◌, ◌≤◌, ◌<◌}
-use native.Mathlib.Numerals.{add-one}
 use native.Mathlib.Omega.{arith}
-use mathlib.Core.Path.{◌≡◌, ap, ◌∙◌}
-use mathlib.Core.Bool.{true, false, ◌&&◌}
-use mathlib.Core.List.{List}
+use mathlib.Core.Path.{◌≡◌, refl, ap, ◌∙◌}
+use mathlib.Core.Bool.{Bool, true, false, ◌&&◌}
+use mathlib.Core.List.{List, [], ◌∷◌}
+use Rattle.std.specs.List.{list_all}
 use lib.Dec.{leb, ltb}
-use lib.ListN.{length, drop, get_or, drop_of_length-le}
-use lib.Seq.{drop-cons}
 use Rattle.paper.specs.Numbers.{most_characters, fields, field_token}
 use Rattle.paper.specs.Alphabet.{Edition, alphabet_of, codes_from, code}
 use Rattle.paper.specs.Sheet.{is_token}
@@ -39,16 +37,6 @@ module _ (e : Edition) (b : ℕ) where
         (λ l. let low = ltb_true (b - codes_from e) fields l in rw l (ap is_token (among_codes e b h k low) ∙ field_is_token (b - codes_from e) low))
         (λ l. rw l (ap is_token (behind_codes e b h k (ltb_false (b - codes_from e) fields l))))
 
-module _ (e : Edition) (bytes : List ℕ) (i : ℕ) where
-  module _ (h : i < length bytes) where
-    next : are_tokens e (drop i bytes) ≡ (is_token (code e (get_or bytes i 0)) && are_tokens e (drop (i + 1) bytes))
-    next = rw (add-one i, drop-cons bytes i 0 h)
-
-    pub tokens_on : is_token (code e (get_or bytes i 0)) ≡ true → are_tokens e (drop i bytes) ≡ are_tokens e (drop (i + 1) bytes)
-    tokens_on k = next ∙ rw k
-
-    pub tokens_not : is_token (code e (get_or bytes i 0)) ≡ false → are_tokens e (drop i bytes) ≡ false
-    tokens_not k = next ∙ rw k
-
-  pub tokens_none : length bytes ≤ i → are_tokens e (drop i bytes) ≡ true
-  tokens_none h = ap (are_tokens e) (drop_of_length-le bytes {i = i} h)
+pub tokens_all : (e : Edition) (bytes : List ℕ) → list_all (λ (b : ℕ). is_token (code e b)) bytes ≡ are_tokens e bytes
+tokens_all e [] = refl
+tokens_all e (b ∷ bytes) = ap (λ (t : Bool). is_token (code e b) && t) (tokens_all e bytes)

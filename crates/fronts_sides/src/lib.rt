@@ -8,6 +8,7 @@ ghost use Rattle.paper.specs.Sheet.{is_token};
 ghost use Rattle.paper_fronts.specs.FixedFronts as Fixed;
 ghost use Rattle.paper_fronts.specs.FixedFronts.{begins_solid, fixed_differ, side_said, are_tokens, bytes_differ, fronts_told};
 ghost use Rattle.base_editions.specs.Editions.{paper_edition};
+ghost use Rattle.fronts_sides.specs.Places.{place_told};
 
 use base_editions::{Edition, alphabet_of, code, codes_from};
 
@@ -19,71 +20,57 @@ const FIELDS: u8 = 8;
 
 // 1 only if no texts at all make both sides the same label. 0 says nothing, also of bytes that are no tokens. The edition is 0 for none and 2 for Full
 // ASCII; of any other nothing is said.
+#[tactic(auto, unfolding(paper_fronts::specs::FixedFronts::fronts_told))]
 pub fn fronts_differ(edition: usize, left: &[u8], right: &[u8]) -> u32
     ensures { result ≡ fronts_told edition left.now right.now }
 {
-    if edition == 0 {
-        return told(Edition::First, left, right);
+    match edition {
+        0 => u32::from(told(Edition::First, left, right)),
+        2 => u32::from(told(Edition::Second, left, right)),
+        _ => 0,
     }
-    if edition == 2 {
-        return told(Edition::Second, left, right);
-    }
-    0
 }
 
-// The same in an edition. Whether the bytes are tokens is asked last: most pairs are told apart by one place, and of the others nothing is said.
-fn told(edition: Edition, left: &[u8], right: &[u8]) -> u32
-    ensures { result ≡ cond (bytes_differ (paper_edition edition) left.now right.now) 1 0 }
+// Is it told in an edition that they differ? Whether the bytes are tokens is asked last: most pairs are told apart by one place, and of the others
+// nothing is said.
+#[tactic(auto, unfolding(paper_fronts::specs::FixedFronts::bytes_differ))]
+fn told(edition: Edition, left: &[u8], right: &[u8]) -> bool
+    ensures { result ≡ bytes_differ (paper_edition edition) left.now right.now }
 {
-    if !fixed(edition, left, right) {
-        return 0;
-    }
-    if !are_tokens(edition, left) {
-        return 0;
-    }
-    if !are_tokens(edition, right) {
-        return 0;
-    }
-    1
+    fixed(edition, left, right) && are_tokens(edition, left) && are_tokens(edition, right)
 }
 
 // "ends are compared only where both sides end with a character that is not the space"
 fn fixed(edition: Edition, left: &[u8], right: &[u8]) -> bool
     ensures { result ≡ fixed_differ (alphabet_of (paper_edition edition)).space (side_said (paper_edition edition) left.now) (side_said (paper_edition edition) right.now) }
 {
-    if fronts(edition, left, right) {
-        return true;
+    fronts(edition, left, right)
+        || (ends_solid(edition, left) && ends_solid(edition, right) && ends(edition, left, right))
+}
+
+// What the bytes of both sides at a place say: true of different characters, false where one is no character, nothing of the same character.
+fn at_place(edition: Edition, left: u8, right: u8) -> Option<bool>
+    ensures { result ≡ place_told (Alphabet.code (paper_edition edition) left) (Alphabet.code (paper_edition edition) right) }
+{
+    let a = code(edition, left);
+    let b = code(edition, right);
+    if CHARACTERS <= a {
+        return Some(false);
     }
-    if !ends_solid(edition, left) {
-        return false;
+    if CHARACTERS <= b {
+        return Some(false);
     }
-    if !ends_solid(edition, right) {
-        return false;
-    }
-    ends(edition, left, right)
+    if a != b { Some(true) } else { None }
 }
 
 // Is there a place at which both sides have a character, before any field, and the characters are different?
 fn fronts(edition: Edition, left: &[u8], right: &[u8]) -> bool
     ensures { result ≡ Fixed.fronts_differ (side_said (paper_edition edition) left.now) (side_said (paper_edition edition) right.now) }
 {
-    let mut i = 0;
-    while i < left.len() {
-        if right.len() <= i {
-            return false;
+    for (&a, &b) in left.iter().zip(right) {
+        if let Some(differ) = at_place(edition, a, b) {
+            return differ;
         }
-        let a = code(edition, left[i]);
-        let b = code(edition, right[i]);
-        if CHARACTERS <= a {
-            return false;
-        }
-        if CHARACTERS <= b {
-            return false;
-        }
-        if a != b {
-            return true;
-        }
-        i += 1;
     }
     false
 }
@@ -92,24 +79,9 @@ fn fronts(edition: Edition, left: &[u8], right: &[u8]) -> bool
 fn ends(edition: Edition, left: &[u8], right: &[u8]) -> bool
     ensures { result ≡ Fixed.fronts_differ (reverse (side_said (paper_edition edition) left.now)) (reverse (side_said (paper_edition edition) right.now)) }
 {
-    let mut p = left.len();
-    let mut q = right.len();
-    while 0 < p {
-        if q == 0 {
-            return false;
-        }
-        p -= 1;
-        q -= 1;
-        let x = code(edition, left[p]);
-        let y = code(edition, right[q]);
-        if CHARACTERS <= x {
-            return false;
-        }
-        if CHARACTERS <= y {
-            return false;
-        }
-        if x != y {
-            return true;
+    for (&a, &b) in left.iter().rev().zip(right.iter().rev()) {
+        if let Some(differ) = at_place(edition, a, b) {
+            return differ;
         }
     }
     false
@@ -135,14 +107,7 @@ fn ends_solid(edition: Edition, side: &[u8]) -> bool
 fn are_tokens(edition: Edition, side: &[u8]) -> bool
     ensures { result ≡ are_tokens (paper_edition edition) side.now }
 {
-    let mut i = 0;
-    while i < side.len() {
-        if !is_token(edition, side[i]) {
-            return false;
-        }
-        i += 1;
-    }
-    true
+    side.iter().all(|&b| is_token(edition, b))
 }
 
 // By the byte itself: this is asked of every byte of a pair, and its code is not wanted.

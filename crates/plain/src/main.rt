@@ -5,7 +5,7 @@
 // characters. The two sides end in different ones.
 #![tactic(auto)]
 
-use print_out::{How, Streams, print, print_number, print_numbers, read_first, tell_end};
+use print_out::{Failure, Streams, print, print_number, print_numbers, read_first, tell_end};
 
 // As `clash` does: it "reads the first" 2,048 "bytes of standard input".
 const INPUT: usize = 2048;
@@ -14,28 +14,20 @@ const INPUT: usize = 2048;
 const BITS: usize = 9731;
 
 fn main(rt: HostRuntime) {
-    let mut input = [0u8; INPUT];
-    let got = read_first(&rt, &mut input);
-    let n = got.bytes;
-    if got.read {
-        answer(&rt, &input[0..n]);
-    } else {
-        tell_end(&rt, b"plain", How::NotRead);
-    }
+    tell_end(&rt, b"plain", run(&rt));
 }
 
-fn answer(rt: &impl Streams, sheet: &[u8]) {
-    let mut bits = [0u8; BITS];
-    show(rt, sheet, &mut bits);
+fn run(rt: &impl Streams) -> Result<(), Failure> {
+    let mut input = [0u8; INPUT];
+    let n = read_first(rt, &mut input)?;
+    answer(rt, &input[..n])
 }
 
 // "answer, count and place in decimal, one space between"
-fn show(rt: &impl Streams, sheet: &[u8], bits: &mut [u8]) {
-    let told = plain_sheet::in_numbers(plain_sheet::plain(sheet, bits));
-    let line = print_numbers(
-        rt,
-        print_number(rt, How::Going, told.number),
-        &[told.count, told.place],
-    );
-    tell_end(rt, b"plain", print(rt, line, b"\n"));
+fn answer(rt: &impl Streams, sheet: &[u8]) -> Result<(), Failure> {
+    let mut bits = [0u8; BITS];
+    let told = plain_sheet::in_numbers(plain_sheet::plain(sheet, &mut bits));
+    print_number(rt, told.number)?;
+    print_numbers(rt, &[told.count, told.place])?;
+    print(rt, b"\n")
 }

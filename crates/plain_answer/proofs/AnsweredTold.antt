@@ -1,6 +1,6 @@
 -- What is answered of a good question of the paper, and how many bytes it needs, are what the definitions of the engine say.
---   answered_told : Answered s (length lent) x → told_plain x.answer (replicate (length lent) 0) ≡ engine_of (asked q) lent
---   needed_told   : Answered s lent x → told_needed (needed_by x.answer x.needed) ≡ needs_of (asked q)
+--   answered_told : Answered s (length lent) x → told_plain (answer_by x) (replicate (length lent) 0) ≡ engine_of (asked q) lent
+--   needed_told   : Answered s lent x → told_needed (needed_by x) ≡ needs_of (asked q)
 -- s is the question of the code. Follows from what counting tells (`twice_told`, `bits_told`) and from what the engine does (`said_of_good`).
 use Prim.Native.Nat.{ℕ, ◌+◌, ◌*◌, ◌/◌, ◌<◌}
 use native.Mathlib.Omega.{arith}
@@ -22,9 +22,8 @@ use Rattle.plain_count.specs.StandingsCoded.{twice_coded, bits_coded}
 use Rattle.plain_count.proofs.TwiceTold.{twice_told}
 use Rattle.plain_count.proofs.BitsTold.{bits_told}
 use Rattle.plain_question.specs.Reached.{Meets, Says}
-use Rattle.plain_answer.specs.Answered.{bytes_of, Fit, Answered, stands_twice, bits_too_few, clash, no_clash, needed_by}
+use Rattle.plain_answer.specs.Answered.{Told, bytes_of, Fit, Answered, stands_twice, bits_too_few, clash, no_clash, answer_by, needed_by}
 use Rattle.plain_answer.specs.EngineNumbers.{told_plain, told_needed}
-use Rattle.plain_answer.specs.declared.Answering.{Answering}
 use Rattle.plain_question.proofs.Standings.{said_of_good}
 
 module _ (q : Question) (good : GoodQuestion q) (bodies : List Body) (s : Code.Question) (is : s ≡ question_of q bodies) where
@@ -49,14 +48,14 @@ module _ (q : Question) (good : GoodQuestion q) (bodies : List Body) (s : Code.Q
   fits_not : {lent : ℕ} → lent < bytes_of s → leb (bits_of q) (8 * lent) ≡ false
   fits_not {lent} k = lt_leb (bits_of q) (8 * lent) (omega (arith, k, bits_are))
 
-  pub answered_told : (lent : List ℕ) {x : Answering} → Answered s (length lent) x
-      → told_plain x.answer (replicate (length lent) 0) ≡ engine_of (asked q) lent
+  pub answered_told : (lent : List ℕ) {x : Told} → Answered s (length lent) x
+      → told_plain (answer_by x) (replicate (length lent) 0) ≡ engine_of (asked q) lent
   answered_told lent (stands_twice h) = rw (sym twice_is ∙ h)
   answered_told lent (bits_too_few h k) = rw (sym twice_is ∙ h, fits_not k)
   answered_told lent (clash f h) = rw (sym twice_is ∙ f.once, fits f, says_apart true h)
   answered_told lent (no_clash f h) = rw (sym twice_is ∙ f.once, fits f, says_apart false h)
 
-  pub needed_told : {lent : ℕ} {x : Answering} → Answered s lent x → told_needed (needed_by x.answer x.needed) ≡ needs_of (asked q)
+  pub needed_told : {lent : ℕ} {x : Told} → Answered s lent x → told_needed (needed_by x) ≡ needs_of (asked q)
   needed_told (stands_twice h) = rw (sym twice_is ∙ h)
   needed_told (bits_too_few h k) = rw (sym twice_is ∙ h, bytes_are)
   needed_told (clash f h) = rw (sym twice_is ∙ f.once, bytes_are)

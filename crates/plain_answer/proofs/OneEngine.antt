@@ -7,37 +7,31 @@ use mathlib.Core.Path.{◌≡◌, refl, sym, ap, ◌∙◌}
 use mathlib.Core.Bool.{cond}
 use mathlib.Core.List.{List}
 use lib.Dec.{eqb}
+use Rattle.std.proofs.Common.{Ok, Err}
+use Rattle.paper.specs.Lists.{member}
+use Rattle.paper.specs.Buffers.{sheet_numbers}
 use Rattle.paper_plain.specs.Engine.{Engine, Needs}
-use Rattle.base_answers.specs.declared.Fault.TheVariants.{CutShort, WrongMark, WrongField, WrongLength, NotOnePattern, TooManyLeaves, WrongToken, WrongEdition, StrayPattern}
-use Rattle.base_answers.proofs.Same.{fault_from}
+use Rattle.base_answers.proofs.Same.{fault_from, fault_among, fault_numbered}
+use Rattle.plain_answer.specs.Answered.{PlainAnswer, Needed}
 use Rattle.plain_answer.specs.EngineNumbers.{told_plain, told_needed}
-use Rattle.plain_answer.specs.declared.PlainAnswer.{PlainAnswer}
-use Rattle.plain_answer.specs.declared.PlainAnswer.TheVariants.{Clash, NoClash, StandsTwice, BitsTooFew, Refused}
-use Rattle.plain_answer.specs.declared.Needed.{Needed}
-use Rattle.plain_answer.specs.declared.Needed.TheVariants as Of
+use Rattle.plain_answer.specs.declared.Verdict.TheVariants.{Clash, NoClash}
+use Rattle.plain_answer.specs.declared.PlainError.TheVariants as Plain
+use Rattle.plain_answer.specs.declared.NeededError.TheVariants.{StandsTwice, Refused}
 
 answer_from : Engine → PlainAnswer
 answer_from e =
-    cond (eqb e.number 0) Clash
-    (cond (eqb e.number 1) NoClash
-    (cond (eqb e.number 42) StandsTwice
-    (cond (eqb e.number 43) BitsTooFew (Refused (fault_from e.number) e.place))))
+    cond (member e.number sheet_numbers) (Err (Plain.Refused (record { fault = fault_from e.number; place = e.place })))
+    (cond (eqb e.number 0) (Ok Clash)
+    (cond (eqb e.number 1) (Ok NoClash)
+    (cond (eqb e.number 42) (Err Plain.StandsTwice) (Err Plain.BitsTooFew))))
 
 answer_back : (a : PlainAnswer) (bits : List ℕ) → answer_from (told_plain a bits) ≡ a
-unfolding answer_from fault_from
-answer_back Clash bits = refl
-answer_back NoClash bits = refl
-answer_back StandsTwice bits = refl
-answer_back BitsTooFew bits = refl
-answer_back (Refused CutShort at) bits = refl
-answer_back (Refused WrongMark at) bits = refl
-answer_back (Refused WrongField at) bits = refl
-answer_back (Refused WrongLength at) bits = refl
-answer_back (Refused NotOnePattern at) bits = refl
-answer_back (Refused TooManyLeaves at) bits = refl
-answer_back (Refused WrongToken at) bits = refl
-answer_back (Refused WrongEdition at) bits = refl
-answer_back (Refused StrayPattern at) bits = refl
+unfolding answer_from
+answer_back (Ok Clash) bits = refl
+answer_back (Ok NoClash) bits = refl
+answer_back (Err Plain.StandsTwice) bits = refl
+answer_back (Err Plain.BitsTooFew) bits = refl
+answer_back (Err (Plain.Refused r)) bits = rw (fault_among r.fault, fault_numbered r.fault) refl
 
 pub one_engine : (e : Engine) (a a' : PlainAnswer) (bits bits' : List ℕ) → told_plain a bits ≡ e → told_plain a' bits' ≡ e
     → (a ≡ a') × (bits ≡ bits')
@@ -47,21 +41,14 @@ one_engine e a a' bits bits' h h' =
 
 needed_from : Needs → Needed
 needed_from n =
-    cond (eqb n.number 0) (Of.Bytes n.bytes) (cond (eqb n.number 42) Of.StandsTwice (Of.Refused (fault_from n.number) n.place))
+    cond (member n.number sheet_numbers) (Err (Refused (record { fault = fault_from n.number; place = n.place })))
+    (cond (eqb n.number 0) (Ok n.bytes) (Err StandsTwice))
 
 needed_back : (n : Needed) → needed_from (told_needed n) ≡ n
-unfolding needed_from fault_from
-needed_back (Of.Bytes bytes) = refl
-needed_back Of.StandsTwice = refl
-needed_back (Of.Refused CutShort at) = refl
-needed_back (Of.Refused WrongMark at) = refl
-needed_back (Of.Refused WrongField at) = refl
-needed_back (Of.Refused WrongLength at) = refl
-needed_back (Of.Refused NotOnePattern at) = refl
-needed_back (Of.Refused TooManyLeaves at) = refl
-needed_back (Of.Refused WrongToken at) = refl
-needed_back (Of.Refused WrongEdition at) = refl
-needed_back (Of.Refused StrayPattern at) = refl
+unfolding needed_from
+needed_back (Ok bytes) = refl
+needed_back (Err StandsTwice) = refl
+needed_back (Err (Refused r)) = rw (fault_among r.fault, fault_numbered r.fault) refl
 
 pub one_needed : (e : Needs) (n n' : Needed) → told_needed n ≡ e → told_needed n' ≡ e → n ≡ n'
 one_needed e n n' h h' = sym (needed_back n) ∙ ap needed_from (h ∙ sym h') ∙ needed_back n'

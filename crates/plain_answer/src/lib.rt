@@ -2,122 +2,180 @@
 #![tactic(auto)]
 
 ghost use Rattle.std.specs.Prelude.{◌≡◌};
-ghost use Rattle.plain_answer.specs.Answered.{Answered, answering_of, needed_by};
-ghost use Rattle.plain_answer.specs.EngineNumbers.{plain_numbers, needed_numbers};
+ghost use Rattle.plain_answer.specs.Answered.{Answered, plain_error, answer_by, needed_by};
+ghost use Rattle.plain_answer.specs.EngineNumbers.{error_numbers, plain_numbers, needed_numbers};
 
-use base_answers::{BITS_TOO_FEW, Fault, Numbers, STANDS_TWICE};
+use base_answers::{Answer, BITS_TOO_FEW, Numbers, Refusal, STANDS_TWICE};
 use base_question::Question;
 use plain_count::{bits_of, stands_twice};
 use plain_question::clashes;
 
-// "It says only clash or no clash." specs/EngineNumbers.antt gives each its numbers.
-#[derive(Clone, Copy)]
-pub enum PlainAnswer {
-    // 0
+// "It says only clash or no clash": 0 and 1.
+#[derive(Clone, Copy, PartialEq, Eq)]
+pub enum Verdict {
     Clash,
-    // 1
     NoClash,
+}
+
+// Why it says neither. specs/EngineNumbers.antt gives each its numbers.
+#[derive(Clone, Copy)]
+pub enum PlainError {
     // 42: a field stands more than once
     StandsTwice,
     // 43: the bits don't fit
     BitsTooFew,
     // 11 to 17, 22 and 44: the sheet's own
-    Refused { fault: Fault, place: usize },
+    Refused(Refusal),
 }
 
-// What is answered, and how many bytes the question's bits need: 0 where that is not told.
-#[derive(Clone, Copy)]
-pub struct Answering {
-    pub answer: PlainAnswer,
-    pub needed: usize,
-}
+pub type PlainAnswer = Result<Verdict, PlainError>;
 
-// How many bytes of bits a sheet needs.
+// Why it is not told how many bytes of bits a sheet needs.
 #[derive(Clone, Copy)]
-pub enum Needed {
-    // 0
-    Bytes { bytes: usize },
+pub enum NeededError {
     // 42: a field stands more than once
     StandsTwice,
     // 11 to 17, 22 and 44: the sheet's own
-    Refused { fault: Fault, place: usize },
+    Refused(Refusal),
+}
+
+pub type Needed = Result<usize, NeededError>;
+
+// What is told of a question in which no field stands more than once: its verdict, if the bits fit; and how many bytes they need.
+#[derive(Clone, Copy)]
+pub struct Answering {
+    pub verdict: Option<Verdict>,
+    pub needed: usize,
+}
+
+impl From<Refusal> for NeededError {
+    ghost use Rattle.plain_answer.specs.declared.NeededError.{NeededError};
+
+    ghost from_gives = { λ r e. e ≡ NeededError.Refused r };
+
+    fn from(refusal: Refusal) -> Self
+        ensures { result ≡ NeededError.Refused refusal }
+    {
+        NeededError::Refused(refusal)
+    }
+}
+
+impl From<Refusal> for PlainError {
+    ghost use Rattle.plain_answer.specs.declared.PlainError.{PlainError};
+
+    ghost from_gives = { λ r e. e ≡ PlainError.Refused r };
+
+    fn from(refusal: Refusal) -> Self
+        ensures { result ≡ PlainError.Refused refusal }
+    {
+        PlainError::Refused(refusal)
+    }
+}
+
+impl From<NeededError> for PlainError {
+    ghost from_gives = { λ n e. e ≡ plain_error n };
+
+    fn from(error: NeededError) -> Self
+        ensures { result ≡ plain_error error }
+    {
+        match error {
+            NeededError::StandsTwice => PlainError::StandsTwice,
+            NeededError::Refused(refusal) => PlainError::Refused(refusal),
+        }
+    }
 }
 
 // "42 if a field stands more than once in the two sides together, then 43 if the bits don't fit": a byte has eight of them.
-pub fn answered(question: Question, bytes: usize) -> Answering
+pub fn answered(question: Question, bytes: usize) -> Result<Answering, NeededError>
     ensures { Answered question bytes result }
 {
     let left = question.left;
     let right = question.right;
     if stands_twice(left, right) {
-        return told_with(PlainAnswer::StandsTwice, 0);
+        return Err(NeededError::StandsTwice);
     }
     let needed = (bits_of(question) + 7) / 8;
     if bytes < needed {
-        return told_with(PlainAnswer::BitsTooFew, needed);
+        return Ok(Answering {
+            verdict: None,
+            needed,
+        });
     }
-    if clashes(question) {
-        return told_with(PlainAnswer::Clash, needed);
-    }
-    told_with(PlainAnswer::NoClash, needed)
+    let verdict = if clashes(question) {
+        Verdict::Clash
+    } else {
+        Verdict::NoClash
+    };
+    Ok(Answering {
+        verdict: Some(verdict),
+        needed,
+    })
 }
 
-pub fn told_with(answer: PlainAnswer, needed: usize) -> Answering
-    ensures { result ≡ answering_of answer needed }
+// The answer, by what is told.
+pub fn answer_of(told: Result<Answering, NeededError>) -> PlainAnswer
+    ensures { result ≡ answer_by told }
 {
-    Answering { answer, needed }
+    told?.verdict.ok_or(PlainError::BitsTooFew)
 }
 
-// How many bytes are needed, by what is answered.
-pub fn needs(told: Answering) -> Needed
-    ensures { result ≡ needed_by told.answer told.needed }
+// How many bytes are needed, by what is told.
+pub fn needs(told: Result<Answering, NeededError>) -> Needed
+    ensures { result ≡ needed_by told }
 {
-    let answer = told.answer;
-    match answer {
-        PlainAnswer::Clash => Needed::Bytes { bytes: told.needed },
-        PlainAnswer::NoClash => Needed::Bytes { bytes: told.needed },
-        PlainAnswer::StandsTwice => Needed::StandsTwice,
-        PlainAnswer::BitsTooFew => Needed::Bytes { bytes: told.needed },
-        PlainAnswer::Refused { fault, place } => Needed::Refused { fault, place },
+    Ok(told?.needed)
+}
+
+impl From<PlainError> for Numbers {
+    ghost from_gives = { λ e n. n ≡ error_numbers e };
+
+    fn from(error: PlainError) -> Self
+        ensures { result ≡ error_numbers error }
+    {
+        let number = match error {
+            PlainError::StandsTwice => STANDS_TWICE,
+            PlainError::BitsTooFew => BITS_TOO_FEW,
+            PlainError::Refused(refusal) => return Numbers::from(Answer::Err(refusal)),
+        };
+        Numbers {
+            number,
+            count: 0,
+            place: 0,
+            written: 0,
+        }
     }
 }
 
 // An answer in numbers.
-pub fn in_numbers(a: PlainAnswer) -> Numbers
-    ensures { result ≡ plain_numbers a }
+// Kept: `From` is for a type of the crate, and a `Result` is none.
+pub fn in_numbers(answer: PlainAnswer) -> Numbers
+    ensures { result ≡ plain_numbers answer }
 {
-    match a {
-        PlainAnswer::Clash => numbers_of(0, 0, 0),
-        PlainAnswer::NoClash => numbers_of(1, 0, 0),
-        PlainAnswer::StandsTwice => numbers_of(STANDS_TWICE, 0, 0),
-        PlainAnswer::BitsTooFew => numbers_of(BITS_TOO_FEW, 0, 0),
-        PlainAnswer::Refused { fault, place } => {
-            numbers_of(base_answers::number(fault) as usize, place, 0)
-        }
+    let number = match answer {
+        Ok(Verdict::Clash) => 0,
+        Ok(Verdict::NoClash) => 1,
+        Err(error) => return Numbers::from(error),
+    };
+    Numbers {
+        number,
+        count: 0,
+        place: 0,
+        written: 0,
     }
 }
 
 // What a sheet needs in numbers: the bytes are what would be written.
-pub fn needed_numbers(n: Needed) -> Numbers
-    ensures { result ≡ needed_numbers n }
+// Kept: as `in_numbers`.
+pub fn needed_numbers(needed: Needed) -> Numbers
+    ensures { result ≡ needed_numbers needed }
 {
-    match n {
-        Needed::Bytes { bytes } => numbers_of(0, 0, bytes),
-        Needed::StandsTwice => numbers_of(STANDS_TWICE, 0, 0),
-        Needed::Refused { fault, place } => {
-            numbers_of(base_answers::number(fault) as usize, place, 0)
-        }
-    }
-}
-
-// No count is told.
-fn numbers_of(number: usize, place: usize, written: usize) -> Numbers
-    ensures { result ≡ record { number = number; count = 0; place = place; written = written } }
-{
-    Numbers {
-        number,
-        count: 0,
-        place,
-        written,
+    match needed {
+        Ok(bytes) => Numbers {
+            number: 0,
+            count: 0,
+            place: 0,
+            written: bytes,
+        },
+        Err(error) => Numbers::from(PlainError::from(error)),
     }
 }

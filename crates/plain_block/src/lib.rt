@@ -2,7 +2,7 @@
 // front are repeated until nothing is added".
 #![tactic(auto)]
 
-ghost use Rattle.std.specs.Prelude.{◌≡◌, ◌&&◌, not, ℕ, ◌^◌, ◌<◌, eqb, length, get_or};
+ghost use Rattle.std.specs.Prelude.{◌≡◌, ◌&&◌, not, ℕ, ◌^◌, ◌<◌, eqb, get_or};
 ghost use Rattle.std.specs.Int.Bits.{bit_and, bit_or};
 ghost use Rattle.base_places.specs.Masks.{places, in_mask};
 ghost use Rattle.plain_block.specs.Met.{tables, Crosses};
@@ -24,6 +24,18 @@ pub struct Crossed {
     pub starts: bool,
 }
 
+// Two tokens in front: for each place of either the places that may follow, for each character the places that take it, and the characters that both
+// may read, from lo on to below hi.
+#[derive(Clone, Copy)]
+struct Pair<'a> {
+    left_follow: &'a [PlaceSet; PLACES],
+    left_taking: &'a [PlaceSet; CHARACTERS],
+    right_follow: &'a [PlaceSet; PLACES],
+    right_taking: &'a [PlaceSet; CHARACTERS],
+    lo: usize,
+    hi: usize,
+}
+
 // Goes through the pairs of places of two tokens, which may read the characters from lo on to below hi.
 pub fn cross(
     left_follow: &[PlaceSet; PLACES],
@@ -42,16 +54,15 @@ pub fn cross(
     let mut rows: [PlaceSet; PLACES] = [0; PLACES];
     let first = add(&mut rows, START, left_came, 0);
     let todo = add(&mut rows, right_came, START, first);
-    let met = go_on(
-        &mut rows,
+    let pair = Pair {
         left_follow,
         left_taking,
         right_follow,
         right_taking,
         lo,
         hi,
-        todo,
-    );
+    };
+    let met = pair.go_on(&mut rows, todo);
     let left = followers(&rows, left_last & met);
     let right = with_some(&rows, met, right_last);
     Crossed {
@@ -61,93 +72,62 @@ pub fn cross(
     }
 }
 
-// Goes on from the left places of `todo`, until no row grows. The left places that are met with some right place.
-fn go_on(
-    rows: &mut [PlaceSet; PLACES],
-    left_follow: &[PlaceSet; PLACES],
-    left_taking: &[PlaceSet; CHARACTERS],
-    right_follow: &[PlaceSet; PLACES],
-    right_taking: &[PlaceSet; CHARACTERS],
-    lo: usize,
-    hi: usize,
-    todo: PlaceSet,
-) -> PlaceSet
-    requires { length rows.old ≡ places }
-    ensures { GoneOn left_follow.now left_taking.now right_follow.now right_taking.now lo hi rows.old todo rows.new 0 result }
-{
-    let mut left = todo;
-    let mut met = todo;
-    while left != 0 {
-        let i = u64::trailing_zeros(left) as usize;
-        left = go_from(
-            rows,
-            left_follow,
-            left_taking,
-            right_follow,
-            right_taking,
-            lo,
-            hi,
-            i,
-            left & (left - 1),
-        );
-        met = met | left;
+impl Pair<'_> {
+    // Goes on from the left places of `todo`, until no row grows. The left places that are met with some right place.
+    fn go_on(&self, rows: &mut [PlaceSet; PLACES], todo: PlaceSet) -> PlaceSet
+        ensures { GoneOn self.now.left_follow.now self.now.left_taking.now self.now.right_follow.now self.now.right_taking.now self.now.lo self.now.hi rows.old todo rows.new 0 result }
+    {
+        let mut left = todo;
+        let mut met = todo;
+        while left != 0 {
+            let i = u64::trailing_zeros(left) as usize;
+            left = self.go_from(rows, i, left & (left - 1));
+            met = met | left;
+        }
+        met
     }
-    met
-}
 
-// Goes on from one left place, with all right places that it is met with.
-fn go_from(
-    rows: &mut [PlaceSet; PLACES],
-    left_follow: &[PlaceSet; PLACES],
-    left_taking: &[PlaceSet; CHARACTERS],
-    right_follow: &[PlaceSet; PLACES],
-    right_taking: &[PlaceSet; CHARACTERS],
-    lo: usize,
-    hi: usize,
-    i: usize,
-    todo: PlaceSet,
-) -> PlaceSet
-    requires { (length rows.old ≡ places) × (i < places) }
-    ensures { Grows (Behind left_follow.now left_taking.now right_follow.now right_taking.now lo hi rows.old i) rows.old todo rows.new result }
-{
-    let lefts = left_follow[i];
-    if lefts == 0 {
-        return todo;
+    // Goes on from one left place, with all right places that it is met with.
+    fn go_from(&self, rows: &mut [PlaceSet; PLACES], i: usize, todo: PlaceSet) -> PlaceSet
+        requires { i < places }
+        ensures { Grows (Behind self.now.left_follow.now self.now.left_taking.now self.now.right_follow.now self.now.right_taking.now self.now.lo self.now.hi rows.old i) rows.old todo rows.new result }
+    {
+        let lefts = self.left_follow[i];
+        if lefts == 0 {
+            return todo;
+        }
+        let rights = followers(self.right_follow, rows[i]);
+        if rights == 0 {
+            return todo;
+        }
+        self.read(rows, lefts, rights, todo)
     }
-    let rights = followers(right_follow, rows[i]);
-    if rights == 0 {
-        return todo;
-    }
-    read(rows, lefts, rights, left_taking, right_taking, lo, hi, todo)
-}
 
-// Lets both tokens read each character that they may, as far as a table has room.
-fn read(
-    rows: &mut [PlaceSet; PLACES],
-    lefts: PlaceSet,
-    rights: PlaceSet,
-    left_taking: &[PlaceSet; CHARACTERS],
-    right_taking: &[PlaceSet; CHARACTERS],
-    lo: usize,
-    hi: usize,
-    todo: PlaceSet,
-) -> PlaceSet
-    requires { length rows.old ≡ places }
-    ensures { Grows (Taken lefts rights left_taking.now right_taking.now lo hi) rows.old todo rows.new result }
-{
-    let end = within(hi);
-    let mut r = todo;
-    let mut c = lo;
-    while c < end {
-        r = add(rows, lefts & left_taking[c], rights & right_taking[c], r);
-        c += 1;
+    // Lets both tokens read each character that they may, as far as a table has room.
+    fn read(
+        &self,
+        rows: &mut [PlaceSet; PLACES],
+        lefts: PlaceSet,
+        rights: PlaceSet,
+        todo: PlaceSet,
+    ) -> PlaceSet
+        ensures { Grows (Taken lefts rights self.now.left_taking.now self.now.right_taking.now self.now.lo self.now.hi) rows.old todo rows.new result }
+    {
+        let mut r = todo;
+        for c in self.lo..within(self.hi) {
+            r = add(
+                rows,
+                lefts & self.left_taking[c],
+                rights & self.right_taking[c],
+                r,
+            );
+        }
+        r
     }
-    r
 }
 
 // Every left place of the set is met with every right place of `more`. For most characters one of the two sets is empty.
 fn add(rows: &mut [PlaceSet; PLACES], set: PlaceSet, more: PlaceSet, todo: PlaceSet) -> PlaceSet
-    requires { length rows.old ≡ places }
     ensures { Grows (Each set more) rows.old todo rows.new result }
 {
     if more == 0 {
@@ -165,7 +145,7 @@ fn add(rows: &mut [PlaceSet; PLACES], set: PlaceSet, more: PlaceSet, todo: Place
 
 // One left place is met with every right place of `more`. If its row grows, it is to be gone on from.
 fn grow(rows: &mut [PlaceSet; PLACES], i: usize, more: PlaceSet, todo: PlaceSet) -> PlaceSet
-    requires { (length rows.old ≡ places) × (i < places) }
+    requires { i < places }
     ensures { Grows (One i more) rows.old todo rows.new result }
 {
     let row = rows[i];

@@ -1,33 +1,25 @@
--- Walks over a list from an index on: a test of its elements, the masks of characters, the tokens of a side. Each has a law for one more element and
--- one for the end. Follows from the definitions.
+-- Walks over a list from an index on: the masks of characters, the tokens of a side. Each has a law for the end, and the tokens one for one more. And a
+-- test of a list's elements. Follows from the definitions.
 use Prim.Native.Nat.{ℕ, ◌+◌, ◌≤◌, ◌<◌}
 use native.Mathlib.Numerals.{add-one}
 use native.Mathlib.Omega.{arith}
-use mathlib.Core.Path.{◌≡◌}
-use mathlib.Core.Bool.{Bool, true, false}
-use mathlib.Core.List.{List}
-use lib.Bits.{bit_or}
+use mathlib.Core.Path.{◌≡◌, refl, ap}
+use mathlib.Core.Bool.{Bool, true, false, ◌||◌}
+use mathlib.Core.List.{List, [], ◌∷◌}
 use lib.Dec.{eqb}
 use lib.ListN.{length, get_or, take, drop, drop_of_length-le, length-take}
-use lib.Seq.{drop-cons, get_or-take}
+use lib.Seq.{drop-cons}
+use Rattle.std.specs.List.{list_any}
 use Rattle.paper.specs.Lists.{any}
 use Rattle.base_codes.specs.Inner.{no_token, tokens}
 use Rattle.plain_count.specs.StandingsCoded.{taken_too, token_adds, standings_coded}
 
-module _ (p : ℕ → Bool) (l : List ℕ) (i : ℕ) where
-  pub any_found : i < length l → p (get_or l i 0) ≡ true → any p (drop i l) ≡ true
-  any_found h e = rw (drop-cons l i 0 h, e)
-
-  pub any_next : i < length l → p (get_or l i 0) ≡ false → any p (drop i l) ≡ any p (drop (i + 1) l)
-  any_next h e = rw (add-one, drop-cons l i 0 h, e)
-
-  pub any_end : length l ≤ i → any p (drop i l) ≡ false
-  any_end h = rw (drop_of_length-le l h)
+-- some element passes, told either way
+pub any_listed : (p : ℕ → Bool) (l : List ℕ) → list_any p l ≡ any p l
+any_listed p [] = refl
+any_listed p (x ∷ l) = ap (λ (b : Bool). p x || b) (any_listed p l)
 
 module _ (m : ℕ) (taking : List ℕ) (n c : ℕ) where
-  pub taken_next : n ≤ length taking → c < n → taken_too m (drop c (take n taking)) ≡ taken_too (bit_or m (get_or taking c 0)) (drop (c + 1) (take n taking))
-  taken_next l h = rw (add-one, drop-cons (take n taking) c 0 (omega (arith, length-take n taking)), get_or-take n taking c 0 h)
-
   pub taken_end : n ≤ c → taken_too m (drop c (take n taking)) ≡ m
   taken_end h =
       let all : length (take n taking) ≤ c = omega (arith, length-take n taking) in

@@ -7,7 +7,7 @@ ghost use Rattle.base_places.specs.Masks.{within};
 ghost use Rattle.base_codes.specs.Inner.{tokens};
 ghost use Rattle.plain_count.specs.StandingsCoded.{twice_coded, places_in, places_by, all_places, token_adds, standings_coded, bits_coded};
 
-use base_codes::{CodedSide, FIELD_CODE, FIELDS, LONGEST_SIDE, NO_TOKEN, SHEET_FIELDS, field_of};
+use base_codes::{CodedSide, FIELD_CODE, NO_TOKEN, SHEET_FIELDS, field_of};
 use base_places::{CHARACTERS, PlaceSet, within};
 use base_question::Question;
 
@@ -22,14 +22,7 @@ pub fn stands_twice(left: CodedSide, right: CodedSide) -> bool
     ensures { result ≡ twice_coded left right }
 {
     let counts = base_question::standings(left, right);
-    let mut f: usize = 0;
-    while f < FIELDS {
-        if 1 < counts[f] {
-            return true;
-        }
-        f += 1;
-    }
-    false
+    counts.iter().any(|&n| 1 < n)
 }
 
 // "the product of the two numbers of standings", the hidden fields' among them.
@@ -49,26 +42,20 @@ fn places_of(question: Question) -> [u8; SHEET_FIELDS]
     let alphabet = question.alphabet;
     let n = within(alphabet.characters);
     let mut places = [0u8; SHEET_FIELDS];
-    let mut f: usize = 0;
-    while f < SHEET_FIELDS {
-        let tables = question.fields[f];
-        let taking = tables.taking;
-        places[f] = places_by(taking, n);
-        f += 1;
+    for (f, tables) in question.fields.iter().enumerate() {
+        places[f] = places_by(&tables.taking, n);
     }
     places
 }
 
 // How many places a field has, by the places that take each of n characters.
-fn places_by(taking: [PlaceSet; CHARACTERS], n: usize) -> u8
+fn places_by(taking: &[PlaceSet; CHARACTERS], n: usize) -> u8
     requires { n ≤ most_characters }
-    ensures { result ≡ places_by n taking }
+    ensures { result ≡ places_by n taking.now }
 {
-    let mut taken: PlaceSet = 0;
-    let mut c: usize = 0;
-    while c < n {
-        taken = taken | taking[c];
-        c += 1;
+    let mut taken = 0;
+    for &its in &taking[..n] {
+        taken |= its;
     }
     places_in(taken)
 }
@@ -87,15 +74,12 @@ fn places_in(taken: PlaceSet) -> u8
 fn standings(side: CodedSide, places: [u8; SHEET_FIELDS]) -> usize
     ensures { (result ≡ standings_coded places (tokens side)) × (result ≤ 20000) }
 {
-    let mut n: usize = END_AND_HIDDEN;
-    let mut i: usize = 0;
-    while i < LONGEST_SIDE {
-        let b = side[i];
+    let mut n = END_AND_HIDDEN;
+    for b in side {
         if b == NO_TOKEN {
             return n;
         }
         n += adds(places, b);
-        i += 1;
     }
     n
 }
@@ -109,13 +93,7 @@ fn adds(places: [u8; SHEET_FIELDS], b: u8) -> usize
     }
     let f = field_of(b);
     if f < SHEET_FIELDS {
-        return wide(places[f]);
+        return usize::from(places[f]);
     }
     0
-}
-
-fn wide(x: u8) -> usize
-    ensures { (result ≡ x) × (result ≤ 255) }
-{
-    x as usize
 }

@@ -2,7 +2,7 @@
 // front with the other.
 #![tactic(auto)]
 
-ghost use Rattle.std.specs.Prelude.{◌≡◌, ◌∷◌, [], ◌++◌, map, ℕ, suc, ◌≤◌, ◌<◌, length, get_or, take};
+ghost use Rattle.std.specs.Prelude.{◌≡◌, ◌∷◌, [], ◌++◌, map, suc, ◌≤◌, ◌<◌, length, get_or, take};
 ghost use Rattle.paper.specs.Numbers.{longest_side};
 ghost use Rattle.base_codes.specs.Inner.{no_token, tokens};
 ghost use Rattle.search_tables.specs.Tables.{taking_of};
@@ -16,7 +16,7 @@ use base_codes::{
 use base_places::{CHARACTERS, PLACES, PlaceSet, PlaceTables};
 use base_question::Question;
 use plain_block::Crossed;
-use plain_rows::{BEHIND_START, CHARACTER_ROW, END_ROW, ROWS, Token};
+use plain_rows::{BEHIND_START, CHARACTER_ROW, END_ROW, ROWS, Token, lay};
 
 // How many tokens may be in front of a side: those that it has, and its end.
 const FRONTS: usize = LONGEST_SIDE + 1;
@@ -24,116 +24,100 @@ const FRONTS: usize = LONGEST_SIDE + 1;
 // The start of a token alone.
 const START: PlaceSet = 1;
 
-// The larger of two numbers, and the smaller one.
-fn larger(a: usize, b: usize) -> usize
-    ensures { (a ≤ result) × (b ≤ result) × ((c : ℕ) → a ≤ c → b ≤ c → result ≤ c) }
+// The token with the number i of the n that a side has, over so many characters; behind them is its end.
+fn token_at(side: CodedSide, n: usize, i: usize, characters: usize) -> Token
+    requires { n ≤ longest_side }
+    ensures { result ≡ token_of characters (get_or (take n side) i no_token) }
 {
-    if a < b { b } else { a }
+    let b = if i < n { side[i] } else { NO_TOKEN };
+    plain_rows::token_of(b, characters)
 }
 
-fn smaller(a: usize, b: usize) -> usize
-    ensures { (result ≤ a) × (result ≤ b) × ((c : ℕ) → c < a → c < b → c < result) }
-{
-    if a < b { a } else { b }
+// The rows of the tokens in front: for each the places that may follow each place, those that take each character, and those that may be the last one.
+#[derive(Clone, Copy)]
+struct Rows<'a> {
+    follow: &'a [[PlaceSet; PLACES]; ROWS],
+    taking: &'a [[PlaceSet; CHARACTERS]; ROWS],
+    last: &'a [PlaceSet; ROWS],
 }
 
-// Two tokens in front, by their rows. Where neither came in front nothing is met.
-fn crossed(
-    left: Token,
-    right: Token,
-    follow: &[[PlaceSet; PLACES]; ROWS],
-    taking: &[[PlaceSet; CHARACTERS]; ROWS],
-    last: &[PlaceSet; ROWS],
-    left_came: PlaceSet,
-    right_came: PlaceSet,
-) -> Crossed
-    requires { (left.row < rows) × (right.row < rows) × (length last.now ≡ rows) }
-    ensures { CrossesFronts (front_by follow.now taking.now last.now left) (front_by follow.now taking.now last.now right) left_came right_came result }
-{
-    if left_came == 0 {
-        if right_came == 0 {
+impl Rows<'_> {
+    // Two tokens in front, by their rows. Where neither came in front nothing is met.
+    fn crossed(
+        &self,
+        left: Token,
+        right: Token,
+        left_came: PlaceSet,
+        right_came: PlaceSet,
+    ) -> Crossed
+        requires { (left.row < rows) × (right.row < rows) }
+        ensures { CrossesFronts (front_by self.now.follow.now self.now.taking.now self.now.last.now left) (front_by self.now.follow.now self.now.taking.now self.now.last.now right) left_came right_came result }
+    {
+        if left_came == 0 && right_came == 0 {
             return Crossed {
                 left: 0,
                 right: 0,
                 starts: false,
             };
         }
+        let l = left.row;
+        let r = right.row;
+        let lo = left.lo.max(right.lo);
+        let hi = left.hi.min(right.hi);
+        plain_block::cross(
+            &self.follow[l],
+            &self.taking[l],
+            self.last[l],
+            &self.follow[r],
+            &self.taking[r],
+            self.last[r],
+            lo,
+            hi,
+            left_came,
+            right_came,
+        )
     }
-    let l = left.row;
-    let r = right.row;
-    let lo = larger(left.lo, right.lo);
-    let hi = smaller(left.hi, right.hi);
-    plain_block::cross(
-        &follow[l], &taking[l], last[l], &follow[r], &taking[r], last[r], lo, hi, left_came,
-        right_came,
-    )
-}
 
-// The token with the number i of the n that a side has, over so many characters; behind them is its end.
-fn token_at(side: CodedSide, n: usize, i: usize, characters: usize) -> Token
-    requires { n ≤ longest_side }
-    ensures { result ≡ token_of characters (get_or (take n side) i no_token) }
-{
-    let mut b = NO_TOKEN;
-    if i < n {
-        b = side[i];
+    // One left token with each right token, and with the end of the right side. `came` has the right places at which the left token came in front, for
+    // each right token, and then those at which the next left one does. Are the starts met of the left token and of the right side's end?
+    fn across(
+        &self,
+        left: Token,
+        right: CodedSide,
+        n: usize,
+        characters: usize,
+        came: &mut [PlaceSet; FRONTS],
+    ) -> bool
+        requires { (left.row < rows) × (n ≤ longest_side) }
+        ensures { Goes_on (front_by self.now.follow.now self.now.taking.now self.now.last.now left) (fronts characters self.now.follow.now self.now.taking.now self.now.last.now (take n right)) n came.old came.new result }
+    {
+        let mut right_came = 0;
+        let mut met = false;
+        for j in 0..n + 1 {
+            let token = token_at(right, n, j, characters);
+            let x = self.crossed(left, token, came[j], right_came);
+            came[j] = x.left;
+            right_came = x.right;
+            met = x.starts;
+        }
+        met
     }
-    plain_rows::token_of(b, characters)
-}
 
-// One left token with each right token, and with the end of the right side. `came` has the right places at which the left token came in front, for
-// each right token, and then those at which the next left one does. Are the starts met of the left token and of the right side's end?
-fn across(
-    left: Token,
-    right: CodedSide,
-    n: usize,
-    characters: usize,
-    follow: &[[PlaceSet; PLACES]; ROWS],
-    taking: &[[PlaceSet; CHARACTERS]; ROWS],
-    last: &[PlaceSet; ROWS],
-    came: &mut [PlaceSet; FRONTS],
-) -> bool
-    requires { (left.row < rows) × (n ≤ longest_side) × (length last.now ≡ rows) × (length came.old ≡ suc longest_side) }
-    ensures { Goes_on (front_by follow.now taking.now last.now left) (fronts characters follow.now taking.now last.now (take n right)) n came.old came.new result }
-{
-    let mut right_came = 0;
-    let mut met = false;
-    let mut j = 0;
-    while j <= n {
-        let token = token_at(right, n, j, characters);
-        let x = crossed(left, token, follow, taking, last, came[j], right_came);
-        came[j] = x.left;
-        right_came = x.right;
-        met = x.starts;
-        j += 1;
+    // Each left token with each right one, the sides' ends among them: are the starts of both ends met?
+    fn ends_met(&self, left: CodedSide, right: CodedSide, characters: usize) -> bool
+        ensures { Says result (Reached (fronts characters self.now.follow.now self.now.taking.now self.now.last.now (tokens left)) (fronts characters self.now.follow.now self.now.taking.now self.now.last.now (tokens right)) (length (tokens left)) 0 (length (tokens right)) 0) }
+    {
+        let n = length_of(left);
+        let m = length_of(right);
+        let mut came = [0; FRONTS];
+        came[0] = START;
+        let mut met = false;
+        for i in 0..n + 1 {
+            let token = token_at(left, n, i, characters);
+            met = self.across(token, right, m, characters, &mut came);
+        }
+        met
     }
-    met
-}
-
-// Each left token with each right one, the sides' ends among them: are the starts of both ends met?
-fn ends_met(
-    left: CodedSide,
-    right: CodedSide,
-    characters: usize,
-    follow: &[[PlaceSet; PLACES]; ROWS],
-    taking: &[[PlaceSet; CHARACTERS]; ROWS],
-    last: &[PlaceSet; ROWS],
-) -> bool
-    requires { length last.now ≡ rows }
-    ensures { Says result (Reached (fronts characters follow.now taking.now last.now (tokens left)) (fronts characters follow.now taking.now last.now (tokens right)) (length (tokens left)) 0 (length (tokens right)) 0) }
-{
-    let n = length_of(left);
-    let m = length_of(right);
-    let mut came = [0; FRONTS];
-    came[0] = START;
-    let mut met = false;
-    let mut i = 0;
-    while i <= n {
-        let token = token_at(left, n, i, characters);
-        met = across(token, right, m, characters, follow, taking, last, &mut came);
-        i += 1;
-    }
-    met
 }
 
 // For every row and every character the places that take it, and each left token with each right one. The rows are made here: handed back they would be
@@ -147,7 +131,6 @@ fn rows_met(
     follow: &[[PlaceSet; PLACES]; ROWS],
     last: &[PlaceSet; ROWS],
 ) -> bool
-    requires { length last.now ≡ rows }
     ensures { Says result (Reached (fronts characters follow.now (map taking_of (rows_of (own ++ (hidden ∷ hidden ∷ [])))) last.now (tokens left)) (fronts characters follow.now (map taking_of (rows_of (own ++ (hidden ∷ hidden ∷ [])))) last.now (tokens right)) (length (tokens left)) 0 (length (tokens right)) 0) }
 {
     let spaces = hidden.taking;
@@ -156,14 +139,19 @@ fn rows_met(
     taking[CHARACTER_ROW] = one;
     let none = [0; CHARACTERS];
     taking[END_ROW] = none;
-    let mut f = 0;
-    while f < SHEET_FIELDS {
-        let tables = own[f];
-        let its = tables.taking;
-        taking[f] = its;
-        f += 1;
-    }
-    ends_met(left, right, characters, follow, &taking, last)
+    lay(
+        &mut taking,
+        &own,
+        |tables|
+            ensures { result ≡ taking_of tables.now }
+        { tables.taking },
+    );
+    let rows = Rows {
+        follow,
+        taking: &taking,
+        last,
+    };
+    rows.ends_met(left, right, characters)
 }
 
 // Is some label read by both sides, each standing apart? Where no field stands twice that is a clash.

@@ -1,5 +1,5 @@
 -- Rows of tokens in front:
---   laid_none, laid_more, laid_all : a part of each field's tables, stored one field after the other, in front of the rows of a character and of an end
+--   laid_more, laid_rows : a part of each field's tables, stored one field after the other, in front of the rows of a character and of an end
 --   token_front                     : the token with an inner code, by its rows, is the token in front of `front_of`
 --   token_row                       : its row is there
 --   get_or_either                     : what stands in a list, whatever would stand behind its end
@@ -11,8 +11,8 @@ use mathlib.Core.Path.{◌≡◌, refl, sym, ap, ◌∙◌}
 use mathlib.Core.Bool.{true, false}
 use mathlib.Core.List.{List, [], ◌∷◌, ◌++◌, map, append_assoc}
 use lib.Dec.{ltb}
-use lib.ListN.{length, get_or, take, drop, set, length-map, length-append, length-drop, get_or-map, get_or-append, get_or-eq_default}
-use lib.Seq.{take-suc, drop-cons, take_all, set_at, length-take-le, get_or-append-add}
+use lib.ListN.{length, get_or, take, drop, set, length-map, get_or-map, get_or-append, get_or-eq_default}
+use lib.Seq.{take-suc, drop-cons, set_at, length-take-le, get_or-append-add}
 use Rattle.paper.specs.Numbers.{fields, set_fields}
 use Rattle.paper.proofs.base.Lists.{map_append}
 use Rattle.paper.proofs.base.Tests.{by_bool, ltb_true, ltb_false}
@@ -39,12 +39,6 @@ module _ {A : Type 0} (part : PlaceTables → A) (own : List PlaceTables) (d : L
     pub is : now ≡ take f parts ++ drop f d
 
   module _ (now : List A) (f : ℕ) (t : Laid now f) where
-    pub laid_long : length now ≡ rows
-    laid_long =
-        ap length t.is
-        ∙ length-append (take f parts) (drop f d)
-        ∙ omega (arith, t.all, t.at_most, t.long, length-map own part, length-take-le f parts (omega (arith, t.all, t.at_most, length-map own part)), length-drop f d)
-
     pub laid_more : f < fields → Laid (set now f (part (get_or own f none))) (f + 1)
     laid_more h =
         let x = part (get_or own f none) in
@@ -60,17 +54,12 @@ module _ {A : Type 0} (part : PlaceTables → A) (own : List PlaceTables) (d : L
               ∙ rw (add-one f, take-suc parts f (part none) many, there) (sym (append_assoc (take f parts) (x ∷ []) (drop (suc f) d)));
         }
 
-    pub laid_all : (hidden : PlaceTables) → fields ≤ f → drop fields d ≡ part hidden ∷ part hidden ∷ part one_place ∷ part no_tables ∷ []
-        → now ≡ map part (rows_of (own ++ (hidden ∷ hidden ∷ [])))
-    laid_all hidden h e =
-        let same : f ≡ fields = omega (arith, t.at_most) in
-        t.is
-        ∙ rw (same, e, take_all fields parts (omega (arith, t.all, length-map own part)))
-        (sym (map_append part own (hidden ∷ hidden ∷ one_place ∷ no_tables ∷ [])))
-        ∙ ap (map part) (sym (append_assoc own (hidden ∷ hidden ∷ []) (one_place ∷ no_tables ∷ [])))
-
-  pub laid_none : length own ≡ fields → length d ≡ rows → Laid d 0
-  laid_none all long = record { all = all; at_most = omega arith; long = long; is = refl }
+-- behind the fields' parts those of the hidden ones, of a character and of an end
+pub laid_rows : {A : Type 0} (part : PlaceTables → A) (own : List PlaceTables) (hidden : PlaceTables)
+    → map part own ++ (part hidden ∷ part hidden ∷ part one_place ∷ part no_tables ∷ []) ≡ map part (rows_of (own ++ (hidden ∷ hidden ∷ [])))
+laid_rows part own hidden =
+    sym (map_append part own (hidden ∷ hidden ∷ one_place ∷ no_tables ∷ []))
+    ∙ ap (map part) (sym (append_assoc own (hidden ∷ hidden ∷ []) (one_place ∷ no_tables ∷ [])))
 
 -- a number in a list, whatever it would be behind its end
 pub get_or_either : {A : Type 0} (l : List A) (n : ℕ) (d e : A) → n < length l → get_or l n d ≡ get_or l n e

@@ -1,9 +1,11 @@
 // The rows of the tokens in front (request K9): what is worked out of each field, the hidden ones last, then a row for every character and one for a
-// side's end. A character is
-// read as a field with one leaf would be.
+// side's end. A character is read as a field with one leaf would be.
 #![tactic(auto)]
 
-ghost use Rattle.std.specs.Prelude.{◌≡◌, ◌∷◌, [], ◌++◌, map};
+ghost use Rattle.std.specs.Prelude.{◌≡◌, ◌∷◌, [], ◌++◌, map, drop};
+ghost use Rattle.std.specs.Fn.{FnReturnsAt};
+ghost use Rattle.paper.specs.Numbers.{fields};
+ghost use Rattle.base_places.specs.declared.PlaceTables.{PlaceTables};
 ghost use Rattle.search_tables.specs.Tables.{follow_of, last_of};
 ghost use Rattle.plain_rows.specs.Rows.{rows_of, token_of};
 
@@ -24,6 +26,20 @@ pub const ROWS: usize = FIELDS + 2;
 // The place behind the start of a character.
 pub const BEHIND_START: PlaceSet = 2;
 
+// A part of what is worked out of each of the sheet's own fields goes into the field's row. The other rows stay.
+pub fn lay<T: Copy, F: Fn(&PlaceTables) -> T>(
+    rows: &mut [T; ROWS],
+    own: &[PlaceTables; SHEET_FIELDS],
+    part: F,
+)
+    requires { F.IsAlwaysCallable part }
+    ensures { (of : PlaceTables → T) → ((t : PlaceTables) (x : T) → FnReturnsAt F.Fn part t x → x ≡ of t) → rows.new ≡ map of own.now ++ drop fields rows.old }
+{
+    for (f, tables) in own.iter().enumerate() {
+        rows[f] = part(tables);
+    }
+}
+
 // For every row and every place the places that may follow.
 pub fn follow_rows(
     own: [PlaceTables; SHEET_FIELDS],
@@ -31,20 +47,18 @@ pub fn follow_rows(
 ) -> [[PlaceSet; PLACES]; ROWS]
     ensures { result ≡ map follow_of (rows_of (own ++ (hidden ∷ hidden ∷ []))) }
 {
-    let mut rows = [[0; PLACES]; ROWS];
     let spaces = hidden.follow;
+    let mut rows = [[0; PLACES]; ROWS];
     rows[LEFT_ROW] = spaces;
     rows[RIGHT_ROW] = spaces;
-    let mut one = [0; PLACES];
-    one[0] = BEHIND_START;
-    rows[CHARACTER_ROW] = one;
-    let mut f = 0;
-    while f < SHEET_FIELDS {
-        let tables = own[f];
-        let follow = tables.follow;
-        rows[f] = follow;
-        f += 1;
-    }
+    rows[CHARACTER_ROW][0] = BEHIND_START;
+    lay(
+        &mut rows,
+        &own,
+        |tables|
+            ensures { result ≡ follow_of tables.now }
+        { tables.follow },
+    );
     rows
 }
 
@@ -53,17 +67,10 @@ pub fn last_rows(own: [PlaceTables; SHEET_FIELDS], hidden: PlaceTables) -> [Plac
     ensures { result ≡ map last_of (rows_of (own ++ (hidden ∷ hidden ∷ []))) }
 {
     let mut rows = [0; ROWS];
-    let spaces = hidden.last;
-    rows[LEFT_ROW] = spaces;
-    rows[RIGHT_ROW] = spaces;
+    rows[LEFT_ROW] = hidden.last;
+    rows[RIGHT_ROW] = hidden.last;
     rows[CHARACTER_ROW] = BEHIND_START;
-    let mut f = 0;
-    while f < SHEET_FIELDS {
-        let tables = own[f];
-        let last = tables.last;
-        rows[f] = last;
-        f += 1;
-    }
+    lay(&mut rows, &own, |tables| tables.last);
     rows
 }
 
@@ -75,18 +82,12 @@ pub struct Token {
     pub hi: usize,
 }
 
-fn wide(b: u8) -> usize
-    ensures { result ≡ b }
-{
-    b as usize
-}
-
 // The token with the inner code b, over so many characters; 255, and a field that there is none of, is a side's end.
 pub fn token_of(b: u8, characters: usize) -> Token
     ensures { result ≡ token_of characters b }
 {
     if b < FIELD_CODE {
-        let a = wide(b);
+        let a = usize::from(b);
         return Token {
             row: CHARACTER_ROW,
             lo: a,

@@ -6,8 +6,8 @@
 
 use base_answers::Numbers;
 use base_editions::Edition;
-use print_lines::{FIRST_LINE, Filled};
-use print_out::{How, Streams, least, low_first, read_first, tell, tell_end};
+use print_lines::FIRST_LINE;
+use print_out::{Failure, Streams, low_first, print, read_first, tell, tell_end};
 
 // The length, the longest sheet that it can tell, and 65,535 records of the longest, a character's. "50 if it is past the 65,534th": what stands behind
 // is never looked at.
@@ -20,58 +20,46 @@ const ANSWER: usize = 4096;
 const PRINTED: usize = FIRST_LINE + 2 * ANSWER;
 
 fn main(rt: HostRuntime) {
+    tell_end(&rt, b"play", run(&rt));
+}
+
+fn run(rt: &impl Streams) -> Result<(), Failure> {
     let mut input = [0u8; INPUT];
-    read_in(&rt, &mut input);
+    let n = read_first(rt, &mut input)?;
+    play_input(rt, &input[..n])
 }
 
-fn read_in(rt: &impl Streams, input: &mut [u8]) {
-    let got = read_first(rt, input);
-    let n = got.bytes;
-    if got.read {
-        play_input(rt, &input[0..n]);
-    } else {
-        tell_end(rt, b"play", How::NotRead);
-    }
-}
-
-fn play_input(rt: &impl Streams, input: &[u8]) {
+fn play_input(rt: &impl Streams, input: &[u8]) -> Result<(), Failure> {
     if input.len() < 2 {
         tell(rt, b"play: no length of a sheet\n");
-        return;
+        return Ok(());
     }
     let sheet = low_first(input[0], input[1], 0, 0);
     if input.len() - 2 < sheet {
         tell(rt, b"play: fewer bytes than the sheet's length says\n");
-        return;
+        return Ok(());
     }
     let end = 2 + sheet;
-    print(rt, &input[2..end], &input[end..]);
+    play(rt, &input[2..end], &input[end..])
 }
 
-fn print(rt: &impl Streams, sheet: &[u8], steps: &[u8]) {
+fn play(rt: &impl Streams, sheet: &[u8], steps: &[u8]) -> Result<(), Failure> {
     let mut answer = [0u8; ANSWER];
-    print_played(rt, sheet, steps, &mut answer);
-}
-
-fn print_played(rt: &impl Streams, sheet: &[u8], steps: &[u8], answer: &mut [u8]) {
     let edition = print_signs::edition(sheet);
-    let told = play_sheet::in_numbers(play_sheet::play(sheet, steps, answer));
-    let mut out = [0u8; PRINTED];
-    print_told(rt, edition, told, answer, &mut out);
+    let told = play_sheet::in_numbers(play_sheet::play(sheet, steps, &mut answer));
+    print_told(rt, edition, told, &answer)
 }
 
-fn print_told(rt: &impl Streams, edition: Edition, told: Numbers, answer: &[u8], out: &mut [u8]) {
-    let filled = print_lines::put_lines(out, edition, told, answer);
-    match filled {
-        Filled::Bytes(n) => {
-            let bytes = least(n, out.len());
-            tell_end(
-                rt,
-                b"play",
-                print_out::print(rt, How::Going, &out[0..bytes]),
-            );
-        }
+fn print_told(
+    rt: &impl Streams,
+    edition: Edition,
+    told: Numbers,
+    answer: &[u8],
+) -> Result<(), Failure> {
+    let mut out = [0u8; PRINTED];
+    match print_lines::put_lines(&mut out, edition, told, answer) {
+        Some(n) => print(rt, &out[..n.min(PRINTED)]),
         // never: the buffer has room for the longest lines
-        Filled::NoRoom => {}
+        None => Ok(()),
     }
 }

@@ -2,7 +2,7 @@
 -- Follows from the definitions.
 use Prim.Native.Nat.{ℕ}
 use native.Mathlib.Omega.{arith}
-use mathlib.Core.Path.{◌≡◌, sym, ap, subst, ◌∙◌}
+use mathlib.Core.Path.{◌≡◌, refl, ap, subst, ◌∙◌}
 use mathlib.Core.Bool.{Bool}
 use mathlib.Core.List.{List, map}
 use lib.ListN.{length}
@@ -18,28 +18,29 @@ use Rattle.search_tables.specs.Tables.{follow_of, taking_of, last_of}
 use Rattle.search_trim.specs.Trimming.{question_coded}
 use Rattle.search_trim.proofs.Short.{question_short}
 use Rattle.search_children.specs.Children.{Tables}
-use Rattle.search_records.specs.declared.Given.{Given}
 use Rattle.play_step.specs.StepCoded.{lent_tables}
-use Rattle.play_walk.specs.WalkCoded.{walked}
-use Rattle.play_walk.specs.declared.Ending.{Ending}
-use Rattle.play_walk.specs.declared.Ending.TheVariants as Ending-as
-use Rattle.play_walk.specs.declared.Stop.{Stop}
-use Rattle.play_texts.specs.WayRecords.{way_records, WayAnswered}
-use Rattle.play_question.specs.QuestionPlayed.{end_of, question_tables, question_first, PartOf, PlayedFrom}
-use Rattle.play_question.specs.declared.Part.{Part}
-use Rattle.play_question.specs.declared.End.{End}
-use Rattle.play_question.specs.declared.End.TheVariants.{Stopped}
+use Rattle.play_walk.specs.WalkCoded.{Ending, walked}
+use Rattle.play_texts.specs.WayRecords.{way_records}
+use Rattle.play_question.specs.QuestionPlayed.{End, walk_end, TextsPut, question_tables, question_first, PartOf, PlayedFrom}
+use Rattle.play_question.specs.declared.PlayStop.{PlayStop}
+use Rattle.std.specs.Prelude.{Ok, Err}
 
-module _ (T : Tables) (s : Coded) (steps answer : List ℕ) (e : Ending) (w : e ≡ walked T s steps) where
-  pub stopped_from : (why : Stop) → e ≡ Ending-as.Stopped why → PlayedFrom T s steps answer answer (Stopped why)
-  stopped_from why h =
-      let is : walked T s steps ≡ Ending-as.Stopped why = sym w ∙ h in record { end = rw is; buffer = rw is }
+module _ (T : Tables) (s : Coded) (steps answer : List ℕ) where
+  pub stopped_from : (why : PlayStop) → Err why ≡ walk_end (walked T s steps) → PlayedFrom T s steps answer answer (Err why)
+  stopped_from why = by (walked T s steps) refl
+    where
+      by : (e : Ending) → walked T s steps ≡ e → Err why ≡ walk_end e → PlayedFrom T s steps answer answer (Err why)
+      by (Ok done) w h = absurd cc
+      by (Err y) w h = record { end = rw w h; buffer = rw w }
 
-  pub arrived_from : e ≡ Ending-as.Arrived → (after : List ℕ) (given : Given) (r : End) → WayAnswered (way_records T s steps) answer after given
-      → r ≡ end_of given → PlayedFrom T s steps answer after r
-  arrived_from h after given r a k =
-      let is : walked T s steps ≡ Ending-as.Arrived = sym w ∙ h in
-      record { end = k ∙ ap end_of a.given ∙ rw is; buffer = a.buffer ∙ rw is }
+  pub arrived_from : (n : ℕ) → Ok n ≡ walk_end (walked T s steps) → (after : List ℕ) (r : End) → TextsPut (way_records T s steps) answer after r
+      → PlayedFrom T s steps answer after r
+  arrived_from n = by (walked T s steps) refl
+    where
+      by : (e : Ending) → walked T s steps ≡ e → Ok n ≡ walk_end e → (after : List ℕ) (r : End) → TextsPut (way_records T s steps) answer after r
+          → PlayedFrom T s steps answer after r
+      by (Ok done) w h after r p = record { end = p.end ∙ rw w; buffer = p.buffer ∙ rw w }
+      by (Err y) w h after r p = absurd cc
 
 -- the situation that the struct of the trimmed question holds
 first_held : (left right : List ℕ) → length left ≡ longest_side → length right ≡ longest_side
@@ -66,7 +67,7 @@ pub part_whole : (s : Question) (whole : Hidden) (follow taking : List (List ℕ
     → length whole.left ≡ longest_side → length whole.right ≡ longest_side → whole ≡ with_hidden s
     → follow ≡ map follow_of whole.fields → taking ≡ map taking_of whole.fields → last ≡ map last_of whole.fields
     → first ≡ as_struct (question_coded (tokens whole.left) (tokens whole.right))
-    → (wanted : Bool) (steps before after : List ℕ) (r : Part)
+    → (wanted : Bool) (steps before after : List ℕ) (r : End)
     → PartOf wanted (lent_tables whole.characters follow taking last) (denoted first) steps before after r
     → PartOf wanted (question_tables s) (question_first s) steps before after r
 part_whole s whole follow taking last first l r w a b c d wanted steps before after x p =

@@ -37,12 +37,10 @@ use Rattle.search_children.proofs.CodedSides.{known_side}
 use Rattle.search_children.proofs.CodedQuestion.{known_append, marked_stands}
 use Rattle.search_records.specs.Records.{fields_with_sets}
 use Rattle.play_step.specs.StepCoded.{lent_tables}
-use Rattle.play_walk.specs.WalkCoded.{text_walked}
-use Rattle.play_walk.specs.declared.Ending.{Ending}
+use Rattle.play_walk.specs.WalkCoded.{Ending, text_walked}
 use Rattle.play_walk.proofs.WalkAgrees.{Tells, arrives, stops, first_coded, walk_told}
 use Rattle.play_texts.specs.WayRecords.{records_along, way_records, way_given, way_buffer}
-use Rattle.play_question.specs.QuestionPlayed.{question_tables, question_first, end_of, end_by, buffer_by, PlayedFrom, told_end}
-use Rattle.play_question.specs.declared.End.{End}
+use Rattle.play_question.specs.QuestionPlayed.{End, question_tables, question_first, end_of, end_by, buffer_by, PlayedFrom, told_end}
 
 -- 20 before 0, in both
 fits_told : (bytes answer : List ℕ) → told_end (end_of (way_given bytes answer)) (way_buffer bytes answer) ≡ play_told bytes answer

@@ -3,57 +3,48 @@
 #![tactic(auto)]
 
 ghost use Rattle.std.specs.Prelude.{◌≡◌};
-ghost use Rattle.play_question.specs.QuestionPlayed.{end_of, question_tables, question_first, PartOf, PlayedFrom};
+ghost use Rattle.play_question.specs.QuestionPlayed.{question_tables, question_first, PartOf, PlayedFrom};
+ghost use Rattle.play_question.specs.declared.PlayStop.TheVariants.{Stopped};
 
 use base_codes::{HIDDEN_LEFT, HIDDEN_RIGHT};
 use base_question::Question;
-use play_walk::{Ending, Stop};
-use search_records::Given;
+use play_walk::{Stop, Tables};
 
-// How playing ends.
+// Why no texts are written.
 #[derive(Clone, Copy)]
-pub enum End {
-    // 0: the answer buffer holds a text for each field standing in the sides
-    Texts { written: usize },
+pub enum PlayStop {
     // 20: the finish, but the answer buffer is too short for the texts
     AnswerTooShort,
     // 47 to 50, and 19
-    Stopped { why: Stop },
+    Stopped(Stop),
 }
 
-// Where the walk of the steps ends, and what became of the texts. Only the one that was wanted says something.
-#[derive(Clone, Copy)]
-struct Part {
-    ending: Ending,
-    given: Given,
-}
+impl From<Stop> for PlayStop {
+    ghost from_gives = { λ why stop. stop ≡ Stopped why };
 
-fn end_of(given: Given) -> End
-    ensures { result ≡ end_of given }
-{
-    match given {
-        Given::TooShort => End::AnswerTooShort,
-        Given::Bytes(written) => End::Texts { written },
+    fn from(why: Stop) -> Self
+        ensures { result ≡ Stopped why }
+    {
+        PlayStop::Stopped(why)
     }
 }
 
-// Plays the records of steps from the trimmed question on: the steps are walked, and where they arrive the texts are put.
-pub fn play(question: Question, steps: &[u8], answer: &mut [u8]) -> End
+// Plays the records of steps from the trimmed question on: the steps are walked, and where they arrive the texts are put. It tells how many bytes they have.
+pub fn play(question: Question, steps: &[u8], answer: &mut [u8]) -> Result<usize, PlayStop>
     ensures { PlayedFrom (question_tables question) (question_first question) steps.now answer.old answer.new result }
 {
-    let mut none = [0; 1];
-    let walked = play_part(question, steps, &mut none[0..0], false);
-    let ending = walked.ending;
-    if let Ending::Stopped { why } = ending {
-        return End::Stopped { why };
-    }
-    let put = play_part(question, steps, answer, true);
-    let given = put.given;
-    end_of(given)
+    play_part(question, steps, &mut [], false)?;
+    play_part(question, steps, answer, true)
 }
 
-// The walk, or the texts where they are wanted. It has two callers: its tables are on the stack only after the sheet is read.
-fn play_part(question: Question, steps: &[u8], answer: &mut [u8], wanted: bool) -> Part
+// The walk, or the texts where they are wanted.
+// Kept: (a) the stack: as it has two callers, its tables are there only after the sheet is read; a closure for each part would be one caller each.
+fn play_part(
+    question: Question,
+    steps: &[u8],
+    answer: &mut [u8],
+    wanted: bool,
+) -> Result<usize, PlayStop>
     ensures { PartOf wanted (question_tables question) (question_first question) steps.now answer.old answer.new result }
 {
     let alphabet = question.alphabet;
@@ -69,18 +60,17 @@ fn play_part(question: Question, steps: &[u8], answer: &mut [u8], wanted: bool) 
     let follow = search_tables::follow_behind(own_fields, hidden);
     let last = search_tables::last_behind(own_fields, hidden);
     let taking = search_tables::taking_behind(own_fields, hidden);
+    let tables = Tables {
+        characters,
+        follow: &follow,
+        taking: &taking,
+        last,
+    };
     if wanted {
-        let given = play_texts::answer_way(
-            answer, first, steps, characters, &follow, &taking, last,
+        return play_texts::answer_way(answer, first, steps, &tables).ok_or(
+            PlayStop::AnswerTooShort,
         );
-        return Part {
-            ending: Ending::Arrived,
-            given,
-        };
     }
-    let ending = play_walk::walk(first, steps, characters, &follow, &taking, last);
-    Part {
-        ending,
-        given: Given::TooShort,
-    }
+    play_walk::walk(first, steps, &tables)?;
+    Ok(0)
 }

@@ -12,71 +12,40 @@ const STRIKE: usize = 3;
 
 const PUT: usize = 4;
 
-// A step by its inner code, and how many bytes its record has. No record has no bytes.
+// A step by its inner code, and how many bytes its record has.
+// Kept: (a) the step is a byte by its inner code, as the search's slots hold it and `play_step::step` takes it.
 #[derive(Clone, Copy)]
 pub struct Record {
     pub step: u8,
     pub bytes: usize,
 }
 
-fn read_as(step: u8, bytes: usize) -> Record
-    ensures { result ≡ record { step = step; bytes = bytes } }
-{
-    Record { step, bytes }
-}
-
-// The record that the bytes begin with, where there are so many characters.
-fn in_front(s: &[u8], characters: usize) -> Record
+// The record that the bytes begin with, where there are so many characters: "for kind 2 its value" is a character's.
+fn in_front(s: &[u8], characters: usize) -> Option<Record>
     ensures { result ≡ record_of (front_of characters s.now) }
 {
-    if s.len() < STRIKE {
-        return read_as(0, 0);
+    match s {
+        [b'S', b'T', 0, ..] => Some(Record {
+            step: LEFT_STRUCK,
+            bytes: STRIKE,
+        }),
+        [b'S', b'T', 1, ..] => Some(Record {
+            step: RIGHT_STRUCK,
+            bytes: STRIKE,
+        }),
+        [b'S', b'T', 2, value, ..] if usize::from(*value) < characters => {
+            Some(Record {
+                step: *value,
+                bytes: PUT,
+            })
+        }
+        _ => None,
     }
-    if s[0] != b'S' {
-        return read_as(0, 0);
-    }
-    if s[1] != b'T' {
-        return read_as(0, 0);
-    }
-    let kind = s[2];
-    if kind == 0 {
-        return read_as(LEFT_STRUCK, STRIKE);
-    }
-    if kind == 1 {
-        return read_as(RIGHT_STRUCK, STRIKE);
-    }
-    if kind != 2 {
-        return read_as(0, 0);
-    }
-    with_value(s, characters)
-}
-
-fn wide(b: u8) -> usize
-    ensures { result ≡ b }
-{
-    b as usize
-}
-
-// "and for kind 2 its value": that is a character's
-fn with_value(s: &[u8], characters: usize) -> Record
-    ensures { result ≡ record_of (with_value characters (drop 3 s.now)) }
-{
-    if s.len() < PUT {
-        return read_as(0, 0);
-    }
-    let value = s[3];
-    if wide(value) < characters {
-        return read_as(value, PUT);
-    }
-    read_as(0, 0)
 }
 
 // The record that stands at this place, where there are so many characters.
-pub fn front(s: &[u8], at: usize, characters: usize) -> Record
+pub fn front(s: &[u8], at: usize, characters: usize) -> Option<Record>
     ensures { result ≡ record_of (front_of characters (drop at s.now)) }
 {
-    if s.len() < at {
-        return read_as(0, 0);
-    }
-    in_front(&s[at..], characters)
+    in_front(s.get(at..)?, characters)
 }

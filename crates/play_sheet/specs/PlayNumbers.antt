@@ -1,27 +1,31 @@
 -- What the player's answer says, in numbers.
-use Rattle.std.specs.Prelude.{ℕ, List}
-use Rattle.paper.specs.Sheet.{fault_number}
+use Rattle.std.specs.Prelude.{ℕ, Result, Ok, Err, List}
 use Rattle.paper_steps.specs.Player.{Play}
-use Rattle.base_answers.specs.Faults.{fault_of}
+use Rattle.base_answers.specs.AnswerNumbers.{written_numbers, number_alone, refusal_numbers}
 use Rattle.base_answers.specs.declared.Numbers.{Numbers}
 use Rattle.play_walk.specs.WalkCoded.{stop_number}
-use Rattle.play_question.specs.declared.End.{End}
-use Rattle.play_question.specs.declared.End.TheVariants.{Texts, AnswerTooShort, Stopped}
-use Rattle.play_sheet.specs.declared.Playing.{Playing}
-use Rattle.play_sheet.specs.declared.Playing.TheVariants.{Ended, Refused}
+use Rattle.play_question.specs.declared.PlayStop as Stop
+use Rattle.play_question.specs.declared.PlayStop.TheVariants.{AnswerTooShort}
+use Rattle.play_question.specs.declared.PlayStop.TheVariants as Stop-as
+use Rattle.play_sheet.specs.declared.PlayError.{PlayError}
+use Rattle.play_sheet.specs.declared.PlayError.TheVariants.{Refused, Stopped}
 
 -- "Count and place 0 but for the sheet's own"
-abbrev pub without_count : ℕ → ℕ → ℕ → Numbers
-without_count number place written = record { number = number; count = 0; place = place; written = written }
+abbrev pub stop_numbers : Stop.PlayStop → Numbers
+stop_numbers AnswerTooShort = number_alone 20
+stop_numbers (Stop-as.Stopped why) = number_alone (stop_number why)
 
-abbrev pub end_numbers : End → Numbers
-end_numbers (Texts written) = without_count 0 0 written
-end_numbers AnswerTooShort = without_count 20 0 0
-end_numbers (Stopped why) = without_count (stop_number why) 0 0
+abbrev pub error_numbers : PlayError → Numbers
+error_numbers (Refused refusal) = refusal_numbers refusal
+error_numbers (Stopped stop) = stop_numbers stop
+
+-- so many bytes of texts are written, or none
+abbrev pub Playing : Type 0
+Playing = Result ℕ PlayError
 
 abbrev pub play_numbers : Playing → Numbers
-play_numbers (Ended end) = end_numbers end
-play_numbers (Refused x at) = without_count (fault_number (fault_of x)) at 0
+play_numbers (Ok written) = written_numbers written
+play_numbers (Err e) = error_numbers e
 
 -- what an answer tells, with the answer buffer as it is afterwards
 abbrev pub told_play : Playing → List ℕ → Play

@@ -11,7 +11,7 @@ use lib.ListN.{length, get_or, length-append}
 use Rattle.paper.specs.Lists.{upto, only, keep}
 use Rattle.paper.specs.Numbers.{fields}
 use Rattle.paper.specs.Outcome.{value_record}
-use Rattle.paper.proofs.base.Tests.{le_leb, lt_leb}
+use Rattle.paper.proofs.base.Tests.{le_leb, lt_leb, eq_eqb, neq_eqb}
 use Rattle.paper.proofs.base.Listed.{upto_snoc, each_append}
 use Rattle.paper_steps.specs.Player.{most_steps}
 use Rattle.base_codes.specs.Coded.{Coded}
@@ -20,7 +20,7 @@ use Rattle.base_put.proofs.Counting.{counted_then, counted_length, counted_in_fr
 use Rattle.search_children.specs.Children.{Tables}
 use Rattle.search_children.proofs.ChildTurns.{keep_append}
 use Rattle.search_records.specs.Records.{fields_with_sets}
-use Rattle.search_records.specs.declared.Given.TheVariants.{TooShort, Bytes}
+use Rattle.std.specs.Prelude.{None, Some}
 use Rattle.play_walk.specs.WalkCoded.{text_walked}
 use Rattle.play_walk.proofs.WalkAgrees.{text_short}
 use Rattle.play_texts.specs.WayRecords.{records_along, way_records, WayAnswered}
@@ -52,7 +52,7 @@ module _ (T : Tables) (s : Coded) (steps : List ℕ) where
   unfolding records_along
   along_none = refl
 
-  pub along_one : (f : ℕ) → records_along T s steps (f ∷ []) ≡ value_record f (text_walked T f s steps)
+  along_one : (f : ℕ) → records_along T s steps (f ∷ []) ≡ value_record f (text_walked T f s steps)
   unfolding records_along
   along_one f = append-nil (value_record f (text_walked T f s steps))
 
@@ -64,13 +64,20 @@ module _ (T : Tables) (s : Coded) (steps : List ℕ) where
   below f = records_along T s steps (keep stands (upto f))
 
   -- one field more
-  pub one_more_field : (f : ℕ) → below (f + 1) ≡ below f ++ records_along T s steps (only (stands f) f)
+  one_more_field : (f : ℕ) → below (f + 1) ≡ below f ++ records_along T s steps (only (stands f) f)
   unfolding records_along
   one_more_field f =
       ap below (add-one f)
       ∙ ap (λ (l : List ℕ). records_along T s steps (keep stands l)) (upto_snoc f)
       ∙ ap (records_along T s steps) (keep_append stands (upto f) (f ∷ []) ∙ ap (λ (l : List ℕ). keep stands (upto f) ++ l) (append-nil (only (stands f) f)))
       ∙ each_append (λ (g : ℕ). value_record g (text_walked T g s steps)) (keep stands (upto f)) (only (stands f) f)
+
+  -- by whether it stands
+  pub stands_more : (f : ℕ) → (get_or s.sets f 0 ≡ 0 → ⊥) → below (f + 1) ≡ below f ++ value_record f (text_walked T f s steps)
+  stands_more f h = one_more_field f ∙ rw (neq_eqb (get_or s.sets f 0) 0 h) (ap (λ (l : List ℕ). below f ++ l) (along_one f))
+
+  pub gone_more : (f : ℕ) → get_or s.sets f 0 ≡ 0 → below (f + 1) ≡ below f
+  gone_more f h = one_more_field f ∙ rw (eq_eqb (get_or s.sets f 0) 0 h, along_none) (append-nil (below f))
 
   pub all_fields : (f : ℕ) → f ≡ fields → below f ≡ way_records T s steps
   unfolding way_records fields_with_sets
@@ -103,13 +110,13 @@ module _ (T : Tables) (s : Coded) (steps : List ℕ) where
   bytes = way_records T s steps
 
   module _ (answer : List ℕ) {e : List ℕ} {n : ℕ} (p : Counted [] e 0 n bytes) where
-    pub too_short : length (e ++ answer) < n → WayAnswered bytes answer (e ++ answer) TooShort
+    pub too_short : length (e ++ answer) < n → WayAnswered bytes answer (e ++ answer) None
     too_short h =
         let same : e ++ answer ≡ answer = back_whole p in
         let t = lt_leb (length bytes) (length answer) (omega (arith, ap length same, counted_length p records_short)) in
         record { given = rw t; buffer = rw (t, same) }
 
-    pub written : {after : List ℕ} {m : ℕ} → n ≤ length (e ++ answer) → Counted (e ++ answer) after 0 m bytes → WayAnswered bytes answer after (Bytes m)
+    pub written : {after : List ℕ} {m : ℕ} → n ≤ length (e ++ answer) → Counted (e ++ answer) after 0 m bytes → WayAnswered bytes answer after (Some m)
     written {after} {m} h w =
         let same : e ++ answer ≡ answer = back_whole p in
         let room : length bytes ≤ length answer = omega (arith, ap length same, counted_length p records_short) in

@@ -2,20 +2,16 @@
 // working buffer is lent: for each field the steps are made again.
 #![tactic(auto)]
 
-ghost use Rattle.std.specs.Prelude.{not, ◌∷◌, [], ◌≡◌, ◌/◌, ◌%◌, ◌<◌, eqb};
-ghost use Rattle.paper.specs.Lists.{only};
+ghost use Rattle.std.specs.Prelude.{◌∷◌, [], ◌≡◌, ◌/◌, ◌%◌};
 ghost use Rattle.paper.specs.Outcome.{value_record};
 ghost use Rattle.base_codes.specs.Coded.{denoted};
 ghost use Rattle.base_put.specs.Counted.{Counted};
-ghost use Rattle.play_step.specs.StepCoded.{lent_tables};
-ghost use Rattle.play_walk.specs.WalkCoded.{text_walked};
-ghost use Rattle.play_texts.specs.WayRecords.{records_along, way_records, WayAnswered};
+ghost use Rattle.play_walk.specs.WalkCoded.{tables_of, text_walked};
+ghost use Rattle.play_texts.specs.WayRecords.{way_records, WayAnswered};
 
 use base_codes::{FIELDS, SHEET_FIELDS, Situation};
-use base_places::{CHARACTERS, PLACES, PlaceSet};
 use base_put::put_all;
-use play_walk::put_text;
-use search_records::Given;
+use play_walk::{Tables, put_text};
 
 // "`VA`, field byte, length in two bytes (low first)"
 const HEAD: usize = 5;
@@ -33,72 +29,25 @@ fn put_record(
     first: Situation,
     steps: &[u8],
     f: u8,
-    characters: usize,
-    follow: &[[PlaceSet; PLACES]; FIELDS],
-    taking: &[[PlaceSet; CHARACTERS]; FIELDS],
-    last: [PlaceSet; FIELDS],
+    tables: &Tables,
 ) -> usize
-    ensures { Counted out.old out.new at result (value_record f (text_walked (lent_tables characters follow.now taking.now last) f (denoted first) steps.now)) }
+    ensures { Counted out.old out.new at result (value_record f (text_walked (tables_of tables.now) f (denoted first) steps.now)) }
 {
-    let n = put_text(
-        &mut out[0..0],
-        0,
-        first,
-        steps,
-        f,
-        characters,
-        follow,
-        taking,
-        last,
-    );
-    let head = head(f, n);
-    let begun = put_all(out, at, &head);
-    put_text(
-        out, begun, first, steps, f, characters, follow, taking, last,
-    )
+    let n = put_text(&mut out[0..0], 0, first, steps, f, tables);
+    let begun = put_all(out, at, &head(f, n));
+    put_text(out, begun, first, steps, f, tables)
 }
 
-// That of a field whose first place set is this, if it stands.
-fn put_field(
-    out: &mut [u8],
-    at: usize,
-    first: Situation,
-    steps: &[u8],
-    f: u8,
-    set: PlaceSet,
-    characters: usize,
-    follow: &[[PlaceSet; PLACES]; FIELDS],
-    taking: &[[PlaceSet; CHARACTERS]; FIELDS],
-    last: [PlaceSet; FIELDS],
-) -> usize
-    ensures { Counted out.old out.new at result (records_along (lent_tables characters follow.now taking.now last) (denoted first) steps.now (only (not (eqb set 0)) f)) }
+// "for each field standing in the sides, by rising number": those with a first place set
+fn put_records(out: &mut [u8], first: Situation, steps: &[u8], tables: &Tables) -> usize
+    ensures { Counted out.old out.new 0 result (way_records (tables_of tables.now) (denoted first) steps.now) }
 {
-    if set == 0 {
-        return at;
-    }
-    put_record(out, at, first, steps, f, characters, follow, taking, last)
-}
-
-// "for each field standing in the sides, by rising number"
-fn put_records(
-    out: &mut [u8],
-    first: Situation,
-    steps: &[u8],
-    characters: usize,
-    follow: &[[PlaceSet; PLACES]; FIELDS],
-    taking: &[[PlaceSet; CHARACTERS]; FIELDS],
-    last: [PlaceSet; FIELDS],
-) -> usize
-    ensures { Counted out.old out.new 0 result (way_records (lent_tables characters follow.now taking.now last) (denoted first) steps.now) }
-{
-    let sets = first.sets;
     let mut end = 0;
-    let mut f = 0;
-    while f < SHEET_FIELDS {
-        end = put_field(
-            out, end, first, steps, f as u8, sets[f], characters, follow, taking, last,
-        );
-        f += 1;
+    for f in 0..SHEET_FIELDS {
+        let set = first.sets[f];
+        if set != 0 {
+            end = put_record(out, end, first, steps, f as u8, tables);
+        }
     }
     end
 }
@@ -108,25 +57,13 @@ pub fn answer_way(
     answer: &mut [u8],
     first: Situation,
     steps: &[u8],
-    characters: usize,
-    follow: &[[PlaceSet; PLACES]; FIELDS],
-    taking: &[[PlaceSet; CHARACTERS]; FIELDS],
-    last: [PlaceSet; FIELDS],
-) -> Given
-    ensures { WayAnswered (way_records (lent_tables characters follow.now taking.now last) (denoted first) steps.now) answer.old answer.new result }
+    tables: &Tables,
+) -> Option<usize>
+    ensures { WayAnswered (way_records (tables_of tables.now) (denoted first) steps.now) answer.old answer.new result }
 {
-    let length = put_records(
-        &mut answer[0..0],
-        first,
-        steps,
-        characters,
-        follow,
-        taking,
-        last,
-    );
+    let length = put_records(&mut answer[0..0], first, steps, tables);
     if answer.len() < length {
-        return Given::TooShort;
+        return None;
     }
-    let written = put_records(answer, first, steps, characters, follow, taking, last);
-    Given::Bytes(written)
+    Some(put_records(answer, first, steps, tables))
 }

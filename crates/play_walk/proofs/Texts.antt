@@ -1,36 +1,10 @@
--- The characters that a step gives a field, test by test; and a text that is put one character after the other.
--- Follows from the definitions and the laws of bytes put and counted.
-use Prim.Native.Nat.{ℕ, ◌+◌, ◌≤◌, ◌<◌}
+-- A text that is put one character after the other.
+-- Follows from the laws of bytes put and counted.
+use Prim.Native.Nat.{ℕ}
 use mathlib.Core.Path.{◌≡◌, sym, subst, ◌∙◌}
-use mathlib.Core.Bool.{true, false}
-use mathlib.Core.List.{List, [], ◌∷◌, ◌++◌, append-nil, append_assoc}
-use lib.Dec.{eqb}
-use Rattle.paper.specs.Numbers.{most_characters}
-use Rattle.paper.proofs.base.Tests.{lt_ltb, le_ltb}
+use mathlib.Core.List.{List, [], ◌++◌, append-nil, append_assoc}
 use Rattle.base_put.specs.Counted.{Counted}
 use Rattle.base_put.proofs.Counting.{counted_none, counted_then}
-use Rattle.base_codes.specs.Inner.{field_code, front}
-use Rattle.base_codes.specs.Coded.{Coded}
-use Rattle.search_children.specs.Children.{given_coded}
-
-module _ (f : ℕ) (s : Coded) (step : ℕ) where
-  pub given_none : most_characters ≤ step → given_coded f s step ≡ []
-  unfolding given_coded
-  given_none h = rw (le_ltb step most_characters h)
-
-  module _ (h : step < most_characters) where
-    pub given_left : eqb (front s.left) (field_code + f) ≡ true → given_coded f s step ≡ step ∷ []
-    unfolding given_coded
-    given_left e = rw (lt_ltb step most_characters h, e)
-
-    module _ (n : eqb (front s.left) (field_code + f) ≡ false) where
-      pub given_right : eqb (front s.right) (field_code + f) ≡ true → given_coded f s step ≡ step ∷ []
-      unfolding given_coded
-      given_right e = rw (lt_ltb step most_characters h, n, e)
-
-      pub given_neither : eqb (front s.right) (field_code + f) ≡ false → given_coded f s step ≡ []
-      unfolding given_coded
-      given_neither e = rw (lt_ltb step most_characters h, n, e)
 
 -- some of the whole was put, and the rest is missing
 pub record Underway (whole rest before after : List ℕ) (at end : ℕ) : Type 0 where

@@ -7,6 +7,7 @@ use native.Mathlib.Omega.{arith}
 use mathlib.Core.Path.{◌≡◌, refl, sym, ap, ◌∙◌, subst}
 use mathlib.Core.Bool.{Bool, true, false, ◌&&◌, ◌||◌}
 use mathlib.Core.List.{List, [], ◌∷◌, ◌++◌, append-nil, append_assoc, reverse, Memᴰ}
+use Rattle.std.specs.Prelude.{Ok, Err}
 use lib.Dec.{ltb, eqb}
 use lib.ListN.{length, length-append}
 use Rattle.paper.specs.Lists.{only}
@@ -41,11 +42,9 @@ use Rattle.search_children.proofs.KeptCodable.{question_codable}
 use Rattle.search_children.proofs.Ways.{KnownMove, text_last, given_agrees}
 use Rattle.play_step.specs.StepCoded.{step_coded, settled_as}
 use Rattle.play_step.proofs.StepAgrees.{over_every, step_agrees, step_codable}
-use Rattle.play_walk.specs.WalkCoded.{stop_number, ended_coded, walk_on, walk_front, walk_from, walked, text_on, text_front, text_from, text_walked}
+use Rattle.play_walk.specs.WalkCoded.{Ending, stop_number, ended_coded, walk_on, walk_front, walk_from, walked, text_on, text_front, text_from, text_walked}
 use Rattle.play_walk.specs.declared.Stop.{Stop}
 use Rattle.play_walk.specs.declared.Stop.TheVariants.{PastMost, NoRecord, NotAllowed, SideTooLong, Unfinished}
-use Rattle.play_walk.specs.declared.Ending.{Ending}
-use Rattle.play_walk.specs.declared.Ending.TheVariants.{Arrived, Stopped}
 
 -- A text has no more characters than there are steps.
 length_only : (b : Bool) (x : ℕ) → length (only b x) ≤ 1
@@ -121,8 +120,8 @@ module _ (q : Question) (good : Searchable q) where
 
   -- What the walk by inner codes tells of the paper's: its number, and where it arrives the texts.
   pub data Tells (texts : ℕ → List ℕ) : Ending → Played → Type 0 where
-    arrives : (e : At) → ((f : ℕ) → f < set_fields → spelt f e ≡ texts f) → Tells texts Arrived (arrived e)
-    stops : (why : Stop) → Tells texts (Stopped why) (stopped (stop_number why))
+    arrives : (e : At) → ((f : ℕ) → f < set_fields → spelt f e ≡ texts f) → Tells texts (Ok tt) (arrived e)
+    stops : (why : Stop) → Tells texts (Err why) (stopped (stop_number why))
 
   tells_same : {texts : ℕ → List ℕ} {x : Ending} {y : Played} (others : ℕ → List ℕ) → ((f : ℕ) → f < set_fields → texts f ≡ others f)
       → Tells texts x y → Tells others x y

@@ -3,36 +3,29 @@
 use Prim.Native.Nat.{ℕ, zero, suc, ◌+◌, ◌-◌, ◌≤◌, ◌<◌}
 use native.Mathlib.Omega.{arith}
 use mathlib.Core.Path.{◌≡◌, refl, sym, ap, ◌∙◌}
-use mathlib.Core.Bool.{true, false}
 use mathlib.Core.List.{List, []}
+use Rattle.std.specs.Prelude.{Option, Some, None, Ok, Err}
+use Rattle.std.specs.Option.{ok_or}
 use lib.ListN.{length, drop, drop_of_length-le}
 use lib.Seq.{drop-cons}
 use Rattle.paper_steps.specs.StepRecords.{front_of}
 use Rattle.paper_steps.specs.Player.{most_steps}
-use Rattle.base_codes.specs.Coded.{Coded, finished_coded, denoted, Short}
+use Rattle.base_codes.specs.Coded.{Coded, denoted, Short}
 use Rattle.base_codes.proofs.Denoted.{denoted_laid}
-use Rattle.search_children.specs.Children.{Tables, dropped, above, made, given_coded}
+use Rattle.search_children.specs.Children.{Tables, made, given_coded}
 use Rattle.search_children.specs.Laid.{child_of}
+use Rattle.base_codes.specs.declared.Situation.{Situation}
 use Rattle.search_children.specs.declared.Child.{Child}
-use Rattle.search_children.specs.declared.Fate.TheVariants.{Dropped, Above, Made}
-use Rattle.search_children.proofs.Short.{fate_dropped, fate_above, fate_made}
+use Rattle.search_children.specs.declared.Child.TheVariants.{Dropped, Above, Made}
+use Rattle.search_children.proofs.Short.{child_made}
 use Rattle.play_record.specs.InFront.{record_of}
 use Rattle.play_record.specs.declared.Record.{Record}
 use Rattle.play_record.proofs.FrontRead.{Stands, front_told, front_none}
 use Rattle.play_step.specs.StepCoded.{step_coded}
 use Rattle.play_step.proofs.StepShort.{step_short}
-use Rattle.play_walk.specs.WalkCoded.{ended_coded, walk_on, walk_front, walk_from, walked, text_on, text_front, text_from, text_walked}
-use Rattle.play_walk.specs.declared.Ending.TheVariants.{Arrived, Stopped}
-use Rattle.play_walk.specs.declared.Stop.TheVariants.{PastMost, NoRecord, Unfinished}
-
-module _ (s : Coded) where
-  pub ended_arrived : finished_coded s ≡ true → ended_coded s ≡ Arrived
-  unfolding ended_coded
-  ended_arrived e = rw e
-
-  pub ended_before : finished_coded s ≡ false → ended_coded s ≡ Stopped Unfinished
-  unfolding ended_coded
-  ended_before e = rw e
+use Rattle.play_walk.specs.WalkCoded.{made_of, ended_coded, walk_on, walk_front, walk_from, walked, text_on, text_front, text_from, text_walked}
+use Rattle.play_walk.specs.declared.Stop.{Stop}
+use Rattle.play_walk.specs.declared.Stop.TheVariants.{PastMost, NoRecord}
 
 module _ (T : Tables) where
   -- the way goes on from here: all bytes from the first situation on, and those left from this one on
@@ -52,11 +45,11 @@ module _ (T : Tables) where
   walk_end zero s bytes at h = rw (drop_of_length-le bytes {i = at} h)
   walk_end (suc left) s bytes at h = rw (drop_of_length-le bytes {i = at} h)
 
-  pub walk_past : (left : ℕ) (s : Coded) (bytes : List ℕ) (at : ℕ) → left ≡ 0 → at < length bytes → walk_from T left s (drop at bytes) ≡ Stopped PastMost
+  pub walk_past : (left : ℕ) (s : Coded) (bytes : List ℕ) (at : ℕ) → left ≡ 0 → at < length bytes → walk_from T left s (drop at bytes) ≡ Err PastMost
   walk_past zero s bytes at e h = rw (drop-cons bytes at 0 h)
   walk_past (suc left) s bytes at e h = absurd (omega arith)
 
-  module _ (left : ℕ) (s : Coded) (bytes : List ℕ) (at : ℕ) (l : 0 < left) (r : Record) (e : r ≡ record_of (front_of T.characters (drop at bytes))) where
+  module _ (left : ℕ) (s : Coded) (bytes : List ℕ) (at : ℕ) (l : 0 < left) where
     -- one record
     front_walk : at < length bytes → walk_from T left s (drop at bytes) ≡ walk_front T (walk_from T (left - 1)) s (front_of T.characters (drop at bytes))
     front_walk h = by left l
@@ -72,15 +65,15 @@ module _ (T : Tables) where
         by zero k = absurd (omega arith)
         by (suc n) k = let d : n ≡ suc n - 1 = omega arith in rw (← d)
 
-    pub text_none : (f : ℕ) → r.bytes ≡ 0 → text_from T f left s (drop at bytes) ≡ []
-    text_none f z = front_text f ∙ ap (text_front T f (text_from T f (left - 1)) s) (front_none T.characters bytes at r e z)
+    pub text_none : (f : ℕ) → record_of (front_of T.characters (drop at bytes)) ≡ None → text_from T f left s (drop at bytes) ≡ []
+    text_none f e = front_text f ∙ ap (text_front T f (text_from T f (left - 1)) s) (front_none T.characters bytes at e)
 
-    pub walk_none : at < length bytes → r.bytes ≡ 0 → walk_from T left s (drop at bytes) ≡ Stopped NoRecord
-    walk_none h z = front_walk h ∙ ap (walk_front T (walk_from T (left - 1)) s) (front_none T.characters bytes at r e z)
+    pub walk_none : at < length bytes → record_of (front_of T.characters (drop at bytes)) ≡ None → walk_from T left s (drop at bytes) ≡ Err NoRecord
+    walk_none h e = front_walk h ∙ ap (walk_front T (walk_from T (left - 1)) s) (front_none T.characters bytes at e)
 
-    module _ (n : r.bytes ≡ 0 → ⊥) where
+    module _ (r : Record) (e : record_of (front_of T.characters (drop at bytes)) ≡ Some r) where
       its : Stands T.characters bytes at r
-      its = front_told T.characters bytes at r e n
+      its = front_told T.characters bytes at r e
 
       pub record_within : at + r.bytes ≤ length bytes
       record_within = its.within
@@ -100,25 +93,34 @@ module _ (T : Tables) where
           ∙ ap (text_front T f (text_from T f (left - 1)) s) its.here
           ∙ ap (λ (c : ℕ). text_on (given_coded f s c) (λ (t : Coded). text_from T f (left - 1) t (drop (at + r.bytes) bytes)) (step_coded T s c)) (sym its.code)
 
+-- whether a record was read
+pub some_record : (o : Option Record) (r : Record) → ok_or o NoRecord ≡ Ok r → o ≡ Some r
+some_record None r h = absurd cc
+some_record (Some x) r h = let same : x ≡ r = cc in ap Some same
+
+pub none_record : (o : Option Record) (why : Stop) → ok_or o NoRecord ≡ Err why → (o ≡ None) × (NoRecord ≡ why)
+none_record None why h = (refl, cc)
+none_record (Some x) why h = absurd cc
+
 -- What a child says of the step that made it.
 module _ (T : Tables) (s : Coded) (step : ℕ) (child : Child) (e : child ≡ child_of (step_coded T s step)) where
-  fate_of : child.fate ≡ (child_of (step_coded T s step)).fate
-  fate_of = ap (λ (c : Child). c.fate) e
-
-  pub is_dropped : child.fate ≡ Dropped → step_coded T s step ≡ dropped
-  is_dropped h = fate_dropped (step_coded T s step) (sym fate_of ∙ h)
-
-  pub is_above : child.fate ≡ Above → step_coded T s step ≡ above
-  is_above h = fate_above (step_coded T s step) (sym fate_of ∙ h)
-
   -- the situation that was made
-  pub record MadeBy : Type 0 where
-    pub made_here : step_coded T s step ≡ made (denoted child.at)
-    pub short : Short (denoted child.at)
+  pub record MadeBy (at : Situation) : Type 0 where
+    pub made_here : step_coded T s step ≡ made (denoted at)
+    pub short : Short (denoted at)
 
-  pub is_made : Short s → child.fate ≡ Made → MadeBy
-  is_made h k =
-      let (t, x, y) = fate_made (step_coded T s step) (sym fate_of ∙ k) in
+  pub is_made : (at : Situation) → Short s → child ≡ Made at → MadeBy at
+  is_made at h k =
+      let (t, x, y) = child_made (step_coded T s step) at (sym e ∙ k) in
       let short = step_short T step h x in
-      let same : denoted child.at ≡ t = ap (λ (c : Child). denoted c.at) e ∙ ap denoted y ∙ denoted_laid t short in
+      let same : denoted at ≡ t = ap denoted y ∙ denoted_laid t short in
       record { made_here = rw same x; short = rw same short }
+
+  -- the same from what `made` gives
+  pub gives_made : (at : Situation) → Short s → made_of child ≡ Ok at → MadeBy at
+  gives_made at h k = is_made at h (by child k)
+    where
+      by : (c : Child) → made_of c ≡ Ok at → c ≡ Made at
+      by Dropped k = absurd cc
+      by Above k = absurd cc
+      by (Made t) k = let same : t ≡ at = cc in ap Made same

@@ -6,12 +6,12 @@ ghost use Rattle.base_codes.specs.Inner.{field_code};
 ghost use Rattle.base_codes.specs.Coded.{denoted, finished_coded};
 ghost use Rattle.base_put.specs.Counted.{Counted};
 ghost use Rattle.search_children.specs.Children.{given_coded};
-ghost use Rattle.play_step.specs.StepCoded.{lent_tables};
-ghost use Rattle.play_walk.specs.WalkCoded.{ended_coded, walked, text_walked};
+ghost use Rattle.play_walk.specs.WalkCoded.{stop_number, tables_of, made_of, ended_coded, walked, text_walked};
 
+use base_answers::{NO_STEP, NOT_FINISHED, SIDE_TOO_LONG, STEP_NOT_ALLOWED, TOO_MANY_STEPS};
 use base_codes::{FIELD_CODE, FIELDS, NO_TOKEN, Situation};
 use base_places::{CHARACTERS, PLACES, PlaceSet};
-use search_children::Fate;
+use search_children::Child;
 
 // "50 if it is past the 65,534th"
 const MOST_STEPS: usize = 65534;
@@ -31,11 +31,28 @@ pub enum Stop {
     Unfinished,
 }
 
-// Where playing ends.
+impl Stop {
+    // The number of a refusal of the records.
+    pub fn number(self) -> usize
+        ensures { result ≡ stop_number self }
+    {
+        match self {
+            Stop::PastMost => TOO_MANY_STEPS,
+            Stop::NoRecord => NO_STEP,
+            Stop::NotAllowed => STEP_NOT_ALLOWED,
+            Stop::SideTooLong => SIDE_TOO_LONG,
+            Stop::Unfinished => NOT_FINISHED,
+        }
+    }
+}
+
+// What is worked out once of a question, lent: how many characters there are, and the tables of its fields.
 #[derive(Clone, Copy)]
-pub enum Ending {
-    Arrived,
-    Stopped { why: Stop },
+pub struct Tables<'a> {
+    pub characters: usize,
+    pub follow: &'a [[PlaceSet; PLACES]; FIELDS],
+    pub taking: &'a [[PlaceSet; CHARACTERS]; FIELDS],
+    pub last: [PlaceSet; FIELDS],
 }
 
 // "finished": both sides are empty
@@ -46,62 +63,45 @@ pub fn is_finished(s: Situation) -> bool
 }
 
 // "49 where the records end before the finish"
-fn ended(s: Situation) -> Ending
+#[tactic(auto, unfolding(crate::specs::WalkCoded::ended_coded))]
+fn ended(s: Situation) -> Result<(), Stop>
     ensures { result ≡ ended_coded (denoted s) }
 {
     if is_finished(s) {
-        return Ending::Arrived;
-    }
-    Ending::Stopped {
-        why: Stop::Unfinished,
+        Ok(())
+    } else {
+        Err(Stop::Unfinished)
     }
 }
 
-// Plays the records of steps from this situation on, where there are so many characters.
-pub fn walk(
-    first: Situation,
-    steps: &[u8],
-    characters: usize,
-    follow: &[[PlaceSet; PLACES]; FIELDS],
-    taking: &[[PlaceSet; CHARACTERS]; FIELDS],
-    last: [PlaceSet; FIELDS],
-) -> Ending
-    ensures { result ≡ walked (lent_tables characters follow.now taking.now last) (denoted first) steps.now }
+// The situation that a step makes: "48 for a step not allowed, 19 for a long side".
+pub fn made(child: Child) -> Result<Situation, Stop>
+    ensures { result ≡ made_of child }
+{
+    match child {
+        Child::Dropped => Err(Stop::NotAllowed),
+        Child::Above => Err(Stop::SideTooLong),
+        Child::Made(s) => Ok(s),
+    }
+}
+
+// Plays the records of steps from this situation on.
+pub fn walk(first: Situation, steps: &[u8], tables: &Tables) -> Result<(), Stop>
+    ensures { result ≡ walked (tables_of tables.now) (denoted first) steps.now }
 {
     let mut s = first;
     let mut at = 0;
-    let mut left = MOST_STEPS;
-    while at < steps.len() {
-        if left == 0 {
-            return Ending::Stopped {
-                why: Stop::PastMost,
-            };
+    for _ in 0..MOST_STEPS {
+        if at == steps.len() {
+            return ended(s);
         }
-        let record = play_record::front(steps, at, characters);
-        if record.bytes == 0 {
-            return Ending::Stopped {
-                why: Stop::NoRecord,
-            };
-        }
-        let child = play_step::step(s, record.step, follow, taking, last);
-        let fate = child.fate;
-        match fate {
-            Fate::Dropped => {
-                return Ending::Stopped {
-                    why: Stop::NotAllowed,
-                };
-            }
-            Fate::Above => {
-                return Ending::Stopped {
-                    why: Stop::SideTooLong,
-                };
-            }
-            Fate::Made => {}
-        }
-        let next = child.at;
-        s = next;
+        let record = play_record::front(steps, at, tables.characters).ok_or(Stop::NoRecord)?;
+        let child = play_step::step(s, record.step, tables.follow, tables.taking, tables.last);
+        s = made(child)?;
         at += record.bytes;
-        left -= 1;
+    }
+    if at < steps.len() {
+        return Err(Stop::PastMost);
     }
     ended(s)
 }
@@ -110,23 +110,19 @@ pub fn walk(
 fn is_front(b: u8, f: u8) -> bool
     ensures { result ≡ eqb b (field_code + f) }
 {
-    b as usize == FIELD_CODE as usize + f as usize
+    usize::from(b) == usize::from(FIELD_CODE) + usize::from(f)
 }
 
 // The character, if the step from this situation puts one before the field f.
+#[tactic(auto, using(base_codes::proofs::Tokens::tokens_front), unfolding(search_children::specs::Children::given_coded))]
 fn put_given(out: &mut [u8], at: usize, s: Situation, step: u8, f: u8) -> usize
     ensures { Counted out.old out.new at result (given_coded f (denoted s) step) }
 {
-    if CHARACTERS <= step as usize {
-        return at;
+    if usize::from(step) < CHARACTERS && (is_front(s.left[0], f) || is_front(s.right[0], f)) {
+        base_put::put(out, at, step)
+    } else {
+        at
     }
-    if is_front(s.left[0], f) {
-        return base_put::put(out, at, step);
-    }
-    if is_front(s.right[0], f) {
-        return base_put::put(out, at, step);
-    }
-    at
 }
 
 // "A field's text is the characters put before it on the way": those that the records put before the field f, as far as they can be made.
@@ -136,38 +132,24 @@ pub fn put_text(
     first: Situation,
     steps: &[u8],
     f: u8,
-    characters: usize,
-    follow: &[[PlaceSet; PLACES]; FIELDS],
-    taking: &[[PlaceSet; CHARACTERS]; FIELDS],
-    last: [PlaceSet; FIELDS],
+    tables: &Tables,
 ) -> usize
-    ensures { Counted out.old out.new at result (text_walked (lent_tables characters follow.now taking.now last) f (denoted first) steps.now) }
+    ensures { Counted out.old out.new at result (text_walked (tables_of tables.now) f (denoted first) steps.now) }
 {
     let mut end = at;
     let mut s = first;
     let mut i = 0;
-    let mut left = MOST_STEPS;
-    while left > 0 {
-        let record = play_record::front(steps, i, characters);
-        if record.bytes == 0 {
+    for _ in 0..MOST_STEPS {
+        let Some(record) = play_record::front(steps, i, tables.characters) else {
             return end;
-        }
-        let child = play_step::step(s, record.step, follow, taking, last);
-        let fate = child.fate;
-        match fate {
-            Fate::Dropped => {
-                return end;
-            }
-            Fate::Above => {
-                return end;
-            }
-            Fate::Made => {}
-        }
+        };
+        let child = play_step::step(s, record.step, tables.follow, tables.taking, tables.last);
+        let Child::Made(next) = child else {
+            return end;
+        };
         end = put_given(out, end, s, record.step, f);
-        let next = child.at;
         s = next;
         i += record.bytes;
-        left -= 1;
     }
     end
 }

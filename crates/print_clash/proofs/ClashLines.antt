@@ -8,8 +8,7 @@ use Rattle.paper.specs.Outcome.{Outcome, outcome}
 use Rattle.paper.specs.Alphabet.{Edition}
 use Rattle.paper_print.specs.TextLines.{sheet_edition}
 use Rattle.paper_print.specs.ClashProgram.{printed_of, printed}
-use Rattle.base_answers.specs.AnswerNumbers.{as_numbers, told}
-use Rattle.base_answers.specs.declared.Answer.{Answer}
+use Rattle.base_answers.specs.AnswerNumbers.{Answer, as_numbers, told}
 use Rattle.base_answers.specs.declared.Numbers.{Numbers}
 use Rattle.print_lines.specs.Writing.{numbers_line}
 use Rattle.print_lines.specs.Lines.{lines_of}

@@ -7,41 +7,33 @@ ghost use Rattle.print_lines.specs.Lines.{Prints};
 ghost use Rattle.print_clash.specs.ClashPrinted.{lined_as};
 ghost use Rattle.print_decide.specs.DecisionPrinted.{lined_decided};
 
+use base_answers::Numbers;
 pub use print_clash::INPUT;
-use print_clash::{ANSWER, zeroed_answer, zeroed_work};
-pub use print_lines::{DECIDED_LINE, Filled};
+use print_clash::{ANSWER, program_part, zeroed_answer, zeroed_work};
+pub use print_lines::DECIDED_LINE;
 
 // No later line is longer than two of its records.
 pub const PRINTED: usize = DECIDED_LINE + 2 * ANSWER;
 
-// The lines for a sheet and two lent buffers. Where `out` has no room for the longest, nothing is asked and nothing changed.
-pub fn lines(sheet: &[u8], work: &mut [u8], answer: &mut [u8], out: &mut [u8]) -> Filled
+// The lines for a sheet and two lent buffers, and how many bytes they are. Where `out` has no room for the longest, nothing is asked and nothing changed.
+// Kept: beside `print_clash::lines`, of which each call is another: what is asked, how much room that needs and which lines are put.
+pub fn lines(sheet: &[u8], work: &mut [u8], answer: &mut [u8], out: &mut [u8]) -> Option<usize>
     ensures { lined_as result out.new answer.new work.new ≡ lined_decided sheet.now work.old answer.old out.old }
 {
-    if print_lines::has_decided_room(out.len(), answer.len()) {
-        let edition = print_signs::edition(sheet);
-        let made = decide_sheet::decide(sheet, work, answer);
-        let given = made.answer;
-        let told = base_answers::in_numbers(given);
-        return print_lines::put_decided(out, edition, told, made.search as usize, answer);
+    if !print_lines::has_decided_room(out.len(), answer.len()) {
+        return None;
     }
-    Filled::NoRoom
+    let edition = print_signs::edition(sheet);
+    let made = decide_sheet::decide(sheet, work, answer);
+    let told = Numbers::from(made.answer);
+    print_lines::put_decided(out, edition, told, made.search as usize, answer)
 }
 
 // What `decide` prints for an input, in front of `out`. How many bytes that is.
 pub fn printed(input: &[u8], out: &mut [u8; PRINTED]) -> usize
     ensures { Prints (printed_decided input.now) out.old out.new result }
 {
-    let n = if INPUT < input.len() {
-        INPUT
-    } else {
-        input.len()
-    };
     let mut work = zeroed_work();
     let mut answer = zeroed_answer();
-    let filled = lines(&input[0..n], &mut work, &mut answer, out);
-    match filled {
-        Filled::Bytes(n) => n,
-        Filled::NoRoom => 0,
-    }
+    lines(program_part(input), &mut work, &mut answer, out).unwrap_or(0)
 }

@@ -6,12 +6,12 @@ use native.Mathlib.Omega.{arith}
 use mathlib.Core.Path.{◌≡◌}
 use mathlib.Core.Bool.{true, false}
 use mathlib.Core.List.{List}
+use Rattle.std.proofs.Common.{Some, None}
 use lib.Dec.{leb}
 use lib.ListN.{length, take, length-take, length-append}
 use Rattle.paper.specs.Alphabet.{Edition}
 use Rattle.print_lines.specs.Lines.{Prints, lines_behind, room_for, put_as, put_where_room}
 use Rattle.print_lines.specs.Writing.{Puts, PutsLines}
-use Rattle.print_lines.specs.declared.Filled.TheVariants.{Bytes, NoRoom}
 use Rattle.print_lines.proofs.Putting.{puts_then, puts_in_front}
 
 module _ (longest : ℕ) where
@@ -33,9 +33,9 @@ module _ (longest : ℕ) where
 
   -- the lines, by whether the longest have room
   module _ (lines answer out : List ℕ) where
-    pub none_put : leb (room_for longest answer) (length out) ≡ false → put_as NoRoom out ≡ put_where_room longest lines answer out
+    pub none_put : leb (room_for longest answer) (length out) ≡ false → put_as None out ≡ put_where_room longest lines answer out
     none_put h = rw h
 
     pub all_put : {out' : List ℕ} {n : ℕ} → leb (room_for longest answer) (length out) ≡ true
-        → Prints lines out out' n → put_as (Bytes n) out' ≡ put_where_room longest lines answer out
+        → Prints lines out out' n → put_as (Some n) out' ≡ put_where_room longest lines answer out
     all_put h p = rw (h, p.bytes, p.many)

@@ -5,6 +5,8 @@ use native.Mathlib.Nat.{zero-min, suc-min-suc, min-le_left, min-le_right, add-su
 use native.Mathlib.Omega.{arith}
 use mathlib.Core.Path.{◌≡◌, refl, sym, ap, ◌∙◌}
 use mathlib.Core.List.{List, [], ◌∷◌, ◌++◌, map, append_assoc, append-nil}
+use Rattle.std.proofs.Common.{Option, Some, None}
+use Rattle.base_answers.specs.declared.Numbers.{Numbers}
 use lib.ListN.{length, get_or, take, drop, length-append, length-map, length-drop, length-take}
 use lib.Seq.{take-nil, drop-nil, drop-drop, get_or-drop}
 use Rattle.paper.specs.Alphabet.{Edition, edition_1, edition_2}
@@ -13,8 +15,8 @@ use Rattle.paper.proofs.base.Lists.{map_append}
 use Rattle.paper_print.specs.TextLines.{printed_values, value_lines}
 use Rattle.print_signs.specs.PrintedCharacter.{values_of_character}
 use Rattle.print_signs.proofs.CharacterByCharacter.{values_more, values_length}
-use Rattle.print_lines.specs.Lines.{longest_first_line, longest_decided_line}
-use Rattle.print_lines.specs.Writing.{Puts, in_digits, in_decimal, most_digits, numbers_line, numbers_line_decided, three_numbers, value_line, head_size, text_length}
+use Rattle.print_lines.specs.Lines.{longest_first_line, longest_decided_line, longest_line}
+use Rattle.print_lines.specs.Writing.{Puts, in_digits, in_decimal, most_digits, numbers_line, numbers_line_decided, first_line_of, three_numbers, value_line, head_size, text_length}
 use Rattle.print_lines.proofs.Decimal.{decimal_at_most, byte_at_most}
 use Rattle.print_lines.proofs.Putting.{puts_none, puts_then}
 
@@ -51,6 +53,10 @@ pub decided_line_length : (number count place search : ℕ) → length (numbers_
 decided_line_length number count place search =
     rw (decided_line_parts number count place search, length-append (three_numbers number count place blank_sign))
     (omega (arith, three_numbers_length number count place blank_sign, number_length search newline))
+
+pub first_line_length : (told : Numbers) (search : Option ℕ) → length (first_line_of told search) ≤ longest_line search
+first_line_length told None = numbers_line_length told.number told.count told.place
+first_line_length told (Some search) = decided_line_length told.number told.count told.place search
 
 module _ (e : Edition) where
   pub value_line_parts : (f : ℕ) (text : List ℕ)

@@ -1,6 +1,7 @@
 -- What the writers put into a lent buffer: the parts of what is printed, in the order in which they are put.
-use Rattle.std.specs.Prelude.{ℕ, ◌+◌, ◌*◌, ◌-◌, ◌≤◌, min, ◌≡◌, List, [], ◌∷◌, ◌++◌, length, get_or}
+use Rattle.std.specs.Prelude.{ℕ, ◌+◌, ◌*◌, ◌-◌, ◌≤◌, min, ◌≡◌, List, [], ◌∷◌, ◌++◌, length, get_or, Option, Some, None}
 use Rattle.std.proofs.lemmas.List.Edits.{sets}
+use Rattle.base_answers.specs.declared.Numbers.{Numbers}
 use Rattle.paper.specs.Alphabet.{Edition}
 use Rattle.paper.specs.Printed.{digits, blank_sign}
 use Rattle.paper_print.specs.TextLines.{text_line, value_lines}
@@ -29,6 +30,11 @@ numbers_line number count place = first_line number count place
 -- the same and the number of the search
 unfoldable pub numbers_line_decided : ℕ → ℕ → ℕ → ℕ → List ℕ
 numbers_line_decided number count place search = decided_line number count place search
+
+-- the first line, with the number of the search if one is told
+abbrev pub first_line_of : Numbers → Option ℕ → List ℕ
+first_line_of told None = numbers_line told.number told.count told.place
+first_line_of told (Some search) = numbers_line_decided told.number told.count told.place search
 
 -- three numbers, one space between and a sign behind: how both lines begin
 abbrev pub three_numbers : ℕ → ℕ → ℕ → ℕ → List ℕ

@@ -1,18 +1,17 @@
 // The lines of an answer, put into a lent buffer. Each function that puts bytes from a place on hands back the place behind them.
 #![tactic(auto)]
 
-ghost use Rattle.std.specs.Prelude.{[], ◌∷◌, ◌++◌, map, ◌≡◌, ◌+◌, ◌*◌, ◌%◌, ◌<◌, ◌≤◌, min, leb, length, take};
+ghost use Rattle.std.specs.Prelude.{[], ◌∷◌, ◌++◌, map, ◌≡◌, ◌+◌, ◌*◌, ◌%◌, ◌<◌, ◌≤◌, leb, length, take};
 ghost use Rattle.paper.specs.Printed.{sign as sign_of};
 ghost use Rattle.base_editions.specs.Editions.{paper_edition};
 ghost use Rattle.paper_print.specs.TextLines.{printed_values};
 ghost use Rattle.print_signs.specs.PrintedCharacter.{values_of_character};
-ghost use Rattle.print_lines.specs.Lines.{longest_first_line, longest_decided_line, room_for, Prints, lines_of, decided_lines_of, put_as, put_lines, put_decided};
-ghost use Rattle.print_lines.specs.Writing.{Puts, PutsLines, in_digits, in_decimal, numbers_line, numbers_line_decided, three_numbers, value_line, head_size, text_length};
+ghost use Rattle.print_lines.specs.Lines.{longest_first_line, longest_decided_line, longest_line, room_for, Prints, lines_with, put_as, put_with, put_lines, put_decided};
+ghost use Rattle.print_lines.specs.Writing.{Puts, PutsLines, in_digits, in_decimal, first_line_of, three_numbers, value_line, head_size, text_length};
 
 use base_answers::Numbers;
 use base_editions::Edition;
 use base_put::sign;
-use spell_table::NO_SHIFT;
 
 // 20 digits are enough for every number of 64 bits.
 const DIGITS: usize = 20;
@@ -25,13 +24,6 @@ pub const DECIDED_LINE: usize = 4 * (DIGITS + 1);
 
 // `VA`, field byte, length in two bytes
 const RECORD_HEAD: usize = 5;
-
-// So many bytes of lines, or no room for the longest.
-#[derive(Clone, Copy)]
-pub enum Filled {
-    Bytes(usize),
-    NoRoom,
-}
 
 fn put(out: &mut [u8], at: usize, byte: u8) -> usize
     requires { at < length out.old }
@@ -82,21 +74,18 @@ fn three_numbers(out: &mut [u8], number: usize, count: usize, place: usize, sign
     number_and(out, behind_count, place, sign)
 }
 
-// "answer, count and place in decimal, one space between"
-fn first_line(out: &mut [u8], number: usize, count: usize, place: usize) -> usize
-    requires { longest_first_line ≤ length out.old }
-    ensures { Puts out.old out.new 0 result (numbers_line number count place) }
+// "answer, count and place in decimal, one space between", and the number of the search if one is told.
+fn first_line(out: &mut [u8], told: Numbers, search: Option<usize>) -> usize
+    requires { longest_line search ≤ length out.old }
+    ensures { Puts out.old out.new 0 result (first_line_of told search) }
 {
-    three_numbers(out, number, count, place, b'\n')
-}
-
-// The same and the number of the search.
-fn decided_line(out: &mut [u8], number: usize, count: usize, place: usize, search: usize) -> usize
-    requires { longest_decided_line ≤ length out.old }
-    ensures { Puts out.old out.new 0 result (numbers_line_decided number count place search) }
-{
-    let behind_place = three_numbers(out, number, count, place, b' ');
-    number_and(out, behind_place, search, b'\n')
+    match search {
+        None => three_numbers(out, told.number, told.count, told.place, b'\n'),
+        Some(search) => {
+            let behind_place = three_numbers(out, told.number, told.count, told.place, b' ');
+            number_and(out, behind_place, search, b'\n')
+        }
+    }
 }
 
 // A character, by the sign of its value or, if it has a shift sign, by two.
@@ -104,13 +93,14 @@ fn character(out: &mut [u8], at: usize, edition: Edition, c: u8) -> usize
     requires { at + 2 ≤ length out.old }
     ensures { Puts out.old out.new at result (map sign_of (values_of_character (paper_edition edition) c)) }
 {
-    let shift = print_signs::shift(edition, c);
     let value = print_signs::value(edition, c);
-    if shift == NO_SHIFT {
-        return put(out, at, sign(value));
+    match print_signs::shift(edition, c) {
+        None => put(out, at, sign(value)),
+        Some(shift) => {
+            let behind = put(out, at, sign(shift));
+            put(out, behind, sign(value))
+        }
     }
-    let behind = put(out, at, sign(shift));
-    put(out, behind, sign(value))
 }
 
 // "the text as characters"
@@ -119,10 +109,8 @@ fn spell(out: &mut [u8], at: usize, edition: Edition, text: &[u8]) -> usize
     ensures { Puts out.old out.new at result (map sign_of (printed_values (paper_edition edition) text.now)) }
 {
     let mut end = at;
-    let mut i = 0;
-    while i < text.len() {
-        end = character(out, end, edition, text[i]);
-        i += 1;
+    for &c in text {
+        end = character(out, end, edition, c);
     }
     end
 }
@@ -143,19 +131,13 @@ fn low_first(low: u8, high: u8) -> usize
     low as usize + 256 * (high as usize)
 }
 
-fn least(a: usize, b: usize) -> usize
-    ensures { result ≡ min a b }
-{
-    if a < b { a } else { b }
-}
-
 // How long the text of the record at a place is: as the record tells, but not past the end.
 fn text_length(records: &[u8], from: usize) -> usize
     requires { from + head_size ≤ length records.now }
     ensures { result ≡ text_length records.now from }
 {
     let told = low_first(records[from + 3], records[from + 4]);
-    least(told, records.len() - (from + RECORD_HEAD))
+    told.min(records.len() - (from + RECORD_HEAD))
 }
 
 // "a line for each `VA`": no line is longer than two of its records.
@@ -165,6 +147,7 @@ fn value_lines(out: &mut [u8], at: usize, edition: Edition, records: &[u8]) -> u
 {
     let mut end = at;
     let mut from = 0;
+    // Kept: a record is as long as its head tells, so no iterator steps from one to the next.
     while RECORD_HEAD <= records.len() - from {
         let text = from + RECORD_HEAD;
         let to = text + text_length(records, from);
@@ -185,31 +168,22 @@ fn written_lines(
     requires { at + 2 * length answer.now ≤ length out.old }
     ensures { PutsLines (paper_edition edition) out.old out.new at result (take written answer.now) }
 {
-    let within = least(written, answer.len());
+    let within = written.min(answer.len());
     value_lines(out, at, edition, &answer[0..within])
 }
 
 // The first line, and a line for each record that was written.
-fn lines_put(out: &mut [u8], edition: Edition, told: Numbers, answer: &[u8]) -> usize
-    requires { room_for longest_first_line answer.now ≤ length out.old }
-    ensures { Prints (lines_of (paper_edition edition) told answer.now) out.old out.new result }
-{
-    let first = first_line(out, told.number, told.count, told.place);
-    written_lines(out, first, edition, told.written, answer)
-}
-
-// The same with the number of the search.
-fn decided_put(
+fn lines_put(
     out: &mut [u8],
     edition: Edition,
     told: Numbers,
-    search: usize,
+    search: Option<usize>,
     answer: &[u8],
 ) -> usize
-    requires { room_for longest_decided_line answer.now ≤ length out.old }
-    ensures { Prints (decided_lines_of (paper_edition edition) told search answer.now) out.old out.new result }
+    requires { room_for (longest_line search) answer.now ≤ length out.old }
+    ensures { Prints (lines_with (paper_edition edition) told search answer.now) out.old out.new result }
 {
-    let first = decided_line(out, told.number, told.count, told.place, search);
+    let first = first_line(out, told, search);
     written_lines(out, first, edition, told.written, answer)
 }
 
@@ -238,14 +212,38 @@ pub fn has_decided_room(out: usize, answer: usize) -> bool
     room_behind(DECIDED_LINE, out, answer)
 }
 
-// The lines of an answer's numbers and its buffer, in front of `out`. Where the longest have no room, nothing is changed.
-pub fn put_lines(out: &mut [u8], edition: Edition, told: Numbers, answer: &[u8]) -> Filled
+// How long a first line can be.
+fn longest(search: Option<usize>) -> usize
+    ensures { result ≡ longest_line search }
+{
+    match search {
+        None => FIRST_LINE,
+        Some(_) => DECIDED_LINE,
+    }
+}
+
+// The lines of an answer's numbers and its buffer, with the number of the search or without, where the longest have room.
+fn put_with(
+    out: &mut [u8],
+    edition: Edition,
+    told: Numbers,
+    search: Option<usize>,
+    answer: &[u8],
+) -> Option<usize>
+    ensures { put_as result out.new ≡ put_with (paper_edition edition) told search answer.now out.old }
+{
+    if room_behind(longest(search), out.len(), answer.len()) {
+        Some(lines_put(out, edition, told, search, answer))
+    } else {
+        None
+    }
+}
+
+// The lines of an answer's numbers and its buffer, in front of `out`, and how many bytes they are. Where the longest have no room, nothing is changed.
+pub fn put_lines(out: &mut [u8], edition: Edition, told: Numbers, answer: &[u8]) -> Option<usize>
     ensures { put_as result out.new ≡ put_lines (paper_edition edition) told answer.now out.old }
 {
-    if has_room(out.len(), answer.len()) {
-        return Filled::Bytes(lines_put(out, edition, told, answer));
-    }
-    Filled::NoRoom
+    put_with(out, edition, told, None, answer)
 }
 
 // The same with the number of the search that decided at the end of the first line.
@@ -255,11 +253,8 @@ pub fn put_decided(
     told: Numbers,
     search: usize,
     answer: &[u8],
-) -> Filled
+) -> Option<usize>
     ensures { put_as result out.new ≡ put_decided (paper_edition edition) told search answer.now out.old }
 {
-    if has_decided_room(out.len(), answer.len()) {
-        return Filled::Bytes(decided_put(out, edition, told, search, answer));
-    }
-    Filled::NoRoom
+    put_with(out, edition, told, Some(search), answer)
 }

@@ -11,16 +11,12 @@ pub const WORK_FILL: u8 = 90;
 pub fn low_first(a: u8, b: u8, c: u8, d: u8) -> usize
     ensures { result ≡ a + 256 * b + 65536 * c + 16777216 * d }
 {
-    a as usize + 256 * (b as usize) + 65536 * (c as usize) + 16777216 * (d as usize)
+    u32::from_le_bytes([a, b, c, d]) as usize
 }
 
 // Makes every byte of the buffer this one.
 pub fn fill(buffer: &mut [u8], byte: u8)
     ensures { buffer.new ≡ replicate (length buffer.old) byte }
 {
-    let mut i = 0;
-    while i < buffer.len() {
-        buffer[i] = byte;
-        i += 1;
-    }
+    buffer.fill(byte);
 }

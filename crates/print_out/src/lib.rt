@@ -2,15 +2,15 @@
 #![tactic(auto)]
 
 mod bytes;
-mod how;
+mod failure;
 mod input;
 mod lent;
 mod output;
 mod streams;
 
 pub use bytes::{changed, print_answer, print_buffer, print_work};
-pub use how::{How, is_going};
-pub use input::{Got, Number, least, read_all, read_first, read_next, read_number};
+pub use failure::Failure;
+pub use input::{read_all, read_first, read_next, read_number};
 pub use lent::{WORK, WORK_FILL, fill, low_first};
-pub use output::{print, print_number, print_numbers, tell, tell_end, tell_number};
+pub use output::{print, print_number, print_numbers, tell, tell_end};
 pub use streams::Streams;

@@ -1,43 +1,27 @@
--- The edition of a sheet, by its first three bytes.
---   first_short, not_e, not_d, not_2 : fewer bytes, or one of them another: the first edition
---   second_edition                   : `ED` and the byte 2
--- Follows from the definition of `edition_front`, by its tests.
-use Prim.Native.Nat.{ℕ, ◌≤◌, ◌<◌}
+-- The edition of a sheet, by whether it begins with `ED` and the byte 2. Follows from the definition of `edition_front`, by its tests.
+use Prim.Native.Nat.{ℕ}
 use native.Mathlib.Omega.{arith}
 use mathlib.Core.Path.{◌≡◌, refl}
-use mathlib.Core.Bool.{Bool, false}
-use mathlib.Core.List.{List}
-use lib.Dec.{ltb, eqb}
-use lib.ListN.{length, get_or}
+use mathlib.Core.Bool.{Bool, cond}
+use mathlib.Core.List.{List, [], ◌∷◌}
+use lib.Dec.{eqb}
+use lib.ListN.{length}
+use Rattle.std.specs.List.{starts_with}
 use Rattle.paper.specs.Alphabet.{edition_1, edition_2}
-use Rattle.paper.specs.Sheet.{bytes_left, ED, marked, next_is, edition_front}
-use Rattle.paper.proofs.base.Tests.{by_bool, cond_by, left_false, right_false, eq_eqb, neq_eqb, lt_ltb, le_ltb}
+use Rattle.paper.specs.Sheet.{bytes_left, marked, next_is, edition_front}
+use Rattle.paper.proofs.base.Tests.{by_bool, le_ltb, eqb_symmetric}
 use Rattle.paper_print.specs.TextLines.{sheet_edition}
 
-module _ (s : List ℕ) where
-  pub first_short : length s < 3 → sheet_edition s ≡ edition_1
-  unfolding sheet_edition edition_front
-  first_short h = by_bool (next_is ED s 0) (λ e. rw (e, lt_ltb (length s) 3 h)) (λ e. rw e)
+abbrev pub marks_second : List ℕ → Bool
+marks_second s = starts_with eqb s (69 ∷ 68 ∷ 2 ∷ [])
 
-  not_marked : marked ED s 0 ≡ false → sheet_edition s ≡ edition_1
-  unfolding sheet_edition edition_front next_is
-  not_marked e =
-      let no_record : next_is ED s 0 ≡ false = cond_by (λ (b : Bool). b ≡ false) (ltb (bytes_left s 0) 2) (λ _. refl) (λ _. e) in
-      rw no_record
-
-  pub not_e : (get_or s 0 0 ≡ 69 → ⊥) → sheet_edition s ≡ edition_1
-  unfolding marked
-  not_e n = not_marked (left_false (eqb (get_or s 0 0) 69) (eqb (get_or s 1 0) 68) (neq_eqb (get_or s 0 0) 69 n))
-
-  pub not_d : (get_or s 1 0 ≡ 68 → ⊥) → sheet_edition s ≡ edition_1
-  unfolding marked
-  not_d n = not_marked (right_false (eqb (get_or s 0 0) 69) (eqb (get_or s 1 0) 68) (neq_eqb (get_or s 1 0) 68 n))
-
-  pub not_2 : 3 ≤ length s → (get_or s 2 0 ≡ 2 → ⊥) → sheet_edition s ≡ edition_1
-  unfolding sheet_edition edition_front
-  not_2 h n = by_bool (next_is ED s 0) (λ e. rw (e, le_ltb (length s) 3 h, neq_eqb (get_or s 2 0) 2 n)) (λ e. rw e)
-
-  pub second_edition : 3 ≤ length s → get_or s 0 0 ≡ 69 → get_or s 1 0 ≡ 68 → get_or s 2 0 ≡ 2 → sheet_edition s ≡ edition_2
-  unfolding sheet_edition edition_front next_is marked
-  second_edition h e d two =
-      rw (le_ltb (bytes_left s 0) 2 (omega arith), eq_eqb (get_or s 0 0) 69 e, eq_eqb (get_or s 1 0) 68 d, le_ltb (length s) 3 h, eq_eqb (get_or s 2 0) 2 two)
+pub edition_by_bytes : (s : List ℕ) → cond (marks_second s) edition_2 edition_1 ≡ sheet_edition s
+unfolding sheet_edition edition_front next_is marked
+edition_by_bytes [] = refl
+edition_by_bytes (a ∷ []) = by_bool (eqb 69 a) (λ x. rw x) (λ x. rw x)
+edition_by_bytes (a ∷ b ∷ []) =
+    rw (eqb_symmetric 69 a, eqb_symmetric 68 b)
+    (by_bool (eqb a 69) (λ x. by_bool (eqb b 68) (λ y. rw (x, y)) (λ y. rw (x, y))) (λ x. rw x))
+edition_by_bytes (a ∷ b ∷ c ∷ s) =
+    rw (eqb_symmetric 69 a, eqb_symmetric 68 b, eqb_symmetric 2 c, le_ltb (bytes_left (a ∷ b ∷ c ∷ s) 0) 2 (omega arith), le_ltb (length (a ∷ b ∷ c ∷ s)) 3 (omega arith))
+    (by_bool (eqb a 69) (λ x. by_bool (eqb b 68) (λ y. by_bool (eqb c 2) (λ z. rw (x, y, z)) (λ z. rw (x, y, z))) (λ y. rw (x, y))) (λ x. rw x))

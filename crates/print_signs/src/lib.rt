@@ -4,39 +4,28 @@
 ghost use Rattle.std.specs.Prelude.{◌≡◌};
 ghost use Rattle.base_editions.specs.Editions.{paper_edition};
 ghost use Rattle.paper_print.specs.TextLines.{sheet_edition};
+ghost use Rattle.spell_table.specs.Entries.{shift_sign};
 ghost use Rattle.print_signs.specs.PrintedCharacter.{shift_printed, value_printed};
 
 use base_editions::Edition;
-use spell_table::NO_SHIFT;
-
-// the byte of the second edition
-const SECOND: u8 = 2;
 
 // The edition of a sheet: the second, if it begins with `ED` and the byte 2.
 pub fn edition(sheet: &[u8]) -> Edition
     ensures { paper_edition result ≡ sheet_edition sheet.now }
 {
-    if sheet.len() < 3 {
-        return Edition::First;
+    if sheet.starts_with(b"ED\x02") {
+        Edition::Second
+    } else {
+        Edition::First
     }
-    if sheet[0] != b'E' {
-        return Edition::First;
-    }
-    if sheet[1] != b'D' {
-        return Edition::First;
-    }
-    if sheet[2] != SECOND {
-        return Edition::First;
-    }
-    Edition::Second
 }
 
-// The shift sign that a character is printed with, 43 where it has none.
-pub fn shift(edition: Edition, c: u8) -> u8
-    ensures { result ≡ shift_printed (paper_edition edition) c }
+// The shift sign that a character is printed with, if it has one.
+pub fn shift(edition: Edition, c: u8) -> Option<u8>
+    ensures { result ≡ shift_sign (shift_printed (paper_edition edition) c) }
 {
     match edition {
-        Edition::First => NO_SHIFT,
+        Edition::First => None,
         Edition::Second => spell_table::shift(c),
     }
 }

@@ -1,6 +1,6 @@
 -- Codes laid from the front of a room, one after the other; and what stands in front once all are laid.
 --   more_laid   : one more code
---   codes_front : the codes of a pattern's bytes stand in front
+--   codes_front : the codes of the bytes stand in front
 -- Follows from the laws of `set`, `take` and `++`.
 use Prim.Native.Nat.{ℕ, suc, ◌-◌, ◌≤◌, ◌<◌}
 use native.Mathlib.Omega.{arith}
@@ -8,7 +8,7 @@ use mathlib.Core.Path.{◌≡◌, sym, ap, ◌∙◌}
 use mathlib.Core.List.{List, ◌++◌, append_assoc}
 use lib.ListN.{length, get_or, take, set, replicate, length-map, get_or-map}
 use lib.Seq.{take-suc, take_all, take_at, length-take-le, set_at}
-use Rattle.paper.specs.Numbers.{pattern_bytes, not_a_code}
+use Rattle.paper.specs.Numbers.{not_a_code}
 use Rattle.paper.specs.Alphabet.{Edition, code, codes}
 use Rattle.read_codes.specs.Laid.{laid_codes}
 
@@ -31,20 +31,20 @@ module _ (e : Edition) (bytes : List ℕ) where
       ∙ more_laid (codes e bytes) d n i (code e 0) (omega (arith, l)) k
 
   -- all of them, or as many as there is room for
-  pub all_laid : (i : ℕ) → i ≡ length bytes → i ≤ pattern_bytes → laid (codes e bytes) not_a_code pattern_bytes i ≡ laid_codes e bytes
+  pub all_laid : (n i : ℕ) → i ≡ length bytes → i ≤ n → laid (codes e bytes) not_a_code n i ≡ laid_codes n e bytes
   unfolding laid_codes
-  all_laid i h k =
+  all_laid n i h k =
       let l = length-map bytes (code e) in
-      rw (take_all i (codes e bytes) (omega (arith, l)), take_all pattern_bytes (codes e bytes) (omega (arith, l)), h)
+      rw (take_all i (codes e bytes) (omega (arith, l)), take_all n (codes e bytes) (omega (arith, l)), h)
 
-  pub most_laid : (i : ℕ) → i ≤ length bytes → i ≡ pattern_bytes → laid (codes e bytes) not_a_code pattern_bytes i ≡ laid_codes e bytes
+  pub most_laid : (n i : ℕ) → i ≤ length bytes → i ≡ n → laid (codes e bytes) not_a_code n i ≡ laid_codes n e bytes
   unfolding laid_codes
-  most_laid i h k =
-      let none : pattern_bytes - i ≡ pattern_bytes - length bytes = omega arith in
+  most_laid n i h k =
+      let none : n - i ≡ n - length bytes = omega arith in
       rw (none, k)
 
-  pub codes_front : (n : ℕ) → length bytes ≡ n → n ≤ pattern_bytes → take n (laid_codes e bytes) ≡ codes e bytes
+  pub codes_front : (room n : ℕ) → length bytes ≡ n → n ≤ room → take n (laid_codes room e bytes) ≡ codes e bytes
   unfolding laid_codes
-  codes_front n l h =
+  codes_front room n l h =
       let m = length-map bytes (code e) in
-      rw (take_all pattern_bytes (codes e bytes) (omega (arith, m))) (take_at (codes e bytes) _ n (m ∙ l))
+      rw (take_all room (codes e bytes) (omega (arith, m))) (take_at (codes e bytes) _ n (m ∙ l))

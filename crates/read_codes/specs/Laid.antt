@@ -1,8 +1,8 @@
--- The codes of a pattern's bytes (request K10), laid in room for 192 of them.
+-- The codes of the bytes of a pattern or of a side (request K10), laid in a room.
 use Rattle.std.specs.Prelude.{ℕ, ◌-◌, List, ◌++◌, length, take, replicate}
-use Rattle.paper.specs.Numbers.{pattern_bytes, not_a_code}
+use Rattle.paper.specs.Numbers.{not_a_code}
 use Rattle.paper.specs.Alphabet.{Edition, codes}
 
--- the codes of the bytes, and 255s behind them; of more bytes than a pattern may have those of the first 192
-unfoldable pub laid_codes : Edition → List ℕ → List ℕ
-laid_codes e bytes = take pattern_bytes (codes e bytes) ++ replicate (pattern_bytes - length bytes) not_a_code
+-- the codes of the bytes, and 255s behind them, n in all; of more bytes than n those of the first n
+unfoldable pub laid_codes : ℕ → Edition → List ℕ → List ℕ
+laid_codes n e bytes = take n (codes e bytes) ++ replicate (n - length bytes) not_a_code

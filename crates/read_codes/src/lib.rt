@@ -1,4 +1,4 @@
-// The codes of a pattern's bytes (request K10): what each of them says in its edition, by one code for both.
+// The codes of the bytes of a pattern or of a side (request K10): what each of them says in its edition, by one code for both.
 #![tactic(auto)]
 
 ghost use Rattle.std.specs.Prelude.{◌≡◌};
@@ -13,18 +13,16 @@ pub const PATTERN_BYTES: usize = 192;
 // no code
 const NO_CODE: u8 = 255;
 
-// The codes of the bytes, as many as a pattern may have, and 255s behind them.
-pub fn codes_of(edition: Edition, bytes: &[u8]) -> [u8; PATTERN_BYTES]
-    ensures { result ≡ laid_codes (paper_edition edition) bytes.now }
+// The codes of the bytes, as many as there is room for, and 255s behind them.
+pub fn codes_of<const N: usize>(edition: Edition, bytes: &[u8]) -> [u8; N]
+    ensures { result ≡ laid_codes N (paper_edition edition) bytes.now }
 {
-    let mut codes = [NO_CODE; PATTERN_BYTES];
-    let mut i = 0;
-    while i < bytes.len() {
-        if PATTERN_BYTES <= i {
+    let mut codes = [NO_CODE; N];
+    for (i, &byte) in bytes.iter().enumerate() {
+        if i == N {
             return codes;
         }
-        codes[i] = code(edition, bytes[i]);
-        i += 1;
+        codes[i] = code(edition, byte);
     }
     codes
 }

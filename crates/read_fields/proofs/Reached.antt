@@ -8,20 +8,19 @@ use mathlib.Core.Bool.{true, false}
 use mathlib.Core.List.{List, [], ◌∷◌, map}
 use lib.Dec.{ltb}
 use lib.ListN.{length, set, replicate, length-set}
+use Rattle.std.specs.Prelude.{Ok, Err}
 use Rattle.paper.specs.Numbers.{fields}
 use Rattle.paper.specs.Pattern.{Held, some_text, pattern}
 use Rattle.paper.specs.Alphabet.{Edition}
-use Rattle.paper.specs.Sheet.{Fault, fault, bytes_left, Mark, PA, next_is, pattern_record, Records, faulty, Fields, open_fields, read_patterns}
+use Rattle.paper.specs.Sheet.{fault, bytes_left, Mark, PA, next_is, pattern_record, Records, Fields, open_fields, read_patterns}
 use Rattle.paper.proofs.base.Tests.{by_bool, true_false, ltb_false}
 use Rattle.base_places.specs.WorkedOut.{worked_out}
 use Rattle.base_places.specs.declared.PlaceTables.{PlaceTables}
 use Rattle.base_question.specs.Bodies.{no_bodies}
 use Rattle.base_question.specs.declared.Body.{Body}
 use Rattle.base_answers.specs.Faults.{fault_of}
-use Rattle.base_answers.specs.declared.Fault as Answer
-use Rattle.base_answers.specs.declared.Found.TheVariants.{NoFault, Refused}
+use Rattle.base_answers.specs.declared.Refusal.{Refusal}
 use Rattle.base_answers.proofs.Same.{same_fault}
-use Rattle.read_fields.specs.declared.Fields as Code
 use Rattle.read_fields.specs.declared.PatternRecord.{PatternRecord}
 use Rattle.read_fields.specs.Bodies.{bodies_from, bodies_in}
 use Rattle.read_fields.specs.Walk.{fields_of, PatternStands}
@@ -63,8 +62,9 @@ reached_start e s from open-one h bodies f =
     }
 
 module _ {e : Edition} {s : List ℕ} {from at above : ℕ} {works : List PlaceTables} {bodies : List Body} (r : Reached e s from at above works bodies) where
-  pub reached_fault : (x : Fault) (place : ℕ) → next_is PA s at ≡ true → pattern_record e s at above ≡ fault x place → all_read e s from ≡ faulty x place
-  reached_fault x place p h = r.reads ∙ rw (p, h)
+  pub reached_fault : (x : Refusal) → next_is PA s at ≡ true → pattern_record e s at above ≡ fault (fault_of x.fault) x.place
+      → Err x ≡ fields_of (bodies_in s from) (all_read e s from)
+  reached_fault x p h = rw (r.reads, p, h, same_fault x.fault)
 
   pub reached_next : (f : PatternRecord) → next_is PA s at ≡ true → PatternStands e s at above f
       → Reached e s from f.next.at f.next.above (set works f.field f.tables) (set bodies f.field f.body)
@@ -87,15 +87,8 @@ module _ {e : Edition} {s : List ℕ} {from at above : ℕ} {works : List PlaceT
           }
 
   pub reached_end : next_is PA s at ≡ false →
-      ◌≡◌ {A = Code.Fields} (record { found = NoFault; next = record { at = at }; above = above; tables = works; bodies = bodies })
-      (fields_of (bodies_in s from) (all_read e s from))
+      Ok (record { next = record { at = at }; above = above; tables = works; bodies = bodies }) ≡ fields_of (bodies_in s from) (all_read e s from)
   reached_end p = rw (r.reads, r.stand, p, r.worked)
-
--- a record with a fault: all fields are open, and no pattern stands anywhere
-pub fault_told : (x : Answer.Fault) (at : ℕ) (open-one : PlaceTables) → open-one ≡ worked_out some_text → (none : List Body) → none ≡ no_bodies →
-    ◌≡◌ {A = Code.Fields} (record { found = Refused x; next = record { at = at }; above = 0; tables = replicate fields open-one; bodies = none })
-    (fields_of no_bodies (faulty (fault_of x) at))
-fault_told x at open-one e none f = rw (same_fault x, e, f)
 
 -- two bytes are left where a mark stands
 pub mark_left : (m : Mark) (s : List ℕ) (at : ℕ) → next_is m s at ≡ true → at + 2 ≤ length s

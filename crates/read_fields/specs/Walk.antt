@@ -1,38 +1,23 @@
 -- What reading the patterns' records hands on, and what the checks on one of them find.
-use Rattle.std.specs.Prelude.{ℕ, suc, ◌+◌, ◌≤◌, ◌<◌, ◌≡◌, List, map, length, replicate}
+use Rattle.std.specs.Prelude.{ℕ, suc, ◌+◌, ◌≤◌, ◌<◌, ◌≡◌, List, map, length, Result, Ok, Err}
 use Rattle.paper.specs.Numbers.{fields}
-use Rattle.paper.specs.Pattern.{Pattern, some_text, pattern}
+use Rattle.paper.specs.Pattern.{Pattern, pattern}
 use Rattle.paper.specs.Alphabet.{Edition}
 use Rattle.paper.specs.Sheet.{fault, read, byte_at, pattern_record, Records, faulty, records}
 use Rattle.paper.specs.Sheet as Sheet
 use Rattle.base_places.specs.WorkedOut.{worked_out}
-use Rattle.base_question.specs.Bodies.{no_bodies}
 use Rattle.base_question.specs.declared.Body.{Body}
 use Rattle.base_answers.specs.Faults.{fault_of, as_fault}
-use Rattle.base_answers.specs.declared.Found.{Found}
-use Rattle.base_answers.specs.declared.Found.TheVariants.{NoFault, Refused}
+use Rattle.base_answers.specs.declared.Refusal.{Refusal}
 use Rattle.read_fields.specs.Bodies.{body_at}
 use Rattle.read_fields.specs.declared.Fields.{Fields}
 use Rattle.read_fields.specs.declared.PatternRecord.{PatternRecord}
 
--- "A field without `PA` is open": all fields are where a record is at fault, and no pattern stands anywhere.
-abbrev pub fields_of : List Body → Records Sheet.Fields → Fields
-fields_of bodies (faulty x at) =
-    record {
-      found = Refused (as_fault x);
-      next = record { at = at };
-      above = 0;
-      tables = replicate fields (worked_out some_text);
-      bodies = no_bodies;
-    }
+-- a fault hands on its place
+abbrev pub fields_of : List Body → Records Sheet.Fields → Result Fields Refusal
+fields_of bodies (faulty x at) = Err (record { fault = as_fault x; place = at })
 fields_of bodies (records fs at) =
-    record {
-      found = NoFault;
-      next = record { at = at };
-      above = fs.above;
-      tables = map worked_out fs.held;
-      bodies = bodies;
-    }
+    Ok (record { next = record { at = at }; above = fs.above; tables = map worked_out fs.held; bodies = bodies })
 
 -- a pattern's record is read, and reading goes on behind it
 pub record PatternStands (e : Edition) (s : List ℕ) (at least : ℕ) (r : PatternRecord) : Type 0 where
@@ -48,6 +33,6 @@ pub record PatternStands (e : Edition) (s : List ℕ) (at least : ℕ) (r : Patt
   pub goes_on : r.next.at ≤ length s
 
 -- what the checks on a pattern's record find
-abbrev pub PatternRead : Edition → List ℕ → ℕ → ℕ → Found → PatternRecord → Type 0
-PatternRead e s at least NoFault r = PatternStands e s at least r
-PatternRead e s at least (Refused x) r = pattern_record e s at least ≡ fault (fault_of x) r.next.at
+abbrev pub PatternRead : Edition → List ℕ → ℕ → ℕ → Result PatternRecord Refusal → Type 0
+PatternRead e s at least (Ok r) = PatternStands e s at least r
+PatternRead e s at least (Err x) = pattern_record e s at least ≡ fault (fault_of x.fault) x.place

@@ -6,4 +6,4 @@ pub mod Behind
 pub mod Surplus
 pub mod ReadParts
 pub mod PatternJudged
-pub mod Numbered
+pub mod LastBytes

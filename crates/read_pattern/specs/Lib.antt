@@ -1,3 +1,3 @@
 pub mod Worked
 pub mod ReadPart
-pub mod Laid
+pub mod Lent

@@ -1,9 +1,8 @@
 -- What the private functions that read a pattern's bytes promise: the step between the code and the definitions of `Masks` (`base_places`).
---   NotRead n r          r tells that there is none, and how many bytes are left from the one at fault on
 --   Reads p starts rest o r
 --                         r tells of the pattern p, whose first leaf is the place o and behind which the bytes `rest` are left
 --   Works p o w v         the lent tables w have become v: what follows the leaves of p and what these take is joined to them
-use Rattle.std.specs.Prelude.{ℕ, ◌+◌, ◌≤◌, ◌≡◌, Bool, true, false, ◌||◌, List, [], ◌∷◌, ◌++◌, length, get_or, replicate}
+use Rattle.std.specs.Prelude.{ℕ, ◌+◌, ◌≤◌, ◌≡◌, Bool, ◌||◌, List, [], ◌∷◌, ◌++◌, length, get_or, replicate, Result, Ok, Err}
 use Rattle.std.specs.Int.Bits.{bit_or}
 use Rattle.paper.specs.Numbers.{most_characters}
 use Rattle.paper.specs.Pattern.{range, Pattern, leaf, many}
@@ -21,16 +20,11 @@ or_at sets more i = bit_or (get_or sets i 0) (more i)
 abbrev pub Adds : ℕ → (ℕ → ℕ) → List ℕ → List ℕ → Type 0
 Adds n more d e = length d ≡ n → e ≡ table (or_at d more) n
 
-pub record NotRead (n : ℕ) (r : ReadPart) : Type 0 where
-  pub ok : r.ok ≡ false
-  pub left : r.left ≡ n
-
 -- how many bytes are left from the leaf on that would be the place `places`, where the first leaf is the place o; 0 where there is none
 abbrev pub surplus_of : List ℕ → ℕ → ℕ
 surplus_of starts o = get_or (replicate o 0 ++ starts) places 0
 
 pub record Reads (p : Pattern) (starts rest : List ℕ) (o : ℕ) (r : ReadPart) : Type 0 where
-  pub ok : r.ok ≡ true
   pub left : r.left ≡ length rest
   pub each : length starts ≡ leaves p
   pub next : r.next ≡ o + leaves p
@@ -55,13 +49,14 @@ pub record Works (p : Pattern) (o : ℕ) (w v : Working) : Type 0 where
   pub follow : Joins (λ (i q : ℕ). may_follow p o i q) places w.follow v.follow
   pub taking : Joins (λ (c q : ℕ). leaf_takes p o q c) most_characters w.taking v.taking
 
--- what reading gives for the pattern at the front of the bytes, or for none
-abbrev pub ReadAs : Part → ℕ → Working → Working → ReadPart → Type 0
-ReadAs (no_pattern left) o w v r = NotRead left r
-ReadAs (part p starts rest) o w v r = Reads p starts rest o r × Works p o w v
+-- what reading gives for the pattern at the front of the bytes, or for none: how many bytes are left from the one at fault on
+abbrev pub ReadAs : Part → ℕ → Working → Working → Result ReadPart ℕ → Type 0
+ReadAs (no_pattern left) o w v r = r ≡ Err left
+ReadAs (part p starts rest) o w v (Ok r) = Reads p starts rest o r × Works p o w v
+ReadAs (part p starts rest) o w v (Err left) = ⊥
 
 -- r is the reading of the bytes s, whatever more than enough turns are taken
-abbrev pub ReadingOf : List ℕ → ℕ → Working → Working → ReadPart → Type 0
+abbrev pub ReadingOf : List ℕ → ℕ → Working → Working → Result ReadPart ℕ → Type 0
 ReadingOf s o w v r = (n : ℕ) → length s ≤ n → ReadAs (read_part n s) o w v r
 
 -- r is the reading of a pattern that has no part, with so many bytes left behind it

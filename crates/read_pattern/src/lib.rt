@@ -6,72 +6,44 @@ mod reader;
 
 ghost use Rattle.std.specs.Prelude.{◌≡◌};
 ghost use Rattle.paper.specs.Written.{judge};
-ghost use Rattle.read_pattern.specs.Worked.{worked_of, refused_as};
+ghost use Rattle.read_pattern.specs.Worked.{worked_of};
 
+use base_answers::{Fault, Refusal};
 use base_places::{CHARACTERS, PLACES, PlaceTables, place};
 use place_sets::when;
-use reader::{laid, read};
+use reader::{ReadPart, read};
 
-// "15 bytes are not one pattern", "16 more than 63 leaves", or neither.
-#[derive(Clone, Copy)]
-pub enum Verdict {
-    NotOnePattern,
-    TooManyLeaves,
-    OnePattern,
-}
-
-// How the bytes of a pattern are judged, and the tables of a good pattern, else zeros.
-#[derive(Clone, Copy)]
-pub struct Worked {
-    pub verdict: Verdict,
-    // the offset of the byte at fault; 0 for a good pattern
-    pub at: usize,
-    pub tables: PlaceTables,
-}
-
-// "judged by themselves, as exactly one pattern that uses them all", and worked out in the same walk.
-pub fn tables(s: &[u8]) -> Worked
+// The tables of a good pattern, "judged by themselves, as exactly one pattern that uses them all", and worked out in the same walk; or "15 bytes are not
+// one pattern", "16 more than 63 leaves", with the offset of the byte at fault.
+pub fn tables(s: &[u8]) -> Result<PlaceTables, Refusal>
     ensures { result ≡ worked_of (judge s.now) }
 {
     let mut follow = [0; PLACES];
     let mut taking = [0; CHARACTERS];
-    let mut out = [s.len() as u64, 1, 0, 0, 0, 0];
-    let ok = read(s, &mut follow, &mut taking, &mut out);
-    let r = laid(ok, out);
-    if !r.ok {
-        return refused(Verdict::NotOnePattern, s.len() - r.left);
+    let mut part = ReadPart::empty(s.len(), 1);
+    if let Err(left) = read(s, &mut follow, &mut taking, &mut part) {
+        return Err(Refusal {
+            fault: Fault::NotOnePattern,
+            place: s.len() - left,
+        });
     }
-    if 0 < r.left {
-        return refused(Verdict::NotOnePattern, s.len() - r.left);
+    if 0 < part.left {
+        return Err(Refusal {
+            fault: Fault::NotOnePattern,
+            place: s.len() - part.left,
+        });
     }
-    if PLACES < r.next {
-        return refused(Verdict::TooManyLeaves, s.len() - r.surplus);
+    if PLACES < part.next {
+        return Err(Refusal {
+            fault: Fault::TooManyLeaves,
+            place: s.len() - part.surplus,
+        });
     }
-    follow[0] = r.first;
-    let last = r.last | when(r.empty, place(0));
-    let tables = PlaceTables {
+    follow[0] = part.first;
+    let last = part.last | when(part.empty, place(0));
+    Ok(PlaceTables {
         follow,
         taking,
         last,
-    };
-    Worked {
-        verdict: Verdict::OnePattern,
-        at: 0,
-        tables,
-    }
-}
-
-fn refused(verdict: Verdict, at: usize) -> Worked
-    ensures { result ≡ refused_as verdict at }
-{
-    let tables = PlaceTables {
-        follow: [0; PLACES],
-        taking: [0; CHARACTERS],
-        last: 0,
-    };
-    Worked {
-        verdict,
-        at,
-        tables,
-    }
+    })
 }

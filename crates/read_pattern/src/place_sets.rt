@@ -15,6 +15,7 @@ pub fn when(b: bool, set: PlaceSet) -> PlaceSet
 }
 
 // Lets every place of `first` follow every place of `last`. Only the places of `last` are looked at, one after the other, as `followers` does.
+// Kept: the library has no walk over a number's set bits; each step goes on to the next one, so that no `for` says how far.
 pub fn link(follow: &mut [PlaceSet; PLACES], last: PlaceSet, first: PlaceSet)
     ensures { Adds places (λ (i : ℕ). cond (in_mask last i) first 0) follow.old follow.new }
 {
@@ -25,7 +26,7 @@ pub fn link(follow: &mut [PlaceSet; PLACES], last: PlaceSet, first: PlaceSet)
             return;
         }
         let next = i + u64::trailing_zeros(rest) as usize;
-        follow[next] = follow[next] | first;
+        follow[next] |= first;
         i = next + 1;
     }
 }
@@ -35,9 +36,7 @@ pub fn mark(taking: &mut [PlaceSet; CHARACTERS], lo: u8, hi: u8, set: PlaceSet)
     requires { (lo < most_characters) × (hi < most_characters) }
     ensures { Adds most_characters (λ (c : ℕ). cond (takes (range lo hi) c) set 0) taking.old taking.new }
 {
-    let mut c = lo as usize;
-    while c <= hi as usize {
-        taking[c] = taking[c] | set;
-        c += 1;
+    for c in lo as usize..hi as usize + 1 {
+        taking[c] |= set;
     }
 }

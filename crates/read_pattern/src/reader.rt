@@ -4,8 +4,8 @@ ghost use Rattle.paper.specs.Numbers.{most_characters, then_code};
 ghost use Rattle.paper.specs.Pattern.{empty, then, either};
 ghost use Rattle.paper.specs.Written.{read_range};
 ghost use Rattle.base_places.specs.Masks.{places};
-ghost use Rattle.read_pattern.specs.ReadPart.{NotRead, working, ReadAs, ReadingOf, Single, LeafRead, Joined, Repeated};
-ghost use Rattle.read_pattern.specs.Laid.{numbers, laid_as, read_as, left_in, next_in, last_bytes, Begins};
+ghost use Rattle.read_pattern.specs.ReadPart.{working, ReadAs, ReadingOf, Single, LeafRead, Joined, Repeated};
+ghost use Rattle.read_pattern.specs.Lent.{read_as, last_bytes, Begins};
 
 use crate::place_sets::{link, mark, when};
 use base_places::{CHARACTERS, PLACES, PlaceSet, place};
@@ -23,12 +23,11 @@ const THEN_CODE: u8 = 194;
 const MANY_CODE: u8 = 196;
 
 // What the pattern at the front of some bytes comes to, where its first leaf is at a given place. Which places may follow its leaves, and
-// which characters these take, is joined to tables that are lent.
+// which characters these take, is joined to tables that are lent. Where there is no pattern, the error is the number of bytes left from the one at
+// fault on.
 #[derive(Clone, Copy)]
 pub struct ReadPart {
-    // there is one
-    pub ok: bool,
-    // the bytes left behind it, or from the byte at fault on
+    // the bytes left behind it
     pub left: usize,
     // the place behind its last leaf
     pub next: usize,
@@ -42,27 +41,11 @@ pub struct ReadPart {
 }
 
 impl ReadPart {
-    // No pattern, and so many bytes from the one at fault on.
-    fn none(left: usize) -> Self
-        ensures { NotRead left result }
-    {
-        ReadPart {
-            ok: false,
-            left,
-            next: 0,
-            surplus: 0,
-            empty: false,
-            first: 0,
-            last: 0,
-        }
-    }
-
     // "64: the empty text"
-    fn empty(left: usize, o: usize) -> Self
+    pub fn empty(left: usize, o: usize) -> Self
         ensures { Single empty [] left o result }
     {
         ReadPart {
-            ok: true,
             left,
             next: o,
             surplus: 0,
@@ -87,7 +70,6 @@ impl ReadPart {
         let set = place(o);
         mark(taking, lo, hi, set);
         ReadPart {
-            ok: true,
             left,
             next: o + 1,
             surplus: at_limit(o, from),
@@ -147,143 +129,88 @@ fn earlier(a: usize, b: usize) -> usize
 
 // "65 lo hi: one character with lo ≤ value ≤ hi ≤ 42": what stands behind the 65. "The lo byte if lo is above 42, else the hi byte if that is
 // above 42 or below lo." Behind `ED` "a range's ends go to 127".
-fn read_range(s: &[u8], o: usize, taking: &mut [PlaceSet; CHARACTERS]) -> ReadPart
+fn read_range(s: &[u8], o: usize, taking: &mut [PlaceSet; CHARACTERS]) -> Result<ReadPart, usize>
     requires { (o + 1 < 2 ^ 64) × (length s.now + 1 < 2 ^ 64) }
     ensures { (follow : List ℕ) → ReadAs (read_range s.now) o (working follow taking.old) (working follow taking.new) result }
 {
     let left = s.len();
     if left < 1 {
-        return ReadPart::none(0);
+        return Err(0);
     }
     let lo = s[0];
     if CHARACTER_END <= lo {
-        return ReadPart::none(left);
+        return Err(left);
     }
     if left < 2 {
-        return ReadPart::none(0);
+        return Err(0);
     }
     let hi = s[1];
-    if hi < lo {
-        return ReadPart::none(left - 1);
+    if hi < lo || CHARACTER_END <= hi {
+        return Err(left - 1);
     }
-    if CHARACTER_END <= hi {
-        return ReadPart::none(left - 1);
-    }
-    ReadPart::leaf(taking, left + 1, left - 2, o, lo, hi)
+    Ok(ReadPart::leaf(taking, left + 1, left - 2, o, lo, hi))
 }
 
 // A pattern that has no part: a leaf or the empty text.
-fn read_single(s: &[u8], o: usize, taking: &mut [PlaceSet; CHARACTERS]) -> ReadPart
+fn read_single(s: &[u8], o: usize, taking: &mut [PlaceSet; CHARACTERS]) -> Result<ReadPart, usize>
     requires { (o + length s.now < 2 ^ 64) × (0 < length s.now) × (get_or s.now 0 0 < then_code) }
     ensures { (follow : List ℕ) → ReadingOf s.now o (working follow taking.old) (working follow taking.new) result }
 {
     let b = s[0];
     if b < CHARACTER_END {
-        return ReadPart::leaf(taking, s.len(), s.len() - 1, o, b, b);
+        return Ok(ReadPart::leaf(taking, s.len(), s.len() - 1, o, b, b));
     }
     if b == EMPTY_CODE {
-        return ReadPart::empty(s.len() - 1, o);
+        return Ok(ReadPart::empty(s.len() - 1, o));
     }
     if b == RANGE_CODE {
         return read_range(&s[1..], o, taking);
     }
-    ReadPart::none(s.len())
+    Err(s.len())
 }
 
-// A reading as numbers in a lent array, so that a call which waits for another holds little: how many there are, and what stands where.
-pub const NUMBERS: usize = 6;
-
-const LEFT: usize = 0;
-
-const NEXT: usize = 1;
-
-const FIRST: usize = 2;
-
-const SURPLUS: usize = 3;
-
-const LAST: usize = 4;
-
-const EMPTY: usize = 5;
-
-// Lays a reading there. Is there a pattern?
-fn lay(out: &mut [u64; NUMBERS], r: ReadPart) -> bool
-    requires { length out.old ≡ numbers }
-    ensures { (result ≡ r.ok) × (out.new ≡ laid_as r) }
-{
-    out[LEFT] = r.left as u64;
-    out[NEXT] = r.next as u64;
-    out[FIRST] = r.first;
-    out[SURPLUS] = r.surplus as u64;
-    out[LAST] = r.last;
-    out[EMPTY] = when(r.empty, 1);
-    r.ok
-}
-
-// The reading that lies there.
-pub fn laid(ok: bool, out: [u64; NUMBERS]) -> ReadPart
-    ensures { result ≡ read_as ok out }
-{
-    ReadPart {
-        ok,
-        left: out[LEFT] as usize,
-        next: out[NEXT] as usize,
-        surplus: out[SURPLUS] as usize,
-        empty: out[EMPTY] == 1,
-        first: out[FIRST],
-        last: out[LAST],
-    }
-}
-
-// The pattern at the front of the last so many bytes, its first leaf at a given place: both numbers lie in the lent array, where the reading is laid.
+// The pattern at the front of the last so many bytes, its first leaf at a given place: both numbers stand in the lent part, where the reading is put, so
+// that a call which waits for another holds little.
 // "A or B, each again a pattern": reading, nullability and follow sets go down the pattern together, and the bytes left fall at each call. What is
 // first in a part may follow what is last in the part before it: in B after A, and in A after A, any number of times. Where A has been read, the
-// array has what B begins with.
+// lent part has what B begins with.
 pub fn read(
     s: &[u8],
     follow: &mut [PlaceSet; PLACES],
     taking: &mut [PlaceSet; CHARACTERS],
-    out: &mut [u64; NUMBERS],
-) -> bool
-    requires { Begins s.now out.old }
-    ensures { (length out.new ≡ numbers) × ReadingOf (last_bytes (left_in out.old) s.now) (next_in out.old) (working follow.old taking.old) (working follow.new taking.new) (read_as result out.new) }
+    part: &mut ReadPart,
+) -> Result<(), usize>
+    requires { Begins s.now part.old }
+    ensures { ReadingOf (last_bytes part.old.left s.now) part.old.next (working follow.old taking.old) (working follow.new taking.new) (read_as result part.new) }
 {
-    let left = out[LEFT] as usize;
+    let left = part.left;
     if left == 0 {
-        return false;
+        return Err(0);
     }
     let at = s.len() - left;
     let b = s[at];
     if b < THEN_CODE {
-        let o = out[NEXT] as usize;
-        let single = read_single(&s[at..], o, taking);
-        return lay(out, single);
+        *part = read_single(&s[at..], part.next, taking)?;
+        return Ok(());
     }
     if MANY_CODE < b {
-        return false;
+        return Err(left);
     }
-    out[LEFT] = (left - 1) as u64;
-    let one = read(s, follow, taking, out);
-    if !one {
-        return one;
-    }
-    let its = *out;
-    let first = laid(one, its);
+    part.left = left - 1;
+    read(s, follow, taking, part)?;
+    let first = *part;
     if b == MANY_CODE {
         link(follow, first.last, first.first);
-        let many = first.many();
-        return lay(out, many);
+        *part = first.many();
+        return Ok(());
     }
-    let two = read(s, follow, taking, out);
-    if !two {
-        return two;
-    }
-    let its = *out;
-    let second = laid(two, its);
+    read(s, follow, taking, part)?;
+    let second = *part;
     if b == THEN_CODE {
         link(follow, first.last, second.first);
-        let both = first.then(second);
-        return lay(out, both);
+        *part = first.then(second);
+    } else {
+        *part = first.or(second);
     }
-    let either = first.or(second);
-    lay(out, either)
+    Ok(())
 }

@@ -7,6 +7,7 @@ use mathlib.Core.Bool.{Bool, true, false, ◌||◌, or-false}
 use mathlib.Core.List.{List, [], ◌∷◌, map, Memᴰ}
 use lib.Dec.{leb, ltb}
 use lib.ListN.{length, replicate}
+use Rattle.std.specs.Prelude.{Ok}
 use Rattle.paper.specs.Lists.{any}
 use Rattle.paper.specs.Numbers.{characters, rule_fields, longest_side}
 use Rattle.paper.specs.Alphabet.{edition_1}
@@ -20,10 +21,8 @@ use Rattle.base_codes.specs.Inner.{field_code, no_token, token_code, side_code, 
 use Rattle.base_places.specs.WorkedOut.{worked_out}
 use Rattle.base_places.specs.declared.PlaceTables.{PlaceTables}
 use Rattle.base_question.specs.declared.Body.{Body}
-use Rattle.base_answers.specs.declared.Found.TheVariants.{NoFault}
 use Rattle.read_fields.specs.Bodies.{bodies_in}
 use Rattle.read_rule.specs.RuleRead.{foreign_code, rule_bodies, rule_of}
-use Rattle.read_rule.specs.declared.Rule.{Rule}
 
 -- a token's inner code is foreign exactly if the token is
 code_foreign : (t : Token) → InRange characters t → foreign_code (token_code t) ≡ foreign_token t
@@ -86,7 +85,6 @@ module _ (s : List ℕ) where
         pub whole : (codes : List ℕ) (tables : List PlaceTables) (foreign : Bool) (bodies : List Body)
             → codes ≡ padded (side_code l) → tables ≡ map worked_out fs.held → foreign ≡ (ltb rule_fields fs.above || any foreign_code codes)
             → bodies ≡ bodies_in s 2
-            → ◌≡◌ {A = Rule} (record { found = NoFault; place = 0; bytes = next; foreign = foreign; side = codes; fields = tables; bodies = bodies })
-            (rule_of (rule_bodies s) (rule_front s))
+            → Ok (record { bytes = next; foreign = foreign; side = codes; fields = tables; bodies = bodies }) ≡ rule_of (rule_bodies s) (rule_front s)
         unfolding foreign_field rule_bodies
         whole codes tables foreign bodies a b c d = rw (stands, c, a, b, d, side_foreign l good_side)

@@ -2,5 +2,4 @@ pub mod FrontStruct
 pub mod SheetWhole
 pub mod SheetStruct
 pub mod SheetPatterns
-pub mod SidesTold
-pub mod LastSides
+pub mod StraysChecked

@@ -3,25 +3,25 @@ use Prim.Native.Nat.{ℕ, suc, ◌≤◌, ◌<◌}
 use mathlib.Core.Path.{◌≡◌, refl}
 use mathlib.Core.List.{List, map}
 use lib.ListN.{length}
+use Rattle.std.specs.Prelude.{Ok}
 use Rattle.paper.specs.Equation.{Side}
+use Rattle.paper.specs.Alphabet as Paper
 use Rattle.paper.specs.Alphabet.{Edition, alphabet_of}
 use Rattle.paper.specs.Question.{Question}
 use Rattle.paper.specs.Sheet.{Fault, fault, read, wrong_mark, LE, RI, marked_side, Records, faulty, records, Fields, open_fields, read_patterns, refused, asked, read_end, edition_front, read_by, read_before}
 use Rattle.paper.proofs.base.Tests.{lt_ltb, le_ltb}
 use Rattle.paper_laws.proofs.sheets.Asked.{before_good}
 use Rattle.paper_laws.proofs.sheets.Editions.{known_edition}
-use Rattle.base_editions.specs.Editions.{paper_edition, edition_code}
+use Rattle.base_editions.specs.Editions.{paper_edition, edition_code, alphabet_code}
 use Rattle.base_editions.specs.declared.Edition.TheVariants.{First, Second}
 use Rattle.base_editions.specs.declared.Edition as Code-edition
 use Rattle.base_codes.specs.Inner.{side_code, padded}
 use Rattle.base_places.specs.WorkedOut.{worked_out}
 use Rattle.base_places.proofs.ByNumber.{by_number}
 use Rattle.base_places.specs.declared.PlaceTables.{PlaceTables}
-use Rattle.base_answers.specs.declared.Found.TheVariants.{NoFault}
 use Rattle.base_question.specs.declared.Body.{Body}
 use Rattle.read_fields.specs.Bodies.{bodies_in}
 use Rattle.read_sheet.specs.SheetRead.{bodies_of, sheet_of}
-use Rattle.read_sheet.specs.SidesRead.{with_fields}
 
 -- the code's edition, by the paper's
 same_code : (e : Code-edition.Edition) → edition_code (paper_edition e) ≡ e
@@ -72,7 +72,18 @@ module _ (s : List ℕ) where
           pub whole : length s ≤ end → (edition : Code-edition.Edition) → paper_edition edition ≡ e
               → (left right : List ℕ) (tables : List PlaceTables) (bodies : List Body)
               → left ≡ padded (side_code l) → right ≡ padded (side_code r) → tables ≡ map worked_out fs.held → (standing : List Body) → bodies ≡ standing →
-              with_fields (record { found = NoFault; place = 0; edition = edition; left = left; right = right }) tables bodies
+              Ok
+              (record {
+                edition = edition;
+                question =
+                    record {
+                      alphabet = alphabet_code (Paper.alphabet_of (paper_edition edition));
+                      left = left;
+                      right = right;
+                      fields = tables;
+                      bodies = bodies;
+                    };
+              })
               ≡ sheet_of standing (read_before s)
           whole h edition same left right tables bodies a b t standing i =
               let asks = sheet_ends h in

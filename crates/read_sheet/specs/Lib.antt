@@ -1,2 +1,1 @@
 pub mod SheetRead
-pub mod SidesRead

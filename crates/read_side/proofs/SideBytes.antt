@@ -6,19 +6,23 @@ use mathlib.Core.Path.{◌≡◌, refl}
 use mathlib.Core.Bool.{Bool, true, false, ◌&&◌}
 use mathlib.Core.List.{List, [], ◌∷◌, map}
 use lib.Dec.{leb, ltb}
-use lib.ListN.{length}
-use lib.Seq.{take-length}
+use lib.ListN.{length, length-map}
+use lib.Seq.{take_all}
 use Rattle.paper.specs.Lists.{all, leading}
 use Rattle.paper.specs.Numbers.{most_characters, fields, field_token, longest_side}
+use Rattle.paper.specs.Alphabet.{Edition, code, codes}
 use Rattle.paper.specs.Sheet.{bytes_left, is_token, token}
-use Rattle.paper.proofs.base.Tests.{by_bool, and_left, and_right, leb_true, ltb_false, lt_ltb}
+use Rattle.paper.proofs.base.Tests.{by_bool, and_left, and_right, leb_true, ltb_false}
 use Rattle.paper.proofs.base.Lists.{cons_eq}
-use Rattle.base_codes.specs.Inner.{no_token, token_code, side_code, padded}
-use Rattle.read_codes.proofs.Laying.{laid}
+use Rattle.base_codes.specs.Inner.{token_code, side_code, padded}
+use Rattle.read_codes.specs.Laid.{laid_codes}
 
--- all the codes of a side, laid in its room
-pub coded_all : (cs : List ℕ) (i : ℕ) → i ≡ length cs → laid cs no_token longest_side i ≡ padded cs
-coded_all cs i l = rw (l, take-length cs)
+-- the codes of a side, laid in its room
+pub side_laid : (e : Edition) (side : List ℕ) → length side ≤ longest_side → laid_codes longest_side e side ≡ padded (codes e side)
+unfolding laid_codes
+side_laid e side h =
+    let l = length-map side (code e) in
+    rw (take_all longest_side (codes e side) (omega (arith, l)), l)
 
 -- the inner code of a token is its code: a token that is no character is one of a field's
 inner_code : (c : ℕ) → is_token c ≡ true → token_code (token c) ≡ c
@@ -51,7 +55,3 @@ all_lead p (x ∷ l) h =
 -- two bytes are left
 pub two_left : (s : List ℕ) (at : ℕ) → ltb (bytes_left s at) 2 ≡ false → at + 2 ≤ length s
 two_left s at e = omega (arith, ltb_false (bytes_left s at) 2 e)
-
--- none are behind the end
-pub none_left : (s : List ℕ) (at : ℕ) → length s < at → ltb (bytes_left s at) 2 ≡ true
-none_left s at h = lt_ltb (bytes_left s at) 2 (omega arith)

@@ -1,20 +1,18 @@
 // Marks and sides: 01's checks on a side's record, from an offset to the next.
 #![tactic(auto)]
 
-ghost use Rattle.std.specs.Prelude.{◌≡◌, ◌+◌, ◌≤◌, ltb, length};
+ghost use Rattle.std.specs.Prelude.{◌≡◌, ◌+◌, ◌≤◌, [], ◌∷◌, ltb, length};
 ghost use Rattle.paper.specs.Lists.{leading};
 ghost use Rattle.paper.specs.Alphabet.{codes};
-ghost use Rattle.paper.specs.Numbers.{sheet_side};
-ghost use Rattle.paper.specs.Sheet.{first_letter, second_letter, bytes_left, marked, next_is, is_token, fault, side_record, marked_side};
-ghost use Rattle.base_codes.specs.Inner.{padded};
+ghost use Rattle.paper.specs.Sheet.{first_letter, second_letter, bytes_left, marked, next_is, is_token, side_record, marked_side};
 ghost use Rattle.base_editions.specs.Editions.{paper_edition};
-ghost use Rattle.base_answers.specs.Faults.{fault_of};
 ghost use Rattle.read_side.specs.SideRead.{mark_of, side_of};
 
-use base_answers::{Fault, Found};
-use base_codes::{CodedSide, FIELD_CODE, LONGEST_SIDE, NO_TOKEN, SHEET_FIELDS};
+use base_answers::{Fault, Refusal};
+use base_codes::{CodedSide, FIELD_CODE, SHEET_FIELDS};
 use base_editions::{Edition, code};
 use base_places::CHARACTERS;
+use read_codes::codes_of;
 
 // "length byte 0 to 24"
 pub const SHEET_SIDE: usize = 24;
@@ -29,51 +27,35 @@ pub enum Mark {
     ED,
 }
 
-fn first_letter(m: Mark) -> u8
-    ensures { result ≡ first_letter (mark_of m) }
-{
-    match m {
-        Mark::PA => b'P',
-        Mark::LE => b'L',
-        Mark::RI => b'R',
-        Mark::RU => b'R',
-        Mark::ED => b'E',
-    }
-}
-
-fn second_letter(m: Mark) -> u8
-    ensures { result ≡ second_letter (mark_of m) }
-{
-    match m {
-        Mark::PA => b'A',
-        Mark::LE => b'E',
-        Mark::RI => b'I',
-        Mark::RU => b'U',
-        Mark::ED => b'D',
+impl Mark {
+    fn letters(self) -> [u8; 2]
+        ensures { result ≡ first_letter (mark_of self) ∷ second_letter (mark_of self) ∷ [] }
+    {
+        match self {
+            Mark::PA => [b'P', b'A'],
+            Mark::LE => [b'L', b'E'],
+            Mark::RI => [b'R', b'I'],
+            Mark::RU => [b'R', b'U'],
+            Mark::ED => [b'E', b'D'],
+        }
     }
 }
 
 // Are the two bytes there this mark?
+#[tactic(auto, unfolding(paper::specs::Sheet::marked))]
 fn marked(s: &[u8], at: usize, m: Mark) -> bool
     requires { at + 2 ≤ length s.now }
     ensures { result ≡ marked (mark_of m) s.now at }
 {
-    if s[at] == first_letter(m) {
-        s[at + 1] == second_letter(m)
-    } else {
-        false
-    }
+    let [first, second] = m.letters();
+    s[at] == first && s[at + 1] == second
 }
 
 // Are there fewer than two bytes from the offset on?
 fn ends_at(s: &[u8], at: usize) -> bool
     ensures { result ≡ ltb (bytes_left s.now at) 2 }
 {
-    let len = s.len();
-    if len < at {
-        return true;
-    }
-    len - at < 2
+    s.len().saturating_sub(at) < 2
 }
 
 // "Reading goes on from where the last record ended": the offset at which the next record's mark stands or should stand.
@@ -84,78 +66,82 @@ pub struct Cursor {
 
 impl Cursor {
     // Does this mark come next?
+    #[tactic(auto, using(crate::proofs::SideBytes::two_left), unfolding(paper::specs::Sheet::next_is))]
     pub fn next_is(self, s: &[u8], m: Mark) -> bool
         ensures { result ≡ next_is (mark_of m) s.now self.at }
     {
-        let at = self.at;
-        if ends_at(s, at) {
-            return false;
-        }
-        marked(s, at, m)
+        !ends_at(s, self.at) && marked(s, self.at, m)
     }
 
     // The side behind the mark m: "fewer than two bytes left give 11; an unknown mark or one not allowed here gives 12".
-    pub fn side(self, s: &[u8], m: Mark, edition: Edition) -> SideRecord
+    #[tactic(auto, using(crate::proofs::SideBytes::two_left), unfolding(paper::specs::Sheet::marked_side))]
+    pub fn side(self, s: &[u8], m: Mark, edition: Edition) -> Result<SideRecord, Refusal>
         ensures { result ≡ side_of (marked_side (paper_edition edition) (mark_of m) s.now self.at) }
     {
         let at = self.at;
         if ends_at(s, at) {
-            return refuse(Fault::CutShort, s.len());
+            return Err(Refusal {
+                fault: Fault::CutShort,
+                place: s.len(),
+            });
         }
         if !marked(s, at, m) {
-            return refuse(Fault::WrongMark, at);
+            return Err(Refusal {
+                fault: Fault::WrongMark,
+                place: at,
+            });
         }
         body(s, at, edition)
     }
 }
 
-// What the checks on a side find: the first fault, or its tokens by inner codes.
+// A good side: its tokens by inner codes, and the cursor behind it.
 #[derive(Clone, Copy)]
 pub struct SideRecord {
-    pub found: Found,
     pub codes: CodedSide,
-    // behind the side, or at the byte at fault
     pub next: Cursor,
 }
 
-fn refuse(x: Fault, at: usize) -> SideRecord
-    ensures { result ≡ side_of (fault (fault_of x) at) }
-{
-    SideRecord {
-        found: Found::Refused(x),
-        codes: [NO_TOKEN; LONGEST_SIDE],
-        next: Cursor { at },
-    }
-}
-
 // "missing .. length byte 11; .. length out of its range 14; missing body 11; .. for a side 17"
-fn body(s: &[u8], at: usize, edition: Edition) -> SideRecord
+#[tactic(auto, unfolding(paper::specs::Sheet::side_record))]
+fn body(s: &[u8], at: usize, edition: Edition) -> Result<SideRecord, Refusal>
     requires { at + 2 ≤ length s.now }
     ensures { result ≡ side_of (side_record (paper_edition edition) s.now at) }
 {
     let left = s.len() - at;
     if left < 3 {
-        return refuse(Fault::CutShort, s.len());
+        return Err(Refusal {
+            fault: Fault::CutShort,
+            place: s.len(),
+        });
     }
     let len = s[at + 2] as usize;
     if SHEET_SIDE < len {
-        return refuse(Fault::WrongLength, at + 2);
+        return Err(Refusal {
+            fault: Fault::WrongLength,
+            place: at + 2,
+        });
     }
     if left < 3 + len {
-        return refuse(Fault::CutShort, s.len());
+        return Err(Refusal {
+            fault: Fault::CutShort,
+            place: s.len(),
+        });
     }
     let start = at + 3;
     let end = start + len;
-    let tokens = leading_tokens(&s[start..end], edition);
+    let side = &s[start..end];
+    let tokens = leading_tokens(side, edition);
     if tokens < len {
-        return refuse(Fault::WrongToken, start + tokens);
+        return Err(Refusal {
+            fault: Fault::WrongToken,
+            place: start + tokens,
+        });
     }
-    let codes = inner_side(&s[start..end], edition);
-    SideRecord {
-        found: Found::NoFault,
-        codes,
+    Ok(SideRecord {
+        codes: codes_of(edition, side),
         next: Cursor { at: end },
-    }
+    })
 }
 
 // "A token is 0 to 42 (a character) or 64 to 71 (field 0 to 7)", behind `ED` 0 to 127 or 192 to 199: by the code of its byte.
@@ -163,39 +149,17 @@ fn is_token(c: u8) -> bool
     ensures { result ≡ is_token c }
 {
     let value = c as usize;
-    if value < CHARACTERS {
-        return true;
-    }
-    if c < FIELD_CODE {
-        return false;
-    }
-    value < FIELD_CODE as usize + SHEET_FIELDS
+    value < CHARACTERS || (FIELD_CODE <= c && value < FIELD_CODE as usize + SHEET_FIELDS)
 }
 
 // How many stand before the first that is no token of the edition.
 pub fn leading_tokens(side: &[u8], edition: Edition) -> usize
     ensures { result ≡ leading is_token (codes (paper_edition edition) side.now) }
 {
-    let mut i = 0;
-    while i < side.len() {
-        if !is_token(code(edition, side[i])) {
+    for (i, &byte) in side.iter().enumerate() {
+        if !is_token(code(edition, byte)) {
             return i;
         }
-        i += 1;
     }
-    i
-}
-
-// The side of these bytes: the inner code of a token is its code.
-fn inner_side(side: &[u8], edition: Edition) -> CodedSide
-    requires { length side.now ≤ sheet_side }
-    ensures { result ≡ padded (codes (paper_edition edition) side.now) }
-{
-    let mut codes = [NO_TOKEN; LONGEST_SIDE];
-    let mut i = 0;
-    while i < side.len() {
-        codes[i] = code(edition, side[i]);
-        i += 1;
-    }
-    codes
+    side.len()
 }

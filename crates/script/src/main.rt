@@ -6,8 +6,8 @@
 #![tactic(auto)]
 
 use print_failures::refuse;
-use print_out::{How, Streams, read_first, tell, tell_end};
-use script_sheet::Scripted;
+use print_out::{Failure, Streams, print, read_first, tell, tell_end};
+use script_sheet::ScriptError;
 
 // As `clash` does: it "reads the first" 2,048 "bytes of standard input".
 const INPUT: usize = 2048;
@@ -16,31 +16,26 @@ const INPUT: usize = 2048;
 const SCRIPT: usize = 280000;
 
 fn main(rt: HostRuntime) {
+    tell_end(&rt, b"script", run(&rt));
+}
+
+fn run(rt: &impl Streams) -> Result<(), Failure> {
     let mut input = [0u8; INPUT];
-    let got = read_first(&rt, &mut input);
-    let n = got.bytes;
-    if got.read {
-        write_out(&rt, &input[0..n]);
-    } else {
-        tell_end(&rt, b"script", How::NotRead);
-    }
+    let n = read_first(rt, &mut input)?;
+    write_out(rt, &input[..n])
 }
 
-fn write_out(rt: &impl Streams, sheet: &[u8]) {
+fn write_out(rt: &impl Streams, sheet: &[u8]) -> Result<(), Failure> {
     let mut out = [0u8; SCRIPT];
-    write_in(rt, sheet, &mut out);
+    write_in(rt, sheet, &mut out)
 }
 
-fn write_in(rt: &impl Streams, sheet: &[u8], out: &mut [u8]) {
-    let scripted = script_sheet::script(sheet, out);
-    match scripted {
-        Scripted::Written { bytes } => print(rt, &out[0..bytes]),
-        Scripted::Refused { fault, place } => refuse(rt, b"script", fault, place),
+fn write_in(rt: &impl Streams, sheet: &[u8], out: &mut [u8]) -> Result<(), Failure> {
+    match script_sheet::script(sheet, out) {
+        Ok(bytes) => print(rt, &out[..bytes])?,
+        Err(ScriptError::Refused(refusal)) => refuse(rt, b"script", refusal),
         // never: the buffer is as long as the longest script
-        Scripted::TooShort => tell(rt, b"script: 40: the buffer is too short\n"),
+        Err(ScriptError::TooShort) => tell(rt, b"script: 40: the buffer is too short\n"),
     }
-}
-
-fn print(rt: &impl Streams, script: &[u8]) {
-    tell_end(rt, b"script", print_out::print(rt, How::Going, script));
+    Ok(())
 }

@@ -1,8 +1,7 @@
 // The equation of two sides, as a script for string solvers has it: each side is its tokens and its hidden field, joined.
 #![tactic(auto)]
 
-ghost use Rattle.std.specs.Prelude.{◌≡◌, cond, [], ◌≤◌, take};
-ghost use Rattle.paper.specs.Numbers.{longest_side};
+ghost use Rattle.std.specs.Prelude.{◌≡◌, cond, []};
 ghost use Rattle.paper_script.specs.Bytes.{bytes};
 ghost use Rattle.base_put.specs.Counted.{Counted};
 ghost use Rattle.base_codes.specs.Inner.{tokens};
@@ -46,19 +45,15 @@ fn argument(out: &mut [u8], at: usize, edition: Edition, literal: bool, token: u
     put(out, begun, digit(token))
 }
 
-// The first n tokens as arguments.
-fn arguments(out: &mut [u8], at: usize, edition: Edition, side: CodedSide, n: usize) -> usize
-    requires { n ≤ longest_side }
-    ensures { Counted out.old out.new at result (all_arguments (paper_edition edition) (take n side)) }
+// The tokens of a side as arguments.
+fn arguments(out: &mut [u8], at: usize, edition: Edition, tokens: &[u8]) -> usize
+    ensures { Counted out.old out.new at result (all_arguments (paper_edition edition) tokens.now) }
 {
     let mut end = at;
     let mut literal = false;
-    let mut i = 0;
-    while i < n {
-        let token = side[i];
+    for &token in tokens {
         end = argument(out, end, edition, literal, token);
         literal = token < FIELD_CODE;
-        i += 1;
     }
     if literal {
         return put(out, end, b'"');
@@ -94,7 +89,7 @@ fn side_term(out: &mut [u8], at: usize, edition: Edition, side: CodedSide, hidde
         return constant(out, at, hidden);
     }
     let begun = put_all(out, at, b"(str.++");
-    let end = arguments(out, begun, edition, side, n);
+    let end = arguments(out, begun, edition, &side[..n]);
     let gap = put(out, end, b' ');
     let behind = constant(out, gap, hidden);
     put(out, behind, b')')

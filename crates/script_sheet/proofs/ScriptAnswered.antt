@@ -15,36 +15,34 @@ use Rattle.paper_script.proofs.Length.{script_fits}
 use Rattle.paper_script.proofs.ScriptPromised.{promised}
 use Rattle.base_put.specs.Counted.{last_place, Counted}
 use Rattle.base_put.proofs.Counting.{counted_length, counted_in_front, counted_outside}
-use Rattle.base_answers.specs.declared.Fault as Code
-use Rattle.base_answers.specs.declared.Found.TheVariants as Found
+use Rattle.std.proofs.Common.{Ok, Err}
+use Rattle.base_answers.specs.declared.Refusal.{Refusal}
 use Rattle.read_sheet.specs.SheetRead.{bodies_of, sheet_of}
-use Rattle.read_sheet.specs.declared.Sheet.{Sheet}
 use Rattle.read_sheet.proofs.SheetStruct.{sheet_refused}
 use Rattle.script_sheet.specs.WrittenOut.{told_scripted}
-use Rattle.script_sheet.specs.declared.Scripted.TheVariants.{Written, Refused, TooShort}
+use Rattle.script_sheet.specs.declared.ScriptError.TheVariants.{Refused, TooShort}
 
 pub and_promised : (sheet out : List ℕ) (s : Scripting) → s ≡ scripting sheet out → (s ≡ scripting sheet out) × ScriptPromised sheet out s
 and_promised sheet out s e = (e, subst (ScriptPromised sheet out) (sym e) (promised sheet out))
 
 module _ (sheet out : List ℕ) where
-  pub sheet_at_fault : (s : Sheet) → s ≡ sheet_of (bodies_of sheet) (read_sheet sheet) → (x : Code.Fault) → s.found ≡ Found.Refused x
-      → told_scripted (Refused x s.place) out ≡ scripting sheet out
+  pub sheet_at_fault : (x : Refusal) → sheet_of (bodies_of sheet) (read_sheet sheet) ≡ Err x → told_scripted (Err (Refused x)) out ≡ scripting sheet out
   unfolding scripting
-  sheet_at_fault s e x h = rw (sheet_refused sheet s e x h)
+  sheet_at_fault x e = rw (sheet_refused sheet x e)
 
   module _ (q : Question) (asks : read_sheet sheet ≡ asked q) where
     short : length (script q) ≤ last_place
     short = omega (arith, script_fits sheet q asks)
 
     -- counted into no bytes of the buffer, and put behind them
-    pub no_room : {e : List ℕ} {n : ℕ} → Counted [] e 0 n (script q) → length (e ++ out) < n → told_scripted TooShort (e ++ out) ≡ scripting sheet out
+    pub no_room : {e : List ℕ} {n : ℕ} → Counted [] e 0 n (script q) → length (e ++ out) < n → told_scripted (Err TooShort) (e ++ out) ≡ scripting sheet out
     unfolding scripting
     no_room {e = e} p h =
         let same : e ++ out ≡ out = ap (λ (l : List ℕ). l ++ out) (counted_outside p) in
         rw (same, asks, lt_leb (length (script q)) (length out) (omega (arith, ap length same, counted_length p short)))
 
     pub with_room : {e after : List ℕ} {n m : ℕ} → Counted [] e 0 n (script q) → n ≤ length (e ++ out) → Counted (e ++ out) after 0 m (script q)
-        → told_scripted (Written m) after ≡ scripting sheet out
+        → told_scripted (Ok m) after ≡ scripting sheet out
     unfolding scripting
     with_room {e = e} {after = after} {m = m} p h w =
         let same : e ++ out ≡ out = ap (λ (l : List ℕ). l ++ out) (counted_outside p) in

@@ -1,26 +1,29 @@
 -- What the answer of the script tells, and what is put on the way.
-use Rattle.std.specs.Prelude.{ℕ, ◌+◌, ◌≤◌, ◌<◌, ◌≡◌, cond, List, [], ◌∷◌, ltb, length, get_or}
+use Rattle.std.specs.Prelude.{ℕ, ◌+◌, ◌≤◌, ◌<◌, ◌≡◌, cond, List, [], ◌∷◌, ltb, length, get_or, Result, Ok, Err}
 use Rattle.paper.specs.Lists.{upto, keep, each}
 use Rattle.paper.specs.Numbers.{fields, set_fields}
 use Rattle.paper.specs.Alphabet.{Edition, edition_1, edition_2, edition_of}
 use Rattle.paper.specs.Question.{Question, held_by, hidden}
-use Rattle.paper.specs.Sheet.{fault_number, asked, read_sheet}
+use Rattle.paper.specs.Sheet.{asked, read_sheet}
 use Rattle.paper_script.specs.Script.{field_lines}
 use Rattle.paper_script.specs.Scripting.{Scripting, scripting_told}
 use Rattle.base_question.specs.Bodies.{nowhere}
 use Rattle.base_question.specs.Standings.{is_counted}
 use Rattle.base_question.specs.declared.Body.{Body}
-use Rattle.base_answers.specs.Faults.{fault_of}
+use Rattle.base_answers.specs.AnswerNumbers.{written_numbers, number_alone, refusal_numbers}
 use Rattle.base_answers.specs.declared.Numbers.{Numbers}
-use Rattle.script_sheet.specs.declared.Scripted.{Scripted}
-use Rattle.script_sheet.specs.declared.Scripted.TheVariants.{Written, Refused, TooShort}
+use Rattle.script_sheet.specs.declared.ScriptError.{ScriptError}
+use Rattle.script_sheet.specs.declared.ScriptError.TheVariants.{Refused, TooShort}
 
-abbrev pub scripted_numbers : Scripted → Numbers
-scripted_numbers (Written bytes) = record { number = 0; count = 0; place = 0; written = bytes }
-scripted_numbers (Refused fault place) = record { number = fault_number (fault_of fault); count = 0; place = place; written = 0 }
-scripted_numbers TooShort = record { number = 40; count = 0; place = 0; written = 0 }
+abbrev pub error_numbers : ScriptError → Numbers
+error_numbers (Refused r) = refusal_numbers r
+error_numbers TooShort = number_alone 40
 
-abbrev pub told_scripted : Scripted → List ℕ → Scripting
+abbrev pub scripted_numbers : Result ℕ ScriptError → Numbers
+scripted_numbers (Ok bytes) = written_numbers bytes
+scripted_numbers (Err e) = error_numbers e
+
+abbrev pub told_scripted : Result ℕ ScriptError → List ℕ → Scripting
 told_scripted s out = let n = scripted_numbers s in scripting_told n.number n.place n.written out
 
 -- the sheet asks this, in this edition

@@ -13,79 +13,77 @@ ghost use Rattle.base_put.specs.Counted.{Counted};
 ghost use Rattle.base_editions.specs.Editions.{paper_edition};
 ghost use Rattle.base_question.specs.Asked.{question_of};
 ghost use Rattle.read_sheet.specs.SheetRead.{bodies_of};
-ghost use Rattle.script_sheet.specs.WrittenOut.{scripted_numbers, told_scripted, AsksIn, fields_lines, fields_counted, body_of, BodiesWithin};
+ghost use Rattle.script_sheet.specs.declared.ScriptError.TheVariants.{Refused};
+ghost use Rattle.script_sheet.specs.WrittenOut.{error_numbers, scripted_numbers, told_scripted, AsksIn, fields_lines, fields_counted, body_of, BodiesWithin};
 
-use base_answers::{Fault, Found, Numbers, SCRIPT_TOO_SHORT};
+use base_answers::{Numbers, Refusal, SCRIPT_TOO_SHORT};
 use base_codes::{FIELDS, HIDDEN_LEFT, HIDDEN_RIGHT, SHEET_FIELDS};
 use base_editions::Edition;
 use base_put::put_all;
 use base_question::{Body, Question};
 use memberships::field_lines;
 
-// The answer to a sheet that is to be written out.
+// Why a sheet is not written out.
 #[derive(Clone, Copy)]
-pub enum Scripted {
-    // 0: so many bytes of script stand in front of the buffer
-    Written { bytes: usize },
+pub enum ScriptError {
     // 11 to 17, 22 and 44: the sheet is at fault
-    Refused { fault: Fault, place: usize },
+    Refused(Refusal),
     // 40: the output buffer is too short
     TooShort,
 }
 
-// Writes the sheet out as a script.
-pub fn script(sheet: &[u8], out: &mut [u8]) -> Scripted
+impl From<Refusal> for ScriptError {
+    ghost from_gives = { λ r e. e ≡ Refused r };
+
+    fn from(refusal: Refusal) -> ScriptError
+        ensures { result ≡ Refused refusal }
+    {
+        ScriptError::Refused(refusal)
+    }
+}
+
+// An error in numbers.
+impl From<ScriptError> for Numbers {
+    ghost from_gives = { λ e n. n ≡ error_numbers e };
+
+    fn from(e: ScriptError) -> Numbers
+        ensures { result ≡ error_numbers e }
+    {
+        match e {
+            ScriptError::Refused(refusal) => Numbers::from(refusal),
+            ScriptError::TooShort => Numbers::of_number(SCRIPT_TOO_SHORT),
+        }
+    }
+}
+
+// Writes the sheet out as a script: how many bytes of it stand in front of the buffer.
+pub fn script(sheet: &[u8], out: &mut [u8]) -> Result<usize, ScriptError>
     ensures whole { told_scripted result out.new ≡ scripting sheet.now out.old }
     ensures promised { ScriptPromised sheet.now out.old (told_scripted result out.new) }
 {
-    let read = read_sheet::read(sheet);
-    let found = read.found;
-    if let Found::Refused(fault) = found {
-        return Scripted::Refused {
-            fault,
-            place: read.place,
-        };
-    }
-    let edition = read.edition;
-    let question = read.question;
-    let length = put_script(&mut out[0..0], edition, sheet, question);
+    let read = read_sheet::read(sheet)?;
+    let length = put_script(&mut out[0..0], read.edition, sheet, &read.question);
     if out.len() < length {
-        return Scripted::TooShort;
+        return Err(ScriptError::TooShort);
     }
-    let bytes = put_script(out, edition, sheet, question);
-    Scripted::Written { bytes }
+    Ok(put_script(out, read.edition, sheet, &read.question))
 }
 
 // An answer in numbers.
-pub fn in_numbers(s: Scripted) -> Numbers
+// Kept: `From` is for a type of the crate, and a `Result` is none.
+pub fn in_numbers(s: Result<usize, ScriptError>) -> Numbers
     ensures { result ≡ scripted_numbers s }
 {
     match s {
-        Scripted::Written { bytes } => Numbers {
-            number: 0,
-            count: 0,
-            place: 0,
-            written: bytes,
-        },
-        Scripted::Refused { fault, place } => Numbers {
-            number: base_answers::number(fault) as usize,
-            count: 0,
-            place,
-            written: 0,
-        },
-        Scripted::TooShort => Numbers {
-            number: SCRIPT_TOO_SHORT,
-            count: 0,
-            place: 0,
-            written: 0,
-        },
+        Ok(bytes) => Numbers::of_written(bytes),
+        Err(e) => Numbers::from(e),
     }
 }
 
 // The script of a good sheet, which asks this: as far as there is room, and how long it is.
-fn put_script(out: &mut [u8], edition: Edition, sheet: &[u8], question: Question) -> usize
-    requires { BodiesWithin sheet.now question.bodies }
-    ensures { (q : Paper.Question) → AsksIn (paper_edition edition) sheet.now q → question ≡ question_of q (bodies_of sheet.now) → Counted out.old out.new 0 result (script q) }
+fn put_script(out: &mut [u8], edition: Edition, sheet: &[u8], question: &Question) -> usize
+    requires { BodiesWithin sheet.now question.now.bodies }
+    ensures { (q : Paper.Question) → AsksIn (paper_edition edition) sheet.now q → question.now ≡ question_of q (bodies_of sheet.now) → Counted out.old out.new 0 result (script q) }
 {
     let left = question.left;
     let right = question.right;
@@ -160,11 +158,9 @@ fn put_fields(
     ensures { (q : Paper.Question) → AsksIn (paper_edition edition) sheet.now q → bodies ≡ bodies_of sheet.now → Counted out.old out.new at result (fields_lines (paper_edition edition) q (fields_counted counts)) }
 {
     let mut end = at;
-    let mut f = 0;
-    while f < FIELDS {
+    for f in 0..FIELDS {
         let body = body_of(bodies, f);
         end = put_field(out, end, edition, sheet, f, body, counts[f]);
-        f += 1;
     }
     end
 }

@@ -62,10 +62,8 @@ fn characters(out: &mut [u8], at: usize, lo: u8, hi: u8) -> usize
     ensures { Counted out.old out.new at result (each (next_character edition_1) (from lo (suc hi - lo))) }
 {
     let mut end = at;
-    let mut c = lo;
-    while c < hi {
+    for c in lo..hi {
         end = next_character(out, end, c);
-        c += 1;
     }
     next_character(out, end, hi)
 }

@@ -13,7 +13,7 @@ use Rattle.paper.proofs.base.Tests.{by_bool, true_false, not_true, leb_true, leb
 use Rattle.base_codes.specs.Coded.{Coded, same_coded, Short}
 use Rattle.search_buckets.specs.Buckets.{buckets, bucket, in_bucket, newest, Leads, link, older_at, newest_at, Kept, Sought, EnteredAt}
 use Rattle.search_slots.specs.Slots.{key, Slot, slot_at, no_slot}
-use Rattle.search_buckets.specs.declared.Seen.TheVariants.{Nowhere}
+use Rattle.std.specs.Prelude.{None}
 use Rattle.search_buckets.proofs.Newest.{newest_le, newest_passes, newest_none, newest_zero}
 use Rattle.search_slots.proofs.Situations.{same_coded_equal}
 
@@ -53,7 +53,7 @@ module _ {work bytes : List ℕ} {n first : ℕ} {k : Coded} {ss : List Slot} (q
         other_bucket j (newest_none test (above - 1) j h c))
 
     -- the link is 0, or one that is not followed: its bucket has no older slot
-    pub walk_ends : (next < above → next ≡ 0) → 0 < above → EnteredAt ss k Nowhere
+    pub walk_ends : (next < above → next ≡ 0) → 0 < above → EnteredAt ss k None
     walk_ends e a =
         let z : newest test (above - 1) ≡ 0 =
         by_bool (leb (newest test (above - 1)) 0) (λ t. omega (arith, leb_true (newest test (above - 1)) 0 t))

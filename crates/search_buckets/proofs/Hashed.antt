@@ -1,26 +1,48 @@
 -- Laws of the hash: one word more, none left. Follows from the definition.
-use Prim.Native.Nat.{ℕ, suc, ◌+◌, ◌-◌, ◌*◌, ◌/◌, ◌<◌}
+use Prim.Native.Nat.{ℕ, zero, suc, ◌+◌, ◌-◌, ◌*◌, ◌/◌, ◌≤◌, ◌<◌}
 use native.Mathlib.Omega.{arith}
-use native.Mathlib.Nat.{add-sub_cancel_left}
+use native.Mathlib.Nat.{mul-zero, mul-suc}
 use mathlib.Core.Path.{◌≡◌, refl, sym, ap, ap₂, ◌∙◌}
 use mathlib.Core.List.{List}
-use lib.ListN.{take, drop}
+use lib.ListN.{length, get_or, take, drop, length-take}
+use mir.Syntax.{w64}
+use Rattle.std.specs.Int.{from_le_bytes}
+use Rattle.std.specs.Simd.{first_chunks}
+use Rattle.search_slots.specs.Slots.{key_bytes}
+use Rattle.search_slots.proofs.numbers.Bytes.{eight_bytes}
 use lib.Seq.{drop-drop}
-use Rattle.search_slots.specs.LowFirst.{low_first_number}
+use Rattle.search_slots.specs.LowFirst.{low_first_number, widest}
 use Rattle.search_buckets.specs.Buckets.{word_width, half, key_words, mixed, hash_words, hash}
+
+-- the chunk with the number i
+chunk_at : (n k i : ℕ) (l d : List ℕ) → i < k → get_or (first_chunks n k l) i d ≡ take n (drop (n * i) l)
+chunk_at n zero i l d h = absurd (omega arith)
+chunk_at n (suc k) zero l d h = rw mul-zero
+chunk_at n (suc k) (suc i) l d h =
+    let e : n * suc i ≡ n + n * i = rw mul-suc (omega arith) in
+    rw (e, ← drop-drop (n * i) n l) (chunk_at n k i (drop n l) d (omega arith))
+
+-- a word of the key
+pub word_at : (k : List ℕ) (words : List (List ℕ)) (w i : ℕ) (d : List ℕ) → length k ≡ key_bytes → i < length words
+    → words ≡ first_chunks word_width (length k / word_width) k → length words ≡ length k / word_width → w ≡ from_le_bytes w64 (get_or words i d)
+    → w ≡ low_first_number (take word_width (drop (word_width * i) k))
+word_at k words w i d n h e m f =
+    let g : get_or words i d ≡ take word_width (drop (word_width * i) k) = rw e (chunk_at word_width (length k / word_width) i k d (omega arith)) in
+    let b : length (get_or words i d) ≤ widest = rw (g, length-take) (omega arith) in
+    f ∙ eight_bytes (get_or words i d) b ∙ ap low_first_number g
 
 -- what is left from word i on
 unfoldable pub hash_left : ℕ → ℕ → List ℕ → ℕ
 hash_left i h k = hash_words (key_words - i) h (drop (word_width * i) k)
 
-pub word_next : (k : List ℕ) (i h w g : ℕ) → i < key_words → w ≡ low_first_number (take (word_width * i + word_width - word_width * i) (drop (word_width * i) k))
+pub word_next : (k : List ℕ) (i h w g : ℕ) → i < key_words → w ≡ low_first_number (take word_width (drop (word_width * i) k))
     → g ≡ mixed h w → hash_left i h k ≡ hash_left (i + 1) g k
 unfolding hash_left
 word_next k i h w g b e f =
     let m : key_words - i ≡ suc (key_words - (i + 1)) = omega arith in
     let d : word_width * i + word_width ≡ word_width * (i + 1) = omega arith in
     let word : mixed h (low_first_number (take word_width (drop (word_width * i) k))) ≡ g =
-    sym (f ∙ ap (mixed h) (e ∙ ap (λ (z : ℕ). low_first_number (take z (drop (word_width * i) k))) (add-sub_cancel_left (word_width * i) word_width))) in
+    sym (f ∙ ap (mixed h) e) in
     let rest : drop word_width (drop (word_width * i) k) ≡ drop (word_width * (i + 1)) k =
     drop-drop word_width (word_width * i) k ∙ ap (λ (z : ℕ). drop z k) d in
     ap (λ (n : ℕ). hash_words n h (drop (word_width * i) k)) m ∙ ap₂ (hash_words (key_words - (i + 1))) word rest

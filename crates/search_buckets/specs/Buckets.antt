@@ -1,13 +1,11 @@
 -- Slots looked up by buckets: the links, and the working buffer with its slots and its links.
-use Rattle.std.specs.Prelude.{ℕ, zero, suc, ◌+◌, ◌*◌, ◌/◌, ◌%◌, ◌≤◌, ◌<◌, ◌≡◌, Bool, true, false, cond, List, eqb, length, get_or, take, drop}
+use Rattle.std.specs.Prelude.{ℕ, zero, suc, ◌+◌, ◌*◌, ◌/◌, ◌%◌, ◌≤◌, ◌<◌, ◌≡◌, Bool, true, false, cond, Option, Some, None, List, eqb, length, get_or, take, drop}
 use Rattle.std.specs.Int.Bits.{bit_xor}
 use Rattle.paper.specs.Lists.{any}
 use Rattle.paper.specs.Numbers.{situation_bytes}
 use Rattle.base_codes.specs.Coded.{Coded, same_coded, Short}
 use Rattle.search_slots.specs.LowFirst.{low_first_number}
 use Rattle.search_slots.specs.Slots.{number_width, held_bytes, key_bytes, key, Slot, slot_at, part, SlotsHeld}
-use Rattle.search_buckets.specs.declared.Seen.{Seen}
-use Rattle.search_buckets.specs.declared.Seen.TheVariants.{At, Nowhere}
 
 -- There are as many buckets as the buffer has slots. A key's bucket is its hash modulo their number. The hash is over all bytes of the
 -- key, in words of eight: each is put to it by exclusive or, and each half of what that gives is multiplied by a factor of its own.
@@ -83,9 +81,9 @@ pub record Kept (work : List ℕ) (ss : List Slot) : Type 0 where
   pub linked : Linked work ss
 
 -- "one already entered": the number of a slot that holds this situation, or that none holds it
-abbrev pub EnteredAt : List Slot → Coded → Seen → Type 0
-EnteredAt ss k (At i) = (i < length ss) × (same_coded (slot_at ss i).at k ≡ true)
-EnteredAt ss k Nowhere = any (λ (x : Slot). same_coded x.at k) ss ≡ false
+abbrev pub EnteredAt : List Slot → Coded → Option ℕ → Type 0
+EnteredAt ss k (Some i) = (i < length ss) × (same_coded (slot_at ss i).at k ≡ true)
+EnteredAt ss k None = any (λ (x : Slot). same_coded x.at k) ss ≡ false
 
 -- the link at the place `from` is copied to the place `to` and becomes one to slot n; nothing else changes
 pub record LinksPut (before : List ℕ) (to from n : ℕ) (after : List ℕ) : Type 0 where

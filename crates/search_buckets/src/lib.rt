@@ -1,8 +1,7 @@
 // Situations looked up in the working buffer: slots are linked by buckets, and each bucket is walked from its newest slot to its oldest.
 #![tactic(auto)]
 
-ghost use Rattle.std.specs.Prelude.{◌≡◌, List, ◌∷◌, [], ◌++◌, ◌+◌, ◌*◌, ◌/◌, ◌%◌, ◌<◌, ◌≤◌, length, eqb};
-ghost use Rattle.paper.specs.Lists.{same_by};
+ghost use Rattle.std.specs.Prelude.{◌≡◌, List, ◌∷◌, [], ◌++◌, ◌+◌, ◌*◌, ◌/◌, ◌%◌, ◌<◌, ◌≤◌, length};
 ghost use Rattle.paper.specs.Numbers.{situation_bytes};
 ghost use Rattle.base_codes.specs.Coded.{Coded, Short};
 ghost use Rattle.search_buckets.specs.Buckets.{spread, mixed, hash, bucket, buckets, link, LinksPut, Sought, Kept, EnteredAt};
@@ -17,10 +16,8 @@ const OLDER: usize = HELD;
 
 const NEWEST: usize = OLDER + NUMBER;
 
-// The bytes of a word, how many words a key has, and where a word's high half begins.
+// The bytes of a word, and where its high half begins.
 const WORD: usize = 8;
-
-const WORDS: usize = KEY / WORD;
 
 const HALF: u64 = 4294967296;
 
@@ -28,13 +25,6 @@ const HALF: u64 = 4294967296;
 const LOW_FACTOR: u64 = 1640531551;
 
 const HIGH_FACTOR: u64 = 1824926689;
-
-// Where a situation is entered: the number of its slot.
-#[derive(Clone, Copy)]
-pub enum Seen {
-    At(usize),
-    Nowhere,
-}
 
 // Each half of a word by a factor of its own.
 fn spread(x: u64) -> u64
@@ -55,10 +45,9 @@ fn hash(key: &[u8]) -> u64
     ensures { result ≡ hash key.now }
 {
     let mut h = 0;
-    let mut i = 0;
-    while i < WORDS {
-        h = mixed(h, number(&key[WORD * i..WORD * i + WORD]));
-        i += 1;
+    let (words, _) = key.as_chunks::<WORD>();
+    for &word in words {
+        h = mixed(h, u64::from_le_bytes(word));
     }
     mixed(h, h / HALF)
 }
@@ -112,23 +101,9 @@ pub fn write_slot(work: &mut [u8], n: usize, its: &[u8], b: usize, parent: u16, 
     put_links(work, at + OLDER, SLOT * b + NEWEST, n);
 }
 
-// No test on the way: so several bytes can be compared at once.
-fn same(a: &[u8], b: &[u8]) -> bool
-    requires { length a.now ≡ length b.now }
-    ensures { result ≡ same_by eqb a.now b.now }
-{
-    let mut r = true;
-    let mut i = 0;
-    while i < a.len() {
-        r = r & (a[i] == b[i]);
-        i += 1;
-    }
-    r
-}
-
 // The slots of a bucket, from the newest to the oldest: a child is often the same as one that was entered just before. A link leads to an
 // older slot; one that does not is not followed.
-fn entered(work: &[u8], n: usize, newest: usize, key: &[u8]) -> Seen
+fn entered(work: &[u8], n: usize, newest: usize, key: &[u8]) -> Option<usize>
     requires n_in_bounds { situation_bytes * n ≤ length work.now }
     requires key_len { length key.now ≡ key_bytes }
     ensures { (k : Coded) (ss : List Slot) → Sought work.now key.now n newest k ss → EnteredAt ss k result }
@@ -137,32 +112,32 @@ fn entered(work: &[u8], n: usize, newest: usize, key: &[u8]) -> Seen
     let mut next = newest;
     while next < above {
         if next == 0 {
-            return Seen::Nowhere;
+            return None;
         }
         let i = next - 1;
         let at = SLOT * i;
-        if same(&work[at..at + KEY], &key[0..KEY]) {
-            return Seen::At(i);
+        if &work[at..at + KEY] == key {
+            return Some(i);
         }
         above = next;
         next = number_at(work, at + OLDER);
     }
-    Seen::Nowhere
+    None
 }
 
-// Is the situation with this key, whose bucket is b, already entered, in one of the first n slots, and where?
-pub fn look_up(work: &[u8], n: usize, its: &[u8], b: usize) -> Seen
+// The number of the slot, one of the first n, where the situation with this key, whose bucket is b, is entered already.
+pub fn look_up(work: &[u8], n: usize, its: &[u8], b: usize) -> Option<usize>
     ensures { (k : Coded) (ss : List Slot) → b < buckets work.now → its.now ≡ key k → b ≡ bucket (buckets work.now) k → Short k → Kept work.now ss → length ss ≡ n → EnteredAt ss k result }
 {
     let slots = slots_in(work.len());
     if slots < n {
-        return Seen::Nowhere;
+        return None;
     }
     if slots <= b {
-        return Seen::Nowhere;
+        return None;
     }
     if its.len() != KEY {
-        return Seen::Nowhere;
+        return None;
     }
     let newest = number_at(work, SLOT * b + NEWEST);
     entered(work, n, newest, its)

@@ -1,6 +1,5 @@
 -- situations by value
 pub mod ChildTurns
-pub mod ChildSets
 pub mod ChildJudged
 -- what callers go by
 pub mod Short

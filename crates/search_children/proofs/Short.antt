@@ -20,23 +20,24 @@ use Rattle.search_trim.specs.Trimming.{alike_in_front}
 use Rattle.search_children.specs.Children.{judged_sides, settle, with_set, struck, put_child, may_end_at}
 use Rattle.search_children.specs.Laid.{child_of}
 use Rattle.search_fronts.specs.Fronts.{Front, set_by, both_take}
-use Rattle.search_children.specs.declared.Fate.TheVariants.{Dropped, Above, Made}
+use Rattle.base_codes.specs.declared.Situation.{Situation}
+use Rattle.search_children.specs.declared.Child.TheVariants.{Dropped, Above, Made}
 
--- the fate of a child, and what the definition says of it
-pub fate_dropped : (x : Settled) → (child_of x).fate ≡ Dropped → x ≡ dropped
-fate_dropped dropped f = refl
-fate_dropped above f = absurd (let z : ◌≡◌ {A = ℕ} 0 1 = cc in omega arith)
-fate_dropped (made t) f = absurd (let z : ◌≡◌ {A = ℕ} 0 1 = cc in omega arith)
+-- a child, and what the definition says of it
+pub child_dropped : (x : Settled) → child_of x ≡ Dropped → x ≡ dropped
+child_dropped dropped f = refl
+child_dropped above f = absurd (let z : ◌≡◌ {A = ℕ} 0 1 = cc in omega arith)
+child_dropped (made t) f = absurd (let z : ◌≡◌ {A = ℕ} 0 1 = cc in omega arith)
 
-pub fate_above : (x : Settled) → (child_of x).fate ≡ Above → x ≡ above
-fate_above dropped f = absurd (let z : ◌≡◌ {A = ℕ} 0 1 = cc in omega arith)
-fate_above above f = refl
-fate_above (made t) f = absurd (let z : ◌≡◌ {A = ℕ} 0 1 = cc in omega arith)
+pub child_above : (x : Settled) → child_of x ≡ Above → x ≡ above
+child_above dropped f = absurd (let z : ◌≡◌ {A = ℕ} 0 1 = cc in omega arith)
+child_above above f = refl
+child_above (made t) f = absurd (let z : ◌≡◌ {A = ℕ} 0 1 = cc in omega arith)
 
-pub fate_made : (x : Settled) → (child_of x).fate ≡ Made → (t : Coded) × (x ≡ made t) × ((child_of x).at ≡ as_struct t)
-fate_made dropped f = absurd (let z : ◌≡◌ {A = ℕ} 0 1 = cc in omega arith)
-fate_made above f = absurd (let z : ◌≡◌ {A = ℕ} 0 1 = cc in omega arith)
-fate_made (made t) f = (t, refl, refl)
+pub child_made : (x : Settled) (at : Situation) → child_of x ≡ Made at → (t : Coded) × (x ≡ made t) × (at ≡ as_struct t)
+child_made dropped at f = absurd (let z : ◌≡◌ {A = ℕ} 0 1 = cc in omega arith)
+child_made above at f = absurd (let z : ◌≡◌ {A = ℕ} 0 1 = cc in omega arith)
+child_made (made t) at f = (t, refl, (cc))
 
 -- the tokens of what is left, struck, put
 all_keep : (p q : ℕ → Bool) (l : List ℕ) → all p l ≡ true → all p (keep q l) ≡ true

@@ -1,52 +1,44 @@
 // Sides: a field struck, a character put, and what becomes of the situation when they are trimmed.
-ghost use Rattle.std.specs.Prelude.{◌&&◌, ◌||◌, List, ◌≡◌, ℕ, ◌+◌, leb, eqb, length, replicate};
-ghost use Rattle.paper.specs.Numbers.{longest_side};
+ghost use Rattle.std.specs.Prelude.{◌&&◌, ◌||◌, List, ◌≡◌, ℕ, leb, eqb};
 ghost use Rattle.base_codes.specs.Inner.{field_code, front, tokens};
-ghost use Rattle.base_codes.specs.Coded.{as_struct};
 ghost use Rattle.search_trim.specs.Trimming.{trimmed_sides};
 ghost use Rattle.search_children.specs.Children.{strike_codes, put_codes, dead_sides, judged_sides, settle};
-ghost use Rattle.search_children.specs.Laid.{no_situation, unmade, child_of, widest_side, Has};
+ghost use Rattle.search_children.specs.Laid.{child_of, Has};
 
-use crate::{Child, Fate};
-use base_codes::{FIELD_CODE, FIELDS, LONGEST_SIDE, NO_TOKEN, Situation};
+use crate::Child;
+use base_codes::{CodedSide, FIELD_CODE, FIELDS, LONGEST_SIDE, NO_TOKEN, Situation};
 use base_places::PlaceSet;
 use search_trim::Trimmed;
 
-// a side with a character put before each of its tokens
-pub const WIDEST_SIDE: usize = LONGEST_SIDE + LONGEST_SIDE;
+const WIDEST_SIDE: usize = LONGEST_SIDE + LONGEST_SIDE;
+
+// The bytes of a side before it is trimmed: a character may be put before each of its tokens.
+// Kept: bytes that are lent, and a length beside them; a struct with `push` was tried, and a put took a quarter more instructions.
+pub type WideSide = [u8; WIDEST_SIDE];
+
+pub const NO_WIDE_SIDE: WideSide = [0; WIDEST_SIDE];
 
 // The token in front of a side, 255 where there is none.
-pub fn front_in(side: &[u8]) -> u8
-    requires { length side.now ≡ longest_side }
+#[tactic(auto, using(base_codes::proofs::Tokens::tokens_front))]
+pub fn front_in(side: &CodedSide) -> u8
     ensures { result ≡ front (tokens side.now) }
 {
     side[0]
 }
 
-// the bytes of a side before it is trimmed
-pub fn no_wide_side() -> [u8; WIDEST_SIDE]
-    ensures { result ≡ replicate widest_side 0 }
-{
-    [0; WIDEST_SIDE]
-}
-
 // "strike it everywhere": how many tokens are left, in the front of the bytes
-pub fn struck_side(bytes: &mut [u8], side: &[u8], b: u8) -> usize
-    requires { (length bytes.old ≡ widest_side) × (length side.now ≡ longest_side) }
+pub fn struck_side(bytes: &mut WideSide, side: &CodedSide, b: u8) -> usize
     ensures { Has bytes.new result (strike_codes b (tokens side.now)) }
 {
-    let mut n: usize = 0;
-    let mut i: usize = 0;
-    while i < LONGEST_SIDE {
-        let x = side[i];
+    let mut n = 0;
+    for &x in side {
         if x == NO_TOKEN {
-            return n;
+            break;
         }
         if x != b {
             bytes[n] = x;
             n += 1;
         }
-        i += 1;
     }
     n
 }
@@ -55,26 +47,17 @@ pub fn struck_side(bytes: &mut [u8], side: &[u8], b: u8) -> usize
 fn is_front(x: u8, a: u8, b: u8) -> bool
     ensures { result ≡ (leb field_code x && (eqb x a || eqb x b)) }
 {
-    if x < FIELD_CODE {
-        return false;
-    }
-    if x == a {
-        return true;
-    }
-    x == b
+    FIELD_CODE <= x && (x == a || x == b)
 }
 
 // "put c before each front field wherever that field stands": how many tokens that makes, in the front of the bytes
-pub fn put_side(bytes: &mut [u8], side: &[u8], c: u8, a: u8, b: u8) -> usize
-    requires { (length bytes.old ≡ widest_side) × (length side.now ≡ longest_side) }
+pub fn put_side(bytes: &mut WideSide, side: &CodedSide, c: u8, a: u8, b: u8) -> usize
     ensures { Has bytes.new result (put_codes c a b (tokens side.now)) }
 {
-    let mut n: usize = 0;
-    let mut i: usize = 0;
-    while i < LONGEST_SIDE {
-        let x = side[i];
+    let mut n = 0;
+    for &x in side {
         if x == NO_TOKEN {
-            return n;
+            break;
         }
         if is_front(x, a, b) {
             bytes[n] = c;
@@ -82,29 +65,8 @@ pub fn put_side(bytes: &mut [u8], side: &[u8], c: u8, a: u8, b: u8) -> usize
         }
         bytes[n] = x;
         n += 1;
-        i += 1;
     }
     n
-}
-
-// A child that is not made.
-pub fn unmade(fate: Fate) -> Child
-    ensures { result ≡ unmade fate }
-{
-    let at = nowhere();
-    Child { fate, at }
-}
-
-// A situation of no token.
-fn nowhere() -> Situation
-    ensures { result ≡ as_struct no_situation }
-{
-    let left = [NO_TOKEN; LONGEST_SIDE];
-    Situation {
-        left,
-        right: left,
-        sets: [0; FIELDS],
-    }
 }
 
 // "dead": two different characters in front, or one side empty and a character in front of the other
@@ -119,28 +81,22 @@ fn is_dead(t: Trimmed) -> bool
 }
 
 // "dead is dropped; a side above 48 tokens gives 19"
+#[tactic(auto, unfolding(crate::specs::Children::judged_sides))]
 fn judge(t: Trimmed, sets: [PlaceSet; FIELDS]) -> Child
     ensures { (l r : List ℕ) → t ≡ trimmed_sides l r → result ≡ child_of (judged_sides l r sets) }
 {
     if is_dead(t) {
-        return unmade(Fate::Dropped);
-    }
-    if LONGEST_SIDE < t.left_len {
-        return unmade(Fate::Above);
-    }
-    if LONGEST_SIDE < t.right_len {
-        return unmade(Fate::Above);
-    }
-    let left = t.left;
-    let right = t.right;
-    let at = Situation { left, right, sets };
-    Child {
-        fate: Fate::Made,
-        at,
+        Child::Dropped
+    } else if LONGEST_SIDE < t.left_len || LONGEST_SIDE < t.right_len {
+        Child::Above
+    } else {
+        let Trimmed { left, right, .. } = t;
+        Child::Made(Situation { left, right, sets })
     }
 }
 
 // "Each child is trimmed", then judged.
+#[tactic(auto, unfolding(crate::specs::Children::settle, search_trim::specs::Trimming::trimmed_of))]
 pub fn settle(l: &[u8], r: &[u8], sets: [PlaceSet; FIELDS]) -> Child
     ensures { result ≡ child_of (settle l.now r.now sets) }
 {

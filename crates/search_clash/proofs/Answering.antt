@@ -3,6 +3,7 @@
 use Prim.Native.Nat.{ℕ}
 use mathlib.Core.Path.{◌≡◌, sym, subst}
 use mathlib.Core.List.{List}
+use Rattle.std.specs.Prelude.{Ok, Err}
 use Rattle.paper.specs.Buffers.{Demand1}
 use Rattle.paper.specs.Demands.{Demand2, Demand3}
 use Rattle.paper.specs.Outcome.{Outcome, outcome}
@@ -13,29 +14,27 @@ use Rattle.paper_laws.proofs.demands.Demand1.{sheet_demand_1}
 use Rattle.paper_laws.proofs.demands.Demand2.{sheet_demand_2}
 use Rattle.paper_laws.proofs.demands.Demand3.{sheet_demand_3}
 use Rattle.base_answers.specs.AnswerNumbers.{told}
-use Rattle.base_answers.specs.declared.Answer.TheVariants as Answer-as
 use Rattle.base_answers.specs.declared.Ended.{Ended}
-use Rattle.base_answers.specs.declared.Fault as Code
-use Rattle.base_answers.specs.declared.Found.TheVariants.{NoFault, Refused}
+use Rattle.base_answers.specs.declared.Refusal.{Refusal}
 use Rattle.search_question.proofs.Searched.{SearchedAll, search_told_all}
 use Rattle.read_sheet.specs.SheetRead.{bodies_of, sheet_of}
 use Rattle.read_sheet.specs.declared.Sheet.{Sheet}
 use Rattle.read_sheet.proofs.SheetStruct.{sheet_asks, sheet_refused}
 
-module _ (sheet : List ℕ) (s : Sheet) (e : s ≡ sheet_of (bodies_of sheet) (read_sheet sheet)) where
+module _ (sheet : List ℕ) where
   -- a refused sheet changes no buffer
-  pub refused_told : (x : Code.Fault) (work answer : List ℕ) → s.found ≡ Refused x
-      → told (Answer-as.Refused x s.place) answer work ≡ outcome sheet work answer
+  pub refused_told : (x : Refusal) → sheet_of (bodies_of sheet) (read_sheet sheet) ≡ Err x
+      → (work answer : List ℕ) → told (Err x) answer work ≡ outcome sheet work answer
   unfolding outcome
-  refused_told x work answer h = rw (sheet_refused sheet s e x h)
+  refused_told x e work answer = rw (sheet_refused sheet x e)
 
   -- the question of a good sheet, searched over every character
-  pub searched_told : s.found ≡ NoFault
+  pub searched_told : (s : Sheet) → sheet_of (bodies_of sheet) (read_sheet sheet) ≡ Ok s
       → (work answer after worked : List ℕ) (end : Ended) → SearchedAll s.question work answer after worked end
-      → told (Answer-as.Searched end) after worked ≡ outcome sheet work answer
+      → told (Ok end) after worked ≡ outcome sheet work answer
   unfolding outcome
-  searched_told h work answer after worked end p =
-      let a = sheet_asks sheet s e h in
+  searched_told s e work answer after worked end p =
+      let a = sheet_asks sheet s e in
       let q = a.question in
       let g = sheet_good sheet q a.good in
       rw a.good

@@ -4,8 +4,7 @@ use Prim.Native.Nat.{ℕ}
 use mathlib.Core.Path.{◌≡◌, sym, ap, ◌∙◌}
 use mathlib.Core.List.{List}
 use Rattle.paper.specs.Outcome.{Outcome, outcome}
-use Rattle.base_answers.specs.AnswerNumbers.{told}
-use Rattle.base_answers.specs.declared.Answer.{Answer}
+use Rattle.base_answers.specs.AnswerNumbers.{Answer, told}
 use Rattle.base_answers.proofs.FaultNumbers.{one_answer}
 
 pub one_result : (sheet work answer : List ℕ) (r r' : Answer) (a a' w w' : List ℕ)

@@ -8,7 +8,7 @@ ghost use Rattle.paper.specs.Outcome.{outcome};
 ghost use Rattle.paper.specs.Sheet.{read_sheet};
 ghost use Rattle.base_answers.specs.AnswerNumbers.{told};
 
-use base_answers::{Answer, Found};
+use base_answers::Answer;
 
 // Can the two rules of the sheet make the same label?
 pub fn clash(sheet: &[u8], work: &mut [u8], answer: &mut [u8]) -> Answer
@@ -17,17 +17,6 @@ pub fn clash(sheet: &[u8], work: &mut [u8], answer: &mut [u8]) -> Answer
     ensures demand2 { Demand2 (read_sheet sheet.now) work.old answer.old (told result answer.new work.new) }
     ensures demand3 { Demand3 (read_sheet sheet.now) work.old (told result answer.new work.new) }
 {
-    let read = read_sheet::read(sheet);
-    let found = read.found;
-    match found {
-        Found::Refused(fault) => Answer::Refused {
-            fault,
-            place: read.place,
-        },
-        Found::NoFault => {
-            let question = read.question;
-            let ended = search_question::search_all(question, work, answer);
-            Answer::Searched { ended }
-        }
-    }
+    let question = read_sheet::read(sheet)?.question;
+    Ok(search_question::search_all(question, work, answer))
 }

@@ -25,12 +25,14 @@ fn gather(sets: [PlaceSet; FIELDS], b: u8, follow: &[[PlaceSet; PLACES]; FIELDS]
 {
     let f = field_of(b);
     if f < FIELDS {
-        return base_places::followers(&follow[f], sets[f]);
+        base_places::followers(&follow[f], sets[f])
+    } else {
+        0
     }
-    0
 }
 
 // The number of the row of the field with the token b.
+#[tactic(auto, unfolding(crate::specs::Fronts::row_number))]
 fn row(b: u8) -> usize
     ensures { result ≡ row_number b }
 {
@@ -56,15 +58,14 @@ pub fn front_with(
 }
 
 // "a character in front must be c, and each front field's set after c must not be empty"
+#[tactic(auto, unfolding(crate::specs::Fronts::takes_next))]
 fn takes(b: u8, next: PlaceSet, c: u8) -> bool
     ensures { result ≡ takes_next b next c }
 {
-    if b < FIELD_CODE {
-        b == c
-    } else if b == NO_TOKEN {
-        b == c
-    } else {
+    if (FIELD_CODE..NO_TOKEN).contains(&b) {
         next != 0
+    } else {
+        b == c
     }
 }
 

@@ -2,10 +2,8 @@
 // right".
 #![tactic(auto)]
 
-ghost use Rattle.std.specs.Prelude.{◌≡◌, replicate};
-ghost use Rattle.paper.specs.Numbers.{longest_side};
+ghost use Rattle.std.specs.Prelude.{◌≡◌};
 ghost use Rattle.paper.specs.Question.{any_spaces};
-ghost use Rattle.base_codes.specs.Inner.{no_token};
 ghost use Rattle.base_places.specs.Masks.{taking_masks};
 ghost use Rattle.base_places.specs.WorkedOut.{worked_out};
 ghost use Rattle.search_hidden.specs.Behind.{side_with};
@@ -13,24 +11,13 @@ ghost use Rattle.search_hidden.specs.Behind.{side_with};
 use base_codes::{CodedSide, LONGEST_SIDE, NO_TOKEN, length_of};
 use base_places::{CHARACTERS, PLACES, PlaceSet, PlaceTables};
 
-// a side of no token, to be written over
-fn no_side() -> CodedSide
-    ensures { result ≡ replicate longest_side no_token }
-{
-    [NO_TOKEN; LONGEST_SIDE]
-}
-
 // The side with this token behind its last one, if there is room for it.
 pub fn side(side: CodedSide, token: u8) -> CodedSide
     ensures { result ≡ side_with token side }
 {
     let n = length_of(side);
-    let mut bytes = no_side();
-    let mut i = 0;
-    while i < n {
-        bytes[i] = side[i];
-        i += 1;
-    }
+    let mut bytes = [NO_TOKEN; LONGEST_SIDE];
+    bytes[..n].copy_from_slice(&side[..n]);
     if n < LONGEST_SIDE {
         bytes[n] = token;
     }
@@ -50,7 +37,6 @@ fn taking_space(space: usize) -> [PlaceSet; CHARACTERS]
     let mut taking = [0; CHARACTERS];
     if space < CHARACTERS {
         taking[space] = LEAF;
-        return taking;
     }
     taking
 }

@@ -43,8 +43,7 @@ use Rattle.search_run.proofs.SameTables.{ended_same, buffer_same, steps_same}
 use Rattle.search_run.proofs.StepsRunIsSearch.{run_steps_told_over}
 use Rattle.base_answers.specs.declared.Ended.{Ended}
 use Rattle.search_question.specs.Over.{tables_among, first_of, ended_over, buffer_over, tables_all, ended_all, buffer_all, steps_all}
-use Rattle.search_question.specs.ToldBy.{ToldBy}
-use Rattle.search_question.specs.declared.Told.{Told}
+use Rattle.search_run.specs.Telling.{Telling, TellsEnd}
 
 -- what is promised of a search: how it ended, and both buffers then
 abbrev pub Searched : List Bool → Code.Question → List ℕ → List ℕ → List ℕ → List ℕ → Ended → Type 0
@@ -77,22 +76,22 @@ SearchedSteps s work answer steps worked r = (r ≡ steps_all s (length work) an
 module _ (s : Code.Question) (whole : Hidden) (many : ℕ) (follow taking : List (List ℕ)) (last : List ℕ)
     (w : whole ≡ with_hidden s) (m : many ≡ s.alphabet.characters)
     (a : follow ≡ map follow_of whole.fields) (c : last ≡ map last_of whole.fields) (d : taking ≡ map taking_of whole.fields) where
-  pub told_whole : (way : Bool) (room : ℕ) (answer steps after written : List ℕ) (r : Told)
-      → ToldBy way (tables (within many) follow taking last) room (question_coded (tokens whole.left) (tokens whole.right)) answer steps after written r
-      → ToldBy way (tables_all s) room (first_of s) answer steps after written r
-  told_whole way room answer steps after written r p =
+  pub told_whole : {A : Type 0} (told_by : Telling A) (room : ℕ) (answer steps after written : List ℕ) (r : A)
+      → told_by (tables (within many) follow taking last) room (question_coded (tokens whole.left) (tokens whole.right)) answer steps after written r
+      → told_by (tables_all s) room (first_of s) answer steps after written r
+  told_whole told_by room answer steps after written r p =
       let T : tables (within many) follow taking last ≡ tables_all s = rw (d, a, c, m, w) in
       let k : question_coded (tokens whole.left) (tokens whole.right) ≡ first_of s = rw w in
-      subst (λ (z : Tables). ToldBy way z room (first_of s) answer steps after written r) T
-      (subst (λ (z : Coded). ToldBy way (tables (within many) follow taking last) room z answer steps after written r) k p)
+      subst (λ (z : Tables). told_by z room (first_of s) answer steps after written r) T
+      (subst (λ (z : Coded). told_by (tables (within many) follow taking last) room z answer steps after written r) k p)
 
 -- what is told without the way is what is promised of a search over every character
 pub plain_told : (s : Code.Question) (work answer after worked : List ℕ) (e : Ended)
-    → ((e ≡ ended_with (tables_all s) (room_for (length work)) (first_of s) answer) × (after ≡ buffer_with (tables_all s) (room_for (length work)) (first_of s) answer))
-    × (worked ≡ replicate (length work) 0)
+    → (steps written : List ℕ) → TellsEnd (tables_all s) (room_for (length work)) (first_of s) answer steps after written e
+    → worked ≡ replicate (length work) 0
     → SearchedAll s work answer after worked e
 unfolding ended_all buffer_all
-plain_told s work answer after worked e p = (p.0.0, (p.0.1, p.1))
+plain_told s work answer after worked e steps written t w = (t.0, (t.1, w))
 
 module _ (q : Question) (l : GoodSide q.alphabet.characters q.left) (r : GoodSide q.alphabet.characters q.right) (good : Searchable (hidden q))
     (bodies : List Body) where

@@ -3,28 +3,18 @@
 #![tactic(auto)]
 
 ghost use Rattle.std.specs.Prelude.{◌≡◌, length, replicate};
-ghost use Rattle.base_places.specs.Masks.{within};
-ghost use Rattle.base_codes.specs.Inner.{tokens};
-ghost use Rattle.search_trim.specs.Trimming.{question_coded};
 ghost use Rattle.search_run.specs.Ended.{room_for};
-ghost use Rattle.search_run.specs.Lent.{tables};
 ghost use Rattle.search_run.specs.StepsEnded.{steps_run};
 ghost use Rattle.search_question.specs.Over.{ended_over, buffer_over, tables_all, first_of, ended_all, buffer_all, steps_all};
-ghost use Rattle.search_question.specs.ToldBy.{ToldBy};
 
-use base_answers::{Ended, How};
-use base_codes::{CodedSide, FIELDS, HIDDEN_LEFT, HIDDEN_RIGHT};
-use base_places::{CHARACTERS, PLACES, PlaceSet};
+use base_answers::Ended;
+use base_codes::{HIDDEN_LEFT, HIDDEN_RIGHT};
+use base_places::CHARACTERS;
 use base_question::Question;
-use base_steps::{StepsEnded, StepsHow};
+use base_steps::StepsEnded;
+use search_run::{Tables, Told};
 
-// How a search ended, without its way and with it. Only the one that was wanted says something.
-#[derive(Clone, Copy)]
-pub struct Told {
-    pub plain: Ended,
-    pub way: StepsEnded,
-}
-
+// Kept: apart from `search_told`, as one function for both tables would copy the question once more on the stack of each attempt.
 // Searches the question over these characters. The working buffer is all zero afterwards.
 pub fn search(
     question: Question,
@@ -49,20 +39,8 @@ pub fn search(
     let own_right = question.right;
     let right = search_hidden::side(own_right, HIDDEN_RIGHT);
     let mut none = [0; 1];
-    let told = run(
-        left,
-        right,
-        characters,
-        &follow,
-        &taking,
-        last,
-        work,
-        answer,
-        &mut none[0..0],
-        false,
-    );
-    let plain = told.plain;
-    plain
+    let tables = Tables::new(characters, &follow, &taking, last);
+    search_run::run(left, right, &tables, work, answer, &mut none[0..0])
 }
 
 // The same over every character, whose tables need no cut.
@@ -72,9 +50,7 @@ pub fn search_all(question: Question, work: &mut [u8], answer: &mut [u8]) -> End
     ensures work { work.new ≡ replicate (length work.old) 0 }
 {
     let mut none = [0; 1];
-    let told = search_told(question, work, answer, &mut none[0..0], false);
-    let plain = told.plain;
-    plain
+    search_told(question, work, answer, &mut none[0..0])
 }
 
 // And after a clash the way is written into a third buffer.
@@ -87,21 +63,19 @@ pub fn search_steps(
     ensures ended { steps_run result answer.new steps.new ≡ steps_all question (length work.old) answer.old steps.old }
     ensures work { work.new ≡ replicate (length work.old) 0 }
 {
-    let told = search_told(question, work, answer, steps, true);
-    let way = told.way;
-    way
+    search_told(question, work, answer, steps)
 }
 
-// Both of these, by whether the way is wanted. They are one function so that it has two callers: its tables are on the stack only after the sheet is
-// read. Who has a question lent and hands it on calls it directly: each call between copies the question once more.
-pub fn search_told(
+// Both of these, by what is to be told. It is not put into its callers, so that its tables are on the stack only after the sheet is read. Who has a
+// question lent and hands it on calls it directly: each call between copies the question once more.
+#[inline(never)]
+pub fn search_told<T: Told>(
     question: Question,
     work: &mut [u8],
     answer: &mut [u8],
     steps: &mut [u8],
-    wanted: bool,
-) -> Told
-    ensures told { ToldBy wanted (tables_all question) (room_for (length work.old)) (first_of question) answer.old steps.old answer.new steps.new result }
+) -> T
+    ensures told { T.told_by (tables_all question) (room_for (length work.old)) (first_of question) answer.old steps.old answer.new steps.new result }
     ensures work { work.new ≡ replicate (length work.old) 0 }
 {
     let alphabet = question.alphabet;
@@ -116,41 +90,6 @@ pub fn search_told(
     let left = search_hidden::side(own_left, HIDDEN_LEFT);
     let own_right = question.right;
     let right = search_hidden::side(own_right, HIDDEN_RIGHT);
-    run(
-        left, right, characters, &follow, &taking, last, work, answer, steps, wanted,
-    )
-}
-
-// The search over these tables.
-fn run(
-    left: CodedSide,
-    right: CodedSide,
-    characters: usize,
-    follow: &[[PlaceSet; PLACES]; FIELDS],
-    taking: &[[PlaceSet; CHARACTERS]; FIELDS],
-    last: [PlaceSet; FIELDS],
-    work: &mut [u8],
-    answer: &mut [u8],
-    steps: &mut [u8],
-    wanted: bool,
-) -> Told
-    ensures told { ToldBy wanted (tables (within characters) follow.now taking.now last) (room_for (length work.old)) (question_coded (tokens left) (tokens right)) answer.old steps.old answer.new steps.new result }
-    ensures work { work.new ≡ replicate (length work.old) 0 }
-{
-    if wanted {
-        let way = search_run::run_steps(
-            left, right, characters, follow, taking, last, work, answer, steps,
-        );
-        let plain = Ended {
-            how: How::NoRoom,
-            count: 0,
-        };
-        return Told { plain, way };
-    }
-    let plain = search_run::run(left, right, characters, follow, taking, last, work, answer);
-    let way = StepsEnded {
-        how: StepsHow::NoRoom,
-        count: 0,
-    };
-    Told { plain, way }
+    let tables = Tables::new(characters, &follow, &taking, last);
+    search_run::run(left, right, &tables, work, answer, steps)
 }

@@ -8,7 +8,8 @@ use mathlib.Core.Path.{◌≡◌, refl, ◌∙◌}
 use mathlib.Core.Bool.{not}
 use mathlib.Core.List.{List, ◌∷◌, ◌++◌}
 use lib.Dec.{eqb}
-use lib.ListN.{length, get_or, length-append}
+use lib.ListN.{length, get_or, take, length-append}
+use lib.Seq.{get_or-take}
 use Rattle.paper.specs.Lists.{from, only, keep, each}
 use Rattle.paper.specs.Numbers.{fields}
 use Rattle.paper.proofs.base.Tests.{neq_eqb}
@@ -49,3 +50,7 @@ module _ (sets : List ℕ) where
 
       pub records_passed : get_or sets f 0 ≡ 0 → records_from f ≡ records_from (f + 1)
       records_passed e = rw (passed_over f h e)
+
+-- the first place set of a field, among those of the fields
+pub set_among : (sets : List ℕ) (f : ℕ) → f < fields → get_or (take fields sets) f 0 ≡ get_or sets f 0
+set_among sets f h = get_or-take fields sets f 0 h

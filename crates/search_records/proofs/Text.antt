@@ -15,11 +15,27 @@ use borrow.Author.Tests.{lt-ltb, le-ltb}
 use Rattle.paper.specs.Lists.{only}
 use Rattle.paper.proofs.base.Tests.{by_bool, ltb_true}
 use Rattle.search_records.specs.Records.{parent_in, step_in, puts_in, spelt_back, way_spelt, SlotIn, StepsBack}
+use Rattle.std.specs.Prelude.{Option, Some, None, is_some}
+use Rattle.std.specs.Option.{option_to_list}
+use Rattle.std.specs.Bool.{then_some}
 use Rattle.search_records.specs.declared.Back.{Back}
 
 length_only : (b : Bool) (x : ℕ) → length (only b x) ≤ 1
 length_only true x = omega arith
 length_only false x = omega arith
+
+-- what a step put, or nothing
+put_only : (b : Bool) (m : ℕ) → option_to_list (then_some b m) ≡ only b m
+put_only true m = refl
+put_only false m = refl
+
+one_put : (put : Option ℕ) → is_some put ≡ true → length (option_to_list put) ≡ 1
+one_put (Some c) h = refl
+one_put None h = cc
+
+none_put : (put : Option ℕ) → is_some put ≡ false → option_to_list put ≡ []
+none_put None h = refl
+none_put (Some c) h = cc
 
 module _ (work : List ℕ) (f : ℕ) where
   -- what the step into slot i gave
@@ -68,13 +84,13 @@ module _ (work : List ℕ) (f : ℕ) where
 
   module _ (i : ℕ) (h : 0 < i) where
     -- One step back: p is the parent, m the step, and b says whether the step put its character before the field.
-    pub stepped : (p m : ℕ) (b : Bool) → p ≡ parent_in work i → p < i → m ≡ step_in work i → b ≡ puts_in work p m f
-        → StepsBack work i f (record { parent = p; step = m; puts = b })
-    stepped p m b e l g t =
-        record { falls = l; text = rw (step_there i h (rw (← e) l), ← e, ← g, ← t) }
+    pub stepped : (p m : ℕ) (b : Bool) (put : Option ℕ) → p ≡ parent_in work i → p < i → m ≡ step_in work i → b ≡ puts_in work p m f
+        → put ≡ then_some b m → StepsBack work i f (record { parent = p; put = put })
+    stepped p m b put e l g t k =
+        record { falls = l; text = rw (step_there i h (rw (← e) l), ← e, ← g, ← t, k, put_only b m) }
 
     -- A parent that is not before the slot: the way ends.
-    pub ended : i ≤ parent_in work i → StepsBack work i f (record { parent = 0; step = 0; puts = false })
+    pub ended : i ≤ parent_in work i → StepsBack work i f (record { parent = 0; put = None })
     ended l = record { falls = h; text = nowhere i h l }
 
 -- An earlier slot.
@@ -82,21 +98,21 @@ pub slot_before : {work : List ℕ} {last : ℕ} (i : ℕ) → i ≤ last → Sl
 slot_before i h w = record { room = omega (arith, w.room) }
 
 module _ {work : List ℕ} {i f : ℕ} {back : Back} (s : StepsBack work i f back) where
-  text_put : back.puts ≡ true → way_spelt work i f ≡ way_spelt work back.parent f ++ (back.step ∷ [])
-  text_put h = rw h at s.text
+  text_put : (c : ℕ) → back.put ≡ Some c → way_spelt work i f ≡ way_spelt work back.parent f ++ (c ∷ [])
+  text_put c h = rw h at s.text
 
   -- The step put its character before the field: the text has one more.
-  pub length_put : back.puts ≡ true → length (way_spelt work i f) ≡ length (way_spelt work back.parent f) + 1
-  length_put h = rw (text_put h, length-append)
+  pub length_put : is_some back.put ≡ true → length (way_spelt work i f) ≡ length (way_spelt work back.parent f) + 1
+  length_put h = ap length s.text ∙ length-append (way_spelt work back.parent f) _ ∙ rw (one_put back.put h)
 
   -- That character is stored in front of what is written already.
-  pub stored_before : (out : List ℕ) (at : ℕ) → back.puts ≡ true → at < length out
-      → way_spelt work back.parent f ++ drop at (set out at back.step) ≡ way_spelt work i f ++ drop (at + 1) out
-  stored_before out at h k =
-      let d : drop at (set out at back.step) ≡ back.step ∷ drop (suc at) out =
-      (rw (add-zero at) at (drop-set-add at out 0 back.step)) ∙ rw (drop-cons out at 0 k) in
-      rw (d, text_put h, append_assoc, add-one)
+  pub stored_before : (out : List ℕ) (at c : ℕ) → back.put ≡ Some c → at < length out
+      → way_spelt work back.parent f ++ drop at (set out at c) ≡ way_spelt work i f ++ drop (at + 1) out
+  stored_before out at c h k =
+      let d : drop at (set out at c) ≡ c ∷ drop (suc at) out =
+      (rw (add-zero at) at (drop-set-add at out 0 c)) ∙ rw (drop-cons out at 0 k) in
+      rw (d, text_put c h, append_assoc, add-one)
 
   -- It did not: the text is the same.
-  pub text_kept : back.puts ≡ false → way_spelt work i f ≡ way_spelt work back.parent f
-  text_kept h = (rw h at s.text) ∙ append-nil (way_spelt work back.parent f)
+  pub text_kept : is_some back.put ≡ false → way_spelt work i f ≡ way_spelt work back.parent f
+  text_kept h = s.text ∙ rw (none_put back.put h) (append-nil (way_spelt work back.parent f))

@@ -1,15 +1,14 @@
 -- The answer of a clash, from the bytes of the slots: the texts that the way to the last slot spells, the records of the fields that stand,
 -- and what becomes of the answer buffer.
-use Rattle.std.specs.Prelude.{ℕ, zero, suc, ◌+◌, ◌*◌, ◌≤◌, ◌<◌, ◌≡◌, Bool, cond, not, ◌&&◌, ◌||◌, List, [], ◌∷◌, ◌++◌, leb, ltb, eqb, length, get_or, drop}
+use Rattle.std.specs.Prelude.{ℕ, zero, suc, ◌+◌, ◌*◌, ◌≤◌, ◌<◌, ◌≡◌, Bool, Option, Some, None, cond, not, ◌&&◌, ◌||◌, List, [], ◌∷◌, ◌++◌, leb, ltb, eqb, length, get_or, drop}
 use Rattle.paper.specs.Lists.{upto, only, keep, each}
 use Rattle.paper.specs.Numbers.{most_characters, fields, situation_bytes}
 use Rattle.base_codes.specs.Inner.{field_code}
 use Rattle.search_slots.specs.LowFirst.{low_first_number, low_bytes}
 use Rattle.search_slots.specs.Slots.{number_width, key_bytes, right_at, part}
 use Rattle.search_records.specs.declared.Back.{Back}
-use Rattle.search_records.specs.declared.Given.{Given}
 use Rattle.search_records.specs.declared.Origin.{Origin}
-use Rattle.search_records.specs.declared.Given.TheVariants.{TooShort, Bytes}
+use Rattle.std.specs.Option.{option_to_list}
 
 -- the parent's number and the step in the slot with the number i
 abbrev pub parent_in : List ℕ → ℕ → ℕ
@@ -48,7 +47,7 @@ pub record SlotIn (work : List ℕ) (i : ℕ) : Type 0 where
 -- one step back from slot i: to one before it, and the text at the slot is that at the other, with the character that was put
 pub record StepsBack (work : List ℕ) (i f : ℕ) (back : Back) : Type 0 where
   pub falls : back.parent < i
-  pub text : way_spelt work i f ≡ way_spelt work back.parent f ++ only back.puts back.step
+  pub text : way_spelt work i f ≡ way_spelt work back.parent f ++ option_to_list back.put
 
 -- "`VA`, field byte, length in two bytes (low first)"
 abbrev pub record_mark : ℕ → List ℕ
@@ -86,11 +85,11 @@ module _ (sets : List ℕ) (text : ℕ → List ℕ) where
   unfoldable pub value_records : List ℕ
   value_records = each (λ (f : ℕ). record_bytes f (text f)) (fields_with_sets sets)
 
-  -- "answer buffer too short", or the bytes written
-  unfoldable pub answer_given : List ℕ → Given
+  -- the bytes written, or none: "answer buffer too short"
+  unfoldable pub answer_given : List ℕ → Option ℕ
   answer_given buffer =
-      cond (not (leb (length value_records) (length buffer))) TooShort
-      (Bytes (length value_records))
+      cond (not (leb (length value_records) (length buffer))) None
+      (Some (length value_records))
 
   -- "records, the rest unchanged", or "unchanged"
   unfoldable pub buffer_after : List ℕ → List ℕ
@@ -99,6 +98,6 @@ module _ (sets : List ℕ) (text : ℕ → List ℕ) where
       (in_front value_records buffer)
 
   -- what is answered, and the buffer afterwards
-  pub record Answered (before after : List ℕ) (answer : Given) : Type 0 where
+  pub record Answered (before after : List ℕ) (answer : Option ℕ) : Type 0 where
     pub given : answer ≡ answer_given before
     pub buffer : after ≡ buffer_after before

@@ -8,12 +8,12 @@ use Rattle.search_run.specs.Way.{WayTo, text_at}
 use Rattle.search_records.specs.Records.{Answered}
 use Rattle.search_slots.specs.Slots.{Slot}
 use Rattle.base_answers.specs.declared.How.{How}
-use Rattle.search_records.specs.declared.Given.{Given}
+use Rattle.std.specs.Prelude.{Option}
 use Rattle.search_run.specs.declared.search.Run.{Run}
 use Rattle.search_run.specs.declared.search.Status.{Status}
 use Rattle.search_run.specs.declared.search.Status.TheVariants.{Found}
 
-pub told_by : (ss : List Slot) (n : ℕ) {sets before after : List ℕ} {given : Given} {r : How}
+pub told_by : (ss : List Slot) (n : ℕ) {sets before after : List ℕ} {given : Option ℕ} {r : How}
     → Answered sets (text_at ss (n - 1)) before after given → r ≡ clash_how given → ClashTold ss n sets before after r
 told_by ss n h e = record { answer = e ∙ ap clash_how h.given; buffer = h.buffer }
 

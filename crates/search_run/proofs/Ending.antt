@@ -7,10 +7,9 @@ use mathlib.Core.List.{List}
 use lib.ListN.{length}
 use Rattle.paper.specs.Numbers.{longest_side}
 use Rattle.base_codes.specs.Inner.{tokens}
-use Rattle.base_codes.specs.Coded.{Coded, as_struct, Short}
+use Rattle.base_codes.specs.Coded.{Coded, Short}
 use Rattle.search_children.specs.Children.{Tables}
 use Rattle.search_trim.specs.Trimming.{question_coded}
-use Rattle.base_codes.specs.declared.Situation.{Situation}
 use Rattle.search_run.specs.Ended.{run_concluded, concluded_buffer, ended_with, buffer_with, SearchOver, Concluded}
 use Rattle.search_run.specs.Lent.{Lent}
 use Rattle.search_run.specs.Run.{slot_search}
@@ -34,14 +33,13 @@ module _ (T : Tables) (room : ℕ) (k : Coded) where
   over l =
       record { search = slot_search T room k; lent = l; earlier = (slots_numbered T room k).earlier; some = found_entered T room k }
 
-  -- and what is concluded is the end, where the first situation's struct has its sets
-  pub ended : (s : Situation) {before after : List ℕ} {how : How} (n : ℕ) → s ≡ as_struct k
-      → Concluded (slot_search T room k) s.sets before after how → n ≡ length (slot_search T room k).slots
+  -- and what is concluded is the end, where the sets are those of the first situation
+  pub ended : (sets : List ℕ) {before after : List ℕ} {how : How} (n : ℕ) → sets ≡ k.sets
+      → Concluded (slot_search T room k) sets before after how → n ≡ length (slot_search T room k).slots
       → (◌≡◌ {A = Ended} (record { how = how; count = n }) (ended_with T room k before)) × (after ≡ buffer_with T room k before)
   unfolding ended_with buffer_with
-  ended s {before} n e c m =
-      let sets = ap (λ (t : Situation). t.sets) e in
-      let how = c.answer ∙ ap (λ (m : List ℕ). run_concluded (slot_search T room k) m before) sets in (
+  ended sets {before} n e c m =
+      let how = c.answer ∙ ap (λ (m : List ℕ). run_concluded (slot_search T room k) m before) e in (
         (λ i. record { how = how i; count = m i }),
-        c.buffer ∙ ap (λ (m : List ℕ). concluded_buffer (slot_search T room k) m before) sets,
+        c.buffer ∙ ap (λ (m : List ℕ). concluded_buffer (slot_search T room k) m before) e,
       )

@@ -16,8 +16,7 @@ use Rattle.base_codes.specs.Coded.{Coded, same_coded, finished_coded}
 use Rattle.search_children.specs.Children.{Tables, children_coded}
 use Rattle.search_run.specs.Run.{slot_search}
 use Rattle.search_slots.specs.Slots.{Slot, slot_at, no_slot}
-use Rattle.search_buckets.specs.declared.Seen.{Seen}
-use Rattle.search_buckets.specs.declared.Seen.TheVariants.{At, Nowhere}
+use Rattle.std.specs.Prelude.{Option, Some, None}
 use Rattle.search_run.proofs.RunNumbers.{situations_in, slots_numbered}
 use Rattle.search_slots.proofs.Situations.{same_coded_equal, equal_same_coded}
 
@@ -35,11 +34,11 @@ one_index d (x ∷ l) (more n r) (suc i) zero h k e = absurd (n (subst (λ y. Me
 one_index d (x ∷ l) (more n r) (suc i) (suc j) h k e = ap suc (one_index d l r i j (omega arith) (omega arith) e)
 
 module _ (ss : List Slot) (k : Coded) (n : NoDup (situations_in ss)) where
-  seen_there : (i : ℕ) → EnteredAt ss k (At i) → EnteredAt ss k Nowhere → ⊥
+  seen_there : (i : ℕ) → EnteredAt ss k (Some i) → EnteredAt ss k None → ⊥
   seen_there i e f =
       true_false (mem_any (λ (x : Slot). same_coded x.at k) ss (get_or_mem ss no_slot i e.0) e.1) f
 
-  same_place : (i j : ℕ) → EnteredAt ss k (At i) → EnteredAt ss k (At j) → i ≡ j
+  same_place : (i j : ℕ) → EnteredAt ss k (Some i) → EnteredAt ss k (Some j) → i ≡ j
   same_place i j e f =
       let m = length-map ss (λ (x : Slot). x.at) in
       one_index no_slot.at (situations_in ss) n i j (omega (arith, m, e.0)) (omega (arith, m, f.0))
@@ -48,8 +47,8 @@ module _ (ss : List Slot) (k : Coded) (n : NoDup (situations_in ss)) where
       ∙ sym (same_coded_equal (slot_at ss j).at k f.1)
       ∙ sym (get_or-map (λ (x : Slot). x.at) ss j no_slot))
 
-  pub one_place : (r r' : Seen) → EnteredAt ss k r → EnteredAt ss k r' → r ≡ r'
-  one_place (At i) (At j) e f = ap At (same_place i j e f)
-  one_place (At i) Nowhere e f = absurd (seen_there i e f)
-  one_place Nowhere (At j) e f = absurd (seen_there j f e)
-  one_place Nowhere Nowhere e f = refl
+  pub one_place : (r r' : Option ℕ) → EnteredAt ss k r → EnteredAt ss k r' → r ≡ r'
+  one_place (Some i) (Some j) e f = ap Some (same_place i j e f)
+  one_place (Some i) None e f = absurd (seen_there i e f)
+  one_place None (Some j) e f = absurd (seen_there j f e)
+  one_place None None e f = refl

@@ -38,7 +38,7 @@ use Rattle.search_records.specs.Records.{fields_with_sets, record_bytes, value_r
 use Rattle.search_records.proofs.Records.{record_is}
 use Rattle.search_run.specs.Run.{status_of}
 use Rattle.search_slots.specs.Slots.{Slot}
-use Rattle.search_records.specs.declared.Given.TheVariants.{TooShort, Bytes}
+use Rattle.std.specs.Prelude.{Some, None}
 use Rattle.search_run.proofs.Simulated.{start, run, status_agrees, count_agrees, text_agrees}
 
 -- a first place set is not 0 exactly if its field stands
@@ -52,7 +52,7 @@ set_field f d = omega (arith, mem_upto fields d)
 
 -- 20 before 0, in both
 clash_cases : (short : Bool) (n : ℕ) (rs work buffer : List ℕ)
-    → told_end (record { how = clash_how (cond short TooShort (Bytes (length rs))); count = n }) (cond short buffer (in_front rs buffer)) (cleared work)
+    → told_end (record { how = clash_how (cond short None (Some (length rs))); count = n }) (cond short buffer (in_front rs buffer)) (cleared work)
     ≡ cond short (without_bytes 20 n work buffer)
     (record
     { number = 0; count = n; place = 0; written = length rs; answer = rs ++ drop (length rs) buffer; work = cleared work })

@@ -7,8 +7,7 @@ use mathlib.Core.Path.{◌≡◌, refl, ap, ◌∙◌}
 use mathlib.Core.List.{List}
 use lib.ListN.{length}
 use borrow.Author.Tests.{lt-ltb}
-use Rattle.base_codes.specs.Coded.{Coded, as_struct}
-use Rattle.base_codes.specs.declared.Situation.{Situation}
+use Rattle.base_codes.specs.Coded.{Coded}
 use Rattle.base_steps.specs.declared.StepsHow.{StepsHow}
 use Rattle.search_children.specs.Children.{Tables}
 use Rattle.search_slots.specs.Slots.{Slot, slot_at, SlotsHeld}
@@ -56,11 +55,11 @@ module _ {work : List ℕ} {run : Run} (o : SearchOver work run) (sets answer st
       ∙ steps_answered_alike (way_there o e) sets answer steps
       ∙ ap (λ (n : ℕ). steps_answered (value_records sets (text_at o.search.slots (n - 1))) (steps_at o.search.slots (n - 1)) answer steps) o.lent.entered)
 
--- What is concluded is the end, where the first situation's struct has its sets.
-pub ended_with_steps : (T : Tables) (room : ℕ) (k : Coded) (s : Situation) (answer steps : List ℕ) {after stepped : List ℕ} {how : StepsHow} (n : ℕ) → s ≡ as_struct k
-    → steps_told how after stepped ≡ steps_concluded (slot_search T room k) s.sets answer steps → n ≡ length (slot_search T room k).slots
+-- What is concluded is the end, where the sets are those of the first situation.
+pub ended_with_steps : (T : Tables) (room : ℕ) (k : Coded) (sets answer steps : List ℕ) {after stepped : List ℕ} {how : StepsHow} (n : ℕ) → sets ≡ k.sets
+    → steps_told how after stepped ≡ steps_concluded (slot_search T room k) sets answer steps → n ≡ length (slot_search T room k).slots
     → steps_run (record { how = how; count = n }) after stepped ≡ steps_with T room k answer steps
 unfolding steps_with
-ended_with_steps T room k s answer steps n e c m =
-    let told = c ∙ ap (λ (t : Situation). steps_concluded (slot_search T room k) t.sets answer steps) e in
+ended_with_steps T room k sets answer steps n e c m =
+    let told = c ∙ ap (λ (l : List ℕ). steps_concluded (slot_search T room k) l answer steps) e in
     λ i. counted (m i) (told i)

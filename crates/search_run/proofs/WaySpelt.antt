@@ -12,7 +12,7 @@ use Rattle.search_children.specs.Children.{given_coded}
 use Rattle.search_slots.specs.Slots.{Slot, slot_at, SlotsHeld}
 use Rattle.search_slots.proofs.Seen.{left_front_held, right_front_held, parent_held, step_held}
 use Rattle.search_records.specs.Records.{puts_in, spelt_back, way_spelt, Answered}
-use Rattle.search_records.specs.declared.Given.{Given}
+use Rattle.std.specs.Prelude.{Option}
 use Rattle.search_run.specs.Run.{text_back}
 use Rattle.search_run.specs.Way.{Earlier, WayTo, text_at}
 
@@ -37,7 +37,7 @@ module _ {work : List ℕ} {last : ℕ} (w : WayTo work last) where
   pub text_alike : way_spelt work last ≡ text_at w.slots last
   text_alike = λ i f. back_alike w.holds w.earlier f last last w.entered i
 
-  pub answered_alike : {sets before after : List ℕ} {given : Given}
+  pub answered_alike : {sets before after : List ℕ} {given : Option ℕ}
       → Answered sets (way_spelt work last) before after given → Answered sets (text_at w.slots last) before after given
   answered_alike {sets} {before} {after} {given} a =
       subst (λ (text : ℕ → List ℕ). Answered sets text before after given) text_alike a

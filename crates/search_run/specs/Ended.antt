@@ -1,6 +1,6 @@
 -- What the whole search ends with, for all sides, tables and buffers: the end, the count, the answer buffer. The working buffer is all zero
 -- then.
-use Rattle.std.specs.Prelude.{ℕ, ◌-◌, ◌/◌, ◌<◌, min, ◌≡◌, List, length}
+use Rattle.std.specs.Prelude.{ℕ, ◌-◌, ◌/◌, ◌<◌, min, ◌≡◌, Option, Some, None, Ok, List, length}
 use Rattle.paper.specs.Numbers.{situation_bytes, most_room}
 use Rattle.paper.specs.Outcome.{Outcome}
 use Rattle.base_codes.specs.Coded.{Coded}
@@ -10,13 +10,10 @@ use Rattle.search_run.specs.Way.{Earlier, text_at}
 use Rattle.search_run.specs.Run.{Running, slot_search}
 use Rattle.search_slots.specs.Slots.{Slot}
 use Rattle.base_answers.specs.AnswerNumbers.{told}
-use Rattle.base_answers.specs.declared.Answer.TheVariants.{Searched}
 use Rattle.base_answers.specs.declared.Ended.{Ended}
 use Rattle.base_answers.specs.declared.How.{How}
 use Rattle.base_answers.specs.declared.How.TheVariants.{Clash, NoClash, NoRoom, SideTooLong, AnswerTooShort}
 use Rattle.search_records.specs.Records.{answer_given, buffer_after}
-use Rattle.search_records.specs.declared.Given.{Given}
-use Rattle.search_records.specs.declared.Given.TheVariants as Given-as
 use Rattle.search_run.specs.declared.search.Run.{Run}
 use Rattle.search_run.specs.declared.search.Status.{Status}
 use Rattle.search_run.specs.declared.search.Status.TheVariants as Status-as
@@ -27,12 +24,12 @@ room_for bytes = min (bytes / situation_bytes) most_room
 
 -- the outcome that an end tells, with both buffers as they are afterwards
 abbrev pub told_end : Ended → List ℕ → List ℕ → Outcome
-told_end r answer work = told (Searched r) answer work
+told_end r answer work = told (Ok r) answer work
 
 -- how a clash ends, by what became of its records
-abbrev pub clash_how : Given → How
-clash_how Given-as.TooShort = AnswerTooShort
-clash_how (Given-as.Bytes bytes) = Clash bytes
+abbrev pub clash_how : Option ℕ → How
+clash_how None = AnswerTooShort
+clash_how (Some bytes) = Clash bytes
 
 -- how it ends, by how the search over slots stands; where it found a finished situation, that is in the last slot. `sets` are the first
 -- situation's: they say which fields stand.
@@ -77,6 +74,11 @@ pub record SearchOver (work : List ℕ) (run : Run) : Type 0 where
   pub lent : Lent work run search
   pub earlier : Earlier search.slots
   pub some : search.status ≡ Status-as.Found → 0 < length search.slots
+
+-- the search that begins with k is over in the buffer, and these are its sets
+pub record SearchedSo (T : Tables) (room : ℕ) (k : Coded) (work : List ℕ) (run : Run) (sets : List ℕ) : Type 0 where
+  pub over : Lent work run (slot_search T room k)
+  pub sets_are : sets ≡ k.sets
 
 -- what `conclude` promises
 pub record Concluded (R : Running) (sets before after : List ℕ) (r : How) : Type 0 where

@@ -12,6 +12,7 @@ use Rattle.search_run.specs.Run.{is_going, Running, enter_slot, offer_going, off
 use Rattle.search_buckets.specs.Buckets.{bucket, buckets, Kept}
 use Rattle.search_slots.specs.Slots.{key, Slot}
 use Rattle.search_run.specs.declared.search.Run.{Run}
+use Rattle.search_run.specs.declared.tables.Tables.{Tables as Lent-tables}
 
 -- the buffer and the run stand for a search over slots
 pub record Lent (work : List ℕ) (run : Run) (R : Running) : Type 0 where
@@ -29,6 +30,10 @@ pub record Roomy (work : List ℕ) (room n parent : ℕ) : Type 0 where
 -- what is worked out once of the fields, as the search is handed it
 abbrev pub tables : ℕ → List (List ℕ) → List (List ℕ) → List ℕ → Tables
 tables characters follow taking last = record { characters = characters; follow = follow; taking = taking; last = last }
+
+-- what the search is lent
+abbrev pub tables_lent : Lent-tables → Tables
+tables_lent t = tables t.characters t.follow.now t.taking.now t.last
 
 -- a character that two tokens in front don't both take, whatever the sets of their fields are after it
 abbrev pub NotPut : ℕ → ℕ → ℕ → Type 0

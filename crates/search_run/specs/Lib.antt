@@ -5,3 +5,4 @@ pub mod Lent
 pub mod Way
 pub mod Ended
 pub mod StepsEnded
+pub mod Telling

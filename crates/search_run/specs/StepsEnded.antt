@@ -1,10 +1,9 @@
 -- What the search that writes its way ends with, for all sides, tables and buffers: the end, the count, the answer buffer and the third one. The
 -- working buffer is all zero then.
-use Rattle.std.specs.Prelude.{ℕ, zero, suc, ◌-◌, List, [], ◌++◌, length}
+use Rattle.std.specs.Prelude.{ℕ, zero, suc, ◌-◌, Ok, List, [], ◌++◌, length}
 use Rattle.paper_steps.specs.StepsOutcome.{StepsOutcome}
 use Rattle.base_codes.specs.Coded.{Coded}
 use Rattle.base_steps.specs.StepsNumbered.{told_steps}
-use Rattle.base_steps.specs.declared.StepsAnswer.TheVariants.{Searched}
 use Rattle.base_steps.specs.declared.StepsEnded.{StepsEnded}
 use Rattle.base_steps.specs.declared.StepsHow.TheVariants.{NoClash, NoRoom, SideTooLong}
 use Rattle.search_children.specs.Children.{Tables}
@@ -57,4 +56,4 @@ steps_with T room k answer steps =
 
 -- the outcome that it tells, with the working buffer as it is afterwards
 abbrev pub told_run : StepsRun → List ℕ → StepsOutcome
-told_run r work = told_steps (Searched r.ended) r.answer work r.steps
+told_run r work = told_steps (Ok r.ended) r.answer work r.steps

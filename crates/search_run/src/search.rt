@@ -4,17 +4,17 @@ ghost use Rattle.paper.specs.Numbers.{most_characters, situation_bytes, most_roo
 ghost use Rattle.base_codes.specs.Coded.{Coded, as_struct};
 ghost use Rattle.search_fronts.specs.Fronts.{with_row};
 ghost use Rattle.search_children.specs.Children.{puts_of, children_coded};
-ghost use Rattle.search_run.specs.Lent.{Roomy, StartsPuts, EndsPuts, tables, Enters, EntersWith, OffersMade, OffersChild, Offers, Takes, Searches};
+ghost use Rattle.search_run.specs.Lent.{Roomy, StartsPuts, EndsPuts, tables_lent, Enters, EntersWith, OffersMade, OffersChild, Offers, Takes, Searches};
 ghost use Rattle.search_run.specs.Run.{is_going};
 ghost use Rattle.search_slots.specs.Slots.{Slot, slot_at, SlotsHeld};
 ghost use Rattle.search_run.specs.declared.search.Status.TheVariants.{NoRoom};
 
-use base_codes::{FIELDS, LEFT_STRUCK, RIGHT_STRUCK, Situation};
-use base_places::{CHARACTERS, PLACES, PlaceSet};
-use search_buckets::Seen;
-use search_children::{Child, Fate};
+use crate::tables::Tables;
+use base_codes::{LEFT_STRUCK, RIGHT_STRUCK, Situation};
+use search_children::Child;
 use search_fronts::FrontToken;
 use search_slots::{HELD, SLOT};
+use std::ops::Range;
 
 // How the search stands, or how it ended.
 #[derive(Clone, Copy)]
@@ -36,16 +36,11 @@ pub struct Run {
 fn is_going(status: Status) -> bool
     ensures { result ≡ is_going status }
 {
-    match status {
-        Status::Going => true,
-        Status::Found => false,
-        Status::UsedUp => false,
-        Status::NoRoom => false,
-        Status::TooLong => false,
-    }
+    matches!(status, Status::Going)
 }
 
 // "it is entered, and a finished one ends the search at once": with its key and its bucket
+// Kept: the buffer and its room stay two parameters under `Roomy`: no ghost field can stand beside a `&mut`.
 fn enter_with(
     work: &mut [u8],
     room: usize,
@@ -103,7 +98,7 @@ fn offer_made(work: &mut [u8], room: usize, n: usize, parent: usize, step: u8, s
     let key = search_slots::key_of(s);
     let b = search_buckets::bucket_of(&key, work.len());
     let seen = search_buckets::look_up(work, n, &key, b);
-    if let Seen::At(_) = seen {
+    if seen.is_some() {
         return Run {
             entered: n,
             status: Status::Going,
@@ -126,46 +121,31 @@ fn offer(work: &mut [u8], room: usize, run: Run, parent: usize, step: u8, child:
         return run;
     }
     let n = run.entered;
-    let fate = child.fate;
-    match fate {
-        Fate::Dropped => run,
-        Fate::Above => Run {
+    match child {
+        Child::Dropped => run,
+        Child::Above => Run {
             entered: n,
             status: Status::TooLong,
         },
-        Fate::Made => {
-            let s = child.at;
-            offer_made(work, room, n, parent, step, s)
-        }
+        Child::Made(s) => offer_made(work, room, n, parent, step, s),
     }
 }
 
-// "a character in front must be c": no character below this one is put.
-fn first_put(characters: usize, a: u8, b: u8) -> usize
+// "a character in front must be c": none but these are put.
+fn may_be_put(characters: usize, a: u8, b: u8) -> Range<usize>
     requires { characters ≤ most_characters }
-    ensures { StartsPuts characters a b result }
+    ensures starts { StartsPuts characters a b result.start }
+    ensures ends { EndsPuts characters a b result.end }
 {
-    if (a as usize) < characters {
-        return a as usize;
+    let a = a as usize;
+    if a < characters {
+        return a..a + 1;
     }
-    if (b as usize) < characters {
-        return b as usize;
+    let b = b as usize;
+    if b < characters {
+        return b..b + 1;
     }
-    0
-}
-
-// And none from this one on.
-fn first_not_put(characters: usize, a: u8, b: u8) -> usize
-    requires { characters ≤ most_characters }
-    ensures { EndsPuts characters a b result }
-{
-    if (a as usize) < characters {
-        return a as usize + 1;
-    }
-    if (b as usize) < characters {
-        return b as usize + 1;
-    }
-    characters
+    0..characters
 }
 
 // Child 3: "for each character c from 0 to 42", or behind `ED` to 127. Most are not taken: that is seen before a child is made.
@@ -177,29 +157,25 @@ fn offer_puts(
     s: Situation,
     left: FrontToken,
     right: FrontToken,
-    characters: usize,
-    taking: &[[PlaceSet; CHARACTERS]; FIELDS],
+    tables: &Tables,
 ) -> Run
     requires roomy { Roomy work.old room run.entered parent }
     requires entered_nonzero { 0 < run.entered }
     requires row_lt_set_fields { (left.row < set_fields) × (right.row < set_fields) }
-    requires characters_le_most_characters { characters ≤ most_characters }
-    ensures { Offers room parent s work.old run work.new result (λ (k : Coded). puts_of characters k (with_row taking.now left) (with_row taking.now right)) }
+    ensures { Offers room parent s work.old run work.new result (λ (k : Coded). puts_of tables.now.characters k (with_row tables.now.taking.now left) (with_row tables.now.taking.now right)) }
 {
     let mut now = run;
-    let first = first_put(characters, left.token, right.token);
-    let end = first_not_put(characters, left.token, right.token);
+    let taking = tables.taking;
     let l = left.row;
     let r = right.row;
-    let mut c = first;
-    while c < end {
+    let candidates = may_be_put(tables.characters, left.token, right.token);
+    for c in candidates.start..candidates.end {
         let m = left.followers & taking[l][c];
         let n = right.followers & taking[r][c];
         if search_fronts::both_take(left.token, m, right.token, n, c as u8) {
             let child = search_children::put(s, c as u8, m, n);
             now = offer(work, room, now, parent, c as u8, child);
         }
-        c += 1;
     }
     now
 }
@@ -211,17 +187,14 @@ fn offer_children(
     run: Run,
     parent: usize,
     s: Situation,
-    characters: usize,
-    follow: &[[PlaceSet; PLACES]; FIELDS],
-    taking: &[[PlaceSet; CHARACTERS]; FIELDS],
-    last: [PlaceSet; FIELDS],
+    tables: &Tables,
 ) -> Run
     requires roomy { Roomy work.old room run.entered parent }
     requires entered_nonzero { 0 < run.entered }
-    requires characters_le_most_characters { characters ≤ most_characters }
-    ensures { Offers room parent s work.old run work.new result (children_coded (tables characters follow.now taking.now last)) }
+    ensures { Offers room parent s work.old run work.new result (children_coded (tables_lent tables.now)) }
 {
     let sets = s.sets;
+    let last = tables.last;
     let one = offer(
         work,
         room,
@@ -238,9 +211,9 @@ fn offer_children(
         RIGHT_STRUCK,
         search_children::strike_right(s, last),
     );
-    let left = search_fronts::front_with(s.left[0], sets, follow);
-    let right = search_fronts::front_with(s.right[0], sets, follow);
-    offer_puts(work, room, two, parent, s, left, right, characters, taking)
+    let left = search_fronts::front_with(s.left[0], sets, tables.follow);
+    let right = search_fronts::front_with(s.right[0], sets, tables.follow);
+    offer_puts(work, room, two, parent, s, left, right, tables)
 }
 
 // The situation in the slot with the number i.
@@ -253,54 +226,32 @@ fn read_situation(work: &[u8], i: usize) -> Situation
 }
 
 // "Situations are taken in the order of entry": slot k is taken.
-fn take(
-    work: &mut [u8],
-    room: usize,
-    run: Run,
-    k: usize,
-    characters: usize,
-    follow: &[[PlaceSet; PLACES]; FIELDS],
-    taking: &[[PlaceSet; CHARACTERS]; FIELDS],
-    last: [PlaceSet; FIELDS],
-) -> Run
+fn take(work: &mut [u8], room: usize, run: Run, k: usize, tables: &Tables) -> Run
     requires roomy { Roomy work.old room run.entered k }
     requires k_lt_entered { k < run.entered }
-    requires characters_le_most_characters { characters ≤ most_characters }
-    ensures { Takes room (tables characters follow.now taking.now last) k work.old run work.new result }
+    ensures { Takes room (tables_lent tables.now) k work.old run work.new result }
 {
     let s = read_situation(work, k);
-    offer_children(work, room, run, k, s, characters, follow, taking, last)
+    offer_children(work, room, run, k, s, tables)
 }
 
 // "The trimmed question is entered first, dead or not. .. When all are used up the answer is 1"
-pub fn search(
-    work: &mut [u8],
-    room: usize,
-    first: Situation,
-    characters: usize,
-    follow: &[[PlaceSet; PLACES]; FIELDS],
-    taking: &[[PlaceSet; CHARACTERS]; FIELDS],
-    last: [PlaceSet; FIELDS],
-) -> Run
-    requires room_in_bounds { (situation_bytes * room ≤ length work.old) × (room ≤ most_room) }
-    requires characters_le_most_characters { characters ≤ most_characters }
-    ensures { Searches room (tables characters follow.now taking.now last) first work.new result }
+pub fn search(work: &mut [u8], room: usize, first: Situation, tables: &Tables) -> Run
+    requires { (situation_bytes * room ≤ length work.old) × (room ≤ most_room) }
+    ensures { Searches room (tables_lent tables.now) first work.new result }
 {
     let mut run = enter_first(work, room, first);
-    let mut k: usize = 0;
-    loop {
-        let status = run.status;
-        if !is_going(status) {
-            return run;
-        }
-        let n = run.entered;
-        if n <= k {
+    let mut k = 0;
+    // Kept: no `for`, as the slots to take become more while they are taken.
+    while is_going(run.status) {
+        if run.entered <= k {
             return Run {
-                entered: n,
+                entered: run.entered,
                 status: Status::UsedUp,
             };
         }
-        run = take(work, room, run, k, characters, follow, taking, last);
+        run = take(work, room, run, k, tables);
         k += 1;
     }
+    run
 }

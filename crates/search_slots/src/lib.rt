@@ -37,18 +37,6 @@ pub fn slots_in(bytes: usize) -> usize
     bytes / SLOT
 }
 
-// A copy.
-fn put(to: &mut [u8], from: &[u8])
-    requires { length to.old ≡ length from.now }
-    ensures { to.new ≡ from.now }
-{
-    let mut i = 0;
-    while i < from.len() {
-        to[i] = from[i];
-        i += 1;
-    }
-}
-
 fn put_mask(to: &mut [u8], mask: PlaceSet)
     requires { length to.old ≡ mask_width }
     ensures { to.new ≡ mask_bytes mask }
@@ -60,10 +48,8 @@ fn put_sets(to: &mut [u8], sets: &[PlaceSet])
     requires { length to.old ≡ mask_width * length sets.now }
     ensures { to.new ≡ each mask_bytes sets.now }
 {
-    let mut i = 0;
-    while i < sets.len() {
-        put_mask(&mut to[MASK * i..MASK * i + MASK], sets[i]);
-        i += 1;
+    for (i, &mask) in sets.iter().enumerate() {
+        put_mask(&mut to[MASK * i..MASK * i + MASK], mask);
     }
 }
 
@@ -71,8 +57,8 @@ fn put_key(to: &mut [u8], s: Situation)
     requires { length to.old ≡ key_bytes }
     ensures { to.new ≡ struct_key s }
 {
-    put(&mut to[0..RIGHT], &s.left);
-    put(&mut to[RIGHT..SETS], &s.right);
+    to[0..RIGHT].copy_from_slice(&s.left);
+    to[RIGHT..SETS].copy_from_slice(&s.right);
     put_sets(&mut to[SETS..KEY], &s.sets);
 }
 
@@ -111,11 +97,7 @@ fn put_origin(to: &mut [u8], parent: u16, step: u8)
 pub fn clear(work: &mut [u8])
     ensures { work.new ≡ replicate (length work.old) 0 }
 {
-    let mut i: usize = 0;
-    while i < work.len() {
-        work[i] = 0;
-        i += 1;
-    }
+    work.fill(0);
 }
 
 // What a slot holds: its situation's key, and where it comes from. Nothing is put where the bytes are not those of a slot and of a key.
@@ -128,7 +110,7 @@ pub fn put_slot(to: &mut [u8], key: &[u8], parent: u16, step: u8)
     if key.len() != KEY {
         return;
     }
-    put(&mut to[0..KEY], key);
+    to[0..KEY].copy_from_slice(key);
     put_origin(&mut to[KEY..HELD], parent, step);
 }
 
@@ -137,7 +119,7 @@ fn side_of(from: &[u8]) -> CodedSide
     ensures { result ≡ from.now }
 {
     let mut side = [0u8; LONGEST_SIDE];
-    put(&mut side, from);
+    side.copy_from_slice(from);
     side
 }
 
@@ -153,10 +135,8 @@ fn sets_of(from: &[u8]) -> [PlaceSet; FIELDS]
     ensures { (ms : List ℕ) → length ms ≡ set_fields → from.now ≡ each mask_bytes ms → result ≡ ms }
 {
     let mut sets = [0u64; FIELDS];
-    let mut i = 0;
-    while i < FIELDS {
-        sets[i] = mask_of(&from[MASK * i..MASK * i + MASK]);
-        i += 1;
+    for (i, set) in sets.iter_mut().enumerate() {
+        *set = mask_of(&from[MASK * i..MASK * i + MASK]);
     }
     sets
 }

@@ -10,11 +10,9 @@ pub fn put_number(to: &mut [u8], number: u64)
     ensures { to.new ≡ low_bytes (length to.old) number }
 {
     let mut rest = number;
-    let mut i = 0;
-    while i < to.len() {
-        to[i] = (rest % 256) as u8;
-        rest = rest / 256;
-        i += 1;
+    for byte in to.iter_mut() {
+        *byte = (rest % 256) as u8;
+        rest /= 256;
     }
 }
 
@@ -22,24 +20,8 @@ pub fn put_number(to: &mut [u8], number: u64)
 pub fn number(from: &[u8]) -> u64
     ensures { result ≡ low_first_number (take widest from.now) }
 {
-    let mut r = 0;
-    let mut i = read_first(from.len());
-    while i > 0 {
-        i -= 1;
-        r = 256 * r + wide(from[i]);
-    }
-    r
-}
-
-// How many of n bytes are read.
-fn read_first(n: usize) -> usize
-    ensures { result ≡ min widest n }
-{
-    if n < WIDEST { n } else { WIDEST }
-}
-
-fn wide(b: u8) -> u64
-    ensures { result ≡ b }
-{
-    b as u64
+    let n = from.len().min(WIDEST);
+    let mut bytes = [0; WIDEST];
+    bytes[0..n].copy_from_slice(&from[0..n]);
+    u64::from_le_bytes(bytes)
 }

@@ -5,15 +5,14 @@ use Prim.Native.Nat.{ℕ, zero, suc, ◌+◌, ◌≤◌, ◌<◌}
 use native.Mathlib.Omega.{arith}
 use mathlib.Core.Path.{◌≡◌, refl, sym, ap, ap₂, ◌∙◌}
 use mathlib.Core.Bool.{Bool, true, false}
-use mathlib.Core.List.{List, [], ◌∷◌, ◌++◌, append_assoc, append-nil}
+use mathlib.Core.List.{List, ◌++◌, append_assoc}
 use lib.Dec.{ltb, eqb}
 use lib.ListN.{length, take, drop, length-append}
-use lib.Seq.{sets, sets-eq, drop-length, drop-drop, drop_at, length-take-le}
-use borrow.Author.Tests.{lt-ltb, le-ltb, eq-eqb, ne_eqb}
+use lib.Seq.{sets, drop-drop, drop_at, length-take-le}
+use borrow.Author.Tests.{lt-ltb, le-ltb}
 use borrow.Rule.Slice.PartMut.{put_mid}
 use Rattle.paper.specs.Lists.{only}
 use Rattle.paper.proofs.base.Tests.{by_bool, ltb_true, le_leb, lt_leb}
-use Rattle.paper_steps.specs.StepRecords.{step_mark_1, step_mark_2}
 use Rattle.search_records.specs.Records.{parent_in, step_in, in_front, value_records, buffer_after}
 use Rattle.search_records.specs.declared.Origin.{Origin}
 use Rattle.base_steps.specs.declared.StepsHow.TheVariants.{Clash, AnswerTooShort, StepsTooShort}
@@ -27,21 +26,6 @@ length_only false x = omega arith
 pub record_short : (step : ℕ) → length (step_bytes step) ≤ 4
 unfolding step_bytes
 record_short step = omega (arith, length_only (eqb (kind_of step) 2) step)
-
--- the record of a character, and of a struck front
-pub put_is : (step k : ℕ) → k ≡ kind_of step → k ≡ 2 → step_bytes step ≡ step_mark_1 ∷ step_mark_2 ∷ k ∷ step ∷ []
-unfolding step_bytes
-put_is step k e h = rw (eq-eqb (kind_of step) 2 (sym e ∙ h), e)
-
-pub struck_is : (step k : ℕ) → k ≡ kind_of step → (k ≡ 2 → ⊥) → step_bytes step ≡ step_mark_1 ∷ step_mark_2 ∷ k ∷ []
-unfolding step_bytes
-struck_is step k e h = rw (ne_eqb (kind_of step) 2 (λ g. h (e ∙ g)), e)
-
--- as many stores from the front as there are elements
-pub stored_whole : (vs l : List ℕ) → length l ≡ length vs → sets l 0 vs ≡ vs
-stored_whole vs l e =
-    let k : 0 + length vs ≡ length l = omega arith in
-    sets-eq vs l 0 (omega arith) ∙ rw (k, drop-length l) (append-nil vs)
 
 module _ (work : List ℕ) where
   before_below : (i : ℕ) → slot_before work (suc i) ≤ i

@@ -3,88 +3,66 @@
 
 ghost use Rattle.std.specs.Prelude.{◌≡◌, ◌/◌, ◌<◌, length};
 ghost use Rattle.paper.specs.Numbers.{situation_bytes};
-ghost use Rattle.search_records.specs.Records.{way_spelt, SlotIn, value_records};
-ghost use Rattle.search_steps.specs.WaySteps.{kind_of, step_bytes, way_steps, StepsBefore, steps_told, steps_answered};
+ghost use Rattle.search_records.specs.Records.{way_spelt, value_records};
+ghost use Rattle.search_steps.specs.WaySteps.{step_bytes, way_steps, StepsBefore, steps_told, steps_answered};
 
 use base_codes::{FIELDS, LEFT_STRUCK, RIGHT_STRUCK};
 use base_places::PlaceSet;
 use base_steps::StepsHow;
-use search_records::Origin;
-use search_slots::slots_in;
-
-// "a kind byte (0 left front struck, 1 right front struck, 2 a character)"
-const PUT: u8 = 2;
+use search_records::{Origin, Slot};
 
 // Mark and kind; for a character its value too.
 const STRUCK_BYTES: usize = 3;
 
 const PUT_BYTES: usize = 4;
 
-fn kind(step: u8) -> u8
-    ensures { result ≡ kind_of step }
-{
-    if step == LEFT_STRUCK {
-        return 0;
-    }
-    if step == RIGHT_STRUCK {
-        return 1;
-    }
-    PUT
-}
-
 // How many bytes the record of a step has.
+#[tactic(auto, unfolding(crate::specs::WaySteps::step_bytes))]
 fn record_length(step: u8) -> usize
     ensures { result ≡ length (step_bytes step) }
 {
-    if kind(step) == PUT {
-        PUT_BYTES
-    } else {
-        STRUCK_BYTES
+    match step {
+        LEFT_STRUCK | RIGHT_STRUCK => STRUCK_BYTES,
+        _ => PUT_BYTES,
     }
 }
 
-// "mark `ST`, a kind byte .. and for kind 2 its value"
+// "mark `ST`, a kind byte (0 left front struck, 1 right front struck, 2 a character) and for kind 2 its value"
+#[tactic(auto, unfolding(crate::specs::WaySteps::step_bytes))]
 fn write_step(out: &mut [u8], step: u8)
     requires { length out.old ≡ length (step_bytes step) }
     ensures { out.new ≡ step_bytes step }
 {
-    let its = kind(step);
-    if its == PUT {
-        out[0] = b'S';
-        out[1] = b'T';
-        out[2] = its;
-        out[3] = step;
-    } else {
-        out[0] = b'S';
-        out[1] = b'T';
-        out[2] = its;
+    match step {
+        LEFT_STRUCK => out.copy_from_slice(&[b'S', b'T', 0]),
+        RIGHT_STRUCK => out.copy_from_slice(&[b'S', b'T', 1]),
+        character => out.copy_from_slice(&[b'S', b'T', 2, character]),
     }
 }
 
-// One step back from slot i, which isn't the first. Where its parent is not before it the way begins with this step.
-fn step_before(work: &[u8], i: usize) -> Origin
-    requires slot_in { SlotIn work.now i }
-    requires i_nonzero { 0 < i }
-    ensures { StepsBefore work.now i result }
+// One step back from a slot, which isn't the first. Where its parent is not before it the way begins with this step.
+fn step_before(slot: &Slot) -> Origin
+    requires { 0 < slot.now.number }
+    ensures { StepsBefore slot.now.work.now slot.now.number result }
 {
-    let origin = search_records::origin_of(work, i);
-    let parent = origin.parent;
-    let step = origin.step;
-    if parent < i {
-        return Origin { parent, step };
+    let origin = slot.origin();
+    if origin.parent < slot.number {
+        return origin;
     }
-    Origin { parent: 0, step }
+    Origin {
+        parent: 0,
+        ..origin
+    }
 }
 
 // How many bytes the records of the way to the last slot have.
-fn steps_length(work: &[u8], last: usize) -> usize
-    requires { SlotIn work.now last }
-    ensures { result ≡ length (way_steps work.now last) }
+fn steps_length(last: &Slot) -> usize
+    ensures { result ≡ length (way_steps last.now.work.now last.now.number) }
 {
     let mut n = 0;
-    let mut i = last;
+    let mut i = last.number;
     while i > 0 {
-        let before = step_before(work, i);
+        let before = step_before(&last.earlier(i));
         n += record_length(before.step);
         i = before.parent;
     }
@@ -92,15 +70,15 @@ fn steps_length(work: &[u8], last: usize) -> usize
 }
 
 // These records, written from their end back.
-fn write_steps(out: &mut [u8], work: &[u8], last: usize)
-    requires slot_in { SlotIn work.now last }
-    requires out_len { length out.old ≡ length (way_steps work.now last) }
-    ensures { out.new ≡ way_steps work.now last }
+// Kept: a walk of its own beside that of `steps_length`: a walk that takes a closure says nothing of what the closure writes into a lent slice.
+fn write_steps(out: &mut [u8], last: &Slot)
+    requires { length out.old ≡ length (way_steps last.now.work.now last.now.number) }
+    ensures { out.new ≡ way_steps last.now.work.now last.now.number }
 {
     let mut end = out.len();
-    let mut i = last;
+    let mut i = last.number;
     while i > 0 {
-        let before = step_before(work, i);
+        let before = step_before(&last.earlier(i));
         let at = end - record_length(before.step);
         write_step(&mut out[at..end], before.step);
         end = at;
@@ -118,11 +96,11 @@ pub fn answer_steps(
 ) -> StepsHow
     ensures { last < length work.now / situation_bytes → steps_told result answer.new steps.new ≡ steps_answered (value_records sets (way_spelt work.now last)) (way_steps work.now last) answer.old steps.old }
 {
-    if slots_in(work.len()) <= last {
+    let Some(slot) = Slot::at(work, last) else {
         return StepsHow::NoRoom;
-    }
+    };
     let written = search_records::answer_length(work, last, sets);
-    let bytes = steps_length(work, last);
+    let bytes = steps_length(&slot);
     if answer.len() < written {
         return StepsHow::AnswerTooShort;
     }
@@ -130,7 +108,7 @@ pub fn answer_steps(
         return StepsHow::StepsTooShort;
     }
     search_records::answer_clash(answer, work, last, sets);
-    write_steps(&mut steps[0..bytes], work, last);
+    write_steps(&mut steps[0..bytes], &slot);
     StepsHow::Clash {
         written,
         steps: bytes,

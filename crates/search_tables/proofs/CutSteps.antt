@@ -1,12 +1,13 @@
 -- A row cut character by character:
 --   cut_none : no place takes any of no characters
 --   cut_more : one character more
+--   cut_less : one more that is not among them
 --   cut_room : more characters than there is room for add nothing
 -- Follows from the laws of lists by number.
 use Prim.Native.Nat.{ℕ, ◌+◌, ◌<◌}
 use native.Mathlib.Omega.{arith}
 use mathlib.Core.Path.{◌≡◌, sym, ap, ◌∙◌}
-use mathlib.Core.Bool.{Bool, true, false, cond, ◌&&◌}
+use mathlib.Core.Bool.{Bool, true, false, cond, ◌&&◌, and-false}
 use mathlib.Core.List.{List}
 use lib.Dec.{leb, ltb, eqb}
 use lib.ListN.{get_or, set, replicate, length-replicate, get_or-replicate}
@@ -40,6 +41,19 @@ module _ (among : List Bool) (row : List ℕ) where
       let other = eqb_false j c s in
       cond_false (eqb j c) x (taken c j) s
       ∙ ap (λ (b : Bool). cond (b && get_or among j false) (get_or row j 0) 0)
+      (same_tests (ltb j c) (ltb j (c + 1))
+      (λ t. lt_ltb j (c + 1) (omega (arith, ltb_true j c t)))
+      (λ t. lt_ltb j c (omega (arith, ltb_true j (c + 1) t, other))))))
+
+  pub cut_less : (c : ℕ) → get_or among c false ≡ false → cut_row c among row ≡ cut_row (c + 1) among row
+  unfolding cut_row
+  cut_less c e =
+      listed_same 0 (taken (c + 1)) most_characters (taken c)
+      (λ j k. by_bool (eqb j c)
+      (λ (s : eqb j c ≡ true). rw (eqb_true j c s, e, and-false, and-false))
+      (λ (s : eqb j c ≡ false).
+      let other = eqb_false j c s in
+      ap (λ (b : Bool). cond (b && get_or among j false) (get_or row j 0) 0)
       (same_tests (ltb j c) (ltb j (c + 1))
       (λ t. lt_ltb j (c + 1) (omega (arith, ltb_true j c t)))
       (λ t. lt_ltb j c (omega (arith, ltb_true j (c + 1) t, other))))))

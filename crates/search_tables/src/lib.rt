@@ -2,48 +2,58 @@
 // characters alone.
 #![tactic(auto)]
 
-ghost use Rattle.std.specs.Prelude.{◌≡◌, ◌∷◌, [], ◌++◌, map, cond, ◌≤◌};
-ghost use Rattle.paper.specs.Numbers.{most_characters};
+ghost use Rattle.std.specs.Prelude.{◌≡◌, ◌∷◌, [], ◌++◌, map};
+ghost use Rattle.std.specs.Fn.{FnReturnsAt};
+ghost use Rattle.std.specs.List.{AllZip};
 ghost use Rattle.search_tables.specs.Cut.{cut_row, cut_coded};
 ghost use Rattle.search_tables.specs.Tables.{follow_of, taking_of, last_of};
 
 use base_codes::{FIELDS, SHEET_FIELDS};
 use base_places::{CHARACTERS, PLACES, PlaceSet, PlaceTables, within};
 
-// "For every field and every place, the set of places that may follow": of a sheet's fields and, behind them, twice of the hidden ones, which are
-// alike.
+// A part of each field's tables: of a sheet's fields and, behind them, twice of the hidden ones, which are alike.
+fn each_field<T: Copy, F: Fn(&PlaceTables) -> T>(
+    own: &[PlaceTables; SHEET_FIELDS],
+    hidden: &PlaceTables,
+    part: F,
+) -> [T; FIELDS]
+    requires { F.IsAlwaysCallable part }
+    ensures { AllZip (FnReturnsAt F.Fn part) (own.now ++ (hidden.now ∷ hidden.now ∷ [])) result }
+{
+    let mut parts = [part(hidden); FIELDS];
+    for (f, tables) in own.iter().enumerate() {
+        parts[f] = part(tables);
+    }
+    parts
+}
+
+// "For every field and every place, the set of places that may follow".
 pub fn follow_behind(
     own: [PlaceTables; SHEET_FIELDS],
     hidden: PlaceTables,
 ) -> [[PlaceSet; PLACES]; FIELDS]
     ensures { result ≡ map follow_of (own ++ (hidden ∷ hidden ∷ [])) }
 {
-    let behind = hidden.follow;
-    let mut sets = [behind; FIELDS];
-    let mut f = 0;
-    while f < SHEET_FIELDS {
-        let tables = own[f];
-        let its = tables.follow;
-        sets[f] = its;
-        f += 1;
-    }
-    sets
+    each_field(
+        &own,
+        &hidden,
+        |tables|
+            ensures { result ≡ follow_of tables.now }
+        { tables.follow },
+    )
 }
 
 // For every field the set of places that may be the last one of a text.
 pub fn last_behind(own: [PlaceTables; SHEET_FIELDS], hidden: PlaceTables) -> [PlaceSet; FIELDS]
     ensures { result ≡ map last_of (own ++ (hidden ∷ hidden ∷ [])) }
 {
-    let behind = hidden.last;
-    let mut sets = [behind; FIELDS];
-    let mut f = 0;
-    while f < SHEET_FIELDS {
-        let tables = own[f];
-        let its = tables.last;
-        sets[f] = its;
-        f += 1;
-    }
-    sets
+    each_field(
+        &own,
+        &hidden,
+        |tables|
+            ensures { result ≡ last_of tables.now }
+        { tables.last },
+    )
 }
 
 // For every field and every character the set of places that take it.
@@ -53,35 +63,28 @@ pub fn taking_behind(
 ) -> [[PlaceSet; CHARACTERS]; FIELDS]
     ensures { result ≡ map taking_of (own ++ (hidden ∷ hidden ∷ [])) }
 {
-    let behind = hidden.taking;
-    let mut sets = [behind; FIELDS];
-    let mut f = 0;
-    while f < SHEET_FIELDS {
-        let tables = own[f];
-        let its = tables.taking;
-        sets[f] = its;
-        f += 1;
-    }
-    sets
+    each_field(
+        &own,
+        &hidden,
+        |tables|
+            ensures { result ≡ taking_of tables.now }
+        { tables.taking },
+    )
 }
 
-// The mask, or no place.
-fn mask_if(among: bool, mask: PlaceSet) -> PlaceSet
-    ensures { result ≡ cond among mask 0 }
+// What a field's places take of those among the first so many characters.
+fn cut(
+    among: &[bool; CHARACTERS],
+    row: &[PlaceSet; CHARACTERS],
+    characters: usize,
+) -> [PlaceSet; CHARACTERS]
+    ensures { result ≡ cut_row characters among.now row.now }
 {
-    if among { mask } else { 0 }
-}
-
-// What a field's places take of those among the first n characters.
-fn cut(among: [bool; CHARACTERS], row: [PlaceSet; CHARACTERS], n: usize) -> [PlaceSet; CHARACTERS]
-    requires { n ≤ most_characters }
-    ensures { result ≡ cut_row n among row }
-{
-    let mut masks = [0u64; CHARACTERS];
-    let mut c: usize = 0;
-    while c < n {
-        masks[c] = mask_if(among[c], row[c]);
-        c += 1;
+    let mut masks = [0; CHARACTERS];
+    for c in 0..within(characters) {
+        if among[c] {
+            masks[c] = row[c];
+        }
     }
     masks
 }
@@ -95,17 +98,11 @@ pub fn taking_among(
 ) -> [[PlaceSet; CHARACTERS]; FIELDS]
     ensures { result ≡ cut_coded characters (map taking_of (own ++ (hidden ∷ hidden ∷ []))) among }
 {
-    let n = within(characters);
-    let spaces = hidden.taking;
-    let behind = cut(among, spaces, n);
-    let mut sets = [behind; FIELDS];
-    let mut f: usize = 0;
-    while f < SHEET_FIELDS {
-        let tables = own[f];
-        let row = tables.taking;
-        let masks = cut(among, row, n);
-        sets[f] = masks;
-        f += 1;
-    }
-    sets
+    each_field(
+        &own,
+        &hidden,
+        |tables|
+            ensures { result ≡ cut_row characters among (taking_of tables.now) }
+        { cut(&among, &tables.taking, characters) },
+    )
 }

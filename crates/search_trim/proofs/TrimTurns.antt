@@ -1,16 +1,19 @@
--- Laws of sides as lists of tokens: a part of one, and, turn by turn, what copying and trimming do. Follows from the definitions by
+-- Laws of sides as lists of tokens: a part of one, and what copying and trimming do. Follows from the definitions by
 -- induction on the side.
-use Prim.Native.Nat.{ℕ, suc, ◌+◌, ◌-◌, ◌≤◌, ◌<◌}
-use native.Mathlib.Numerals.{add-one}
+use Prim.Native.Nat.{ℕ, suc, ◌+◌, ◌-◌, ◌≤◌, ◌<◌, min}
 use native.Mathlib.Omega.{arith}
-use mathlib.Core.Path.{◌≡◌, refl, sym}
-use mathlib.Core.Bool.{true, false, ◌&&◌}
+use mathlib.Core.Path.{◌≡◌, refl, sym, ap, ◌∙◌}
+use mathlib.Core.Bool.{Bool, true, false, cond, ◌&&◌}
 use mathlib.Core.List.{List, [], ◌∷◌, ◌++◌}
-use lib.Dec.{eqb}
-use lib.ListN.{length, get_or, take, drop, length-drop, drop_of_length-le}
-use lib.Seq.{take-suc, drop-cons, take_all, length-take-le}
-use Rattle.paper.proofs.base.Tests.{cond_by}
-use Rattle.base_codes.specs.Inner.{is_char}
+use lib.Dec.{eqb, leb}
+use lib.ListN.{length, take, drop, replicate, length-append, length-drop, length-replicate}
+use lib.Seq.{take_all, length-take-le}
+use Rattle.std.specs.List.{zip, prefix_len}
+use Rattle.paper.specs.Numbers.{longest_side}
+use Rattle.paper.proofs.base.Tests.{by_bool, cond_by, leb_true, leb_false}
+use Rattle.base_codes.specs.Inner.{no_token, is_char, padded}
+use Rattle.base_codes.specs.InFront.{InFront}
+use Rattle.base_codes.proofs.InFront.{in_front_padded}
 use Rattle.search_trim.specs.Trimming.{alike_in_front}
 
 -- the part of a list from an index on, and up to one
@@ -20,26 +23,39 @@ rest_part n l = take_all (length l - n) (drop n l) (rw length-drop (omega arith)
 pub part_length : (n : ℕ) (l : List ℕ) → n ≤ length l → n ≡ length (take n l)
 part_length n l h = sym (length-take-le n l h)
 
--- the tokens of a loop's first turns, and of one turn more
-pub copy_more : (side : List ℕ) (i : ℕ) → i < length side → take (i + 1) side ≡ take i side ++ (get_or side i 0 ∷ [])
-copy_more side i h = rw (add-one, take-suc side i 0 h)
+-- so many tokens as have room, copied into 48 bytes of no token
+pub copied_padded : (side : List ℕ) (n : ℕ) (copied : List ℕ) → n ≡ min (length side) longest_side → copied ≡ take n side
+    → copied ++ drop n (replicate longest_side no_token) ≡ padded (take longest_side side)
+copied_padded side n copied e is =
+    let no_tokens = replicate longest_side no_token in
+    let part : take n side ≡ take longest_side side = by_bool (leb (length side) longest_side)
+    (λ (k : leb (length side) longest_side ≡ true).
+    let few : length side ≤ longest_side = leb_true (length side) longest_side k in
+    take_all n side (omega arith) ∙ sym (take_all longest_side side few))
+    (λ (k : leb (length side) longest_side ≡ false).
+    let many : longest_side < length side = leb_false (length side) longest_side k in
+    let all : n ≡ longest_side = omega arith in
+    ap (λ (m : ℕ). take m side) all) in
+    let long : n ≡ length (take longest_side side) = sym (length-take-le n side (omega arith)) ∙ ap length part in
+    let written : InFront no_tokens (copied ++ drop n no_tokens) n (take longest_side side) =
+    record {
+      bytes = rw (is, part, ← long);
+      many = long;
+      same_length =
+          omega (arith, length-append copied (drop n no_tokens), length-drop n no_tokens, length-replicate longest_side no_token, ap length is, ap length part, long);
+    } in
+    in_front_padded written refl
 
--- Trimming: one more equal character in front of what is left, or none.
-pub alike_more : (l r : List ℕ) (n : ℕ) → n < length l → n < length r → is_char (get_or l n 0) ≡ true → eqb (get_or l n 0) (get_or r n 0) ≡ true → alike_in_front (drop n l) (drop n r) ≡ suc (alike_in_front (drop (n + 1) l) (drop (n + 1) r))
-alike_more l r n h k p q = rw (add-one, drop-cons l n 0 h, drop-cons r n 0 k, p, q)
+-- Trimming: what is counted are the pairs in front in which both are the same character.
+abbrev pub alike : ℕ × ℕ → Bool
+alike p = is_char p.0 && eqb p.0 p.1
 
-alike_none : (l : List ℕ) → alike_in_front l [] ≡ 0
-alike_none [] = refl
-alike_none (a ∷ l) = refl
-
-pub alike_left_ends : (l r : List ℕ) (n : ℕ) → length l ≤ n → alike_in_front (drop n l) (drop n r) ≡ 0
-alike_left_ends l r n h = rw (drop_of_length-le l h)
-
-pub alike_right_ends : (l r : List ℕ) (n : ℕ) → length r ≤ n → alike_in_front (drop n l) (drop n r) ≡ 0
-alike_right_ends l r n h = rw (drop_of_length-le r h) (alike_none (drop n l))
-
-pub alike_stops : (l r : List ℕ) (n : ℕ) → n < length l → n < length r → is_char (get_or l n 0) && eqb (get_or l n 0) (get_or r n 0) ≡ false → alike_in_front (drop n l) (drop n r) ≡ 0
-alike_stops l r n h k p = rw (drop-cons l n 0 h, drop-cons r n 0 k, p)
+pub alike_pairs : (l r : List ℕ) → prefix_len alike (zip l r) ≡ alike_in_front l r
+alike_pairs [] r = refl
+alike_pairs (a ∷ l) [] = refl
+alike_pairs (a ∷ l) (b ∷ r) =
+    let e : 1 + prefix_len alike (zip l r) ≡ suc (alike_in_front l r) = omega (arith, alike_pairs l r) in
+    ap (λ (n : ℕ). cond (is_char a && eqb a b) n 0) e
 
 -- no more than either side has
 pub alike_within : (l r : List ℕ) → (alike_in_front l r ≤ length l) × (alike_in_front l r ≤ length r)

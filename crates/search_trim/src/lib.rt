@@ -1,9 +1,9 @@
 // Trimming: equal characters dropped from both fronts; and the trimmed question.
 #![tactic(auto)]
 
-ghost use Rattle.std.specs.Prelude.{◌++◌, ◌≡◌, ◌≤◌, ◌<◌, length, take, replicate};
+ghost use Rattle.std.specs.Prelude.{◌++◌, ◌≡◌, ◌≤◌, ◌<◌, length, take};
 ghost use Rattle.paper.specs.Numbers.{set_fields, longest_side};
-ghost use Rattle.base_codes.specs.Inner.{no_token, tokens, padded};
+ghost use Rattle.base_codes.specs.Inner.{tokens, padded};
 ghost use Rattle.base_codes.specs.Coded.{as_struct};
 ghost use Rattle.search_trim.specs.Trimming.{alike_in_front, trimmed_of, first_mask, first_masks, question_coded};
 
@@ -13,6 +13,7 @@ use base_codes::{
 use base_places::PlaceSet;
 
 // Two sides behind their equal characters in front, each in its 48 bytes as far as it has room, and how many tokens each has.
+// Kept: a length beside its bytes, since it tells of the tokens that have no room there too; no slice would.
 #[derive(Clone, Copy)]
 pub struct Trimmed {
     pub left: CodedSide,
@@ -25,50 +26,24 @@ pub struct Trimmed {
 fn alike_in_front(l: &[u8], r: &[u8]) -> usize
     ensures { result ≡ alike_in_front l.now r.now }
 {
-    let mut n: usize = 0;
-    while n < l.len() {
-        if r.len() <= n {
-            return n;
-        }
-        let a = l[n];
-        if FIELD_CODE <= a {
-            return n;
-        }
-        let b = r[n];
-        if a != b {
-            return n;
-        }
-        n += 1;
-    }
-    n
-}
-
-// a side of no token, to be written over
-fn no_side() -> CodedSide
-    ensures { result ≡ replicate longest_side no_token }
-{
-    [NO_TOKEN; LONGEST_SIDE]
+    l.iter()
+        .zip(r)
+        .take_while(|&(&a, &b)| a < FIELD_CODE && a == b)
+        .count()
 }
 
 // The side in its 48 bytes, as far as it has room.
 fn padded_side(side: &[u8]) -> CodedSide
     ensures { result ≡ padded (take longest_side side.now) }
 {
-    let n = if side.len() < LONGEST_SIDE {
-        side.len()
-    } else {
-        LONGEST_SIDE
-    };
-    let mut bytes = no_side();
-    let mut i: usize = 0;
-    while i < n {
-        bytes[i] = side[i];
-        i += 1;
-    }
+    let n = side.len().min(LONGEST_SIDE);
+    let mut bytes = [NO_TOKEN; LONGEST_SIDE];
+    bytes[..n].copy_from_slice(&side[..n]);
     bytes
 }
 
 // "Trimming drops equal characters from both fronts while there are any"
+#[tactic(auto, using(crate::proofs::TrimTurns::alike_within))]
 pub fn trim(l: &[u8], r: &[u8]) -> Trimmed
     ensures { result ≡ trimmed_of l.now r.now }
 {
@@ -89,26 +64,18 @@ fn first_mask(l: &[u8], r: &[u8], f: usize) -> PlaceSet
     ensures { result ≡ first_mask (l.now ++ r.now) f }
 {
     let token = FIELD_CODE + f as u8;
-    if stands(l, token) {
-        return 1;
+    if stands(l, token) || stands(r, token) {
+        1
+    } else {
+        0
     }
-    if stands(r, token) {
-        return 1;
-    }
-    0
 }
 
 // "at first it holds only the start"
 fn first_masks(l: &[u8], r: &[u8]) -> [PlaceSet; FIELDS]
     ensures { result ≡ first_masks (l.now ++ r.now) }
 {
-    let mut sets = [0u64; FIELDS];
-    let mut f: usize = 0;
-    while f < FIELDS {
-        sets[f] = first_mask(l, r, f);
-        f += 1;
-    }
-    sets
+    std::array::from_fn(|f| first_mask(l, r, f))
 }
 
 // The question of these tokens.
@@ -117,9 +84,7 @@ fn asked(l: &[u8], r: &[u8]) -> Situation
     ensures { result ≡ as_struct (question_coded l.now r.now) }
 {
     let sets = first_masks(l, r);
-    let trimmed = trim(l, r);
-    let left = trimmed.left;
-    let right = trimmed.right;
+    let Trimmed { left, right, .. } = trim(l, r);
     Situation { left, right, sets }
 }
 

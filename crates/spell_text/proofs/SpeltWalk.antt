@@ -1,41 +1,37 @@
--- A text byte by byte: what is left from the place i on, and what was spelt before it.
---   text_on, text_not, text_none   : is every byte a character?
---   shifts_on, shifts_none         : how many have a shift sign
---   spelt_next                     : one more character spelt
---   spelt_shifts                   : how long the spelling is
+-- A text byte by byte.
+--   text_all       : is every byte a character?
+--   shifts_counted : how many have a shift sign
+--   spelt_next     : one more character spelt
+--   spelt_shifts   : how long the spelling is
 -- Follows from the laws of lists.
-use Prim.Native.Nat.{ℕ, ◌+◌, ◌≤◌, ◌<◌}
+use Prim.Native.Nat.{ℕ, ◌+◌, ◌<◌}
 use native.Mathlib.Numerals.{add-one}
 use native.Mathlib.Omega.{arith}
 use mathlib.Core.Path.{◌≡◌, refl, sym, ap, ◌∙◌}
-use mathlib.Core.Bool.{true, false, cond}
+use mathlib.Core.Bool.{Bool, cond, ◌&&◌}
 use mathlib.Core.List.{List, [], ◌∷◌, ◌++◌, append_assoc, append-nil}
-use lib.Dec.{eqb}
-use lib.ListN.{length, take, drop, get_or, length-append, drop_of_length-le}
-use lib.Seq.{drop-cons, take-suc}
-use Rattle.paper.proofs.base.Tests.{by_bool, lt_ltb, le_ltb}
+use lib.Dec.{eqb, ltb}
+use lib.ListN.{length, take, get_or, length-append}
+use Rattle.std.specs.List.{filter, list_all}
+use Rattle.std.specs.Option.{is_some}
+use lib.Seq.{take-suc}
+use Rattle.paper.proofs.base.Tests.{by_bool}
 use Rattle.paper_spell.specs.FullAscii.{ascii, no_shift, shift_of, value_of, spelt_by, spelt, is_text}
+use Rattle.spell_table.specs.Entries.{shift_sign}
 use Rattle.spell_text.specs.SpeltNumbers.{shifts_in}
 
-module _ (text : List ℕ) (i : ℕ) where
-  module _ (h : i < length text) where
-    next : drop i text ≡ get_or text i 0 ∷ drop (i + 1) text
-    next = rw (add-one i) (drop-cons text i 0 h)
+pub text_all : (text : List ℕ) → list_all (λ (c : ℕ). ltb c ascii) text ≡ is_text text
+text_all [] = refl
+text_all (c ∷ text) = ap (λ (b : Bool). ltb c ascii && b) (text_all text)
 
-    pub text_on : get_or text i 0 < ascii → is_text (drop i text) ≡ is_text (drop (i + 1) text)
-    text_on k = rw (next, lt_ltb (get_or text i 0) ascii k)
+-- the characters that have a shift sign
+abbrev pub has_shift : ℕ → Bool
+has_shift c = is_some (shift_sign (shift_of c))
 
-    pub text_not : ascii ≤ get_or text i 0 → is_text (drop i text) ≡ false
-    text_not k = rw (next, le_ltb (get_or text i 0) ascii k)
-
-    pub shifts_on : shifts_in (drop i text) ≡ cond (eqb (shift_of (get_or text i 0)) no_shift) 0 1 + shifts_in (drop (i + 1) text)
-    shifts_on = rw next
-
-  pub text_none : length text ≤ i → is_text (drop i text) ≡ true
-  text_none h = rw (drop_of_length-le text {i = i} h)
-
-  pub shifts_none : length text ≤ i → shifts_in (drop i text) ≡ 0
-  shifts_none h = rw (drop_of_length-le text {i = i} h)
+pub shifts_counted : (text : List ℕ) → length (filter has_shift text) ≡ shifts_in text
+shifts_counted [] = refl
+shifts_counted (c ∷ text) =
+    by_bool (eqb (shift_of c) no_shift) (λ e. rw e (omega (arith, shifts_counted text))) (λ e. rw e (omega (arith, shifts_counted text)))
 
 spelt_append : (t u : List ℕ) → spelt (t ++ u) ≡ spelt t ++ spelt u
 spelt_append [] u = refl

@@ -5,64 +5,60 @@ ghost use Rattle.std.specs.Prelude.{◌≡◌};
 ghost use Rattle.paper_spell.specs.FullAscii.{is_text as is-text-of, spelt};
 ghost use Rattle.paper_spell.specs.Spell.{spelling_text, SpellPromised};
 ghost use Rattle.base_put.specs.Counted.{Counted};
-ghost use Rattle.spell_text.specs.SpeltNumbers.{spelt_numbers, told_spelt, shifts_in};
+ghost use Rattle.spell_text.specs.SpeltNumbers.{error_numbers, spelt_numbers, told_spelt, shifts_in};
 
 use base_answers::{NOT_IN_TABLE, Numbers, SPELT_TOO_SHORT};
-use spell_table::{ASCII, NO_SHIFT, put_character, shift};
+use spell_table::{ASCII, put_character, shift};
 
-// The answer to a text that is to be spelt, or a spelt text that is to be read back.
-#[derive(Clone, Copy)]
-pub enum Spelt {
-    // 0: so many bytes stand in front of the buffer
-    Written { bytes: usize },
+// Why a text is not spelt, or a spelt text not read back.
+#[derive(Clone, Copy, PartialEq, Eq)]
+pub enum SpellError {
     // 45: a byte that is no character, or a spelt text that the table doesn't give
     NotInTable,
     // 46: the output buffer is too short
     TooShort,
 }
 
-// Spells a text: each character as its one or two values.
-pub fn spell(text: &[u8], out: &mut [u8]) -> Spelt
+// An error in numbers.
+impl From<SpellError> for Numbers {
+    ghost from_gives = { λ e n. n ≡ error_numbers e };
+
+    fn from(e: SpellError) -> Numbers
+        ensures { result ≡ error_numbers e }
+    {
+        Numbers::of_number(match e {
+            SpellError::NotInTable => NOT_IN_TABLE,
+            SpellError::TooShort => SPELT_TOO_SHORT,
+        })
+    }
+}
+
+// Spells a text: each character as its one or two values. How many bytes of them stand in front of the buffer.
+pub fn spell(text: &[u8], out: &mut [u8]) -> Result<usize, SpellError>
     ensures whole { told_spelt result out.new ≡ spelling_text text.now out.old }
     ensures promised { SpellPromised text.now out.old (told_spelt result out.new) }
 {
     if !is_text(text) {
-        return Spelt::NotInTable;
+        return Err(SpellError::NotInTable);
     }
     let room = out.len();
     if room < text.len() {
-        return Spelt::TooShort;
+        return Err(SpellError::TooShort);
     }
     if room - text.len() < shifts(text) {
-        return Spelt::TooShort;
+        return Err(SpellError::TooShort);
     }
-    let bytes = put_text(out, text);
-    Spelt::Written { bytes }
+    Ok(put_text(out, text))
 }
 
 // An answer in numbers.
-pub fn in_numbers(s: Spelt) -> Numbers
+// Kept: `From` is for a type of the crate, and a `Result` is none.
+pub fn in_numbers(s: Result<usize, SpellError>) -> Numbers
     ensures { result ≡ spelt_numbers s }
 {
     match s {
-        Spelt::Written { bytes } => Numbers {
-            number: 0,
-            count: 0,
-            place: 0,
-            written: bytes,
-        },
-        Spelt::NotInTable => Numbers {
-            number: NOT_IN_TABLE,
-            count: 0,
-            place: 0,
-            written: 0,
-        },
-        Spelt::TooShort => Numbers {
-            number: SPELT_TOO_SHORT,
-            count: 0,
-            place: 0,
-            written: 0,
-        },
+        Ok(bytes) => Numbers::of_written(bytes),
+        Err(e) => Numbers::from(e),
     }
 }
 
@@ -70,29 +66,14 @@ pub fn in_numbers(s: Spelt) -> Numbers
 fn is_text(text: &[u8]) -> bool
     ensures { result ≡ is-text-of text.now }
 {
-    let mut i = 0;
-    while i < text.len() {
-        if ASCII <= text[i] {
-            return false;
-        }
-        i += 1;
-    }
-    true
+    text.iter().all(|&c| c < ASCII)
 }
 
 // How many of the characters have a shift sign.
 fn shifts(text: &[u8]) -> usize
     ensures { result ≡ shifts_in text.now }
 {
-    let mut n = 0;
-    let mut i = 0;
-    while i < text.len() {
-        if shift(text[i]) != NO_SHIFT {
-            n += 1;
-        }
-        i += 1;
-    }
-    n
+    text.iter().filter(|&&c| shift(c).is_some()).count()
 }
 
 // The spelling of the whole text, and how long it is.
@@ -100,10 +81,8 @@ fn put_text(out: &mut [u8], text: &[u8]) -> usize
     ensures { Counted out.old out.new 0 result (spelt text.now) }
 {
     let mut end = 0;
-    let mut i = 0;
-    while i < text.len() {
-        end = put_character(out, end, text[i]);
-        i += 1;
+    for &c in text {
+        end = put_character(out, end, c);
     }
     end
 }

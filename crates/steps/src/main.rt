@@ -6,38 +6,31 @@
 // text that is not empty. Both rules make `K7A-`; the last `left` and the last `right` strike the hidden fields of spaces.
 #![tactic(auto)]
 
-ghost use Rattle.std.specs.Prelude.{◌≤◌};
-
 use base_answers::Numbers;
 use base_editions::Edition;
 use base_put::sign;
 use base_steps::StepsNumbers;
-use print_clash::{Filled, INPUT, PRINTED};
-use print_out::{How, Streams, least, print, read_first, tell_end};
-use spell_table::NO_SHIFT;
+use print_clash::{INPUT, PRINTED};
+use print_out::{Failure, Streams, print, read_first, tell_end};
 
 // The work has room for 356 situations, and a step has at most four bytes: always enough (`enough` of `StepsPromised`).
 const STEPS: usize = 4 * 356;
 
-// "2 a character"
-const PUT: u8 = 2;
-
 fn main(rt: HostRuntime) {
-    let mut input = [0u8; INPUT];
-    let got = read_first(&rt, &mut input);
-    let n = got.bytes;
-    if got.read {
-        answer_sheet(&rt, &input[0..n]);
-    } else {
-        tell_end(&rt, b"steps", How::NotRead);
-    }
+    tell_end(&rt, b"steps", run(&rt));
 }
 
-fn answer_sheet(rt: &impl Streams, sheet: &[u8]) {
+fn run(rt: &impl Streams) -> Result<(), Failure> {
+    let mut input = [0u8; INPUT];
+    let n = read_first(rt, &mut input)?;
+    answer_sheet(rt, &input[..n])
+}
+
+fn answer_sheet(rt: &impl Streams, sheet: &[u8]) -> Result<(), Failure> {
     let mut work = print_clash::zeroed_work();
     let mut answer = print_clash::zeroed_answer();
     let mut steps = [0u8; STEPS];
-    print_answer(rt, sheet, &mut work, &mut answer, &mut steps);
+    print_answer(rt, sheet, &mut work, &mut answer, &mut steps)
 }
 
 fn print_answer(
@@ -46,88 +39,61 @@ fn print_answer(
     work: &mut [u8],
     answer: &mut [u8],
     steps: &mut [u8],
-) {
+) -> Result<(), Failure> {
     let edition = print_signs::edition(sheet);
-    let told = base_steps::in_numbers(steps_sheet::steps(sheet, work, answer, steps));
-    let bytes = told.steps;
-    let n = least(bytes, steps.len());
-    let lines = print_lines_of(rt, edition, told, answer);
-    tell_end(rt, b"steps", print_steps(rt, lines, edition, &steps[0..n]));
+    let told = StepsNumbers::from(steps_sheet::steps(sheet, work, answer, steps));
+    print_lines_of(rt, edition, told, answer)?;
+    let n = told.steps.min(steps.len());
+    print_steps(rt, edition, &steps[..n])
 }
 
 // As `clash` prints them.
-fn print_lines_of(rt: &impl Streams, edition: Edition, told: StepsNumbers, answer: &[u8]) -> How {
-    let mut out = [0u8; PRINTED];
-    print_in(rt, edition, told, answer, &mut out)
-}
-
-fn print_in(
+fn print_lines_of(
     rt: &impl Streams,
     edition: Edition,
     told: StepsNumbers,
     answer: &[u8],
-    out: &mut [u8],
-) -> How {
+) -> Result<(), Failure> {
+    let mut out = [0u8; PRINTED];
     let numbers = Numbers {
         number: told.number,
         count: told.count,
         place: told.place,
         written: told.written,
     };
-    let filled = print_lines::put_lines(out, edition, numbers, answer);
-    match filled {
-        Filled::Bytes(n) => {
-            let end = least(n, out.len());
-            print(rt, How::Going, &out[0..end])
+    match print_lines::put_lines(&mut out, edition, numbers, answer) {
+        Some(n) => print(rt, &out[..n.min(PRINTED)]),
+        None => Err(Failure::NotWritten),
+    }
+}
+
+// A line for each record: mark and kind, and for a character its value.
+fn print_steps(rt: &impl Streams, edition: Edition, steps: &[u8]) -> Result<(), Failure> {
+    let mut rest = steps;
+    while let [_, _, kind, behind @ ..] = rest {
+        rest = behind;
+        match kind {
+            0 => print(rt, b"left\n")?,
+            1 => print(rt, b"right\n")?,
+            // 2: a character, whose value stands behind
+            _ => {
+                let [value, behind @ ..] = rest else {
+                    return Ok(());
+                };
+                rest = behind;
+                print(rt, b"put ")?;
+                print_character(rt, edition, *value)?;
+                print(rt, b"\n")?;
+            }
         }
-        Filled::NoRoom => How::NotWritten,
     }
-}
-
-// A line for each record.
-fn print_steps(rt: &impl Streams, how: How, edition: Edition, steps: &[u8]) -> How {
-    let mut now = how;
-    let mut at = 0;
-    while at < steps.len() {
-        let kind = byte_at(steps, at + 2);
-        now = print_step(rt, now, edition, kind, byte_at(steps, at + 3));
-        at += width(kind);
-    }
-    now
-}
-
-fn print_step(rt: &impl Streams, how: How, edition: Edition, kind: u8, value: u8) -> How {
-    if kind == 0 {
-        return print(rt, how, b"left\n");
-    }
-    if kind == 1 {
-        return print(rt, how, b"right\n");
-    }
-    print(
-        rt,
-        print_character(rt, print(rt, how, b"put "), edition, value),
-        b"\n",
-    )
+    Ok(())
 }
 
 // A character as the lines have it, by one sign or two.
-fn print_character(rt: &impl Streams, how: How, edition: Edition, c: u8) -> How {
-    let shift = print_signs::shift(edition, c);
-    let text = [sign(print_signs::value(edition, c))];
-    if shift == NO_SHIFT {
-        return print(rt, how, &text);
+fn print_character(rt: &impl Streams, edition: Edition, c: u8) -> Result<(), Failure> {
+    if let Some(shift) = print_signs::shift(edition, c) {
+        print(rt, &[sign(shift)])?;
     }
-    let before = [sign(shift)];
-    print(rt, print(rt, how, &before), &text)
-}
-
-// Mark and kind; for a character its value too.
-fn width(kind: u8) -> usize
-    ensures { (1 ≤ result) × (result ≤ 4) }
-{
-    if kind == PUT { 4 } else { 3 }
-}
-
-fn byte_at(bytes: &[u8], at: usize) -> u8 {
-    if at < bytes.len() { bytes[at] } else { 0 }
+    print(rt, &[sign(print_signs::value(edition, c))])
 }

@@ -4,8 +4,7 @@ use Prim.Native.Nat.{ℕ}
 use mathlib.Core.Path.{◌≡◌, sym, ap, ◌∙◌}
 use mathlib.Core.List.{List}
 use Rattle.paper_steps.specs.StepsOutcome.{StepsOutcome, steps_outcome}
-use Rattle.base_steps.specs.StepsNumbered.{told_steps}
-use Rattle.base_steps.specs.declared.StepsAnswer.{StepsAnswer}
+use Rattle.base_steps.specs.StepsNumbered.{StepsAnswer, told_steps}
 use Rattle.base_steps.proofs.OneStepsAnswer.{one_steps_answer}
 
 pub one_steps_result : (sheet work answer steps : List ℕ) (r r' : StepsAnswer) (a a' w w' s s' : List ℕ)

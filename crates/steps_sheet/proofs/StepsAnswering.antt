@@ -5,6 +5,7 @@ use mathlib.Core.Path.{◌≡◌, refl, sym, subst}
 use mathlib.Core.Bool.{false}
 use mathlib.Core.List.{List, []}
 use lib.Dec.{eqb}
+use Rattle.std.specs.Prelude.{Ok, Err}
 use Rattle.paper.specs.Sheet as Paper
 use Rattle.paper.specs.Outcome.{Outcome, outcome_of}
 use Rattle.paper_laws.proofs.sheets.Asked.{sheet_good}
@@ -13,10 +14,8 @@ use Rattle.paper_steps.specs.StepsOutcome.{StepsOutcome, without_steps, with_ste
 use Rattle.paper_steps.specs.StepsPromised.{StepsPromised}
 use Rattle.paper_steps.proofs.StepsRight.{sheet_steps_promised}
 use Rattle.base_answers.specs.Faults.{fault_of}
-use Rattle.base_answers.specs.declared.Fault as Code
-use Rattle.base_answers.specs.declared.Found.TheVariants.{NoFault, Refused}
+use Rattle.base_answers.specs.declared.Refusal.{Refusal}
 use Rattle.base_steps.specs.StepsNumbered.{told_steps}
-use Rattle.base_steps.specs.declared.StepsAnswer.TheVariants as Answer-as
 use Rattle.base_steps.specs.declared.StepsEnded.{StepsEnded}
 use Rattle.search_run.specs.StepsEnded.{steps_run}
 use Rattle.search_question.proofs.Searched.{SearchedSteps, steps_told_all}
@@ -40,23 +39,23 @@ other_than_0 : (bytes : List ℕ) (o : Outcome) (answer steps : List ℕ) → eq
 unfolding with_steps
 other_than_0 bytes o answer steps e = rw e
 
-module _ (sheet : List ℕ) (s : Sheet) (e : s ≡ sheet_of (bodies_of sheet) (Paper.read_sheet sheet)) where
+module _ (sheet : List ℕ) where
   -- a refused sheet changes no buffer
-  pub refused_steps : (x : Code.Fault) (work answer steps : List ℕ) → s.found ≡ Refused x
-      → told_steps (Answer-as.Refused x s.place) answer work steps ≡ steps_outcome sheet work answer steps
+  pub refused_steps : (x : Refusal) → sheet_of (bodies_of sheet) (Paper.read_sheet sheet) ≡ Err x
+      → (work answer steps : List ℕ) → told_steps (Err x) answer work steps ≡ steps_outcome sheet work answer steps
   unfolding steps_outcome
-  refused_steps x work answer steps h =
-      rw (sheet_refused sheet s e x h)
-      (other_than_0 [] (outcome_of (Paper.refused (fault_of x) s.place) work answer) answer steps (fault_not_0 (fault_of x)))
+  refused_steps x e work answer steps =
+      rw (sheet_refused sheet x e)
+      (other_than_0 [] (outcome_of (Paper.refused (fault_of x.fault) x.place) work answer) answer steps (fault_not_0 (fault_of x.fault)))
 
   -- the question of a good sheet, searched over every character
-  pub searched_steps : s.found ≡ NoFault
+  pub searched_steps : (s : Sheet) → sheet_of (bodies_of sheet) (Paper.read_sheet sheet) ≡ Ok s
       → (work answer steps after worked stepped : List ℕ) (end : StepsEnded)
       → SearchedSteps s.question work answer steps worked (steps_run end after stepped)
-      → told_steps (Answer-as.Searched end) after worked stepped ≡ steps_outcome sheet work answer steps
+      → told_steps (Ok end) after worked stepped ≡ steps_outcome sheet work answer steps
   unfolding steps_outcome
-  searched_steps h work answer steps after worked stepped end p =
-      let a = sheet_asks sheet s e h in
+  searched_steps s e work answer steps after worked stepped end p =
+      let a = sheet_asks sheet s e in
       let q = a.question in
       let g = sheet_good sheet q a.good in
       rw a.good

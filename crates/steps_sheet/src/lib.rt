@@ -7,7 +7,6 @@ ghost use Rattle.paper_steps.specs.StepsOutcome.{steps_outcome};
 ghost use Rattle.paper_steps.specs.StepsPromised.{StepsPromised};
 ghost use Rattle.base_steps.specs.StepsNumbered.{told_steps};
 
-use base_answers::Found;
 use base_steps::StepsAnswer;
 
 // Can the two rules of the sheet make the same label? After a clash the way found is written into `steps`.
@@ -15,17 +14,6 @@ pub fn steps(sheet: &[u8], work: &mut [u8], answer: &mut [u8], steps: &mut [u8])
     ensures whole { told_steps result answer.new work.new steps.new ≡ steps_outcome sheet.now work.old answer.old steps.old }
     ensures promised { StepsPromised (read_sheet sheet.now) work.old answer.old steps.old (told_steps result answer.new work.new steps.new) }
 {
-    let read = read_sheet::read(sheet);
-    let found = read.found;
-    match found {
-        Found::Refused(fault) => StepsAnswer::Refused {
-            fault,
-            place: read.place,
-        },
-        Found::NoFault => {
-            let question = read.question;
-            let ended = search_question::search_steps(question, work, answer, steps);
-            StepsAnswer::Searched { ended }
-        }
-    }
+    let question = read_sheet::read(sheet)?.question;
+    Ok(search_question::search_steps(question, work, answer, steps))
 }

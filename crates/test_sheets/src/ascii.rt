@@ -1,9 +1,9 @@
 // A text of Full ASCII to be spelt, or a spelt text to be read back. A case: the letter `S` or `R`, the bytes, with their number in two before
 // them, and the length of the output buffer in two; low first.
 use crate::written::read_bytes;
-use crate::{ANSWER_FILL, print_all};
-use print_out::{How, Streams, fill, is_going, print, print_answer, read_number};
-use spell_text::{Spelt, in_numbers};
+use crate::{ANSWER_FILL, print_line};
+use print_out::{Failure, Streams, fill, read_number};
+use spell_text::{SpellError, in_numbers};
 
 // the most bytes that are handed over
 const BYTES: usize = 1024;
@@ -14,40 +14,28 @@ const OUTPUT: usize = 2304;
 // the letter of a text to be spelt
 const TO_SPELL: usize = b'S' as usize;
 
-pub fn show_ascii(rt: &impl Streams) -> How {
+pub fn show_ascii(rt: &impl Streams) -> Result<(), Failure> {
     let mut bytes = [0u8; BYTES];
     let mut out = [0u8; OUTPUT];
-    show_case(rt, &mut bytes, &mut out)
-}
-
-fn show_case(rt: &impl Streams, bytes: &mut [u8], out: &mut [u8]) -> How {
-    let first = read_number(rt, How::Going, 1, 255);
-    let letter = first.number;
-    let one = first.how;
-    let second = read_bytes(rt, one, bytes);
-    let n = second.number;
-    let two = second.how;
-    let third = read_number(rt, two, 2, out.len());
-    let o = third.number;
-    let how = third.how;
-    show_bytes(rt, how, letter, &bytes[0..n], &mut out[0..o])
+    let letter = read_number(rt, 1, 255)?;
+    let n = read_bytes(rt, &mut bytes)?;
+    let o = read_number(rt, 2, OUTPUT)?;
+    show_bytes(rt, letter, &bytes[..n], &mut out[..o])
 }
 
 // A line: number, count, place and written length, and every byte of the output buffer.
-fn show_bytes(rt: &impl Streams, how: How, letter: usize, bytes: &[u8], out: &mut [u8]) -> How {
-    if !is_going(how) {
-        return how;
-    }
+fn show_bytes(
+    rt: &impl Streams,
+    letter: usize,
+    bytes: &[u8],
+    out: &mut [u8],
+) -> Result<(), Failure> {
     fill(out, ANSWER_FILL);
     let told = in_numbers(spelt_or_read(letter, bytes, out));
-    print(
-        rt,
-        print_answer(rt, print_all(rt, told), out, told.written, ANSWER_FILL),
-        b"\n",
-    )
+    print_line(rt, told, out)
 }
 
-fn spelt_or_read(letter: usize, bytes: &[u8], out: &mut [u8]) -> Spelt {
+fn spelt_or_read(letter: usize, bytes: &[u8], out: &mut [u8]) -> Result<usize, SpellError> {
     if letter == TO_SPELL {
         return spell_text::spell(bytes, out);
     }

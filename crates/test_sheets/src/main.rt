@@ -226,10 +226,10 @@ mod written;
 
 use base_answers::Numbers;
 use part::{Kind, Part, Shown};
-use print_clash::{FIRST_LINE, Filled, PRINTED};
+use print_clash::{FIRST_LINE, PRINTED};
 use print_out::{
-    How, Streams, WORK, WORK_FILL, fill, is_going, print, print_answer, print_number,
-    print_numbers, print_work, read_all, read_number, tell_end,
+    Failure, Streams, WORK, WORK_FILL, fill, print, print_answer, print_number, print_numbers,
+    print_work, read_all, read_number, tell_end,
 };
 
 // the longest sheet that two bytes can tell
@@ -249,54 +249,39 @@ fn main(rt: HostRuntime) {
     tell_end(&rt, b"test_sheets", ended);
 }
 
-// A proved loop has to end, and nothing says that the input does: the turns are counted down from a number that no run uses up.
-fn answer_each(rt: &impl Streams, sheet: &mut [u8], work: &mut [u8], answer: &mut [u8]) -> How {
-    let mut part = part::cases(How::Going, Kind::Written, 0);
-    let mut turns = u64::MAX;
-    while turns > 0 && goes_on(part) {
-        part = answer_next(rt, sheet, work, answer, part);
-        turns -= 1;
+// A proved loop has to end, and nothing says that the input does: the turns go up to a number that no run uses up.
+fn answer_each(
+    rt: &impl Streams,
+    sheet: &mut [u8],
+    work: &mut [u8],
+    answer: &mut [u8],
+) -> Result<(), Failure> {
+    for _ in 0..u64::MAX {
+        let Some(part) = part::next(rt)? else {
+            return Ok(());
+        };
+        answer_part(rt, sheet, work, answer, part)?;
     }
-    let how = part.how;
-    how
+    Ok(())
 }
 
-fn goes_on(part: Part) -> bool {
-    let how = part.how;
-    is_going(how)
-}
-
-// The next case of the part or, behind its last, the next part.
-fn answer_next(
+fn answer_part(
     rt: &impl Streams,
     sheet: &mut [u8],
     work: &mut [u8],
     answer: &mut [u8],
     part: Part,
-) -> Part {
-    let left = part.left;
-    if left == 0 {
-        return part::next(rt);
+) -> Result<(), Failure> {
+    for _ in 0..part.cases {
+        match part.kind {
+            Kind::Sheets(shown) => answer_sheet(rt, sheet, work, answer, shown)?,
+            Kind::Written => written::show_written(rt)?,
+            Kind::Edition => written::show_edition(rt)?,
+            Kind::Ascii => ascii::show_ascii(rt)?,
+            Kind::Fronts => fronts::show_fronts(rt)?,
+        }
     }
-    let kind = part.kind;
-    let how = answer_one(rt, sheet, work, answer, kind);
-    part::cases(how, kind, left - 1)
-}
-
-fn answer_one(
-    rt: &impl Streams,
-    sheet: &mut [u8],
-    work: &mut [u8],
-    answer: &mut [u8],
-    kind: Kind,
-) -> How {
-    match kind {
-        Kind::Sheets(shown) => answer_sheet(rt, sheet, work, answer, shown),
-        Kind::Written => written::show_written(rt),
-        Kind::Edition => written::show_edition(rt),
-        Kind::Ascii => ascii::show_ascii(rt),
-        Kind::Fronts => fronts::show_fronts(rt),
-    }
+    Ok(())
 }
 
 // The length of the working buffer and that of the answer buffer in four bytes each, the sheet's length in two, all low first, and the sheet.
@@ -306,41 +291,12 @@ fn answer_sheet(
     work: &mut [u8],
     answer: &mut [u8],
     shown: Shown,
-) -> How {
-    let first = read_number(rt, How::Going, 4, work.len());
-    let w = first.number;
-    let one = first.how;
-    let second = read_number(rt, one, 4, answer.len());
-    let a = second.number;
-    let two = second.how;
-    let third = read_number(rt, two, 2, sheet.len());
-    let s = third.number;
-    let three = third.how;
-    answer_in(
-        rt,
-        three,
-        &mut sheet[0..s],
-        &mut work[0..w],
-        &mut answer[0..a],
-        shown,
-    )
-}
-
-fn answer_in(
-    rt: &impl Streams,
-    headed: How,
-    sheet: &mut [u8],
-    work: &mut [u8],
-    answer: &mut [u8],
-    shown: Shown,
-) -> How {
-    let how = read_all(rt, headed, sheet);
-    if !is_going(how) {
-        return how;
-    }
-    fill(work, WORK_FILL);
-    fill(answer, ANSWER_FILL);
-    answer_case(rt, sheet, work, answer, shown)
+) -> Result<(), Failure> {
+    let w = read_number(rt, 4, work.len())?;
+    let a = read_number(rt, 4, answer.len())?;
+    let s = read_number(rt, 2, sheet.len())?;
+    read_all(rt, &mut sheet[..s])?;
+    answer_case(rt, &sheet[..s], &mut work[..w], &mut answer[..a], shown)
 }
 
 fn answer_case(
@@ -349,7 +305,9 @@ fn answer_case(
     work: &mut [u8],
     answer: &mut [u8],
     shown: Shown,
-) -> How {
+) -> Result<(), Failure> {
+    fill(work, WORK_FILL);
+    fill(answer, ANSWER_FILL);
     match shown {
         Shown::Bytes => show_bytes(rt, sheet, work, answer),
         Shown::Decided => show_decided(rt, sheet, work, answer),
@@ -364,45 +322,68 @@ fn answer_case(
     }
 }
 
-fn show_bytes(rt: &impl Streams, sheet: &[u8], work: &mut [u8], answer: &mut [u8]) -> How {
-    let told = base_answers::in_numbers(search_clash::clash(sheet, work, answer));
-    print(rt, print_answered(rt, told, work, answer), b"\n")
+fn show_bytes(
+    rt: &impl Streams,
+    sheet: &[u8],
+    work: &mut [u8],
+    answer: &mut [u8],
+) -> Result<(), Failure> {
+    let told = Numbers::from(search_clash::clash(sheet, work, answer));
+    print_answered(rt, told, work, answer)?;
+    print(rt, b"\n")
 }
 
-fn show_decided(rt: &impl Streams, sheet: &[u8], work: &mut [u8], answer: &mut [u8]) -> How {
+fn show_decided(
+    rt: &impl Streams,
+    sheet: &[u8],
+    work: &mut [u8],
+    answer: &mut [u8],
+) -> Result<(), Failure> {
     let made = decide_sheet::decide(sheet, work, answer);
-    let given = made.answer;
-    let told = base_answers::in_numbers(given);
-    let line = print(rt, print_answered(rt, told, work, answer), b", search ");
-    print(rt, print_number(rt, line, made.search as usize), b"\n")
+    print_answered(rt, Numbers::from(made.answer), work, answer)?;
+    print(rt, b", search ")?;
+    print_number(rt, made.search as usize)?;
+    print(rt, b"\n")
 }
 
 // Number, count, place and written length, and every byte of the two buffers.
-fn print_answered(rt: &impl Streams, told: Numbers, work: &[u8], answer: &[u8]) -> How {
-    print_work(
-        rt,
-        print_answer(rt, print_all(rt, told), answer, told.written, ANSWER_FILL),
-        work,
-    )
+fn print_answered(
+    rt: &impl Streams,
+    told: Numbers,
+    work: &[u8],
+    answer: &[u8],
+) -> Result<(), Failure> {
+    print_all(rt, told)?;
+    print_answer(rt, answer, told.written, ANSWER_FILL)?;
+    print_work(rt, work)
+}
+
+// A line: number, count, place and written length, and every byte of one buffer.
+fn print_line(rt: &impl Streams, told: Numbers, lent: &[u8]) -> Result<(), Failure> {
+    print_all(rt, told)?;
+    print_answer(rt, lent, told.written, ANSWER_FILL)?;
+    print(rt, b"\n")
 }
 
 // Number, count, place and written length.
-fn print_all(rt: &impl Streams, told: Numbers) -> How {
-    print_numbers(
-        rt,
-        print_number(rt, How::Going, told.number),
-        &[told.count, told.place, told.written],
-    )
+fn print_all(rt: &impl Streams, told: Numbers) -> Result<(), Failure> {
+    print_number(rt, told.number)?;
+    print_numbers(rt, &[told.count, told.place, told.written])
 }
 
 // The lines, with just the room that the longest need.
-fn show_lines(rt: &impl Streams, sheet: &[u8], work: &mut [u8], answer: &mut [u8]) -> How {
+fn show_lines(
+    rt: &impl Streams,
+    sheet: &[u8],
+    work: &mut [u8],
+    answer: &mut [u8],
+) -> Result<(), Failure> {
     let mut out = [0u8; PRINTED];
     if ANSWER < answer.len() {
-        return How::Going;
+        return Ok(());
     }
     let room = FIRST_LINE + 2 * answer.len();
-    print_lines(rt, sheet, work, answer, &mut out[0..room])
+    print_lines(rt, sheet, work, answer, &mut out[..room])
 }
 
 fn print_lines(
@@ -411,26 +392,15 @@ fn print_lines(
     work: &mut [u8],
     answer: &mut [u8],
     out: &mut [u8],
-) -> How {
-    let made = print_clash::lines(sheet, work, answer, out);
-    match made {
-        Filled::Bytes(n) => print_front(rt, out, n),
-        Filled::NoRoom => print(rt, How::Going, b"no room\n"),
+) -> Result<(), Failure> {
+    match print_clash::lines(sheet, work, answer, out) {
+        Some(n) => print(rt, &out[..n.min(out.len())]),
+        None => print(rt, b"no room\n"),
     }
-}
-
-fn print_front(rt: &impl Streams, out: &[u8], n: usize) -> How {
-    if out.len() < n {
-        return How::Going;
-    }
-    print(rt, How::Going, &out[0..n])
 }
 
 // Number, place and written length.
-fn print_told(rt: &impl Streams, told: Numbers) -> How {
-    print_numbers(
-        rt,
-        print_number(rt, How::Going, told.number),
-        &[told.place, told.written],
-    )
+fn print_told(rt: &impl Streams, told: Numbers) -> Result<(), Failure> {
+    print_number(rt, told.number)?;
+    print_numbers(rt, &[told.place, told.written])
 }

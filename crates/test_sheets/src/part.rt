@@ -1,5 +1,5 @@
 // A part of the input: a mark of two letters, the number of its cases in four bytes, low first, and so many cases.
-use print_out::{How, Streams, is_going, low_first, read_next};
+use print_out::{Failure, Streams, low_first, read_next};
 
 // What the cases of a part are.
 #[derive(Clone, Copy)]
@@ -45,76 +45,43 @@ pub enum Shown {
     WayOfTexts,
 }
 
-// How far the program is, what the cases of the part are, and how many are left.
+// What the cases of the part are, and how many there are.
 #[derive(Clone, Copy)]
 pub struct Part {
-    pub how: How,
     pub kind: Kind,
-    pub left: usize,
+    pub cases: usize,
 }
 
 const HEAD: usize = 6;
 
-// Marks, as numbers of their two letters.
-const BYTES: usize = b'B' as usize + 256 * (b'Y' as usize);
-
-const DECIDED: usize = b'D' as usize + 256 * (b'E' as usize);
-
-const LINES: usize = b'L' as usize + 256 * (b'I' as usize);
-
-const SCRIPTS: usize = b'S' as usize + 256 * (b'C' as usize);
-
-const SPELT: usize = b'S' as usize + 256 * (b'P' as usize);
-
-const DROPPED: usize = b'D' as usize + 256 * (b'S' as usize);
-
-const PLAIN: usize = b'P' as usize + 256 * (b'L' as usize);
-
-const STEPS: usize = b'S' as usize + 256 * (b'T' as usize);
-
-const PLAYED: usize = b'P' as usize + 256 * (b'Y' as usize);
-
-const WAY_OF_TEXTS: usize = b'W' as usize + 256 * (b'A' as usize);
-
-const WRITTEN: usize = b'W' as usize + 256 * (b'R' as usize);
-
-const EDITION: usize = b'W' as usize + 256 * (b'E' as usize);
-
-const ASCII: usize = b'F' as usize + 256 * (b'A' as usize);
-
-const FRONTS: usize = b'F' as usize + 256 * (b'R' as usize);
-
-// Reads the head of the next part.
-pub fn next(rt: &impl Streams) -> Part {
+// Reads the head of the next part, where the input doesn't end.
+pub fn next(rt: &impl Streams) -> Result<Option<Part>, Failure> {
     let mut head = [0u8; HEAD];
-    let how = read_next(rt, &mut head);
-    if !is_going(how) {
-        return cases(how, Kind::Written, 0);
+    if !read_next(rt, &mut head)? {
+        return Ok(None);
     }
-    let number = low_first(head[2], head[3], head[4], head[5]);
-    part_of(low_first(head[0], head[1], 0, 0), number)
+    let kind = kind_of([head[0], head[1]])?;
+    let cases = low_first(head[2], head[3], head[4], head[5]);
+    Ok(Some(Part { kind, cases }))
 }
 
-fn part_of(mark: usize, number: usize) -> Part {
+// By the mark's two letters.
+fn kind_of(mark: [u8; 2]) -> Result<Kind, Failure> {
     match mark {
-        BYTES => cases(How::Going, Kind::Sheets(Shown::Bytes), number),
-        DECIDED => cases(How::Going, Kind::Sheets(Shown::Decided), number),
-        LINES => cases(How::Going, Kind::Sheets(Shown::Lines), number),
-        SCRIPTS => cases(How::Going, Kind::Sheets(Shown::Scripts), number),
-        SPELT => cases(How::Going, Kind::Sheets(Shown::Spelt), number),
-        DROPPED => cases(How::Going, Kind::Sheets(Shown::Dropped), number),
-        PLAIN => cases(How::Going, Kind::Sheets(Shown::Plain), number),
-        STEPS => cases(How::Going, Kind::Sheets(Shown::Steps), number),
-        PLAYED => cases(How::Going, Kind::Sheets(Shown::Played), number),
-        WAY_OF_TEXTS => cases(How::Going, Kind::Sheets(Shown::WayOfTexts), number),
-        WRITTEN => cases(How::Going, Kind::Written, number),
-        EDITION => cases(How::Going, Kind::Edition, number),
-        ASCII => cases(How::Going, Kind::Ascii, number),
-        FRONTS => cases(How::Going, Kind::Fronts, number),
-        _ => cases(How::Stopped, Kind::Written, 0),
+        [b'B', b'Y'] => Ok(Kind::Sheets(Shown::Bytes)),
+        [b'D', b'E'] => Ok(Kind::Sheets(Shown::Decided)),
+        [b'L', b'I'] => Ok(Kind::Sheets(Shown::Lines)),
+        [b'S', b'C'] => Ok(Kind::Sheets(Shown::Scripts)),
+        [b'S', b'P'] => Ok(Kind::Sheets(Shown::Spelt)),
+        [b'D', b'S'] => Ok(Kind::Sheets(Shown::Dropped)),
+        [b'P', b'L'] => Ok(Kind::Sheets(Shown::Plain)),
+        [b'S', b'T'] => Ok(Kind::Sheets(Shown::Steps)),
+        [b'P', b'Y'] => Ok(Kind::Sheets(Shown::Played)),
+        [b'W', b'A'] => Ok(Kind::Sheets(Shown::WayOfTexts)),
+        [b'W', b'R'] => Ok(Kind::Written),
+        [b'W', b'E'] => Ok(Kind::Edition),
+        [b'F', b'A'] => Ok(Kind::Ascii),
+        [b'F', b'R'] => Ok(Kind::Fronts),
+        _ => Err(Failure::NotAllowed),
     }
-}
-
-pub fn cases(how: How, kind: Kind, left: usize) -> Part {
-    Part { how, kind, left }
 }

@@ -1,23 +1,19 @@
 // A sheet for the engine for plain rules: what it answers and what becomes of its bits, and how many bytes the sheet needs.
-use print_out::{How, Streams, print, print_number, print_numbers, print_work};
+use print_out::{Failure, Streams, print, print_number, print_numbers, print_work};
 
-pub fn show_plain(rt: &impl Streams, sheet: &[u8], bits: &mut [u8]) -> How {
+pub fn show_plain(rt: &impl Streams, sheet: &[u8], bits: &mut [u8]) -> Result<(), Failure> {
     let told = plain_sheet::in_numbers(plain_sheet::plain(sheet, bits));
-    let first = print_numbers(
-        rt,
-        print_number(rt, How::Going, told.number),
-        &[told.count, told.place],
-    );
-    show_needed(rt, print_work(rt, first, bits), sheet)
+    print_number(rt, told.number)?;
+    print_numbers(rt, &[told.count, told.place])?;
+    print_work(rt, bits)?;
+    show_needed(rt, sheet)
 }
 
 // Number, place and bytes.
-fn show_needed(rt: &impl Streams, how: How, sheet: &[u8]) -> How {
+fn show_needed(rt: &impl Streams, sheet: &[u8]) -> Result<(), Failure> {
     let told = plain_sheet::needed_numbers(plain_sheet::bytes_needed(sheet));
-    let number = print_number(rt, print(rt, how, b", needs "), told.number);
-    print(
-        rt,
-        print_numbers(rt, number, &[told.place, told.written]),
-        b"\n",
-    )
+    print(rt, b", needs ")?;
+    print_number(rt, told.number)?;
+    print_numbers(rt, &[told.place, told.written])?;
+    print(rt, b"\n")
 }

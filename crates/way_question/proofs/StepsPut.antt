@@ -4,7 +4,6 @@
 use Prim.Native.Nat.{ℕ, zero, suc, ◌*◌, ◌≤◌, ◌<◌}
 use native.Mathlib.Omega.{arith}
 use mathlib.Core.Path.{◌≡◌, refl, sym, ap, ◌∙◌, subst}
-use mathlib.Core.Bool.{Bool, true, false}
 use mathlib.Core.List.{List, [], ◌++◌}
 use lib.Dec.{eqb}
 use lib.ListN.{length, length-append}
@@ -16,14 +15,15 @@ use Rattle.base_codes.specs.Inner.{left_struck, right_struck}
 use Rattle.base_codes.specs.Coded.{Coded, finished_coded}
 use Rattle.search_children.specs.Children.{Tables, Settled, dropped, above, made}
 use Rattle.play_step.specs.StepCoded.{step_coded}
-use Rattle.play_walk.specs.declared.Ending.TheVariants as Ending-as
-use Rattle.play_walk.specs.declared.Stop.{Stop}
+use Rattle.std.specs.Prelude.{Option, None, Some, Result, Ok, Err}
+use Rattle.std.specs.Option.{ok_or}
 use Rattle.play_walk.specs.declared.Stop.TheVariants.{NoRecord}
+use Rattle.play_walk.specs.WalkCoded.{Ending}
+use Rattle.play_walk.specs.declared.Stop.{Stop}
 use Rattle.way_step.specs.NextCoded.{next_code, left_behind}
-use Rattle.way_walk.specs.SpellCoded.{code_bytes, Spelling, spells_on, spell_coded, spelled_coded, SpelledInto}
-use Rattle.way_walk.specs.declared.Walked.{Walked}
+use Rattle.way_walk.specs.SpellCoded.{code_bytes, Spelling, spells_on, spell_coded, spelled_coded, told_of, SpelledInto}
 use Rattle.way_question.specs.WaySpelt.{WaySpelt}
-use Rattle.way_question.specs.declared.WayEnd.TheVariants.{Steps, StepsTooShort, Stopped}
+use Rattle.way_question.specs.declared.WayStop.TheVariants.{StepsTooShort, Stopped}
 
 code_short : (c : ℕ) → length (code_bytes c) ≤ 4
 unfolding code_bytes
@@ -58,31 +58,56 @@ module _ (T : Tables) (x : ℕ) (bytes ends : List ℕ) where
       by : (k : ℕ) → k ≡ most_steps → length (spelled_coded T x bytes ends s left).bytes ≤ last_place
       by k e = omega (arith, spell_short k s left, ap (λ (y : Spelling). length y.bytes) (opened k e s left))
 
--- they are no records of the texts
-pub lost_spelt : (y : Spelling) (steps : List ℕ) {b : Bool} → b ≡ false → WaySpelt b y steps steps (Stopped NoRecord)
-lost_spelt y steps e = record { end = rw e; buffer = rw e }
+-- whether there are records
+pub some_of : {A : Type 0} (o : Option A) (s : A) → ok_or o NoRecord ≡ Ok s → o ≡ Some s
+some_of None s h = absurd cc
+some_of (Some x) s h = let same : x ≡ s = cc in ap Some same
 
-module _ (y : Spelling) (short : length y.bytes ≤ last_place) (steps : List ℕ) {e : List ℕ} (r : Walked) (p : SpelledInto y [] e r) {b : Bool} (found : b ≡ true) where
+pub none_of : {A : Type 0} (o : Option A) (why : Stop) → ok_or o NoRecord ≡ Err why → (o ≡ None) × (NoRecord ≡ why)
+none_of None why h = (refl, cc)
+none_of (Some x) why h = absurd cc
+
+-- how it ended, by what is told of it
+told_ok : (e : Ending) (end n : ℕ) → told_of e end ≡ Ok n → (e ≡ Ok tt) × (end ≡ n)
+told_ok (Ok done) end n h = (refl, cc)
+told_ok (Err why) end n h = absurd cc
+
+told_err : (e : Ending) (end : ℕ) (why : Stop) → told_of e end ≡ Err why → e ≡ Err why
+told_err (Ok done) end why h = absurd cc
+told_err (Err w) end why h = let same : w ≡ why = cc in ap Err same
+
+module _ (y : Spelling) (short : length y.bytes ≤ last_place) (steps : List ℕ) {e : List ℕ} (r : Result ℕ Stop) (p : SpelledInto y [] e r) where
   -- nothing was put
   as_before : e ++ steps ≡ steps
   as_before = ap (λ (l : List ℕ). l ++ steps) (counted_outside p.put)
 
-  pub stopped_spelt : (why : Stop) → r.ending ≡ Ending-as.Stopped why → WaySpelt b y steps (e ++ steps) (Stopped why)
+  pub stopped_spelt : (why : Stop) → r ≡ Err why → WaySpelt y steps (e ++ steps) (Err (Stopped why))
   stopped_spelt why h =
-      let is : y.ending ≡ Ending-as.Stopped why = sym p.ending ∙ h in record { end = rw (found, is); buffer = rw (found, is) as_before }
+      let is : y.ending ≡ Err why = told_err y.ending p.end why (sym p.told ∙ h) in record { end = rw is; buffer = rw is as_before }
 
-  module _ (h : r.ending ≡ Ending-as.Arrived) where
-    is_arrived : y.ending ≡ Ending-as.Arrived
-    is_arrived = sym p.ending ∙ h
+  module _ (n : ℕ) (h : r ≡ Ok n) where
+    arrives : (y.ending ≡ Ok tt) × (p.end ≡ n)
+    arrives = told_ok y.ending p.end n (sym p.told ∙ h)
 
-    pub short_spelt : length (e ++ steps) < r.bytes → WaySpelt b y steps (e ++ steps) StepsTooShort
+    counted : n ≡ length y.bytes
+    counted = sym arrives.1 ∙ counted_length p.put short
+
+    pub short_spelt : length (e ++ steps) < n → WaySpelt y steps (e ++ steps) (Err StepsTooShort)
     short_spelt k =
-        let t = lt_leb (length y.bytes) (length steps) (omega (arith, ap length as_before, counted_length p.put short)) in
-        record { end = rw (found, is_arrived, t); buffer = rw (found, is_arrived, t) as_before }
+        let t = lt_leb (length y.bytes) (length steps) (omega (arith, ap length as_before, counted)) in
+        record { end = rw (arrives.0, t); buffer = rw (arrives.0, t) as_before }
 
-    pub put_spelt : r.bytes ≤ length (e ++ steps) → {after : List ℕ} (s : Walked) → SpelledInto y (e ++ steps) after s → WaySpelt b y steps after (Steps s.bytes)
-    put_spelt k {after} s q =
-        let room : length y.bytes ≤ length steps = omega (arith, ap length as_before, counted_length p.put short) in
-        let put : Counted steps after 0 s.bytes y.bytes = subst (λ (d : List ℕ). Counted d after 0 s.bytes y.bytes) as_before q.put in
-        let t = le_leb (length y.bytes) (length steps) room in
-        record { end = rw (found, is_arrived, t, counted_length put short); buffer = rw (found, is_arrived, t) (counted_in_front put short room) }
+    module _ {after : List ℕ} (s : Result ℕ Stop) (q : SpelledInto y (e ++ steps) after s) where
+      pub put_spelt : (m : ℕ) → s ≡ Ok m → n ≤ length (e ++ steps) → WaySpelt y steps after (Ok m)
+      put_spelt m i k =
+          let room : length y.bytes ≤ length steps = omega (arith, ap length as_before, counted) in
+          let same : q.end ≡ m = (told_ok y.ending q.end m (sym q.told ∙ i)).1 in
+          let put : Counted steps after 0 m y.bytes = subst (λ (b : ℕ). Counted steps after 0 b y.bytes) same (subst (λ (d : List ℕ). Counted d after 0 q.end y.bytes) as_before q.put) in
+          let t = le_leb (length y.bytes) (length steps) room in
+          record { end = rw (arrives.0, t, counted_length put short); buffer = rw (arrives.0, t) (counted_in_front put short room) }
+
+      -- the same steps don't stop the second time
+      pub put_never : (why : Stop) → s ≡ Err why → ⊥
+      put_never why i =
+          let stops : y.ending ≡ Err why = told_err y.ending q.end why (sym q.told ∙ i) in
+          let ok : y.ending ≡ Ok tt = arrives.0 in absurd cc

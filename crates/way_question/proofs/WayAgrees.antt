@@ -4,7 +4,6 @@
 -- spelling (`SpellAgrees` of way_walk).
 use Prim.Native.Nat.{ℕ}
 use mathlib.Core.Path.{◌≡◌, refl, sym, ap, ap₂, ◌∙◌, subst}
-use mathlib.Core.Bool.{cond}
 use mathlib.Core.List.{List, []}
 use lib.Dec.{leb}
 use lib.ListN.{length}
@@ -15,7 +14,7 @@ use Rattle.paper.proofs.base.Tests.{by_bool}
 use Rattle.paper_laws.proofs.sheets.Asked.{GoodQuestion, good_most}
 use Rattle.paper_laws.proofs.sheets.Hidden.{Searchable, hidden_searchable, standing_hidden}
 use Rattle.paper_steps.specs.Player.{Played, stopped, arrived}
-use Rattle.paper_way.specs.TextRecords.{no_texts, texts_read, read_texts}
+use Rattle.paper_way.specs.TextRecords.{texts_read, read_texts}
 use Rattle.paper_way.specs.TextSteps.{spaced, spelled, spell_from}
 use Rattle.paper_way.specs.WayOutcome.{way_told, way_ended, way_read}
 use Rattle.paper_way.proofs.SpelledOut.{opened}
@@ -29,21 +28,20 @@ use Rattle.base_question.proofs.SidesBack.{side_back}
 use Rattle.search_children.specs.Children.{Tables}
 use Rattle.search_children.specs.Coding.{tables_of}
 use Rattle.search_records.specs.Records.{fields_with_sets}
-use Rattle.play_walk.specs.declared.Ending.TheVariants as Ending-as
+use Rattle.std.specs.Prelude.{Option, None, Some, Ok}
 use Rattle.play_walk.proofs.WalkAgrees.{first_coded}
 use Rattle.play_question.specs.QuestionPlayed.{question_tables, question_first}
 use Rattle.play_question.proofs.PlayAgrees.{standing_marked, tables_are, first_is}
-use Rattle.way_records.specs.Spans.{text_at, Within, label_coded, with_missing, TextsFound}
+use Rattle.way_records.specs.Spans.{text_at, Within, label_coded, with_missing, SpansFound, TextsFound}
 use Rattle.way_records.specs.declared.Spans.{Spans}
 use Rattle.way_walk.specs.SpellCoded.{Spelling, spelled_coded}
 use Rattle.way_walk.proofs.SpellAgrees.{SpellTells, arrives, stops, spelled_told}
-use Rattle.way_question.specs.WaySpelt.{end_by, buffer_by, WaySpelt, WayOn, told_end}
-use Rattle.way_question.specs.declared.WayEnd.{WayEnd}
+use Rattle.way_question.specs.WaySpelt.{End, end_by, buffer_by, WaySpelt, SpeltBy, WayOn, told_end}
 use Rattle.way_question.proofs.SpacedCoded.{missing_within, spaced_agrees}
 
 -- 51 before 0, in both
 fits_told : (bytes steps : List ℕ)
-    → told_end (end_by Ending-as.Arrived bytes steps) (buffer_by Ending-as.Arrived bytes steps) ≡ way_told bytes steps
+    → told_end (end_by (Ok tt) bytes steps) (buffer_by (Ok tt) bytes steps) ≡ way_told bytes steps
 unfolding way_told
 fits_told bytes steps = by_bool (leb (length bytes) (length steps)) (λ e. rw e) (λ e. rw e)
 
@@ -64,12 +62,12 @@ module _ (q : Question) (g : GoodQuestion q) (texts steps : List ℕ) where
   fields_are : fields_with_sets (first_coded (hidden q)).sets ≡ standing q
   fields_are = standing_marked (hidden q) good ∙ standing_hidden q
 
-  module _ (s : Spans) (left right : List ℕ) (f : TextsFound q.alphabet.characters (standing q) texts left right s)
+  module _ (s : Spans) (left right : List ℕ) (f : SpansFound q.alphabet.characters (standing q) texts left right s)
       (is-left : left ≡ side_code q.left) (is_right : right ≡ side_code q.right) where
     abbrev own_texts : Texts
     own_texts = text_at x texts s.ends f.own
 
-    read_as : read_texts q texts ≡ cond s.found (texts_read own_texts) no_texts
+    read_as : read_texts q texts ≡ texts_read own_texts
     unfolding read_texts
     read_as = sym (f.texts x)
 
@@ -89,24 +87,17 @@ module _ (q : Question) (g : GoodQuestion q) (texts steps : List ℕ) where
         spelled_told (hidden q) good x texts s.ends s.left in_bytes (spelled q own_texts)
         (λ k e. opened q own_texts k e ∙ ap (spell_from (hidden q) k (Player.first_entry (hidden q))) texts_are)
 
-    read_told : (after : List ℕ) (r : WayEnd)
-        → WaySpelt s.found (spelled_coded (tables_of (hidden q)) x texts s.ends (first_coded (hidden q)) s.left) steps after r
+    read_told : (after : List ℕ) (r : End)
+        → WaySpelt (spelled_coded (tables_of (hidden q)) x texts s.ends (first_coded (hidden q)) s.left) steps after r
         → told_end r after ≡ way_read q steps (read_texts q texts)
-    read_told after r w =
-        rw (w.end, w.buffer, read_as)
-        (by_bool s.found
-        (λ e. rw e (told_by spelling))
-        (λ e. rw e))
+    read_told after r w = rw (w.end, w.buffer, read_as) (told_by spelling)
 
   -- the struct of the question
   module _ (bodies : List Body) where
-    pub way_agrees : (k : Code.Question) → k ≡ question_of q bodies → (after : List ℕ) (r : WayEnd) → WayOn k texts steps after r
+    pub way_agrees : (k : Code.Question) → k ≡ question_of q bodies → (after : List ℕ) (r : End) → WayOn k texts steps after r
         → told_end r after ≡ way_read q steps (read_texts q texts)
-    way_agrees k is after r w =
-        read_told w.spans (tokens k.left) (tokens k.right) its_texts
-        (ap (λ (c : Code.Question). tokens c.left) is ∙ side_back q.alphabet.characters (good_most g) q.left g.left)
-        (ap (λ (c : Code.Question). tokens c.right) is ∙ side_back q.alphabet.characters (good_most g) q.right g.right)
-        after r its_spelling
+    unfolding read_texts
+    way_agrees k is after r w = by w.spans its_texts its_spelling
       where
         first_of : question_first k ≡ first_coded (hidden q)
         first_of = ap question_first is ∙ first_is q g texts steps bodies
@@ -121,10 +112,21 @@ module _ (q : Question) (g : GoodQuestion q) (texts steps : List ℕ) where
             (subst (λ (n : ℕ). TextsFound n (fields_with_sets (question_first k).sets) texts (tokens k.left) (tokens k.right) w.spans)
             (ap (λ (c : Code.Question). c.alphabet.characters) is) w.found)
 
-        its_spelling : WaySpelt w.spans.found (spelled_coded (tables_of (hidden q)) x texts w.spans.ends (first_coded (hidden q)) w.spans.left) steps after r
+        its_spelling : SpeltBy (λ (p : Spans). spelled_coded (tables_of (hidden q)) x texts p.ends (first_coded (hidden q)) p.left) steps after r w.spans
         its_spelling =
-            subst (λ (n : ℕ). WaySpelt w.spans.found (spelled_coded (tables_of (hidden q)) n texts w.spans.ends (first_coded (hidden q)) w.spans.left) steps after r)
+            subst (λ (n : ℕ). SpeltBy (λ (p : Spans). spelled_coded (tables_of (hidden q)) n texts p.ends (first_coded (hidden q)) p.left) steps after r w.spans)
             (ap (λ (c : Code.Question). c.alphabet.space) is)
-            (subst (λ (t : Tables). WaySpelt w.spans.found (spelled_coded t k.alphabet.space texts w.spans.ends (first_coded (hidden q)) w.spans.left) steps after r) tables_of_it
-            (subst (λ (c : Coded). WaySpelt w.spans.found (spelled_coded (question_tables k) k.alphabet.space texts w.spans.ends c w.spans.left) steps after r) first_of
+            (subst (λ (t : Tables). SpeltBy (λ (p : Spans). spelled_coded t k.alphabet.space texts p.ends (first_coded (hidden q)) p.left) steps after r w.spans) tables_of_it
+            (subst (λ (c : Coded). SpeltBy (λ (p : Spans). spelled_coded (question_tables k) k.alphabet.space texts p.ends c p.left) steps after r w.spans) first_of
             w.spelt))
+
+        -- by whether there are records of the texts
+        by : (spans : Option Spans) → TextsFound q.alphabet.characters (standing q) texts (tokens k.left) (tokens k.right) spans
+            → SpeltBy (λ (p : Spans). spelled_coded (tables_of (hidden q)) x texts p.ends (first_coded (hidden q)) p.left) steps after r spans
+            → told_end r after ≡ way_read q steps (read_texts q texts)
+        by None f u = rw (u.end, u.buffer, ← f)
+        by (Some s) f u =
+            read_told s (tokens k.left) (tokens k.right) f
+            (ap (λ (c : Code.Question). tokens c.left) is ∙ side_back q.alphabet.characters (good_most g) q.left g.left)
+            (ap (λ (c : Code.Question). tokens c.right) is ∙ side_back q.alphabet.characters (good_most g) q.right g.right)
+            after r u

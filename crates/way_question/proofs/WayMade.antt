@@ -20,16 +20,16 @@ use Rattle.play_question.proofs.Ended.{first_made, tables_made}
 use Rattle.way_records.specs.Spans.{TextsFound}
 use Rattle.way_records.specs.declared.Spans.{Spans}
 use Rattle.way_walk.specs.SpellCoded.{spelled_coded}
-use Rattle.way_question.specs.WaySpelt.{WaySpelt, WayOn}
-use Rattle.way_question.specs.declared.WayEnd.{WayEnd}
+use Rattle.std.specs.Prelude.{Option}
+use Rattle.way_question.specs.WaySpelt.{End, SpeltBy, WayOn}
 
 pub way_made : (s : Question) (whole : Hidden) (follow taking : List (List ℕ)) (last : List ℕ) (first : Situation)
     → length whole.left ≡ longest_side → length whole.right ≡ longest_side → whole ≡ with_hidden s
     → follow ≡ map follow_of whole.fields → taking ≡ map taking_of whole.fields → last ≡ map last_of whole.fields
     → first ≡ as_struct (question_coded (tokens whole.left) (tokens whole.right))
-    → (texts before : List ℕ) {after : List ℕ} {e : WayEnd} (spans : Spans)
+    → (texts before : List ℕ) {after : List ℕ} {e : End} (spans : Option Spans)
     → TextsFound whole.characters (fields_with_sets first.sets) texts (tokens s.left) (tokens s.right) spans
-    → WaySpelt spans.found (spelled_coded (lent_tables whole.characters follow taking last) s.alphabet.space texts spans.ends (denoted first) spans.left) before after e
+    → SpeltBy (λ (p : Spans). spelled_coded (lent_tables whole.characters follow taking last) s.alphabet.space texts p.ends (denoted first) p.left) before after e spans
     → WayOn s texts before after e
 way_made s whole follow taking last first l r w a b c d texts before {after} {e} spans found spelt =
     let first_is = first_made s whole follow taking last first w l r d in
@@ -40,10 +40,10 @@ way_made s whole follow taking last first l r w a b c d texts before {after} {e}
           (ap (λ (h : Hidden). h.characters) w)
           (subst (λ (k : Coded). TextsFound whole.characters (fields_with_sets k.sets) texts (tokens s.left) (tokens s.right) spans) first_is found);
       spelt =
-          subst (λ (t : Tables). WaySpelt spans.found (spelled_coded t s.alphabet.space texts spans.ends (question_first s) spans.left) before after e)
+          subst (λ (t : Tables). SpeltBy (λ (p : Spans). spelled_coded t s.alphabet.space texts p.ends (question_first s) p.left) before after e spans)
           (tables_made s whole follow taking last first w a b c)
           (subst
           (λ (k : Coded).
-          WaySpelt spans.found (spelled_coded (lent_tables whole.characters follow taking last) s.alphabet.space texts spans.ends k spans.left) before after e)
+          SpeltBy (λ (p : Spans). spelled_coded (lent_tables whole.characters follow taking last) s.alphabet.space texts p.ends k p.left) before after e spans)
           first_is spelt);
     }

@@ -1,76 +1,61 @@
 // A question, and the way of given texts on it: its hidden fields, the tables of its fields, the records of the texts, and the steps that spell them.
 #![tactic(auto)]
 
+ghost use Rattle.std.specs.Prelude.{◌≡◌};
 ghost use Rattle.base_codes.specs.Coded.{denoted};
-ghost use Rattle.play_step.specs.StepCoded.{lent_tables};
+ghost use Rattle.play_walk.specs.WalkCoded.{tables_of};
 ghost use Rattle.way_walk.specs.SpellCoded.{spelled_coded};
-ghost use Rattle.way_question.specs.WaySpelt.{WaySpelt, WayOn};
+ghost use Rattle.way_question.specs.WaySpelt.{SpeltBy, WayOn};
+ghost use Rattle.way_records.specs.declared.Spans.{Spans};
+ghost use Rattle.way_question.specs.declared.WayStop.TheVariants.{Stopped};
 
-use base_codes::{FIELDS, HIDDEN_LEFT, HIDDEN_RIGHT, Situation};
-use base_places::{CHARACTERS, PLACES, PlaceSet};
+use base_codes::{HIDDEN_LEFT, HIDDEN_RIGHT, Situation};
 use base_question::Question;
-use play_walk::{Ending, Stop};
+use play_walk::{Stop, Tables};
 use way_records::Spans;
 
-// How it ends.
+// Why no steps are written.
 #[derive(Clone, Copy)]
-pub enum WayEnd {
-    // 0: the steps buffer holds the records of the steps
-    Steps { written: usize },
+pub enum WayStop {
     // 51: the texts solve the question, but the steps buffer is too short
     StepsTooShort,
     // 47, 48, 19 and 50
-    Stopped { why: Stop },
+    Stopped(Stop),
+}
+
+impl From<Stop> for WayStop {
+    ghost from_gives = { λ why stop. stop ≡ Stopped why };
+
+    fn from(why: Stop) -> Self
+        ensures { result ≡ Stopped why }
+    {
+        WayStop::Stopped(why)
+    }
 }
 
 // From this situation on, with so many characters and these tables. The steps are made twice: first they are only counted.
 fn spell_from(
-    spans: Spans,
+    spans: Option<Spans>,
     texts: &[u8],
     steps: &mut [u8],
     space: usize,
     first: Situation,
-    characters: usize,
-    follow: &[[PlaceSet; PLACES]; FIELDS],
-    taking: &[[PlaceSet; CHARACTERS]; FIELDS],
-    last: [PlaceSet; FIELDS],
-) -> WayEnd
-    ensures { WaySpelt spans.found (spelled_coded (lent_tables characters follow.now taking.now last) space texts.now spans.ends (denoted first) spans.left) steps.old steps.new result }
+    tables: &Tables,
+) -> Result<usize, WayStop>
+    ensures { SpeltBy (λ (s : Spans). spelled_coded (tables_of tables.now) space texts.now s.ends (denoted first) s.left) steps.old steps.new result spans }
 {
+    let spans = spans.ok_or(Stop::NoRecord)?;
     let ends = spans.ends;
     let left = spans.left;
-    if spans.found {
-        let gone = way_walk::walk(
-            &mut steps[0..0],
-            texts,
-            ends,
-            left,
-            space,
-            first,
-            characters,
-            follow,
-            taking,
-            last,
-        );
-        let ending = gone.ending;
-        if let Ending::Stopped { why } = ending {
-            return WayEnd::Stopped { why };
-        }
-        if steps.len() < gone.bytes {
-            return WayEnd::StepsTooShort;
-        }
-        let put = way_walk::walk(
-            steps, texts, ends, left, space, first, characters, follow, taking, last,
-        );
-        return WayEnd::Steps { written: put.bytes };
+    let bytes = way_walk::walk(&mut steps[0..0], texts, ends, left, space, first, tables)?;
+    if steps.len() < bytes {
+        return Err(WayStop::StepsTooShort);
     }
-    WayEnd::Stopped {
-        why: Stop::NoRecord,
-    }
+    Ok(way_walk::walk(steps, texts, ends, left, space, first, tables)?)
 }
 
-// The way of the texts whose records these are.
-pub fn way(question: Question, texts: &[u8], steps: &mut [u8]) -> WayEnd
+// The way of the texts whose records these are: how many bytes its steps have.
+pub fn way(question: Question, texts: &[u8], steps: &mut [u8]) -> Result<usize, WayStop>
     ensures { WayOn question texts.now steps.old steps.new result }
 {
     let own_left = question.left;
@@ -88,7 +73,11 @@ pub fn way(question: Question, texts: &[u8], steps: &mut [u8]) -> WayEnd
     let taking = search_tables::taking_behind(own_fields, hidden);
     let sets = first.sets;
     let spans = way_records::read(texts, own_left, own_right, sets, characters);
-    spell_from(
-        spans, texts, steps, space, first, characters, &follow, &taking, last,
-    )
+    let tables = Tables {
+        characters,
+        follow: &follow,
+        taking: &taking,
+        last,
+    };
+    spell_from(spans, texts, steps, space, first, &tables)
 }

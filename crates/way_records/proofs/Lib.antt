@@ -1,4 +1,2 @@
-pub mod Values
-pub mod Heads
 pub mod Reading
 pub mod LabelLength

@@ -5,20 +5,20 @@
 use Prim.Native.Nat.{ℕ, suc, ◌+◌, ◌-◌, ◌≤◌, ◌<◌}
 use native.Mathlib.Omega.{arith}
 use mathlib.Core.Path.{◌≡◌, refl, sym, ap, ap₂, ◌∙◌, subst, fun_ext}
-use mathlib.Core.Bool.{true, false, cond, not}
+use mathlib.Core.Bool.{cond, not}
 use mathlib.Core.List.{List, [], ◌++◌}
+use Rattle.std.specs.Prelude.{None, Some}
 use lib.Dec.{ltb, eqb}
 use lib.ListN.{length, get_or, take, drop, set, replicate, length-set, length-drop, length-append, length-replicate, get_or-replicate, get_or-eq_default}
 use lib.Seq.{get_or-set_same, get_or-set_other, take_at, drop_at, drop-drop}
 use Rattle.paper.specs.Lists.{from, keep, only}
 use Rattle.paper.specs.Numbers.{fields, set_fields}
 use Rattle.paper.specs.Outcome.{value_record}
-use Rattle.paper.proofs.base.Tests.{by_bool, true_false, eqb_true, eqb_false, eq_eqb, neq_eqb, ltb_true, ltb_false, lt_ltb}
-use Rattle.paper_way.specs.TextRecords.{TextFront, no_text, its_text, text_front, no_texts, texts_read, with_text, texts_from, no_texts_yet}
+use Rattle.paper.proofs.base.Tests.{by_bool, eqb_true, eqb_false, eq_eqb, neq_eqb, ltb_true, ltb_false, lt_ltb}
+use Rattle.paper_way.specs.TextRecords.{TextFront, no_text, its_text, text_front, no_texts, with_text, texts_from, no_texts_yet}
 use Rattle.paper_way.proofs.TextsSaid.{TextIs, front_is}
 use Rattle.search_records.specs.Records.{fields_with_sets}
-use Rattle.way_records.specs.Spans.{head_of, text_at, Own, read_on}
-use Rattle.way_records.specs.declared.TextHead.{TextHead}
+use Rattle.way_records.specs.Spans.{length_of, text_at, texts_of, Own, read_on}
 use Rattle.way_records.specs.declared.Spans.{Spans}
 
 -- an element of a list with one changed
@@ -35,19 +35,19 @@ pub record Fronts (n f : ℕ) (bytes : List ℕ) (length-told : ℕ) : Type 0 wh
   pub here : text_front n f bytes ≡ its_text text later
   pub long : length-told ≡ length text
 
-pub head_found : (n f : ℕ) (bytes : List ℕ) (r : TextHead) → r ≡ head_of (text_front n f bytes) → r.found ≡ true → Fronts n f bytes r.length
-head_found n f bytes r e h = by (text_front n f bytes) refl e
+pub head_found : (n f : ℕ) (bytes : List ℕ) (k : ℕ) → length_of (text_front n f bytes) ≡ Some k → Fronts n f bytes k
+head_found n f bytes k e = by (text_front n f bytes) refl e
   where
-    by : (x : TextFront) → text_front n f bytes ≡ x → r ≡ head_of x → Fronts n f bytes r.length
-    by no_text i k = absurd (true_false h (ap (λ (t : TextHead). t.found) k))
-    by (its_text w later) i k = record { text = w; later = later; here = i; long = ap (λ (t : TextHead). t.length) k }
+    by : (x : TextFront) → text_front n f bytes ≡ x → length_of x ≡ Some k → Fronts n f bytes k
+    by no_text i e = absurd cc
+    by (its_text w later) i e = record { text = w; later = later; here = i; long = cc }
 
-pub head_lost : (n f : ℕ) (bytes : List ℕ) (r : TextHead) → r ≡ head_of (text_front n f bytes) → r.found ≡ false → text_front n f bytes ≡ no_text
-head_lost n f bytes r e h = by (text_front n f bytes) refl e
+pub head_lost : (n f : ℕ) (bytes : List ℕ) → length_of (text_front n f bytes) ≡ None → text_front n f bytes ≡ no_text
+head_lost n f bytes e = by (text_front n f bytes) e
   where
-    by : (x : TextFront) → text_front n f bytes ≡ x → r ≡ head_of x → x ≡ no_text
-    by no_text i k = refl
-    by (its_text w later) i k = absurd (true_false (ap (λ (t : TextHead). t.found) k) h)
+    by : (x : TextFront) → length_of x ≡ None → x ≡ no_text
+    by no_text e = refl
+    by (its_text w later) e = absurd cc
 
 -- where its text stands
 module _ (n f next : ℕ) (bytes : List ℕ) (k : ℕ) (x : Fronts n f (drop next bytes) k) where
@@ -75,15 +75,13 @@ module _ (n x : ℕ) (bytes : List ℕ) (s : Spans) (f set_there : ℕ) (fs : Li
   todo = only (not (eqb set_there 0)) f ++ fs
 
   -- the field doesn't stand
-  pub read_none : set_there ≡ 0 → read_on n x bytes s todo ≡ read_on n x bytes s fs
+  pub read_none : set_there ≡ 0 → read_on n x bytes (Some s) todo ≡ read_on n x bytes (Some s) fs
   read_none h = rw (eq_eqb set_there 0 h)
 
   module _ (stands : set_there ≡ 0 → ⊥) where
     -- its record is not in front
-    pub read_other : (r : Spans) → r.found ≡ false → text_front n f (drop s.next bytes) ≡ no_text → read_on n x bytes s todo ≡ read_on n x bytes r fs
-    read_other r lost e =
-        rw (neq_eqb set_there 0 stands, lost, e)
-        (by_bool s.found (λ h. rw h) (λ h. rw h))
+    pub read_other : text_front n f (drop s.next bytes) ≡ no_text → read_on n x bytes (Some s) todo ≡ no_texts
+    read_other e = rw (neq_eqb set_there 0 stands, e)
 
     -- it is
     module _ (k : ℕ) (t : Fronts n f (drop s.next bytes) k) (known : f < fields)
@@ -101,18 +99,14 @@ module _ (n x : ℕ) (bytes : List ℕ) (s : Spans) (f set_there : ℕ) (fs : Li
           rw (e, ← same, lt_ltb f fields known, place) (sym (text_is n f s.next bytes k t)))
           (λ e. rw e)))
 
-      pub read_found : read_on n x bytes s todo
-          ≡ cond s.found (texts_from n (text_at x bytes (set s.ends f end) (set s.left f k)) fs (drop end bytes)) no_texts
+      pub read_found : read_on n x bytes (Some s) todo ≡ texts_from n (text_at x bytes (set s.ends f end) (set s.left f k)) fs (drop end bytes)
       read_found =
           rw (neq_eqb set_there 0 stands, t.here)
-          (ap₂ (λ (u : ℕ → List ℕ) (l : List ℕ). cond s.found (texts_from n u fs l) no_texts) text_set (sym (later_is n f s.next bytes k t)))
+          (ap₂ (λ (u : ℕ → List ℕ) (l : List ℕ). texts_from n u fs l) text_set (sym (later_is n f s.next bytes k t)))
 
 -- the texts stand in the bytes
-pub own_lost : {bytes : List ℕ} {s : Spans} → Own bytes s → Own bytes (record { found = false; next = s.next; ends = s.ends; left = s.left })
-own_lost o = record { within = o.within; short = o.short; none_hidden = o.none_hidden }
-
 pub own_found : {bytes : List ℕ} {s : Spans} (f k end : ℕ) → Own bytes s → f < fields → k ≤ 65535 → k ≤ end → end ≤ length bytes
-    → Own bytes (record { found = s.found; next = end; ends = set s.ends f end; left = set s.left f k })
+    → Own bytes (record { next = end; ends = set s.ends f end; left = set s.left f k })
 own_found {bytes} {s} f k end o known short low high =
     let w = o.within in
     let at_end : (g : ℕ) → get_or (set s.ends f end) g 0 ≡ cond (eqb f g) end (get_or s.ends g 0) = λ g. get_d_set s.ends f end g (omega (arith, w.ends_many)) in
@@ -130,12 +124,12 @@ own_found {bytes} {s} f k end o known short low high =
 
 -- nothing behind the last
 module _ (n x : ℕ) (bytes : List ℕ) (s : Spans) where
-  pub read_more : s.next < length bytes → read_on n x bytes s [] ≡ no_texts
+  pub read_more : s.next < length bytes → read_on n x bytes (Some s) [] ≡ no_texts
   read_more h =
       let some : length (drop s.next bytes) ≡ 0 → ⊥ = λ (z : length (drop s.next bytes) ≡ 0). omega (arith, length-drop s.next bytes) in
-      by_bool s.found (λ e. rw (e, neq_eqb (length (drop s.next bytes)) 0 some)) (λ e. rw e)
+      rw (neq_eqb (length (drop s.next bytes)) 0 some)
 
-  pub read_all : length bytes ≤ s.next → read_on n x bytes s [] ≡ cond s.found (texts_read (text_at x bytes s.ends s.left)) no_texts
+  pub read_all : length bytes ≤ s.next → read_on n x bytes (Some s) [] ≡ texts_of x bytes (Some s)
   read_all h =
       let none : length (drop s.next bytes) ≡ 0 = omega (arith, length-drop s.next bytes) in
       rw (eq_eqb (length (drop s.next bytes)) 0 none)
@@ -147,13 +141,13 @@ zero_at m g =
     (λ h. get_or-eq_default {A = ℕ} (replicate m 0) 0 {n = g} (rw (length-replicate {A = ℕ} m 0) (ltb_false g m h)))
 
 abbrev pub first_spans : Spans
-first_spans = record { found = true; next = 0; ends = replicate set_fields 0; left = replicate set_fields 0 }
+first_spans = record { next = 0; ends = replicate set_fields 0; left = replicate set_fields 0 }
 
 abbrev pub todo_from : List ℕ → ℕ → List ℕ
 todo_from sets f = keep (λ (g : ℕ). not (eqb (get_or sets g 0) 0)) (from f (fields - f))
 
 module _ (n x : ℕ) (bytes sets : List ℕ) where
-  pub read_first : texts_from n no_texts_yet (fields_with_sets sets) bytes ≡ read_on n x bytes first_spans (todo_from sets 0)
+  pub read_first : texts_from n no_texts_yet (fields_with_sets sets) bytes ≡ read_on n x bytes (Some first_spans) (todo_from sets 0)
   unfolding fields_with_sets
   read_first =
       ap (λ (u : ℕ → List ℕ). texts_from n u (todo_from sets 0) bytes)

@@ -1,17 +1,16 @@
 -- Texts by where they stand: of each field the place behind its text in the bytes of the records, and how many of its characters are left. A hidden
 -- field has no place: only how many spaces are left.
-use Rattle.std.specs.Prelude.{ℕ, ◌+◌, ◌-◌, ◌≤◌, ◌<◌, ◌≡◌, true, false, cond, List, [], ◌∷◌, ltb, length, get_or, take, drop, set, replicate}
+use Rattle.std.specs.Prelude.{ℕ, ◌+◌, ◌-◌, ◌≤◌, ◌<◌, ◌≡◌, cond, Option, None, Some, List, [], ◌∷◌, ltb, length, get_or, take, drop, set, replicate}
 use Rattle.paper.specs.Numbers.{fields, hidden_left, hidden_right, set_fields}
 use Rattle.paper.specs.Equation.{Texts}
 use Rattle.paper_way.specs.TextRecords.{TextFront, no_text, its_text, TextsRead, no_texts, texts_read, texts_from, no_texts_yet}
 use Rattle.base_codes.specs.Inner.{is_char, field_of}
-use Rattle.way_records.specs.declared.TextHead.{TextHead}
 use Rattle.way_records.specs.declared.Spans.{Spans}
 
--- the record in front, as the code hands it on: whether there is one, and how long its text is
-abbrev pub head_of : TextFront → TextHead
-head_of no_text = record { found = false; length = 0 }
-head_of (its_text w later) = record { found = true; length = length w }
+-- the record in front, as the code hands it on: how long its text is
+abbrev pub length_of : TextFront → Option ℕ
+length_of no_text = None
+length_of (its_text w later) = Some (length w)
 
 -- what is left of a text; x is the space
 abbrev pub text_at : ℕ → List ℕ → List ℕ → List ℕ → Texts
@@ -45,13 +44,24 @@ abbrev pub with_missing : List ℕ → ℕ → ℕ → List ℕ
 with_missing left l r = set (set left hidden_left (r - l)) hidden_right (l - r)
 
 -- the texts as far as they were read, and the records of these fields that are still to come
-abbrev pub read_on : ℕ → ℕ → List ℕ → Spans → List ℕ → TextsRead
-read_on n x bytes s fs = cond s.found (texts_from n (text_at x bytes s.ends s.left) fs (drop s.next bytes)) no_texts
+abbrev pub read_on : ℕ → ℕ → List ℕ → Option Spans → List ℕ → TextsRead
+read_on n x bytes None fs = no_texts
+read_on n x bytes (Some s) fs = texts_from n (text_at x bytes s.ends s.left) fs (drop s.next bytes)
+
+-- the texts, if they were read
+abbrev pub texts_of : ℕ → List ℕ → Option Spans → TextsRead
+texts_of x bytes None = no_texts
+texts_of x bytes (Some s) = texts_read (text_at x bytes s.ends s.left)
 
 -- what is handed on of the records of these fields; l and r are the sides
-pub record TextsFound (n : ℕ) (fs bytes l r : List ℕ) (s : Spans) : Type 0 where
+pub record SpansFound (n : ℕ) (fs bytes l r : List ℕ) (s : Spans) : Type 0 where
   pub own : List ℕ
-  pub texts : (x : ℕ) → cond s.found (texts_read (text_at x bytes s.ends own)) no_texts ≡ texts_from n no_texts_yet fs bytes
+  pub texts : (x : ℕ) → texts_read (text_at x bytes s.ends own) ≡ texts_from n no_texts_yet fs bytes
   pub within : Within bytes s.ends own
   pub none_hidden : (f : ℕ) → fields ≤ f → get_or own f 0 ≡ 0
   pub spaced : s.left ≡ with_missing own (label_coded own l) (label_coded own r)
+
+-- that, if there are records of them
+abbrev pub TextsFound : ℕ → List ℕ → List ℕ → List ℕ → List ℕ → Option Spans → Type 0
+TextsFound n fs bytes l r None = no_texts ≡ texts_from n no_texts_yet fs bytes
+TextsFound n fs bytes l r (Some s) = SpansFound n fs bytes l r s

@@ -1,3 +1,2 @@
-pub mod FrontTests
 pub mod LeftBehind
 pub mod NextTests

@@ -2,8 +2,9 @@
 // characters of each text are left behind it.
 #![tactic(auto)]
 
-ghost use Rattle.std.specs.Prelude.{◌-◌, ◌≡◌, get_or};
+ghost use Rattle.std.specs.Prelude.{◌≡◌, if◌then◌else◌, Some, None, get_or};
 ghost use Rattle.paper_way.specs.TextSteps.{no_character};
+ghost use Rattle.base_codes.specs.Inner.{is_field_code, field_of};
 ghost use Rattle.base_codes.specs.Coded.{denoted};
 ghost use Rattle.way_step.specs.NextCoded.{used_coded, character_coded, put_code, next_code, less_one, left_behind};
 
@@ -13,52 +14,41 @@ use base_codes::{
 use base_places::CHARACTERS;
 
 // No character of any edition.
+// Kept: (a) the paper's `no_character`, which `character_coded` and the texts' law name.
 const NO_CHARACTER: usize = 255;
 
 // The code of no step that can be made.
+// Kept: (d) `play_step::step` drops it as any byte that is no character, so an Option would only add a case.
 const NO_STEP: u8 = 128;
+
+// The field with this token, if it is a field's.
+fn field(token: u8) -> Option<usize>
+    ensures { result ≡ if is_field_code token then Some (field_of token) else None }
+{
+    (FIELD_CODE <= token && token < NO_TOKEN).then(|| field_of(token))
+}
+
+// How many characters are left of a field's text.
+fn count(left: [usize; FIELDS], f: usize) -> usize
+    ensures { result ≡ get_or left f 0 }
+{
+    left.get(f).copied().unwrap_or(0)
+}
 
 // Is the token a field's whose text is used up?
 fn is_used_up(left: [usize; FIELDS], token: u8) -> bool
     ensures { result ≡ used_coded left token }
 {
-    if token < FIELD_CODE {
-        return false;
-    }
-    if token == NO_TOKEN {
-        return false;
-    }
-    let f = field_of(token);
-    if f < FIELDS {
-        return left[f] == 0;
-    }
-    true
-}
-
-fn wide(b: u8) -> usize
-    ensures { result ≡ b }
-{
-    b as usize
+    field(token).is_some_and(|f| count(left, f) == 0)
 }
 
 // The value at a place; behind the end there is no character.
 fn value_at(texts: &[u8], i: usize) -> usize
     ensures { result ≡ get_or texts.now i no_character }
 {
-    if texts.len() <= i {
-        return NO_CHARACTER;
-    }
-    wide(texts[i])
-}
-
-// The next character of a text, where so many are left before its end.
-fn next_in(texts: &[u8], end: usize, left: usize) -> usize
-    ensures { result ≡ get_or texts.now (end - left) no_character }
-{
-    if end < left {
-        return value_at(texts, 0);
-    }
-    value_at(texts, end - left)
+    texts
+        .get(i)
+        .map_or(NO_CHARACTER, |&value| usize::from(value))
 }
 
 // "the next character" of a side with this token in front
@@ -72,11 +62,11 @@ fn character(
     ensures { result ≡ character_coded space texts.now ends left token }
 {
     if token < FIELD_CODE {
-        return wide(token);
+        return usize::from(token);
     }
     let f = field_of(token);
     if f < SHEET_FIELDS {
-        return next_in(texts, ends[f], left[f]);
+        return value_at(texts, ends[f].saturating_sub(left[f]));
     }
     if f < FIELDS {
         return space;
@@ -88,16 +78,11 @@ fn character(
 fn put_code(c: usize, d: usize, characters: usize) -> u8
     ensures { result ≡ put_code characters c d }
 {
-    if c != d {
-        return NO_STEP;
+    if c == d && c < characters && c < CHARACTERS {
+        c as u8
+    } else {
+        NO_STEP
     }
-    if characters <= c {
-        return NO_STEP;
-    }
-    if CHARACTERS <= c {
-        return NO_STEP;
-    }
-    c as u8
 }
 
 // The step that the texts want, by its inner code.
@@ -129,17 +114,9 @@ fn less_one(left: [usize; FIELDS], token: u8) -> [usize; FIELDS]
     ensures { result ≡ less_one left token }
 {
     let mut less = left;
-    if token < FIELD_CODE {
-        return less;
-    }
-    if token == NO_TOKEN {
-        return less;
-    }
-    let f = field_of(token);
-    if f < FIELDS {
-        let n = left[f];
-        if 0 < n {
-            less[f] = n - 1;
+    if let Some(f) = field(token) {
+        if f < FIELDS {
+            less[f] = less[f].saturating_sub(1);
         }
     }
     less

@@ -37,7 +37,7 @@ use Rattle.play_step.proofs.StepAgrees.{over_every, step_agrees, step_codable}
 use Rattle.play_walk.specs.WalkCoded.{stop_number}
 use Rattle.play_walk.specs.declared.Stop.{Stop}
 use Rattle.play_walk.specs.declared.Stop.TheVariants.{PastMost, NotAllowed, SideTooLong}
-use Rattle.play_walk.specs.declared.Ending.TheVariants.{Arrived, Stopped}
+use Rattle.std.specs.Prelude.{Ok, Err}
 use Rattle.play_walk.proofs.WalkAgrees.{first_coded}
 use Rattle.way_records.specs.Spans.{text_at, Within}
 use Rattle.way_step.specs.NextCoded.{no_step_code, next_code, left_behind}
@@ -83,8 +83,8 @@ module _ (q : Question) (good : Searchable q) where
 
   -- What spelling by inner codes tells of the paper's, from an entry on.
   pub data SpellTells (before : List ℕ) : Spelling → Played → Type 0 where
-    arrives : (d : At) {bytes : List ℕ} → step_records d.way ≡ before ++ bytes → SpellTells before (record { ending = Arrived; bytes = bytes }) (arrived d)
-    stops : (why : Stop) {bytes : List ℕ} → SpellTells before (record { ending = Stopped why; bytes = bytes }) (stopped (stop_number why))
+    arrives : (d : At) {bytes : List ℕ} → step_records d.way ≡ before ++ bytes → SpellTells before (record { ending = Ok tt; bytes = bytes }) (arrived d)
+    stops : (why : Stop) {bytes : List ℕ} → SpellTells before (record { ending = Err why; bytes = bytes }) (stopped (stop_number why))
 
   -- one record more in front
   one_more : (before its : List ℕ) {y : Spelling} {p : Played} → SpellTells (before ++ its) y p

@@ -1,6 +1,6 @@
 -- Spelling texts out by inner codes, step by step: where it ends, and the records of the steps. As the paper's (`TextSteps.spell_from`), from a situation
 -- by inner codes, with how many characters of each text are left. `SpellAgrees` ties it to the paper.
-use Rattle.std.specs.Prelude.{ℕ, zero, suc, ◌≡◌, cond, List, [], ◌∷◌, ◌++◌, eqb}
+use Rattle.std.specs.Prelude.{ℕ, zero, suc, ◌≡◌, cond, Result, Ok, Err, List, [], ◌∷◌, ◌++◌, eqb}
 use Rattle.paper_steps.specs.StepRecords.{step_mark_1, step_mark_2}
 use Rattle.paper_steps.specs.Player.{most_steps}
 use Rattle.base_put.specs.Counted.{Counted}
@@ -9,10 +9,9 @@ use Rattle.base_codes.specs.Coded.{Coded, finished_coded}
 use Rattle.search_children.specs.Children.{Tables, Settled, dropped, above, made}
 use Rattle.play_step.specs.StepCoded.{step_coded}
 use Rattle.play_walk.specs.declared.Stop.TheVariants.{PastMost, NotAllowed, SideTooLong}
-use Rattle.play_walk.specs.declared.Ending.{Ending}
-use Rattle.play_walk.specs.declared.Ending.TheVariants.{Arrived, Stopped}
+use Rattle.play_walk.specs.declared.Stop.{Stop}
+use Rattle.play_walk.specs.WalkCoded.{Ending}
 use Rattle.way_step.specs.NextCoded.{next_code, left_behind}
-use Rattle.way_walk.specs.declared.Walked.{Walked}
 
 -- "mark `ST`, a kind byte .. and for kind 2 its value", by the step's code
 unfoldable pub code_bytes : ℕ → List ℕ
@@ -29,23 +28,29 @@ ends_at ending = record { ending = ending; bytes = [] }
 
 -- "48 for a step not allowed, 19 for a long side"; a step that was made goes on
 abbrev pub spells_on : List ℕ → (Coded → Spelling) → Settled → Spelling
-spells_on its go_on dropped = ends_at (Stopped NotAllowed)
-spells_on its go_on above = ends_at (Stopped SideTooLong)
+spells_on its go_on dropped = ends_at (Err NotAllowed)
+spells_on its go_on above = ends_at (Err SideTooLong)
 spells_on its go_on (made t) = record { ending = (go_on t).ending; bytes = its ++ (go_on t).bytes }
 
 module _ (T : Tables) (x : ℕ) (bytes ends : List ℕ) where
   -- so many steps may still come
   abbrev pub spell_coded : ℕ → Coded → List ℕ → Spelling
-  spell_coded zero s left = cond (finished_coded s) (ends_at Arrived) (ends_at (Stopped PastMost))
+  spell_coded zero s left = cond (finished_coded s) (ends_at (Ok tt)) (ends_at (Err PastMost))
   spell_coded (suc n) s left =
       let step = next_code x bytes ends left T.characters s in
-      cond (finished_coded s) (ends_at Arrived)
+      cond (finished_coded s) (ends_at (Ok tt))
       (spells_on (code_bytes step) (λ (t : Coded). spell_coded n t (left_behind left s step)) (step_coded T s step))
 
   unfoldable pub spelled_coded : Coded → List ℕ → Spelling
   spelled_coded s left = spell_coded most_steps s left
 
--- the records were put from the start of a buffer on
-pub record SpelledInto (s : Spelling) (before after : List ℕ) (r : Walked) : Type 0 where
-  pub ending : r.ending ≡ s.ending
-  pub put : Counted before after 0 r.bytes s.bytes
+-- what is told of it: how many bytes the records have, or why it stops
+abbrev pub told_of : Ending → ℕ → Result ℕ Stop
+told_of (Ok done) n = Ok n
+told_of (Err why) n = Err why
+
+-- the records were put from the start of a buffer on, also where it stops
+pub record SpelledInto (s : Spelling) (before after : List ℕ) (r : Result ℕ Stop) : Type 0 where
+  pub end : ℕ
+  pub told : r ≡ told_of s.ending end
+  pub put : Counted before after 0 end s.bytes

@@ -2,35 +2,26 @@
 // whether a field stands in the sides that are to be written.
 #![tactic(auto)]
 
-ghost use Rattle.std.specs.Prelude.{◌≡◌, ◌&&◌, ◌<◌, ltb};
+ghost use Rattle.std.specs.Prelude.{◌≡◌, ◌&&◌, ◌<◌, ltb, Err};
 ghost use Rattle.paper.specs.Numbers.{fields};
 ghost use Rattle.paper.specs.Equation.{stands_in};
 ghost use Rattle.paper.specs.Sheet.{Mark};
 ghost use Rattle.paper.specs.Saying.{mark_bytes};
 ghost use Rattle.paper.specs.Saying.{pattern_laid};
 ghost use Rattle.paper_write.specs.Laying.{record_laid, side_record_laid, both_sides};
-ghost use Rattle.base_answers.specs.declared.Found.TheVariants.{Refused};
 ghost use Rattle.base_editions.specs.Editions.{paper_edition};
 ghost use Rattle.base_put.specs.Counted.{Counted};
 ghost use Rattle.write_records.specs.RecordPut.{field_laid, Lays};
 
-use base_answers::{Fault, Found};
+use base_answers::{Fault, Refusal};
 use base_codes::{SHEET_FIELDS, stands};
 use base_editions::{Edition, codes_from};
 use base_put::{put, put_all};
 use read_codes::{PATTERN_BYTES, codes_of};
-use read_pattern::Verdict;
 use read_side::SHEET_SIDE;
 
-// What the checks on a record find.
-#[derive(Clone, Copy)]
-pub struct Laid {
-    pub found: Found,
-    // how many bytes the record has; with a fault its place, both from the record's mark on
-    pub bytes: usize,
-}
-
-// What is laid out for a field: the record of its pattern of so many bytes, the first of those lent, put from `at` on; nothing where it has none.
+// What is laid out for a field: the record of its pattern of so many bytes, the first of those lent, put from `at` on; nothing where it has none. How
+// many bytes the record has, or the fault that refuses it, with its place from the record's mark on.
 pub fn field(
     out: &mut [u8],
     at: usize,
@@ -38,19 +29,23 @@ pub fn field(
     n: usize,
     patterns: &[u8],
     edition: Edition,
-) -> Laid
+) -> Result<usize, Refusal>
     ensures { Lays out.old out.new at result (field_laid (paper_edition edition) f n patterns.now) }
 {
     if n == 0 {
-        return Laid {
-            found: Found::NoFault,
-            bytes: 0,
-        };
+        return Ok(0);
     }
     pattern(out, at, f, n, patterns, edition)
 }
 
-fn pattern(out: &mut [u8], at: usize, f: usize, n: usize, patterns: &[u8], edition: Edition) -> Laid
+fn pattern(
+    out: &mut [u8],
+    at: usize,
+    f: usize,
+    n: usize,
+    patterns: &[u8],
+    edition: Edition,
+) -> Result<usize, Refusal>
     ensures { Lays out.old out.new at result (record_laid (paper_edition edition) f n patterns.now) }
 {
     if SHEET_FIELDS <= f {
@@ -63,19 +58,13 @@ fn pattern(out: &mut [u8], at: usize, f: usize, n: usize, patterns: &[u8], editi
     if there < n {
         return refuse(Fault::CutShort, 4 + there);
     }
-    let codes = codes_of(edition, &patterns[0..n]);
-    let worked = read_pattern::tables(&codes[0..n]);
-    let verdict = worked.verdict;
-    match verdict {
-        Verdict::NotOnePattern => refuse(Fault::NotOnePattern, 4 + worked.at),
-        Verdict::TooManyLeaves => refuse(Fault::TooManyLeaves, 4 + worked.at),
-        Verdict::OnePattern => {
+    let codes = codes_of::<PATTERN_BYTES>(edition, &patterns[0..n]);
+    match read_pattern::tables(&codes[0..n]) {
+        Ok(_) => {
             put_pattern(out, at, f, n, &patterns[0..n]);
-            Laid {
-                found: Found::NoFault,
-                bytes: 4 + n,
-            }
+            Ok(4 + n)
         }
+        Err(refusal) => refuse(refusal.fault, 4 + refusal.place),
     }
 }
 
@@ -90,8 +79,14 @@ fn put_pattern(out: &mut [u8], at: usize, f: usize, n: usize, code: &[u8]) -> us
     put_all(out, measured, code)
 }
 
-// The record of a side, put behind its mark from `at` on.
-pub fn side(out: &mut [u8], at: usize, mark: &[u8], tokens: &[u8], edition: Edition) -> Laid
+// The record of a side, put behind its mark from `at` on: how many bytes it has, or the fault and its place, from the mark on.
+pub fn side(
+    out: &mut [u8],
+    at: usize,
+    mark: &[u8],
+    tokens: &[u8],
+    edition: Edition,
+) -> Result<usize, Refusal>
     ensures { (m : Mark) → mark.now ≡ mark_bytes m → Lays out.old out.new at result (side_record_laid (paper_edition edition) m tokens.now) }
 {
     let n = tokens.len();
@@ -105,10 +100,7 @@ pub fn side(out: &mut [u8], at: usize, mark: &[u8], tokens: &[u8], edition: Edit
     let marked = put_all(out, at, mark);
     let measured = put(out, marked, n as u8);
     put_all(out, measured, tokens);
-    Laid {
-        found: Found::NoFault,
-        bytes: 3 + n,
-    }
+    Ok(3 + n)
 }
 
 // Does the field stand in one of the sides? By its token in the edition; a field above 7 has none.
@@ -126,11 +118,8 @@ pub fn field_stands(f: usize, left: &[u8], right: &[u8], edition: Edition) -> bo
 }
 
 // A record with a fault.
-fn refuse(x: Fault, place: usize) -> Laid
-    ensures { result ≡ record { found = Refused x; bytes = place } }
+fn refuse(fault: Fault, place: usize) -> Result<usize, Refusal>
+    ensures { result ≡ Err (record { fault = fault; place = place }) }
 {
-    Laid {
-        found: Found::Refused(x),
-        bytes: place,
-    }
+    Err(Refusal { fault, place })
 }

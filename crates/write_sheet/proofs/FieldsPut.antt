@@ -15,13 +15,12 @@ use Rattle.paper.proofs.base.Tests.{by_bool, cond_by, leb_true, leb_false, eqb_t
 use Rattle.paper_write.specs.Laying.{Laying, at_fault, laid_out, record_laid, then_laid, fields_laid}
 use Rattle.paper_write.proofs.LaidShort.{RecordShort, record_short}
 use Rattle.base_answers.specs.Faults.{as_fault}
-use Rattle.base_answers.specs.declared.Fault as Code
-use Rattle.base_answers.specs.declared.Found.TheVariants.{NoFault, Refused}
+use Rattle.std.proofs.Common.{Result, Ok, Err}
+use Rattle.base_answers.specs.declared.Refusal.{Refusal}
 use Rattle.base_put.specs.Counted.{put_from}
 use Rattle.write_records.specs.RecordPut.{field_laid, Lays, refused, put}
-use Rattle.write_records.specs.declared.Laid.{Laid}
-use Rattle.write_sheet.specs.SheetWritten.{PatternsLaid}
-use Rattle.write_sheet.proofs.SheetPut.{from_at, from_both, moved}
+use Rattle.write_sheet.specs.SheetWritten.{span, moved, PatternsLaid}
+use Rattle.write_sheet.proofs.SheetPut.{from_at, from_both, span_moved}
 
 -- a field without a pattern lays out nothing
 fields_step : (ed : Edition) (done : List ℕ) (f n : ℕ) (lengths patterns : List ℕ)
@@ -77,14 +76,14 @@ module _ {ed : Edition} {lengths patterns before out : List ℕ} {start at from 
   all_length : (front : List ℕ) → start ≡ length front → at ≡ length (front ++ g.done)
   all_length front s = omega (arith, s, g.its_length, length-append front g.done)
 
-  pub going_ends : length lengths ≤ f → PatternsLaid ed lengths patterns before out start (record { found = NoFault; bytes = at })
+  pub going_ends : length lengths ≤ f → PatternsLaid ed lengths patterns before out start (Ok at)
   going_ends h d front s p =
-      subst (Lays d out 0 (record { found = NoFault; bytes = at }))
+      subst (Lays d out 0 (Ok at))
       (ap (λ (l : List ℕ). fields_laid ed (front ++ g.done) f l (drop from patterns)) (sym (drop_of_length-le lengths {i = f} h)) ∙ g.left front)
-      (put (front ++ g.done) (ap (λ (n : ℕ). record { found = NoFault; bytes = n }) (all_length front s))
+      (put (front ++ g.done) (ap (λ (n : ℕ). Ok n) (all_length front s))
       (from_both d before front g.done p (g.bytes ∙ ap (λ (n : ℕ). put_from before n g.done) s) (omega (arith, s))))
 
-  module _ (h : f < length lengths) (n : ℕ) (is : n ≡ get_or lengths f 0) (its : Laid) where
+  module _ (h : f < length lengths) (n : ℕ) (is : n ≡ get_or lengths f 0) (its : Result ℕ Refusal) where
     abbrev rest : List ℕ
     rest = drop from patterns
 
@@ -99,33 +98,33 @@ module _ {ed : Edition} {lengths patterns before out : List ℕ} {start at from 
         ∙ ap (λ (l : List ℕ). fields_laid ed so_far f l rest) (ap (λ (k : ℕ). k ∷ drop (suc f) lengths) is ∙ sym (drop-cons lengths f 0 h))
         ∙ g.left front
 
-    its_bytes : {after : List ℕ} {v : Laying} → v ≡ field_laid ed f n rest → Lays out after at its v → its.bytes ≤ 4 + pattern_bytes
-    its_bytes e (refused x place r) =
+    its_span : {after : List ℕ} {v : Laying} → v ≡ field_laid ed f n rest → Lays out after at its v → span its ≤ 4 + pattern_bytes
+    its_span e (refused x place r) =
         let s : FieldShort f n rest (at_fault x place) = subst (FieldShort f n rest) (sym e) (field_short ed f n rest) in
-        omega (arith, ap (λ (l : Laid). l.bytes) r)
-    its_bytes e (put bytes r q) =
+        rw r s
+    its_span e (put bytes r q) =
         let s : FieldShort f n rest (laid_out bytes) = subst (FieldShort f n rest) (sym e) (field_short ed f n rest) in
-        omega (arith, s.0, ap (λ (l : Laid). l.bytes) r)
+        rw r s.0
 
-    module _ {after : List ℕ} (l : Lays out after at its (field_laid ed f n rest)) where
-      pub fits : at + its.bytes ≤ 2000
-      fits = omega (arith, g.most, its_bytes refl l)
-
-    stop_by : {after : List ℕ} {v : Laying} (x : Code.Fault) → v ≡ field_laid ed f n rest → its.found ≡ Refused x → Lays out after at its v
-        → PatternsLaid ed lengths patterns before after start (record { found = Refused x; bytes = at + its.bytes })
+    stop_by : {after : List ℕ} {v : Laying} (x : Refusal) → v ≡ field_laid ed f n rest → moved at its ≡ Err x → Lays out after at its v
+        → PatternsLaid ed lengths patterns before after start (Err x)
     stop_by {after} x e k (refused y place r) d front s p =
-        subst (Lays d after 0 (record { found = Refused x; bytes = at + its.bytes })) (behind e front)
+        subst (Lays d after 0 (Err x)) (behind e front)
         (refused y (length (front ++ g.done) + place)
-        ((λ i. record { found = sym k i; bytes = at + its.bytes }) ∙ ap (moved at) r
-        ∙ ap (λ (m : ℕ). record { found = Refused (as_fault y); bytes = m + place }) (all_length front s)))
-    stop_by x e k (put bytes r q) d front s p = let z : ◌≡◌ {A = ℕ} 0 1 = cc (k, r) in absurd (omega arith)
+        (sym k ∙ ap (moved at) r ∙ ap (λ (m : ℕ). Err (record { fault = as_fault y; place = m + place })) (all_length front s)))
+    stop_by x e k (put bytes r q) d front s p =
+        let there : moved at its ≡ Ok (at + length bytes) = ap (moved at) r in
+        let z : ◌≡◌ {A = ℕ} 0 1 = cc (k, there) in absurd (omega arith)
 
-    go_by : {after : List ℕ} {v : Laying} → v ≡ field_laid ed f n rest → its.found ≡ NoFault → Lays out after at its v
-        → Going ed lengths patterns before after start (at + its.bytes) (from + n) (f + 1)
-    go_by e k (refused y place r) = let z : ◌≡◌ {A = ℕ} 0 1 = cc (k, r) in absurd (omega arith)
-    go_by {after} e k (put bytes r q) =
+    go_by : {after : List ℕ} {v : Laying} {m : ℕ} → v ≡ field_laid ed f n rest → moved at its ≡ Ok m → Lays out after at its v
+        → Going ed lengths patterns before after start m (from + n) (f + 1)
+    go_by e k (refused y place r) =
+        let there : moved at its ≡ Err (record { fault = as_fault y; place = at + place }) = ap (moved at) r in
+        let z : ◌≡◌ {A = ℕ} 0 1 = cc (k, there) in absurd (omega arith)
+    go_by {after} {m = m} e k (put bytes r q) =
         let s : FieldShort f n rest (laid_out bytes) = subst (FieldShort f n rest) (sym e) (field_short ed f n rest) in
-        let so-many : its.bytes ≡ length bytes = ap (λ (l : Laid). l.bytes) r in
+        let all : moved at its ≡ Ok (at + length bytes) = ap (moved at) r in
+        let so-many : m ≡ at + length bytes = cc (k, all) in
         let low = g.low in
         let most = g.most in
         let there = g.its_length in
@@ -143,12 +142,16 @@ module _ {ed : Edition} {lengths patterns before out : List ℕ} {start at from 
         }
 
     module _ {after : List ℕ} (l : Lays out after at its (field_laid ed f n rest)) where
-      pub going_stops : (x : Code.Fault) → its.found ≡ Refused x
-          → PatternsLaid ed lengths patterns before after start (record { found = Refused x; bytes = at + its.bytes })
+      pub fits : at + span its ≤ 2000
+      fits = omega (arith, g.most, its_span refl l)
+
+      pub going_stops : (x : Refusal) → moved at its ≡ Err x → PatternsLaid ed lengths patterns before after start (Err x)
       going_stops x k = stop_by x refl k l
 
-      pub going_on : its.found ≡ NoFault → Going ed lengths patterns before after start (at + its.bytes) (from + n) (f + 1)
-      going_on k = go_by refl k l
+      pub stops_low : (x : Refusal) → moved at its ≡ Err x → x.place ≤ 2000
+      stops_low x k =
+          let same : at + span its ≡ x.place = sym (span_moved at its) ∙ ap span k in
+          omega (arith, fits, same)
 
-      pub next_from : its.found ≡ NoFault → from + n ≤ length patterns
-      next_from k = (going_on k).within
+      pub going_on : {m : ℕ} → moved at its ≡ Ok m → Going ed lengths patterns before after start m (from + n) (f + 1)
+      going_on k = go_by refl k l

@@ -3,3 +3,4 @@ pub mod FieldsPut
 pub mod SheetAnswered
 pub mod StraysChecked
 pub mod OneWriting
+pub mod InOrder

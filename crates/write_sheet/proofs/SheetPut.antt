@@ -16,12 +16,12 @@ use Rattle.paper.specs.Saying.{edition_laid, edition_byte}
 use Rattle.paper.proofs.base.Tests.{lt_ltb}
 use Rattle.paper_write.specs.Laying.{Laying, laid_out, side_record_laid, then_laid, then_side}
 use Rattle.paper_write.proofs.LaidShort.{SideShort}
-use Rattle.base_answers.specs.declared.Fault as Code
-use Rattle.base_answers.specs.declared.Found.TheVariants.{NoFault, Refused}
+use Rattle.std.proofs.Common.{Result, Ok, Err}
+use Rattle.base_answers.specs.declared.Refusal.{Refusal}
 use Rattle.base_put.specs.Counted.{last_place, next_place, place_behind, put_from, Counted}
 use Rattle.base_put.proofs.Counting.{counted_then}
 use Rattle.write_records.specs.RecordPut.{Lays, refused, put}
-use Rattle.write_records.specs.declared.Laid.{Laid}
+use Rattle.write_sheet.specs.SheetWritten.{span, moved}
 
 -- the place behind bytes put from a place on
 behind_length : (at : ℕ) (l : List ℕ) → at + length l ≤ last_place → place_behind at l ≡ at + length l
@@ -49,32 +49,32 @@ pub front_short : (ed : Edition) → length (edition_laid (edition_byte ed)) ≤
 front_short edition_1 = omega arith
 front_short edition_2 = omega arith
 
--- an answer with so many bytes in front
-abbrev pub moved : ℕ → Laid → Laid
-moved n r = record { found = r.found; bytes = n + r.bytes }
+pub span_moved : (n : ℕ) (r : Result ℕ Refusal) → span (moved n r) ≡ n + span r
+span_moved n (Ok bytes) = refl
+span_moved n (Err r) = refl
 
-pub joined : {d e after : List ℕ} {v : Laying} (done : List ℕ) (its : Laid) → e ≡ put_from d 0 done → length done ≤ last_place
+pub joined : {d e after : List ℕ} {v : Laying} (done : List ℕ) (its : Result ℕ Refusal) → e ≡ put_from d 0 done → length done ≤ last_place
     → Lays e after (length done) its v → Lays d after 0 (moved (length done) its) (then_laid done v laid_out)
 joined done its p h (refused x place r) = refused x (length done + place) (ap (moved (length done)) r)
 joined {d} {e} done its p h (put bytes r q) =
-    put (done ++ bytes) (ap (moved (length done)) r ∙ ap (λ (n : ℕ). record { found = NoFault; bytes = n }) (sym (length-append done bytes)))
+    put (done ++ bytes) (ap (moved (length done)) r ∙ ap (λ (n : ℕ). Ok n) (sym (length-append done bytes)))
     (from_both d e done bytes p q h)
 
 -- Sides.
-pub its_low : {e after : List ℕ} {at : ℕ} {v : Laying} (its : Laid) → Lays e after at its v → SideShort v → its.bytes ≤ 3 + sheet_side
-its_low its (refused x place r) h = omega (arith, ap (λ (l : Laid). l.bytes) r)
-its_low its (put bytes r q) h = omega (arith, ap (λ (l : Laid). l.bytes) r)
+pub its_low : {e after : List ℕ} {at : ℕ} {v : Laying} (its : Result ℕ Refusal) → Lays e after at its v → SideShort v → span its ≤ 3 + sheet_side
+its_low its (refused x place r) h = rw r h
+its_low its (put bytes r q) h = rw r h
 
-module _ (ed : Edition) (m : Mark) (tokens : List ℕ) (before : Laid) where
-  pub side_behind : {d e after : List ℕ} {w : Laying} (its : Laid) → before.bytes ≤ last_place → before.found ≡ NoFault → Lays d e 0 before w
-      → Lays e after before.bytes its (side_record_laid ed m tokens) → Lays d after 0 (moved before.bytes its) (then_side ed m tokens w)
-  side_behind its h f (refused x place r) l = let z : ◌≡◌ {A = ℕ} 0 1 = cc (f, r) in absurd (omega arith)
-  side_behind {d} {e} {after} its h f (put bytes r q) l =
-      let there : before.bytes ≡ length bytes = ap (λ (b : Laid). b.bytes) r in
+module _ (ed : Edition) (m : Mark) (tokens : List ℕ) where
+  pub side_behind : {d e after : List ℕ} {w : Laying} (at : ℕ) (its : Result ℕ Refusal) → at ≤ last_place → Lays d e 0 (Ok at) w
+      → Lays e after at its (side_record_laid ed m tokens) → Lays d after 0 (moved at its) (then_side ed m tokens w)
+  side_behind at its h (refused x place r) l = let z : ◌≡◌ {A = ℕ} 0 1 = cc r in absurd (omega arith)
+  side_behind {d} {e} {after} at its h (put bytes r q) l =
+      let there : at ≡ length bytes = cc r in
       subst (λ (n : ℕ). Lays d after 0 (moved n its) (then_laid bytes (side_record_laid ed m tokens) laid_out)) (sym there)
       (joined bytes its q (omega (arith, there)) (subst (λ (n : ℕ). Lays e after n its (side_record_laid ed m tokens)) there l))
 
-  pub side_stopped : {d e : List ℕ} {w : Laying} (x : Code.Fault) → before.found ≡ Refused x → Lays d e 0 before w
-      → Lays d e 0 (record { found = Refused x; bytes = before.bytes }) (then_side ed m tokens w)
-  side_stopped x f (refused y place r) = refused y place ((λ i. record { found = sym f i; bytes = before.bytes }) ∙ r)
-  side_stopped x f (put bytes r q) = let z : ◌≡◌ {A = ℕ} 0 1 = cc (f, r) in absurd (omega arith)
+  -- behind a fault nothing is put
+  pub side_stopped : {d e f : List ℕ} {w : Laying} (x : Refusal) → Lays d e 0 (Err x) w → Lays d f 0 (Err x) (then_side ed m tokens w)
+  side_stopped x (refused y place r) = refused y place r
+  side_stopped x (put bytes r q) = let z : ◌≡◌ {A = ℕ} 0 1 = cc r in absurd (omega arith)

@@ -18,16 +18,17 @@ use Rattle.paper.specs.Sheet.{stray_pattern}
 use Rattle.paper.proofs.base.Tests.{lt_ltb, neq_eqb}
 use Rattle.paper_write.specs.Laying.{Laying, at_fault, laid_out, strays_laid, then_strays}
 use Rattle.paper_write.proofs.LaidShort.{LengthsKnown}
-use Rattle.base_answers.specs.declared.Fault as Code
-use Rattle.base_answers.specs.declared.Fault.TheVariants.{StrayPattern}
-use Rattle.base_answers.specs.declared.Found.TheVariants.{NoFault, Refused}
+use Rattle.std.proofs.Common.{Ok, Err}
+use Rattle.base_answers.specs.Faults.{fault_of}
+use Rattle.base_answers.specs.declared.Fault.{Fault}
+use Rattle.base_answers.specs.declared.Refusal.{Refusal}
+use Rattle.base_answers.proofs.Same.{same_fault}
 use Rattle.write_records.specs.RecordPut.{Lays, refused, put}
-use Rattle.write_records.specs.declared.Laid.{Laid}
-use Rattle.write_sheet.specs.SheetWritten.{KnownLengths}
+use Rattle.write_sheet.specs.SheetWritten.{KnownLengths, StraysFound}
 
-pub known_by : {d e : List ℕ} {v : Laying} (lengths : List ℕ) (r : Laid) → LengthsKnown 0 lengths v → Lays d e 0 r v → r.found ≡ NoFault → KnownLengths lengths
-known_by lengths r h (refused x place k) f = let z : ◌≡◌ {A = ℕ} 0 1 = cc (f, k) in absurd (omega arith)
-known_by lengths r h (put bytes k q) f = λ i some. let (known, short) = h i some in (omega arith, short)
+pub known_by : {d e : List ℕ} {v : Laying} (lengths : List ℕ) (n : ℕ) → LengthsKnown 0 lengths v → Lays d e 0 (Ok n) v → KnownLengths lengths
+known_by lengths n h (refused x place k) = let z : ◌≡◌ {A = ℕ} 0 1 = cc k in absurd (omega arith)
+known_by lengths n h (put bytes k q) = λ i some. let (known, short) = h i some in (omega arith, short)
 
 -- what was told of a field that is known
 pub stands_so : (side : Side) (f : ℕ) {r b : Bool} → f < fields → r ≡ (ltb f fields && stands_in f side) → r ≡ b → stands_in f side ≡ b
@@ -72,20 +73,17 @@ module _ (side : Side) (lengths : List ℕ) (start : ℕ) where
             }
 
   -- behind what was laid out
-  module _ (before : Laid) where
-    pub stray_refused : {d e : List ℕ} {w : Laying} (at : ℕ) → before.found ≡ NoFault → Found_at (λ done. at_fault stray_pattern at) → Lays d e 0 before w
-        → Lays d e 0 (record { found = Refused StrayPattern; bytes = at }) (then_strays side start lengths w)
-    stray_refused at f h (refused y place r) = let z : ◌≡◌ {A = ℕ} 0 1 = cc (f, r) in absurd (omega arith)
-    stray_refused {d} {e} at f h (put bytes r q) = subst (Lays d e 0 (record { found = Refused StrayPattern; bytes = at })) (h bytes) (refused stray_pattern at refl)
+  pub stray_refused : {d e f : List ℕ} {w : Laying} (n : ℕ) (x : Refusal) → StraysFound side lengths start (Err x) → Lays d e 0 (Ok n) w
+      → Lays d f 0 (Err x) (then_strays side start lengths w)
+  stray_refused n x h (refused y place r) = let z : ◌≡◌ {A = ℕ} 0 1 = cc r in absurd (omega arith)
+  stray_refused {d} {e} {f} n x h (put bytes r q) =
+      subst (Lays d f 0 (Err x)) (sym (h bytes)) (refused (fault_of x.fault) x.place (ap (λ (y : Fault). Err (record { fault = y; place = x.place })) (sym (same_fault x.fault))))
 
-    pub none_refused : {d e : List ℕ} {w : Laying} → before.found ≡ NoFault → Found_at laid_out → Lays d e 0 before w
-        → Lays d e 0 (record { found = NoFault; bytes = before.bytes }) (then_strays side start lengths w)
-    none_refused f h (refused y place r) = let z : ◌≡◌ {A = ℕ} 0 1 = cc (f, r) in absurd (omega arith)
-    none_refused {d} {e} f h (put bytes r q) =
-        subst (Lays d e 0 (record { found = NoFault; bytes = before.bytes })) (h bytes)
-        (put bytes (ap (λ (l : Laid). record { found = NoFault; bytes = l.bytes }) r) q)
+  pub none_refused : {d e : List ℕ} {w : Laying} (n : ℕ) → StraysFound side lengths start (Ok tt) → Lays d e 0 (Ok n) w
+      → Lays d e 0 (Ok n) (then_strays side start lengths w)
+  none_refused n h (refused y place r) = let z : ◌≡◌ {A = ℕ} 0 1 = cc r in absurd (omega arith)
+  none_refused {d} {e} n h (put bytes r q) = subst (Lays d e 0 (Ok n)) (sym (h bytes)) (put bytes r q)
 
-    pub stray_stopped : {d e : List ℕ} {w : Laying} (x : Code.Fault) → before.found ≡ Refused x → Lays d e 0 before w
-        → Lays d e 0 (record { found = Refused x; bytes = before.bytes }) (then_strays side start lengths w)
-    stray_stopped x f (refused y place r) = refused y place ((λ i. record { found = sym f i; bytes = before.bytes }) ∙ r)
-    stray_stopped x f (put bytes r q) = let z : ◌≡◌ {A = ℕ} 0 1 = cc (f, r) in absurd (omega arith)
+  pub stray_stopped : {d e f : List ℕ} {w : Laying} (x : Refusal) → Lays d e 0 (Err x) w → Lays d f 0 (Err x) (then_strays side start lengths w)
+  stray_stopped x (refused y place r) = refused y place r
+  stray_stopped x (put bytes r q) = let z : ◌≡◌ {A = ℕ} 0 1 = cc r in absurd (omega arith)

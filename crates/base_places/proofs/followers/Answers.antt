@@ -1,7 +1,7 @@
 -- `followers` meets its contract. The loop's invariant: r holds what may follow some place below i of the set (`gathered`). Where nothing of the
 -- set is left from i on, that is all (`gathered_rest`); else the next place of the set is below `places`, and its followers are added
 -- (`next_below`, `gathered_next`).
-use Prim.Native.Nat.{ℕ, ◌+◌, ◌<◌, ◌-◌, ◌/◌, ◌^◌, zero-le}
+use Prim.Native.Nat.{ℕ, ◌+◌, ◌<◌, ◌/◌, ◌^◌, zero-le}
 use native.Mathlib.Omega.{arith}
 use native.Mathlib.Nat.{lt_of_le_of_lt}
 use mathlib.Core.Path.{◌≡◌, ap, ◌∙◌}

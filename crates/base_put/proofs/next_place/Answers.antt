@@ -1,13 +1,17 @@
--- `next_place` meets its contract, by its test.
+-- `next_place` meets its contract, by whether the place is the last.
 use native.Mathlib.Omega.{arith}
-use Rattle.paper.proofs.base.Tests.{lt_ltb, le_ltb}
+use mathlib.Core.Path.{◌≡◌}
+use lib.Dec.{ltb}
+use Rattle.std.proofs.Common.{rules, min, ◌+◌}
+use Rattle.paper.proofs.base.Tests.{by_bool, ltb_true, ltb_false}
 use Rattle.base_put.specs.Counted.{last_place, next_place}
 use Rattle.base_put.proofs.next_place.Goals as goal
 
-pub returns-then-at-lt-LAST : goal.returns-then-at-lt-LAST
+pub returns : goal.returns
 unfolding next_place
-returns-then-at-lt-LAST c = rw (lt_ltb c.args.at last_place c.if-at-lt-LAST.true) (omega arith)
-
-pub returns-else-at-lt-LAST : goal.returns-else-at-lt-LAST
-unfolding next_place
-returns-else-at-lt-LAST c = rw (le_ltb c.args.at last_place c.if-at-lt-LAST.false)
+returns c =
+    let at = c.args.at in
+    let m : c.saturating_add.result ≡ min (at + 1) last_place = search rules in
+    by_bool (ltb at last_place)
+    (λ e. let k = ltb_true at last_place e in rw e (omega arith))
+    (λ e. let k = ltb_false at last_place e in rw e (omega arith))

@@ -2,7 +2,6 @@
 use Prim.Native.Nat.{suc, ◌+◌, ◌-◌}
 use native.Mathlib.Omega.{arith}
 use mathlib.Core.Path.{◌≡◌, sym, ap, ◌∙◌}
-use mathlib.Core.Logic.{⊎_elim}
 use mathlib.Core.Bool.{true, false}
 use mathlib.Core.List.{◌++◌}
 use lib.Dec.{ltb, eqb}
@@ -14,11 +13,11 @@ use Rattle.base_question.specs.Bodies.{nowhere}
 use Rattle.base_question.specs.Standings.{count}
 use Rattle.base_question.specs.StraysCoded.{stray_coded, first_of}
 use Rattle.base_question.proofs.Strays.{first_here, first_behind, strays_from}
-use Rattle.base_question.proofs.first_stray.Goals.{then-body-gt0+else-in_neither, else-body-gt0}
+use Rattle.base_question.proofs.first_stray.Goals.{else-bodies-f-gt0-via-then-bodies-f-gt0+else-in_neither, else-bodies-f-gt0-via-else-bodies-f-gt0}
 use Rattle.base_question.proofs.first_stray.Goals as goal
 
 pub loop-f-init : goal.loop-f-init
-loop-f-init c = let a = c.args in (omega arith, strays_from a.bodies a.left a.right)
+loop-f-init c = let a = c.args in strays_from a.bodies a.left a.right
 
 pub returns-then-in_neither : goal.returns-then-in_neither
 returns-then-in_neither c =
@@ -26,8 +25,8 @@ returns-then-in_neither c =
     let a = c.args in
     let p = stray_coded a.bodies a.left a.right in
     let n = (get_or a.bodies l.f nowhere).length in
-    let stray : p l.f ≡ true = both_true (lt_ltb 0 n c.if-body-gt0.true) (sym c.in_neither.ensures ∙ c.if-in_neither.true) in
-    sym (ap first_of (l.invariant.1 (suc (fields - (l.f + 1))) (omega arith)) ∙ first_here p l.f (fields - (l.f + 1)) stray)
+    let stray : p l.f ≡ true = both_true (lt_ltb 0 n c.if-bodies-f-gt0.true) (sym c.in_neither.ensures ∙ c.if-in_neither.true) in
+    sym (ap first_of (l.invariant (suc (fields - (l.f + 1))) (omega arith)) ∙ first_here p l.f (fields - (l.f + 1)) stray)
 
 pub loop-f-preserved : goal.loop-f-preserved
 loop-f-preserved c =
@@ -37,14 +36,13 @@ loop-f-preserved c =
     let n = (get_or a.bodies l.f nowhere).length in
     let none = eqb (count (field_code + l.f) (tokens a.left ++ tokens a.right)) 0 in
     let other : p l.f ≡ false =
-    elim c.if-body-gt0.branch [
-      | then-body-gt0+else-in_neither w ↦ right_false (ltb 0 n) none (sym w.in_neither.ensures ∙ w.if-in_neither.false)
-      | else-body-gt0 w ↦ left_false (ltb 0 n) none (le_ltb 0 n w.if-body-gt0.false)
+    elim c.else-bodies-f-gt0.branch [
+      | else-bodies-f-gt0-via-then-bodies-f-gt0+else-in_neither w ↦ right_false (ltb 0 n) none (sym w.in_neither.ensures ∙ w.if-in_neither.false)
+      | else-bodies-f-gt0-via-else-bodies-f-gt0 w ↦ left_false (ltb 0 n) none (le_ltb 0 n w.if-bodies-f-gt0.false)
     ] in
-    (omega arith, λ m e. l.invariant.1 (suc m) (omega arith) ∙ first_behind p l.f m other)
+    λ m e. l.invariant (suc m) (omega arith) ∙ first_behind p l.f m other
 
 pub returns : goal.returns
 returns c =
     let l = c.loop-f in
-    let e : l.f ≡ fields = omega arith in
-    e ∙ sym (ap first_of (l.invariant.1 0 (omega arith)))
+    sym (ap first_of (l.invariant 0 (omega arith)))

@@ -9,13 +9,13 @@ use Rattle.base_question.proofs.Counts.{count_left, count_right}
 use Rattle.base_question.proofs.Strays.{not_twice}
 use Rattle.base_question.proofs.in_neither.Goals as goal
 
-pub returns-then-in_side : goal.returns-then-in_side
-returns-then-in_side c =
+pub returns-else-not-in_side : goal.returns-else-not-in_side
+returns-else-not-in_side c =
     let a = c.args in
-    sym (count_left a.token (tokens a.left) (tokens a.right) (not_is_true (sym c.in_side.ensures ∙ c.if-in_side.true)))
+    ap not c.if-not-in_side.false ∙ sym (count_left a.token (tokens a.left.now) (tokens a.right.now) (not_is_true (sym c.in_side.ensures ∙ c.if-not-in_side.false)))
 
-pub returns : goal.returns
-returns c =
+pub returns-then-not-in_side : goal.returns-then-not-in_side
+returns-then-not-in_side c =
     let a = c.args in
-    rw (count_right a.token (tokens a.left) (tokens a.right) (not_is_false (sym c.in_side.ensures ∙ c.if-in_side.false)))
-    (ap not c.in_side-2.ensures ∙ sym (not_twice (eqb (count a.token (tokens a.right)) 0)))
+    rw (count_right a.token (tokens a.left.now) (tokens a.right.now) (not_is_false (sym c.in_side.ensures ∙ c.if-not-in_side.true)))
+    (ap not c.in_side-then-not-in_side.ensures ∙ sym (not_twice (eqb (count a.token (tokens a.right.now)) 0)))

@@ -1,5 +1,5 @@
 -- `standings` meets its contract. The loop's invariant: the fields below f are counted (`Counted`).
-use Prim.Native.Nat.{ℕ, ◌+◌, ◌-◌}
+use Prim.Native.Nat.{ℕ, ◌+◌}
 use native.Mathlib.Omega.{arith}
 use mathlib.Core.Path.{refl, sym, ap₂, ◌∙◌}
 use mathlib.Core.List.{◌++◌}
@@ -17,7 +17,7 @@ loop-f-preserved c =
     let a = c.args in
     let f = c.loop-f.f in
     counted_more (λ (x : ℕ). count (field_code + x) (tokens a.left ++ tokens a.right)) set_fields _ f c.loop-f.invariant (omega arith) _
-    (ap₂ (λ (x y : ℕ). x + y) c.times.ensures.1 c.times-in-loop-f.ensures.1 ∙ sym (count_append (field_code + f) (tokens a.left) (tokens a.right)))
+    (ap₂ (λ (x y : ℕ). x + y) c.times.ensures.times c.times-in-loop-f.ensures.times ∙ sym (count_append (field_code + f) (tokens a.left) (tokens a.right)))
 
 pub returns : goal.returns
 unfolding standing_times

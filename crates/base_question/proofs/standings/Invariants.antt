@@ -1,5 +1,5 @@
 -- `standings` meets its contract. The loop's invariant: the fields below f are counted (`Counted`).
-use Prim.Native.Nat.{ℕ, ◌+◌, ◌-◌}
+use Prim.Native.Nat.{ℕ, ◌+◌}
 use mathlib.Core.List.{◌++◌}
 use Rattle.paper.specs.Numbers.{set_fields}
 use Rattle.base_codes.specs.Inner.{field_code, tokens}
@@ -9,6 +9,3 @@ use Rattle.base_question.proofs.standings.Given as goal
 
 abbrev pub invariant-loop-f : goal.invariant-loop-f
 invariant-loop-f l = Counted (λ (x : ℕ). count (field_code + x) (tokens l.left ++ tokens l.right)) set_fields l.counts l.f
-
-abbrev pub decreases-loop-f : goal.decreases-loop-f
-decreases-loop-f l = set_fields - l.f

@@ -1,37 +1,22 @@
--- `times` meets its contract. The loop's invariant: the tokens before i are counted, and those of what is left are not.
-use Prim.Native.Nat.{◌-◌}
+-- `times` meets its contract: those that pass the test are kept.
 use native.Mathlib.Omega.{arith}
-use mathlib.Core.Path.{◌≡◌}
-use lib.ListN.{length, get_or}
-use borrow.Author.Rules.{rules}
-use Rattle.paper.specs.Numbers.{longest_side}
-use Rattle.paper.proofs.base.Tests.{eq_eqb, neq_eqb}
-use Rattle.base_codes.specs.Inner.{no_token}
-use Rattle.base_question.proofs.Counts.{count_end, count_more, count_none}
+use mathlib.Core.Path.{◌≡◌, ◌∙◌}
+use lib.Dec.{eqb}
+use Rattle.std.proofs.Common.{rules}
+use Rattle.std.specs.List.{count_by}
+use Rattle.base_codes.specs.Inner.{tokens}
+use Rattle.base_codes.proofs.Tokens.{tokens_length}
+use Rattle.base_question.proofs.Counts.{counts_kept, length_keep}
 use Rattle.base_question.proofs.times.Goals as goal
 
-pub loop-i-init : goal.loop-i-init
-loop-i-init c = (omega arith, omega arith, omega arith)
+pub returns-clause-few : goal.returns-clause-few
+returns-clause-few c =
+    let side = tokens c.args.side.now in
+    let n : c.count.result ≡ count_by (eqb c.args.token) side = search rules in
+    omega (arith, n, counts_kept (eqb c.args.token) side, length_keep (eqb c.args.token) side, tokens_length c.args.side.now)
 
-pub returns-then-b : goal.returns-then-b
-returns-then-b c =
-    let a = c.args in
-    let i = c.loop-i.i in
-    let long : length a.side ≡ longest_side = search rules in
-    (omega arith, omega (arith, count_end a.token a.side i (omega arith) (eq_eqb (get_or a.side i 0) no_token c.if-b.true)))
-
-pub loop-i-preserved : goal.loop-i-preserved
-loop-i-preserved c =
-    let a = c.args in
-    let i = c.loop-i.i in
-    let long : length a.side ≡ longest_side = search rules in (
-      omega arith,
-      omega arith,
-      omega (arith, c.one_if-n.ensures, count_more a.token a.side i (omega arith) (neq_eqb (get_or a.side i 0) no_token c.if-b.false)),
-    )
-
-pub returns : goal.returns
-returns c =
-    let a = c.args in
-    let long : length a.side ≡ longest_side = search rules in
-    (omega arith, omega (arith, count_none a.token a.side c.loop-i.i (omega arith)))
+pub returns-clause-times : goal.returns-clause-times
+returns-clause-times c =
+    let side = tokens c.args.side.now in
+    let n : c.count.result ≡ count_by (eqb c.args.token) side = search rules in
+    n ∙ counts_kept (eqb c.args.token) side

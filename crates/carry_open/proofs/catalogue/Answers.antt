@@ -2,8 +2,7 @@
 use Prim.Native.Nat.{ℕ}
 use native.Mathlib.Nat.{sub-zero}
 use native.Mathlib.Omega.{arith}
-use mathlib.Core.Path.{◌≡◌, ap, ◌∙◌}
-use borrow.Author.Tests.{not-true, not-false}
+use mathlib.Core.Path.{◌≡◌, sym, ap, ◌∙◌}
 use lib.ListN.{length, take, length-replicate}
 use Rattle.catalogue_form.specs.Kept.{OfForm}
 use Rattle.catalogue_form.proofs.FormFound.{no_rules, some_rules}
@@ -12,15 +11,12 @@ use Rattle.carry_open.proofs.CarryAnswered.{and_promised, none_kept, within, too
 use Rattle.carry_open.proofs.catalogue.Goals.{After-put_rules-n}
 use Rattle.carry_open.proofs.catalogue.Goals as goal
 
-pub returns-then-not-kept : goal.returns-then-not-kept
-returns-then-not-kept c =
-    let kept = c.find-kept in
-    let h = and_promised _ _ (none_kept _ (no_rules kept.result _ kept.ensures (not-true kept.result.good c.if-not-kept.true))) in
-    record { whole = h.0; promised = h.1 }
+pub returns-in_default : goal.returns-in_default
+returns-in_default c = let h = and_promised _ _ (none_kept _ (no_rules _ (sym c.in_default.is ∙ c.find.ensures))) in record { whole = h.0; promised = h.1 }
 
 -- the rules that stand
-standing : (c : After-put_rules-n) → OfForm c.args.catalogue.now c.find-kept.result
-standing c = some_rules c.find-kept.result _ c.find-kept.ensures (not-false c.find-kept.result.good c.if-not-kept.false)
+standing : (c : After-put_rules-n) → OfForm c.args.catalogue.now c.in-Some.kept
+standing c = some_rules _ c.in-Some.kept (sym c.in-Some.is ∙ c.find.ensures)
 
 -- room for the longest rules
 room : (c : After-put_rules-n) → length c.no_bytes-bytes.result ≡ longest_rules

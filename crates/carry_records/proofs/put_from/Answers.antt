@@ -5,15 +5,14 @@ use Rattle.carry_records.proofs.Records.{going_start, going_on, going_ends}
 use Rattle.carry_records.proofs.put_from.Goals as goal
 
 pub loop-f-init : goal.loop-f-init
-loop-f-init c = (omega arith, refl, going_start _ _ _ _ _ _ _)
+loop-f-init c = (refl, going_start _ _ _ _ _ _ _)
 
 pub loop-f-preserved : goal.loop-f-preserved
 loop-f-preserved c = (
-  omega arith,
-  c.put_field-placed.auto.out ∙ c.loop-f.invariant.1,
-  going_on c.loop-f.invariant.2 _ _ _ c.put_field-placed.ensures.put c.put_field-placed.ensures.next,
+  c.put_field-placed.auto.out ∙ c.loop-f.invariant.0,
+  going_on c.loop-f.invariant.1 _ _ _ c.put_field-placed.ensures.put c.put_field-placed.ensures.next,
 )
 
 pub returns : goal.returns
 returns c =
-    going_ends c.loop-f.invariant.2 (omega arith) _ _ c.put_rest.ensures
+    going_ends c.loop-f.invariant.1 (omega arith) _ _ c.put_rest.ensures

@@ -1,9 +1,8 @@
 -- `catalogue` meets its contract, from what was read and put (`DropAnswered`).
 use native.Mathlib.Nat.{sub-zero}
 use native.Mathlib.Omega.{arith}
-use mathlib.Core.Path.{ap, ◌∙◌}
+use mathlib.Core.Path.{sym, ap, ◌∙◌}
 use Prim.Native.Nat.{ℕ}
-use borrow.Author.Tests.{not-true, not-false}
 use lib.ListN.{length, take, length-replicate}
 use Rattle.paper.specs.Rule.{foreign_field}
 use Rattle.paper_carry.specs.Spelling.{longest_rules}
@@ -13,18 +12,14 @@ use Rattle.carry_strays.proofs.DropAnswered.{and_promised, none_kept, within, al
 use Rattle.carry_strays.proofs.catalogue.Goals.{After-put_rules}
 use Rattle.carry_strays.proofs.catalogue.Goals as goal
 
-pub returns-then-not-kept : goal.returns-then-not-kept
-returns-then-not-kept c =
-    let kept = c.find_before-kept in
-    let h =
-    and_promised _ _ (none_kept _ (no_rules_by kept.result foreign_field _ kept.ensures (not-true kept.result.good c.if-not-kept.true))) in
+pub returns-in_default : goal.returns-in_default
+returns-in_default c =
+    let h = and_promised _ _ (none_kept _ (no_rules_by foreign_field _ (sym c.in_default.is ∙ c.find_before.ensures)) _) in
     record { whole = h.0; promised = h.1 }
 
 -- the rules that stand
-standing : (c : After-put_rules) → OfFormBefore c.args.catalogue.now c.find_before-kept.result
-standing c =
-    let kept = c.find_before-kept in
-    some_rules_by kept.result foreign_field _ kept.ensures (not-false kept.result.good c.if-not-kept.false)
+standing : (c : After-put_rules) → OfFormBefore c.args.catalogue.now c.in-Some.kept
+standing c = some_rules_by foreign_field _ c.in-Some.kept (sym c.in-Some.is ∙ c.find_before.ensures)
 
 pub slice_bounds-put-end : goal.slice_bounds-put-end
 slice_bounds-put-end c =
@@ -35,7 +30,7 @@ slice_bounds-put-end c =
 pub returns : goal.returns
 returns c =
     let x = standing (goal.at.returns c).After-put_rules in
-    let used = c.find_before-kept.result.used in
+    let used = c.in-Some.kept.used in
     let h =
     and_promised _ _
     (all_dropped _ _ x.of_form c.no_bytes-bytes.ensures _ x.counted c.put_rules.ensures _ _

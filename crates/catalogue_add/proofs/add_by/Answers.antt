@@ -1,50 +1,60 @@
 -- `add_by` meets its contract, from what was read (`Entering`). Assumes nothing.
 use mathlib.Core.Path.{◌≡◌, sym, ◌∙◌}
-use borrow.Author.Tests.{not-true, not-false}
 use Rattle.paper_catalogue.specs.Catalogue.{is_full}
-use Rattle.read_rule.proofs.RuleStruct.{rule_fault, rule_stands}
+use borrow.Author.Rules.{rules}
+use Rattle.std.specs.Prelude.{Err}
+use Rattle.paper.specs.Rule.{read_rule}
+use Rattle.read_rule.specs.RuleRead.{rule_bodies}
+use Rattle.read_rule.proofs.RuleStruct.{RuleTold, rule_fault, rule_stands}
+use Rattle.catalogue_add.specs.declared.AddError.TheVariants.{Refused}
 use Rattle.catalogue_form.specs.Kept.{OfForm}
 use Rattle.catalogue_form.proofs.FormFound.{no_rules, some_rules}
 use Rattle.catalogue_add.proofs.Entering.{full_is, adds_to_none, adds_fault, adds_foreign, adds_full}
-use Rattle.catalogue_add.proofs.add_by.Goals.{After-is_full, Else-not-kept}
+use Rattle.catalogue_add.proofs.add_by.Goals.{After-is_full, In-Some, In_ok-new}
 use Rattle.catalogue_add.proofs.add_by.Goals as goal
 
-pub returns-then-not-kept : goal.returns-then-not-kept
-returns-then-not-kept c = adds_to_none _ _ _ _ (no_rules c.find-kept.result _ c.find-kept.ensures (not-true c.find-kept.result.good c.if-not-kept.true))
+pub returns-in_default : goal.returns-in_default
+returns-in_default c = adds_to_none _ _ _ _ (no_rules _ (sym c.in_default.is ∙ c.find.ensures))
 
 -- the rules that stand
-standing : (c : Else-not-kept) → OfForm c.args.catalogue.now c.find-kept.result
-standing c = some_rules c.find-kept.result _ c.find-kept.ensures (not-false c.find-kept.result.good c.if-not-kept.false)
+standing : (c : In-Some) → OfForm c.args.catalogue.now c.in-Some.kept
+standing c = some_rules _ c.in-Some.kept (sym c.in-Some.is ∙ c.find.ensures)
 
 -- whether the new rule fits
 full-here : (c : After-is_full) →
-    is_full (standing (goal.at.After-is_full c).Else-not-kept).rules_present c.args.bytes.now c.args.catalogue.now ≡ c.is_full.result
+    is_full (standing (goal.at.After-is_full c).In-Some).rules_present c.args.bytes.now c.args.catalogue.now ≡ c.is_full.result
 full-here c =
-    let x = standing (goal.at.After-is_full c).Else-not-kept in
-    full_is c.find-kept.result x.rules_present c.args.catalogue.now c.args.bytes.now _ x.counted x.its_used c.is_full.ensures
+    let x = standing (goal.at.After-is_full c).In-Some in
+    full_is c.in-Some.kept x.rules_present c.args.catalogue.now c.args.bytes.now _ x.counted x.its_used c.is_full.ensures
 
-pub returns-in-Refused : goal.returns-in-Refused
-returns-in-Refused c =
-    let x = standing (goal.at.returns-in-Refused c).Else-not-kept in
-    adds_fault _ _ _ _ x.rules_present x.of_form _ _ (rule_fault c.read-new.result _ _ _ c.read-new.ensures c.in-Refused.is)
+pub returns-in_err-new : goal.returns-in_err-new
+returns-in_err-new c =
+    let x = standing (goal.at.returns-in_err-new c).In-Some in
+    let e : c.from_residual.result ≡ Err (Refused c.in_err-new.field-0.0) = search rules in
+    rw e
+    (adds_fault _ _ _ _ x.rules_present x.of_form _ _ (rule_fault (rule_bodies c.args.bytes.now) (read_rule c.args.bytes.now) c.in_err-new.field-0.0 (sym c.read.ensures ∙ c.in_err-new.was)))
+
+-- the rule that was read
+its-rule : (c : In_ok-new) → RuleTold (rule_bodies c.args.bytes.now) (read_rule c.args.bytes.now) c.in_ok-new.new
+its-rule c = rule_stands (rule_bodies c.args.bytes.now) (read_rule c.args.bytes.now) c.in_ok-new.new (sym c.read.ensures ∙ c.in_ok-new.was)
 
 pub returns-then-new : goal.returns-then-new
 returns-then-new c =
-    let x = standing (goal.at.returns-then-new c).Else-not-kept in
-    let r = rule_stands c.read-new.result _ _ c.read-new.ensures c.in_default.is in
+    let x = standing (goal.at.returns-then-new c).In-Some in
+    let r = its-rule (goal.at.returns-then-new c).In_ok-new in
     adds_foreign _ _ _ _ x.rules_present x.of_form r.rule _ r.reads (sym r.foreign ∙ c.if-new.true)
 
 pub returns-then-is_full : goal.returns-then-is_full
 returns-then-is_full c =
-    let x = standing (goal.at.returns-then-is_full c).Else-not-kept in
-    let r = rule_stands c.read-new.result _ _ c.read-new.ensures c.in_default.is in
+    let x = standing (goal.at.returns-then-is_full c).In-Some in
+    let r = its-rule (goal.at.returns-then-is_full c).In_ok-new in
     let full = full-here (goal.at.returns-then-is_full c).After-is_full ∙ c.if-is_full.true in
     adds_full _ _ _ _ x.rules_present x.of_form r.rule _ r.reads (sym r.foreign ∙ c.if-new.false) full
 
 pub enter-requires : goal.enter-requires
 enter-requires c =
-    let x = standing (goal.at.enter-requires c).Else-not-kept in
-    let r = rule_stands c.read-new.result _ _ c.read-new.ensures c.in_default.is in
+    let x = standing (goal.at.enter-requires c).In-Some in
+    let r = its-rule (goal.at.enter-requires c).In_ok-new in
     record {
       asks = record {
         standing = x;

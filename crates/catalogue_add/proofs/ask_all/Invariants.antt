@@ -1,5 +1,4 @@
 -- `ask_all` meets its contract. The loop's invariant: the pairs before number `i` are all answered 1 (`Going`). Assumes nothing.
-use Prim.Native.Nat.{◌-◌}
 use mathlib.Core.Path.{◌≡◌}
 use lib.ListN.{length}
 use Rattle.catalogue_question.specs.AskedBy.{asking_coded}
@@ -10,7 +9,4 @@ use Rattle.catalogue_add.proofs.ask_all.Given as goal
 abbrev pub invariant-loop-i : goal.invariant-loop-i
 invariant-loop-i l =
     (length l.work ≡ length l.initial.work)
-    × ((x : ReadyToAsk l.catalogue l.bytes l.kept l.right l.second l.standing) → Going (asking_coded l.how) x.standing.rules_present x.rule l.initial.work l.work l.i)
-
-abbrev pub decreases-loop-i : goal.decreases-loop-i
-decreases-loop-i l = l.kept.rules - l.i
+    × ((x : ReadyToAsk l.catalogue l.bytes l.kept l.new) → Going (asking_coded l.how) x.standing.rules_present x.rule l.initial.work l.work l.i)

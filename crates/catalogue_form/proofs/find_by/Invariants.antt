@@ -5,8 +5,8 @@ use Rattle.catalogue_form.specs.Kept.{unfit_by}
 use Rattle.catalogue_form.proofs.Reached.{Reached}
 use Rattle.catalogue_form.proofs.find_by.Given as goal
 
-abbrev pub invariant-loop-next : goal.invariant-loop-next
-invariant-loop-next l = Reached (unfit_by l.strict) l.catalogue l.begins l.rules l.used
+abbrev pub invariant-loop-begins : goal.invariant-loop-begins
+invariant-loop-begins l = Reached (unfit_by l.strict) l.catalogue l.begins l.rules l.used
 
-abbrev pub decreases-loop-next : goal.decreases-loop-next
-decreases-loop-next l = length l.catalogue - l.used
+abbrev pub decreases-loop-begins : goal.decreases-loop-begins
+decreases-loop-begins l = length l.catalogue - l.used

@@ -1,5 +1,4 @@
 -- `joined` meets its contract. The loop's invariant: `f` fields of the second rule are put behind the first's. Assumes nothing.
-use Prim.Native.Nat.{◌-◌, ◌≤◌}
 use mathlib.Core.Path.{◌≡◌}
 use lib.ListN.{length}
 use Rattle.paper.specs.Numbers.{rule_fields}
@@ -8,7 +7,4 @@ use Rattle.catalogue_question.proofs.Filled.{with_fields}
 use Rattle.catalogue_question.proofs.joined.Given as goal
 
 abbrev pub invariant-loop-f : goal.invariant-loop-f
-invariant-loop-f l = (length l.initial.fields ≡ Numbers.fields) × (length l.second ≡ Numbers.fields) × (l.f ≤ rule_fields) × (l.fields ≡ with_fields rule_fields l.initial.fields l.second l.f)
-
-abbrev pub decreases-loop-f : goal.decreases-loop-f
-decreases-loop-f l = rule_fields - l.f
+invariant-loop-f g l = (length l.initial.both ≡ Numbers.fields) × (length l.second ≡ Numbers.fields) × (l.both ≡ with_fields rule_fields l.initial.both l.second l.f)

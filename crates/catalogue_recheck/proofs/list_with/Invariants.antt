@@ -1,6 +1,5 @@
 -- `list_with` meets its contract. The loop's invariant: the pairs with the rules before number `j` are listed (`ListingWith`).
 -- Assumes nothing.
-use Prim.Native.Nat.{◌-◌}
 use mathlib.Core.Path.{◌≡◌}
 use lib.ListN.{length}
 use Rattle.catalogue_question.specs.AskedBy.{asking_coded}
@@ -11,8 +10,5 @@ use Rattle.catalogue_recheck.proofs.list_with.Given as goal
 abbrev pub invariant-loop-j : goal.invariant-loop-j
 invariant-loop-j l =
     (length l.work ≡ length l.initial.work) × (length l.bytes ≡ length l.initial.bytes)
-    × ((x : ReadyToList (asking_coded l.how) l.catalogue l.kept l.lower l.left l.first l.standing l.initial.work l.initial.bytes l.n)
+    × ((x : ReadyToList (asking_coded l.how) l.catalogue l.kept l.lower l.rule l.initial.work l.initial.bytes l.n)
     → ListingWith (asking_coded l.how) x.standing.rules_present l.lower l.initial.work l.work l.initial.bytes l.bytes l.n l.j l.end)
-
-abbrev pub decreases-loop-j : goal.decreases-loop-j
-decreases-loop-j l = l.kept.rules - l.j

@@ -1,28 +1,18 @@
--- `first_taken` meets its contract. The loop's invariant: the first one is the first of those from `c` on.
-use Prim.Native.Nat.{suc, ◌-◌}
+-- `first_taken` meets its contract: the library's `find` over the characters.
 use native.Mathlib.Omega.{arith}
-use mathlib.Core.Path.{sym, ◌∙◌}
-use Rattle.decide_alike.specs.AlikeCoded.{taken_coded}
-use Rattle.decide_alike.proofs.AlikeTurns.{first_here, first_behind, first_none, first_of_all}
+use mathlib.Core.Path.{refl}
+use borrow.Author.Rules.{rules}
+use borrow.Author.Tests.{tests}
+use Rattle.std.proofs.lemmas.Iterator.{YieldsList-from_range}
+use Rattle.std.proofs.lemmas.Iterator.Search.{find_from_yields_List}
+use Rattle.decide_alike.specs.AlikeCoded.{taken_coded, first_taken}
+use Rattle.decide_alike.proofs.InRange.{found}
 use Rattle.decide_alike.proofs.first_taken.Goals as goal
 
-pub loop-c-init : goal.loop-c-init
-loop-c-init c = (omega arith, first_of_all c.args.n c.args.among c.args.row c.args.p)
-
-pub returns-then-is_taken : goal.returns-then-is_taken
-returns-then-is_taken c =
-    let l = c.loop-c in
-    let a = c.args in
-    sym (l.invariant.1 (a.n - l.c) (omega arith) ∙ first_here (taken_coded a.among a.row a.p) l.c (a.n - l.c) (omega arith) (sym c.is_taken.ensures ∙ c.if-is_taken.true))
-
-pub loop-c-preserved : goal.loop-c-preserved
-loop-c-preserved c =
-    let l = c.loop-c in
-    let a = c.args in
-    (omega arith, λ m e. l.invariant.1 (suc m) (omega arith) ∙ first_behind (taken_coded a.among a.row a.p) l.c m (sym c.is_taken.ensures ∙ c.if-is_taken.false))
-
 pub returns : goal.returns
+unfolding first_taken
 returns c =
-    let l = c.loop-c in
     let a = c.args in
-    sym (l.invariant.1 0 (omega arith) ∙ first_none (taken_coded a.among a.row a.p) l.c)
+    let test = taken_coded a.among.now a.row.now a.p in
+    found test a.n c.find.result
+    (find_from_yields_List test _ _ c.find.result c.find.ensures.ran (YieldsList-from_range 0 a.n a.n refl (omega arith)) (λ x b q k. search (rules, tests)))

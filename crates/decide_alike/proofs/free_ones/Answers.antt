@@ -1,26 +1,20 @@
--- `free_ones` meets its contract. The loop's invariant: the characters below `c` are marked (`Marks`).
+-- `free_ones` meets its contract, by what each call tells.
 use Prim.Native.Nat.{ℕ}
-use native.Mathlib.Omega.{arith}
-use mathlib.Core.Path.{◌≡◌}
-use mathlib.Core.Bool.{false, ◌&&◌, not}
+use mathlib.Core.Path.{◌∙◌}
+use mathlib.Core.Bool.{false, ◌&&◌, not, and_assoc}
+use lib.Dec.{ltb}
 use lib.ListN.{get_or}
-use Rattle.decide_alike.specs.AlikeCoded.{free_coded}
-use Rattle.decide_alike.proofs.Marks.{marks_none, marks_more}
+use borrow.Author.Rules.{rules}
+use borrow.Author.Tests.{tests}
+use Rattle.paper.specs.Numbers.{most_characters}
+use Rattle.search_tables.proofs.Listed.{listed_same}
+use Rattle.decide_alike.specs.AlikeCoded.{marked_by, free_coded}
+use Rattle.decide_alike.proofs.FromFn.{from_fn_listed}
 use Rattle.decide_alike.proofs.free_ones.Goals as goal
 
-pub loop-c-init : goal.loop-c-init
-loop-c-init c = let a = c.args in (omega arith, marks_none (λ (x : ℕ). get_or a.least x false && not (get_or a.fixed x false)))
-
-pub loop-c-preserved : goal.loop-c-preserved
-loop-c-preserved c =
-    let l = c.loop-c in
-    let a = c.args in
-    (omega arith, rw l.invariant.1 (marks_more (λ (x : ℕ). get_or a.least x false && not (get_or a.fixed x false)) l.c _ (omega (arith, c.requires)) c.is_free.ensures))
-
 pub returns : goal.returns
-unfolding free_coded
+unfolding free_coded marked_by
 returns c =
-    let l = c.loop-c in
-    let n = c.args.n in
-    let same : l.c ≡ n = omega arith in
-    rw (l.invariant.1, same)
+    let a = c.args in
+    from_fn_listed _ (λ (x : ℕ). (ltb x a.n && get_or a.least x false) && not (get_or a.fixed x false)) _ _ most_characters false (λ c y q h r. search (rules, tests)) c.from_fn.ensures.items
+    ∙ listed_same false _ most_characters _ (λ x h. and_assoc (ltb x a.n) (get_or a.least x false) (not (get_or a.fixed x false)))

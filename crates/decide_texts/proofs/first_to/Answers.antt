@@ -13,21 +13,21 @@ unfolding first_to
 loop-c-init c =
     let a = c.args in
     let t = leads a.taking.now a.next a.ends in
-    (omega arith, λ m e. let all : a.n ≡ m = omega arith in ap (λ (n : ℕ). get_or (keep t (from 0 n)) 0 0) all)
+    λ m e. let all : a.n ≡ m = omega arith in ap (λ (n : ℕ). get_or (keep t (from 0 n)) 0 0) all
 
 pub returns-then-meets : goal.returns-then-meets
 returns-then-meets c =
     let a = c.args in
     let t = leads a.taking.now a.next a.ends in (
       omega (arith, c.requires),
-      sym (c.loop-c.invariant.1 (a.n - c.loop-c.c) (omega arith) ∙ first_here t c.loop-c.c (a.n - c.loop-c.c) (omega arith) (sym c.meets.ensures ∙ c.if-meets.true)),
+      sym (c.loop-c.invariant (a.n - c.loop-c.c) (omega arith) ∙ first_here t c.loop-c.c (a.n - c.loop-c.c) (omega arith) (sym c.meets.ensures ∙ c.if-meets.true)),
     )
 
 pub loop-c-preserved : goal.loop-c-preserved
 loop-c-preserved c =
     let a = c.args in
     let t = leads a.taking.now a.next a.ends in
-    (omega arith, λ m e. c.loop-c.invariant.1 (suc m) (omega arith) ∙ first_behind t c.loop-c.c m (sym c.meets.ensures ∙ c.if-meets.false))
+    λ m e. c.loop-c.invariant (suc m) (omega arith) ∙ first_behind t c.loop-c.c m (sym c.meets.ensures ∙ c.if-meets.false)
 
 pub returns : goal.returns
-returns c = let l = c.loop-c in (omega arith, sym (l.invariant.1 0 (omega arith)))
+returns c = let l = c.loop-c in (omega arith, sym (l.invariant 0 (omega arith)))

@@ -1,5 +1,5 @@
 -- `first_to` meets its contract. The loop's invariant: the first one is the first of those from c on.
-use Prim.Native.Nat.{ℕ, ◌+◌, ◌-◌, ◌≤◌}
+use Prim.Native.Nat.{ℕ, ◌+◌}
 use mathlib.Core.Path.{◌≡◌}
 use lib.ListN.{get_or}
 use Rattle.paper.specs.Lists.{from, keep}
@@ -8,7 +8,4 @@ use Rattle.decide_texts.proofs.first_to.Given as goal
 
 abbrev pub invariant-loop-c : goal.invariant-loop-c
 invariant-loop-c l =
-    (l.c ≤ l.n) × ((m : ℕ) → m + l.c ≡ l.n → first_to l.n l.taking l.next l.ends ≡ get_or (keep (leads l.taking l.next l.ends) (from l.c m)) 0 0)
-
-abbrev pub decreases-loop-c : goal.decreases-loop-c
-decreases-loop-c l = l.n - l.c
+    (m : ℕ) → m + l.c ≡ l.n → first_to l.n l.taking l.next l.ends ≡ get_or (keep (leads l.taking l.next l.ends) (from l.c m)) 0 0

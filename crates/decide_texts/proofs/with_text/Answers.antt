@@ -3,15 +3,13 @@ use mathlib.Core.Path.{◌∙◌}
 use Rattle.decide_texts.proofs.TextTurns.{one_text, no_one_text}
 use Rattle.decide_texts.proofs.with_text.Goals as goal
 
-pub returns-then-length-lt-LENGTHS : goal.returns-then-length-lt-LENGTHS
-returns-then-length-lt-LENGTHS c =
+pub returns-in-Some : goal.returns-in-Some
+returns-in-Some c =
     let a = c.args in
-    c.spelt.ensures
-    ∙ one_text a.n a.asked a.own c.taken.result c.endings-its.result.length c.endings-its.result.ends
-    c.taken.ensures c.endings-its.ensures c.if-length-lt-LENGTHS.true
+    let said = rw c.in-Some.is at c.endings.ensures in
+    c.spelt.ensures ∙ one_text a.n a.asked a.own c.taken.result c.taken.ensures c.in-Some.its said.0 said.1
 
-pub returns : goal.returns
-returns c =
+pub returns-in-None : goal.returns-in-None
+returns-in-None c =
     let a = c.args in
-    no_one_text a.n a.asked a.own c.taken.result c.endings-its.result.length c.endings-its.result.ends
-    c.taken.ensures c.endings-its.ensures c.if-length-lt-LENGTHS.false
+    no_one_text a.n a.asked a.own c.taken.result c.taken.ensures (rw c.in-None.is at c.endings.ensures)

@@ -1,24 +1,17 @@
--- `are_tokens` meets its contract. The loop's invariant: the answer is that for what is left.
-use mathlib.Core.Path.{refl, sym, ◌∙◌}
-use borrow.Author.Rules.{rules}
+-- `are_tokens` meets its contract: every byte is a token.
+use Prim.Native.Nat.{ℕ}
+use Rattle.std.proofs.Common.{rules, tests}
+use mathlib.Core.Path.{◌∙◌}
+use Rattle.std.proofs.lemmas.Iterator.{YieldsList-from_slice}
+use Rattle.std.proofs.lemmas.Iterator.Search.{all_from_yields_List}
+use Rattle.paper.specs.Alphabet.{code}
+use Rattle.paper.specs.Sheet.{is_token}
 use Rattle.base_editions.specs.Editions.{paper_edition}
-use Rattle.fronts_sides.proofs.TokenBytes.{tokens_on, tokens_not, tokens_none}
+use Rattle.fronts_sides.proofs.TokenBytes.{tokens_all}
 use Rattle.fronts_sides.proofs.are_tokens.Goals as goal
-
-pub loop-i-init : goal.loop-i-init
-loop-i-init c = (search rules, refl)
-
-pub returns-then-not-is_token : goal.returns-then-not-is_token
-returns-then-not-is_token c =
-    let a = c.args in
-    sym (c.loop-i.invariant.1 ∙ tokens_not (paper_edition a.edition) a.side.now c.loop-i.i (search rules) (sym c.is_token.ensures ∙ c.if-not-is_token.true))
-
-pub loop-i-preserved : goal.loop-i-preserved
-loop-i-preserved c =
-    let a = c.args in
-    (search rules, c.loop-i.invariant.1 ∙ tokens_on (paper_edition a.edition) a.side.now c.loop-i.i (search rules) (sym c.is_token.ensures ∙ c.if-not-is_token.false))
 
 pub returns : goal.returns
 returns c =
-    let a = c.args in
-    sym (c.loop-i.invariant.1 ∙ tokens_none (paper_edition a.edition) a.side.now c.loop-i.i c.loop-i-test.false)
+    let e = paper_edition c.args.edition in
+    let side = c.args.side.now in
+    all_from_yields_List (λ (b : ℕ). is_token (code e b)) _ _ c.all.result c.all.ensures.ran (YieldsList-from_slice side c.iter.ensures.rest) (λ x b q k. search (rules, tests)) ∙ tokens_all e side

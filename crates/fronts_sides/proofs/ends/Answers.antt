@@ -1,64 +1,31 @@
--- `ends` meets its contract. The loop's invariant: the answer is that for what is left of both sides, read from behind.
-use Prim.Native.Nat.{ℕ, ◌-◌}
-use mathlib.Core.Path.{◌≡◌, sym, ap₂, ◌∙◌}
-use mathlib.Core.List.{List, ◌∷◌}
-use borrow.Author.Rules.{rules}
-use Rattle.paper.specs.Alphabet.{Edition}
-use Rattle.paper.specs.Sheet.{token}
+-- `ends` meets its contract. The loop's invariant: the answer is that for what is left of both sides.
+use mathlib.Core.Path.{sym, ap₂, ◌∙◌}
+use mathlib.Core.List.{reverse}
+use Rattle.std.proofs.lemmas.Iterator.{YieldsList-from_zip}
+use Rattle.std.proofs.lemmas.Iterator.Adapters.{YieldsList-from_rev_slice}
+use Rattle.std.proofs.lemmas.Iterator.Consumers.{YieldsList-turn, YieldsList-end}
+use Rattle.std.proofs.lemmas.List.{length_push}
 use Rattle.paper_fronts.specs.FixedFronts.{fronts_differ}
 use Rattle.base_editions.specs.Editions.{paper_edition}
-use Rattle.fronts_sides.proofs.FixedWalk.{said_before, next_behind, whole_behind, none_behind, left_ended, right_ended, left_field, right_field, unlike, alike_on}
-use Rattle.fronts_sides.proofs.ends.Goals.{After-code-y}
+use Rattle.fronts_sides.proofs.FixedWalk.{bytes_at, told_there, alike_there, alike_whole, said_reverse}
 use Rattle.fronts_sides.proofs.ends.Goals as goal
 
-pub loop-p-init : goal.loop-p-init
-loop-p-init c =
-    let a = c.args in
-    let e = paper_edition a.edition in
-    (search rules, search rules, ap₂ fronts_differ (whole_behind e a.left.now) (whole_behind e a.right.now))
-
--- the last token of what is left of each side, by its code
-module _ (k : After-code-y) where
-  abbrev its_edition : Edition
-  its_edition = paper_edition k.args.edition
-
-  abbrev its_left : List ℕ
-  its_left = k.args.left.now
-
-  abbrev its_right : List ℕ
-  its_right = k.args.right.now
-
-  left_next : said_before its_edition k.loop-p.p its_left ≡ token k.code-x.result ∷ said_before its_edition (k.loop-p.p - 1) its_left
-  left_next = next_behind its_edition its_left k.loop-p.p k.code-x.result (search rules) (search rules) k.code-x.ensures
-
-  right_next : said_before its_edition k.loop-p.q its_right ≡ token k.code-y.result ∷ said_before its_edition (k.loop-p.q - 1) its_right
-  right_next = next_behind its_edition its_right k.loop-p.q k.code-y.result (search rules) (search rules) k.code-y.ensures
-
-pub returns-then-q-eq0 : goal.returns-then-q-eq0
-returns-then-q-eq0 c =
+pub returns-in-Some-at_place : goal.returns-in-Some-at_place
+returns-in-Some-at_place c =
     let e = paper_edition c.args.edition in
-    sym (c.loop-p.invariant.2 ∙ right_ended (said_before e c.loop-p.p c.args.left.now) (said_before e c.loop-p.q c.args.right.now) (none_behind e c.args.right.now c.loop-p.q c.if-q-eq0.true))
+    let t = bytes_at (reverse c.args.left.now) (reverse c.args.right.now) _ _ _ (YieldsList-turn (YieldsList-from_zip {s = c.into_iter-a-iterator.result} (YieldsList-from_rev_slice {s = c.into_iter-a-iterator.result.a} c.args.left.now (cc)) (YieldsList-from_rev_slice {s = c.into_iter-a-iterator.result.b} c.args.right.now (cc))) c.loop-a.yielded _ c.loop-a.yielded_by c.next.result c.next.new.self (c.in-Some.field-0-0, c.in-Some.field-0-1) c.in-Some.is c.next.ensures.steps) in
+    let told = sym c.at_place.ensures ∙ c.in-Some-at_place.is in
+    told_there e (reverse c.args.left.now) (reverse c.args.right.now) _ _ _ c.loop-a.invariant t c.in-Some-at_place.differ told ∙ sym (ap₂ fronts_differ (said_reverse e c.args.left.now) (said_reverse e c.args.right.now))
 
-pub returns-then-x-ge-CHARACTERS : goal.returns-then-x-ge-CHARACTERS
-returns-then-x-ge-CHARACTERS c =
-    sym (c.loop-p.invariant.2 ∙ left_field c.code-x.result c.code-y.result (left_next (goal.at.returns-then-x-ge-CHARACTERS c).After-code-y) (right_next (goal.at.returns-then-x-ge-CHARACTERS c).After-code-y) c.if-x-ge-CHARACTERS.true)
-
-pub returns-then-y-ge-CHARACTERS : goal.returns-then-y-ge-CHARACTERS
-returns-then-y-ge-CHARACTERS c =
-    sym (c.loop-p.invariant.2 ∙ right_field c.code-x.result c.code-y.result (left_next (goal.at.returns-then-y-ge-CHARACTERS c).After-code-y) (right_next (goal.at.returns-then-y-ge-CHARACTERS c).After-code-y) c.if-x-ge-CHARACTERS.false c.if-y-ge-CHARACTERS.true)
-
-pub returns-then-x-y : goal.returns-then-x-y
-returns-then-x-y c =
-    sym (c.loop-p.invariant.2 ∙ unlike c.code-x.result c.code-y.result (left_next (goal.at.returns-then-x-y c).After-code-y) (right_next (goal.at.returns-then-x-y c).After-code-y) c.if-x-ge-CHARACTERS.false c.if-y-ge-CHARACTERS.false c.if-x-y.true)
-
-pub loop-p-preserved : goal.loop-p-preserved
-loop-p-preserved c = (
-  search rules,
-  search rules,
-  c.loop-p.invariant.2 ∙ alike_on c.code-x.result c.code-y.result (left_next (goal.at.loop-p-preserved c).After-code-y) (right_next (goal.at.loop-p-preserved c).After-code-y) c.if-x-ge-CHARACTERS.false c.if-y-ge-CHARACTERS.false c.if-x-y.false,
-)
+pub loop-a-preserved : goal.loop-a-preserved
+loop-a-preserved c =
+    let e = paper_edition c.args.edition in
+    let t = bytes_at (reverse c.args.left.now) (reverse c.args.right.now) _ _ _ (YieldsList-turn (YieldsList-from_zip {s = c.into_iter-a-iterator.result} (YieldsList-from_rev_slice {s = c.into_iter-a-iterator.result.a} c.args.left.now (cc)) (YieldsList-from_rev_slice {s = c.into_iter-a-iterator.result.b} c.args.right.now (cc))) c.loop-a.yielded _ c.loop-a.yielded_by c.next.result c.next.new.self (c.in-Some.field-0-0, c.in-Some.field-0-1) c.in-Some.is c.next.ensures.steps) in
+    let told = sym c.at_place.ensures ∙ c.in_default.is in
+    rw length_push (alike_there e (reverse c.args.left.now) (reverse c.args.right.now) _ _ _ c.loop-a.invariant t told)
 
 pub returns : goal.returns
 returns c =
     let e = paper_edition c.args.edition in
-    sym (c.loop-p.invariant.2 ∙ left_ended (said_before e c.loop-p.p c.args.left.now) (said_before e c.loop-p.q c.args.right.now) (none_behind e c.args.left.now c.loop-p.p (search rules)))
+    let t = YieldsList-end (YieldsList-from_zip {s = c.into_iter-a-iterator.result} (YieldsList-from_rev_slice {s = c.into_iter-a-iterator.result.a} c.args.left.now (cc)) (YieldsList-from_rev_slice {s = c.into_iter-a-iterator.result.b} c.args.right.now (cc))) c.loop-a.yielded _ c.loop-a.yielded_by c.next.result c.next.new.self c.in-None.is c.next.ensures.steps in
+    alike_whole e (reverse c.args.left.now) (reverse c.args.right.now) _ c.loop-a.invariant t.1 ∙ sym (ap₂ fronts_differ (said_reverse e c.args.left.now) (said_reverse e c.args.right.now))

@@ -1,10 +1,4 @@
 -- `add` meets its contract. The loop's invariant: the places of the set that are not in the rest have been added (`Adding`). The rest falls.
-use Prim.Native.Nat.{◌-◌}
-use native.Mathlib.Nat.{lt_of_le_of_lt}
-use native.Mathlib.Omega.{arith}
-use lib.Bits.{and_le_r}
-use lib.Count.{trailing_le}
-use Rattle.base_places.specs.Masks.{places}
 use Rattle.plain_block.proofs.Digits.{lowest_below}
 use Rattle.plain_block.proofs.Growing.{no_right, adding_none, adding_more, adding_all}
 use Rattle.plain_block.proofs.add.Goals as goal
@@ -12,26 +6,17 @@ use Rattle.plain_block.proofs.add.Goals as goal
 pub returns-then-more-eq0 : goal.returns-then-more-eq0
 returns-then-more-eq0 c =
     let a = c.args in
-    no_right a.rows.now a.todo a.set a.more c.requires c.ranges.todo.fits c.if-more-eq0.true
+    no_right a.rows.now a.todo a.set a.more c.told-rows c.ranges.todo.fits c.if-more-eq0.true
 
 pub loop-rest-init : goal.loop-rest-init
 loop-rest-init c =
     let a = c.args in
-    adding_none a.rows.now a.set a.more a.todo c.requires c.ranges.set.fits c.ranges.todo.fits
-
-pub overflow_cast-i : goal.overflow_cast-i
-overflow_cast-i c = record { fits = lt_of_le_of_lt (trailing_le places c.loop-rest.rest) (omega arith) }
-
-pub overflow_sub-rest : goal.overflow_sub-rest
-overflow_sub-rest c = omega arith
+    adding_none a.rows.now a.set a.more a.todo c.told-rows c.ranges.set.fits c.ranges.todo.fits
 
 pub grow-r-requires : goal.grow-r-requires
 grow-r-requires c =
     let l = c.loop-rest in
-    (l.invariant.grown.long, lowest_below l.rest c.loop-rest-test.true l.invariant.narrow)
-
-pub loop-rest-smaller : goal.loop-rest-smaller
-loop-rest-smaller c = let l = c.loop-rest in omega (arith, and_le_r l.rest (l.rest - 1), c.loop-rest-test.true)
+    lowest_below l.rest c.loop-rest-test.true l.invariant.narrow
 
 pub loop-rest-preserved : goal.loop-rest-preserved
 loop-rest-preserved c =

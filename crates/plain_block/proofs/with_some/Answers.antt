@@ -1,9 +1,6 @@
 -- `with_some` meets its contract. The loop's invariant: the places that are not in the rest have been looked at (`Gathering`). The rest falls.
-use Prim.Native.Nat.{◌*◌, ◌-◌, ◌%◌, ◌^◌, ◌<◌}
-use native.Mathlib.Nat.{lt_of_le_of_lt}
-use native.Mathlib.Omega.{arith}
-use lib.Bits.{and_le_r}
-use lib.Count.{count_trailing_zeros, trailing_le}
+use Prim.Native.Nat.{◌*◌, ◌%◌, ◌^◌, ◌<◌}
+use lib.Count.{count_trailing_zeros}
 use Rattle.base_places.specs.Masks.{places}
 use Rattle.plain_block.proofs.Digits.{lowest_below, mark_is}
 use Rattle.plain_block.proofs.WithSome.{gathering_none, gathering_more, gathering_not, gathering_all}
@@ -13,27 +10,15 @@ use Rattle.plain_block.proofs.with_some.Goals as goal
 pub loop-rest-init : goal.loop-rest-init
 loop-rest-init c = let a = c.args in gathering_none a.rows.now a.met a.last c.ranges.met.fits
 
-pub overflow_cast-i : goal.overflow_cast-i
-overflow_cast-i c = record { fits = lt_of_le_of_lt (trailing_le places c.loop-rest.rest) (omega arith) }
-
-pub overflow_sub-rest : goal.overflow_sub-rest
-overflow_sub-rest c = omega arith
-
 -- the place that is looked at is one
 in-places : (c : In-loop-rest) → count_trailing_zeros places c.loop-rest.rest < places
 in-places c = lowest_below c.loop-rest.rest c.loop-rest-test.true c.loop-rest.invariant.narrow
-
-pub offset_bounds-rows-i : goal.offset_bounds-rows-i
-offset_bounds-rows-i c = omega (arith, in-places (goal.at.offset_bounds-rows-i c).In-loop-rest)
 
 pub bounds-rows-i : goal.bounds-rows-i
 bounds-rows-i c = in-places (goal.at.bounds-rows-i c).In-loop-rest
 
 pub overflow_shl-r : goal.overflow_shl-r
 overflow_shl-r c = in-places (goal.at.overflow_shl-r c).In-loop-rest
-
-pub loop-rest-smaller-then-rows-i-ne0 : goal.loop-rest-smaller-then-rows-i-ne0
-loop-rest-smaller-then-rows-i-ne0 c = let l = c.loop-rest in omega (arith, and_le_r l.rest (l.rest - 1), c.loop-rest-test.true)
 
 pub loop-rest-preserved-then-rows-i-ne0 : goal.loop-rest-preserved-then-rows-i-ne0
 loop-rest-preserved-then-rows-i-ne0 c =
@@ -42,9 +27,6 @@ loop-rest-preserved-then-rows-i-ne0 c =
     let i = count_trailing_zeros places l.rest in
     gathering_more a.rows.now a.met a.last l.r l.rest l.invariant c.loop-rest-test.true c.if-rows-i-ne0.true (1 * 2 ^ i % 2 ^ places)
     (mark_is i (in-places (goal.at.loop-rest-preserved-then-rows-i-ne0 c).In-loop-rest))
-
-pub loop-rest-smaller : goal.loop-rest-smaller
-loop-rest-smaller c = let l = c.loop-rest in omega (arith, and_le_r l.rest (l.rest - 1), c.loop-rest-test.true)
 
 pub loop-rest-preserved : goal.loop-rest-preserved
 loop-rest-preserved c =

@@ -1,15 +1,11 @@
 -- `places_of` meets its contract. The loop's invariant: the places of the fields below f are counted (`Counted`).
 use native.Mathlib.Omega.{arith}
-use mathlib.Core.Path.{refl}
 use Rattle.paper.specs.Numbers.{fields}
 use Rattle.base_places.specs.Masks.{within}
-use Rattle.base_question.proofs.Counts.{counted_none, counted_more, counted_all}
+use Rattle.base_question.proofs.Counts.{counted_more, counted_all}
 use Rattle.plain_count.specs.StandingsCoded.{all_places}
 use Rattle.plain_count.proofs.places_of.Invariants.{places_at}
 use Rattle.plain_count.proofs.places_of.Goals as goal
-
-pub loop-f-init : goal.loop-f-init
-loop-f-init c = counted_none _ fields _ refl
 
 pub loop-f-preserved : goal.loop-f-preserved
 loop-f-preserved c =

@@ -1,5 +1,5 @@
 -- `places_of` meets its contract. The loop's invariant: the places of the fields below f are counted (`Counted`).
-use Prim.Native.Nat.{ℕ, ◌-◌}
+use Prim.Native.Nat.{ℕ}
 use mathlib.Core.List.{List}
 use lib.ListN.{get_or}
 use Rattle.paper.specs.Numbers.{fields}
@@ -13,7 +13,4 @@ abbrev pub places_at : ℕ → List PlaceTables → ℕ → ℕ
 places_at n tables f = places_by n (get_or tables f no_tables).taking
 
 abbrev pub invariant-loop-f : goal.invariant-loop-f
-invariant-loop-f l = Counted (places_at (within l.question.alphabet.characters) l.question.fields) fields l.places l.f
-
-abbrev pub decreases-loop-f : goal.decreases-loop-f
-decreases-loop-f l = fields - l.f
+invariant-loop-f l = Counted (places_at (within l.fn.question.alphabet.characters) l.fn.question.fields) fields l.places l.f

@@ -1,32 +1,13 @@
--- `last_rows` meets its contract. The loop's invariant: the fields below `f` have their rows (`Laid`). Assumes nothing.
-use native.Mathlib.Omega.{arith}
-use mathlib.Core.Path.{◌≡◌, refl}
+-- `last_rows` meets its contract: behind the own fields' rows stand those that were stored before (`laid_rows`).
+use mathlib.Core.Path.{◌∙◌}
 use borrow.Author.Rules.{rules}
-use lib.ListN.{length}
-use Rattle.paper.specs.Numbers.{fields}
-use Rattle.plain_rows.specs.Fronts.{no_tables, one_place}
 use Rattle.search_tables.specs.Tables.{last_of}
-use Rattle.plain_rows.proofs.Rows.{laid_none, laid_long, laid_more, laid_all}
+use Rattle.plain_rows.specs.Fronts.{no_tables, one_place}
+use Rattle.plain_rows.proofs.Rows.{laid_rows}
 use Rattle.plain_rows.proofs.last_rows.Goals as goal
-
-pub loop-f-init : goal.loop-f-init
-loop-f-init c =
-    let all : length c.args.own ≡ fields = search rules in
-    laid_none last_of c.args.own _ all refl
-
-pub bounds-rows-f : goal.bounds-rows-f
-bounds-rows-f c =
-    let l = c.loop-f in
-    omega (arith, laid_long last_of c.args.own _ l.rows l.f l.invariant)
-
-pub loop-f-preserved : goal.loop-f-preserved
-loop-f-preserved c =
-    let l = c.loop-f in
-    laid_more last_of c.args.own _ l.rows l.f l.invariant (omega arith)
 
 pub returns : goal.returns
 unfolding one_place no_tables
 returns c =
-    let l = c.loop-f in
-    let a = c.args in
-    laid_all last_of a.own _ l.rows l.f l.invariant a.hidden (omega arith) refl
+    c.lay.ensures last_of (λ t x h. search rules)
+    ∙ laid_rows last_of c.args.own c.args.hidden

@@ -16,7 +16,7 @@ returns-then-b-lt-FIELD_CODE c =
     let b = c.args.b in
     let m = c.args.characters in
     let n : is_char b ≡ true = lt_ltb b field_code c.if-b-lt-FIELD_CODE.true in
-    let e = c.wide-a.ensures in
+    let e = c.from-a.ensures in
     (λ i. record { row = character_row; lo = e i; hi = (ap (λ (x : ℕ). x + 1) e ∙ add-one b) i }) ∙ sym (token_character m b n)
 
 pub returns-then-f-lt-FIELDS : goal.returns-then-f-lt-FIELDS

@@ -1,13 +1,17 @@
 -- `bytes_needed` meets its contract: the whole, and what is promised of it. Follows from the laws of `EngineTold`.
-use mathlib.Core.Path.{ap, ◌∙◌}
+use mathlib.Core.Path.{sym, ap, ◌∙◌}
+use Rattle.std.proofs.lemmas.Result.{err_from_is_err_and}
 use Rattle.plain_answer.specs.EngineNumbers.{told_needed}
-use Rattle.plain_sheet.proofs.EngineTold.{needs_told, needs_kept}
+use Rattle.plain_sheet.proofs.EngineTold.{fault_needs, needs_told, needs_kept}
 use Rattle.plain_sheet.proofs.bytes_needed.Goals as goal
 
-pub returns-clause-whole : goal.returns-clause-whole
-returns-clause-whole c =
-    (needs_kept _ _ (ap told_needed c.needs.ensures ∙ needs_told _ _ c.read-read.ensures c.of_read.ensures)).0
+pub returns-in_err-asked : goal.returns-in_err-asked
+returns-in_err-asked c =
+    let h = err_from_is_err_and c.from_residual.result c.from_residual.ensures.1 in
+    let p = needs_kept _ _ (fault_needs c.args.sheet.now _ (sym c.in_err-asked.ensures)) in
+    rw (h.1, h.2) (record { whole = p.0; promised = p.1 })
 
-pub returns-clause-promised : goal.returns-clause-promised
-returns-clause-promised c =
-    (needs_kept _ _ (ap told_needed c.needs.ensures ∙ needs_told _ _ c.read-read.ensures c.of_read.ensures)).1
+pub returns : goal.returns
+returns c =
+    let p = needs_kept _ _ (ap told_needed c.needs.ensures ∙ needs_told _ _ (sym c.in_ok-asked.ensures) c.answered.ensures) in
+    record { whole = p.0; promised = p.1 }

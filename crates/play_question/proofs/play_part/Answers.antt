@@ -1,22 +1,22 @@
 -- `play_part` meets its contract: the question with its hidden fields and its tables is made, and walked, or its texts are put (`part_whole`).
 use Prim.Native.Nat.{ℕ}
-use mathlib.Core.Path.{◌≡◌}
+use mathlib.Core.Path.{◌≡◌, refl, sym, ap, ◌∙◌}
+use Rattle.std.specs.Prelude.{Option, None, Some, Ok, Err}
+use Rattle.std.specs.Option.{ok_or}
+use Rattle.play_question.specs.declared.PlayStop.TheVariants.{AnswerTooShort, Stopped}
 use mathlib.Core.List.{List, [], ◌∷◌, ◌++◌}
 use lib.ListN.{length}
 use borrow.Author.Rules.{rules}
 use Rattle.paper.specs.Numbers.{longest_side}
 use Rattle.base_codes.specs.Coded.{denoted}
-use Rattle.search_records.specs.declared.Given.TheVariants.{TooShort}
 use Rattle.play_step.specs.StepCoded.{lent_tables}
-use Rattle.play_walk.specs.declared.Ending.TheVariants.{Arrived}
-use Rattle.play_question.specs.QuestionPlayed.{question_tables, question_first, PartOf}
-use Rattle.play_question.specs.declared.Part.{Part}
+use Rattle.play_question.specs.QuestionPlayed.{End, end_of, walk_end, question_tables, question_first, PartOf}
 use Rattle.play_question.proofs.Ended.{part_whole}
 use Rattle.play_question.proofs.play_part.Goals.{After-taking_behind-taking}
 use Rattle.play_question.proofs.play_part.Goals as goal
 
 -- what is told by the tables that were made is told of the question
-made : (c : After-taking_behind-taking) (before after : List ℕ) (r : Part)
+made : (c : After-taking_behind-taking) (before after : List ℕ) (r : End)
     → let a = c.args in
     PartOf a.wanted
     (lent_tables a.question.alphabet.characters c.follow_behind-follow.result c.taking_behind-taking.result c.last_behind-last.result)
@@ -40,10 +40,25 @@ made c before after r =
     c.follow_behind-follow.ensures c.taking_behind-taking.ensures c.last_behind-last.ensures c.question-first.ensures
     a.wanted a.steps.now before after r
 
+given_end : (o : Option ℕ) → ok_or o AnswerTooShort ≡ end_of o
+given_end None = refl
+given_end (Some n) = refl
+
 pub returns-then-wanted : goal.returns-then-wanted
 returns-then-wanted c =
-    made (goal.at.returns-then-wanted c).After-taking_behind-taking _ c.answer_way-given.new.answer (record { ending = Arrived; given = c.answer_way-given.result }) (rw c.if-wanted.true c.answer_way-given.ensures)
+    made (goal.at.returns-then-wanted c).After-taking_behind-taking _ c.answer_way.new.answer c.ok_or.result
+    (rw c.if-wanted.true
+    (record {
+      end = c.ok_or.ensures.value ∙ given_end c.answer_way.result ∙ ap end_of c.answer_way.ensures.given;
+      buffer = c.answer_way.ensures.buffer;
+    }))
 
 pub returns : goal.returns
 returns c =
-    made (goal.at.returns c).After-taking_behind-taking _ _ (record { ending = c.walk-ending.result; given = TooShort }) (rw c.if-wanted.false c.walk-ending.ensures)
+    made (goal.at.returns c).After-taking_behind-taking _ _ (Ok 0) (rw c.if-wanted.false (ap walk_end (sym c.in_ok-walk.was ∙ c.walk.ensures)))
+
+pub returns-in_err-walk : goal.returns-in_err-walk
+returns-in_err-walk c =
+    let told : c.from_residual.result ≡ Err (Stopped c.in_err-walk.field-0.0) = search rules in
+    made (goal.at.returns-in_err-walk c).After-taking_behind-taking _ _ c.from_residual.result
+    (rw c.if-wanted.false (told ∙ ap walk_end (sym c.in_err-walk.was ∙ c.walk.ensures)))

@@ -1,7 +1,6 @@
 -- `put_record` meets its contract: the text is counted, and put behind the head (`record_put`).
 use Rattle.base_codes.specs.Coded.{denoted}
-use Rattle.play_step.specs.StepCoded.{lent_tables}
-use Rattle.play_walk.specs.WalkCoded.{text_walked}
+use Rattle.play_walk.specs.WalkCoded.{tables_of, text_walked}
 use Rattle.play_walk.proofs.WalkAgrees.{text_short}
 use Rattle.play_texts.proofs.Putting.{record_put}
 use Rattle.play_texts.proofs.put_record.Goals as goal
@@ -9,6 +8,6 @@ use Rattle.play_texts.proofs.put_record.Goals as goal
 pub returns : goal.returns
 returns c =
     let a = c.args in
-    let T = lent_tables a.characters a.follow.now a.taking.now a.last in
-    record_put a.f (text_walked T a.f (denoted a.first) a.steps.now) (text_short T a.f (denoted a.first) a.steps.now) c.head-head.result
-    c.put_text-n.ensures c.head-head.ensures c.put_all-begun.ensures c.put_text.ensures
+    let T = tables_of a.tables.now in
+    record_put a.f (text_walked T a.f (denoted a.first) a.steps.now) (text_short T a.f (denoted a.first) a.steps.now) c.head.result
+    c.put_text-n.ensures c.head.ensures c.put_all-begun.ensures c.put_text.ensures

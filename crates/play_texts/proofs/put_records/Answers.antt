@@ -1,38 +1,38 @@
 -- `put_records` meets its contract. The loop's invariant: the records of the standing fields below f were put.
 use native.Mathlib.Omega.{arith}
 use mathlib.Core.Path.{◌≡◌, refl, subst, ◌∙◌}
-use borrow.Author.Rules.{rules}
 use Rattle.paper.specs.Numbers.{fields}
 use Rattle.base_codes.specs.Coded.{denoted}
 use Rattle.base_put.specs.Counted.{Counted}
 use Rattle.base_put.proofs.Counting.{counted_none, counted_then}
-use Rattle.play_step.specs.StepCoded.{lent_tables}
-use Rattle.play_texts.proofs.Putting.{along_none, one_more_field, all_fields}
+use Rattle.play_walk.specs.WalkCoded.{tables_of}
+use Rattle.play_texts.proofs.Putting.{along_none, stands_more, gone_more, all_fields}
+use Rattle.play_texts.proofs.put_records.Goals.{then-set-ne0, else-set-ne0}
 use Rattle.play_texts.proofs.put_records.Goals as goal
 
 pub loop-f-init : goal.loop-f-init
 loop-f-init c =
-    let a = c.args in (
-      omega arith,
-      refl,
-      rw (along_none (lent_tables a.characters a.follow.now a.taking.now a.last) (denoted a.first) a.steps.now) counted_none,
-    )
+    let a = c.args in
+    (refl, rw (along_none (tables_of a.tables.now) (denoted a.first) a.steps.now) counted_none)
 
 pub loop-f-preserved : goal.loop-f-preserved
 loop-f-preserved c =
-    let a = c.args in (
-      search rules,
-      c.put_field-end.auto.out ∙ c.loop-f.invariant.1,
-      rw (one_more_field (lent_tables a.characters a.follow.now a.taking.now a.last) (denoted a.first) a.steps.now c.loop-f.f)
-          (counted_then c.loop-f.invariant.2 c.put_field-end.ensures),
-    )
-
-pub shape_of-out : goal.shape_of-out
-shape_of-out c = c.loop-f.invariant.1
+    let a = c.args in
+    let T = tables_of a.tables.now in
+    let f = c.loop-f.f in
+    elim c.if-set-ne0.branch [
+      | then-set-ne0 w ↦
+          rw (w.out-is, w.end-is) (
+            w.put_record-end.auto.out ∙ c.loop-f.invariant.0,
+            rw (stands_more T (denoted a.first) a.steps.now f w.if-set-ne0.true) (counted_then c.loop-f.invariant.1 w.put_record-end.ensures),
+          )
+      | else-set-ne0 w ↦
+          rw (w.out-is, w.end-is)
+          (c.loop-f.invariant.0, rw (gone_more T (denoted a.first) a.steps.now f w.if-set-ne0.false) c.loop-f.invariant.1)
+    ]
 
 pub returns : goal.returns
 returns c =
     let a = c.args in
-    let T = lent_tables a.characters a.follow.now a.taking.now a.last in
     let all : c.loop-f.f ≡ fields = omega (arith, c) in
-    subst (Counted a.out.now c.loop-f.out 0 c.loop-f.end) (all_fields T (denoted a.first) a.steps.now c.loop-f.f all) c.loop-f.invariant.2
+    subst (Counted a.out.now c.loop-f.out 0 c.loop-f.end) (all_fields (tables_of a.tables.now) (denoted a.first) a.steps.now c.loop-f.f all) c.loop-f.invariant.1

@@ -1,94 +1,75 @@
 -- `walk` meets its contract. The loop's invariant: from the situation that was come to, the bytes that are left end as all of them do from the first.
--- With each record one fewer may come.
-use Prim.Native.Nat.{ℕ, ◌+◌, ◌-◌, ◌≤◌}
+use Prim.Native.Nat.{◌+◌, ◌-◌, ◌≤◌}
 use native.Mathlib.Omega.{arith}
-use mathlib.Core.Path.{◌≡◌, sym, ◌∙◌}
+use mathlib.Core.Path.{◌≡◌, sym, ap, ◌∙◌}
+use Rattle.std.specs.Prelude.{Some, Err}
 use lib.ListN.{length, drop}
 use borrow.Author.Rules.{rules}
-use Rattle.base_codes.specs.Coded.{Coded, denoted, Short}
+use Rattle.paper_steps.specs.Player.{most_steps}
+use Rattle.base_codes.specs.Coded.{Coded, denoted}
 use Rattle.base_codes.proofs.Denoted.{short_denoted}
-use Rattle.search_children.specs.Children.{Tables}
-use Rattle.play_step.specs.StepCoded.{lent_tables, step_coded}
-use Rattle.play_walk.specs.WalkCoded.{walk_on, walk_from, walked}
-use mathlib.Core.List.{List}
-use Rattle.play_walk.proofs.Walking.{walked_first, walk_end, walk_past, walk_none, record_within, walk_step, is_dropped, is_above, is_made}
-use Rattle.play_walk.proofs.walk.Goals.{After-step-child, At-loop-at, Start}
+use Rattle.play_step.specs.StepCoded.{step_coded}
+use Rattle.play_walk.specs.WalkCoded.{tables_of, walk_on, walk_from, walked}
+use Rattle.play_walk.proofs.Walking.{walked_first, walk_end, walk_past, walk_none, record_within, walk_step, some_record, none_record, gives_made}
+use Rattle.paper_steps.specs.StepRecords.{front_of}
+use Rattle.play_record.specs.InFront.{record_of}
+use Rattle.play_walk.proofs.walk.Goals.{After-step-child}
 use Rattle.play_walk.proofs.walk.Goals as goal
 
-short : (c : Start) → Short (denoted c.args.first)
-short c = short_denoted c.args.first (search rules) (search rules) (search rules)
-
-pub loop-at-init : goal.loop-at-init
-loop-at-init c =
+pub loop-init : goal.loop-init
+loop-init c =
     let a = c.args in
-    (search rules, short (goal.at.loop-at-init c).Start, walked_first (lent_tables a.characters a.follow.now a.taking.now a.last) (denoted a.first) a.steps.now)
+    (search rules, short_denoted a.first (search rules) (search rules) (search rules), walked_first (tables_of a.tables.now) (denoted a.first) a.steps.now)
 
-abbrev T : At-loop-at → Tables
-T c = let a = c.args in lent_tables a.characters a.follow.now a.taking.now a.last
+pub returns-then-at-steps : goal.returns-then-at-steps
+returns-then-at-steps c =
+    let a = c.args in
+    c.ended.ensures ∙ sym (c.loop.invariant.2 ∙ walk_end (tables_of a.tables.now) (most_steps - c.loop.counter) (denoted c.loop.s) a.steps.now c.loop.at (omega (arith, c.if-at-steps.true)))
 
-abbrev bytes : At-loop-at → List ℕ
-bytes c = c.args.steps.now
+pub returns-then-at-steps-2 : goal.returns-then-at-steps-2
+returns-then-at-steps-2 c =
+    let a = c.args in
+    sym (c.loop.invariant.2 ∙ walk_past (tables_of a.tables.now) (most_steps - c.loop.counter) (denoted c.loop.s) a.steps.now c.loop.at (omega (arith, c.loop-test.false)) c.if-at-steps-2.true)
 
-pub returns-then-left-eq0 : goal.returns-then-left-eq0
-returns-then-left-eq0 c =
-    sym (c.loop-at.invariant.2 ∙ walk_past (T (goal.at.returns-then-left-eq0 c).At-loop-at) c.loop-at.left (denoted c.loop-at.s) (bytes (goal.at.returns-then-left-eq0 c).At-loop-at) c.loop-at.at c.if-left-eq0.true c.loop-at-test.true)
-
-pub returns-then-record-eq0 : goal.returns-then-record-eq0
-returns-then-record-eq0 c =
-    sym
-    (c.loop-at.invariant.2
-    ∙ walk_none (T (goal.at.returns-then-record-eq0 c).At-loop-at) c.loop-at.left (denoted c.loop-at.s) (bytes (goal.at.returns-then-record-eq0 c).At-loop-at) c.loop-at.at (omega (arith, c.if-left-eq0.false)) c.front-record.result c.front-record.ensures
-    c.loop-at-test.true c.if-record-eq0.true)
+pub returns-in_err-record : goal.returns-in_err-record
+returns-in_err-record c =
+    let a = c.args in
+    let told : c.from_residual.result ≡ Err c.in_err-record.field-0.0 = search rules in
+    let none = none_record c.front.result c.in_err-record.field-0.0 (sym c.ok_or.ensures.value ∙ c.in_err-record.was) in
+    told ∙ ap Err (sym none.1)
+    ∙ sym
+    (c.loop.invariant.2
+    ∙ walk_none (tables_of a.tables.now) (most_steps - c.loop.counter) (denoted c.loop.s) a.steps.now c.loop.at (omega (arith, c.loop-test.true)) (omega (arith, c.if-at-steps.false)) (sym c.front.ensures ∙ none.0))
 
 -- the step that the record says
+its_record : (c : After-step-child) → record_of (front_of c.args.tables.now.characters (drop c.loop.at c.args.steps.now)) ≡ Some c.in_ok-record.record
+its_record c = sym c.front.ensures ∙ some_record c.front.result c.in_ok-record.record (sym c.ok_or.ensures.value ∙ c.in_ok-record.was)
+
 stepped : (c : After-step-child) →
     let a = c.args in
-    let l = c.loop-at in
-    let r = c.front-record.result in
-    let t = lent_tables a.characters a.follow.now a.taking.now a.last in
+    let l = c.loop in
+    let r = c.in_ok-record.record in
+    let t = tables_of a.tables.now in
     walked t (denoted a.first) a.steps.now
-    ≡ walk_on (λ (n : Coded). walk_from t (l.left - 1) n (drop (l.at + r.bytes) a.steps.now)) (step_coded t (denoted l.s) r.step)
+    ≡ walk_on (λ (n : Coded). walk_from t (most_steps - (l.counter + 1)) n (drop (l.at + r.bytes) a.steps.now)) (step_coded t (denoted l.s) r.step)
 stepped c =
     let a = c.args in
-    let l = c.loop-at in
+    let l = c.loop in
+    let less : most_steps - l.counter - 1 ≡ most_steps - (l.counter + 1) = omega arith in
     l.invariant.2
-    ∙ walk_step (lent_tables a.characters a.follow.now a.taking.now a.last) l.left (denoted l.s) a.steps.now l.at (omega (arith, c.if-left-eq0.false)) c.front-record.result c.front-record.ensures c.if-record-eq0.false
+    ∙ rw less at (walk_step (tables_of a.tables.now) (most_steps - l.counter) (denoted l.s) a.steps.now l.at (omega (arith, c.loop-test.true)) c.in_ok-record.record (its_record c))
 
-pub returns-in-Dropped : goal.returns-in-Dropped
-returns-in-Dropped c =
-    let a = c.args in
-    let e =
-    is_dropped (lent_tables a.characters a.follow.now a.taking.now a.last) (denoted c.loop-at.s) c.front-record.result.step c.step-child.result (c.step-child.ensures a.characters)
-    c.in-Dropped.is in
-    sym (rw e at (stepped (goal.at.returns-in-Dropped c).After-step-child))
-
-pub returns-in-Above : goal.returns-in-Above
-returns-in-Above c =
-    let a = c.args in
-    let e =
-    is_above (lent_tables a.characters a.follow.now a.taking.now a.last) (denoted c.loop-at.s) c.front-record.result.step c.step-child.result (c.step-child.ensures a.characters)
-    c.in-Above.is in
-    sym (rw e at (stepped (goal.at.returns-in-Above c).After-step-child))
-
-within : (c : After-step-child) → c.loop-at.at + c.front-record.result.bytes ≤ length c.args.steps.now
+within : (c : After-step-child) → c.loop.at + c.in_ok-record.record.bytes ≤ length c.args.steps.now
 within c =
     let a = c.args in
-    let l = c.loop-at in
-    record_within (lent_tables a.characters a.follow.now a.taking.now a.last) l.left (denoted l.s) a.steps.now l.at (omega (arith, c.if-left-eq0.false)) c.front-record.result c.front-record.ensures c.if-record-eq0.false
+    let l = c.loop in
+    record_within (tables_of a.tables.now) (most_steps - l.counter) (denoted l.s) a.steps.now l.at (omega (arith, c.loop-test.true)) c.in_ok-record.record (its_record c)
 
-pub overflow_add-at : goal.overflow_add-at
-overflow_add-at c = omega (arith, within (goal.at.overflow_add-at c).After-step-child)
-
-pub loop-at-preserved : goal.loop-at-preserved
-loop-at-preserved c =
+pub loop-preserved : goal.loop-preserved
+loop-preserved c =
     let a = c.args in
-    let t = (goal.at.loop-at-preserved c).After-step-child in
+    let t = (goal.at.loop-preserved c).After-step-child in
     let m =
-    is_made (lent_tables a.characters a.follow.now a.taking.now a.last) (denoted c.loop-at.s) c.front-record.result.step c.step-child.result (c.step-child.ensures a.characters) c.loop-at.invariant.1
-    c.in-Made.is in
+    gives_made (tables_of a.tables.now) (denoted c.loop.s) c.in_ok-record.record.step c.step-child.result (c.step-child.ensures a.tables.now.characters) c.in_ok-s.s c.loop.invariant.1
+    (sym c.made.ensures ∙ c.in_ok-s.was) in
     (within t, m.short, rw m.made_here at (stepped t))
-
-pub returns : goal.returns
-returns c =
-    c.ended.ensures
-    ∙ sym (c.loop-at.invariant.2 ∙ walk_end (T (goal.at.returns c).At-loop-at) c.loop-at.left (denoted c.loop-at.s) (bytes (goal.at.returns c).At-loop-at) c.loop-at.at (omega (arith, c.loop-at-test.false)))

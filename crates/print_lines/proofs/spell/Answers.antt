@@ -13,21 +13,21 @@ use Rattle.print_lines.proofs.Putting.{puts_then}
 use Rattle.print_lines.proofs.Walked.{first_none, signs_more}
 use Rattle.print_lines.proofs.spell.Goals as goal
 
-pub loop-i-init : goal.loop-i-init
-loop-i-init c = (omega arith, refl, omega arith, first_none (paper_edition c.args.edition))
+pub loop-c-init : goal.loop-c-init
+loop-c-init c = (refl, omega arith, first_none (paper_edition c.args.edition))
 
-pub loop-i-preserved : goal.loop-i-preserved
-loop-i-preserved c =
+pub loop-c-preserved : goal.loop-c-preserved
+loop-c-preserved c =
     let args = c.args in
     let e = paper_edition args.edition in
-    let its = values_of_character e (get_or args.text.now c.loop-i.i 0) in (
-      omega arith,
-      c.character-end.auto.out ∙ c.loop-i.invariant.1,
-      omega (arith, rw (length-map its sign) at c.character-end.ensures.behind, character_length e (get_or args.text.now c.loop-i.i 0)),
-      rw (signs_more e args.text.now c.loop-i.i (omega arith)) (puts_then c.loop-i.invariant.3 c.character-end.ensures),
+    let i = c.loop-c.c-index in
+    let its = values_of_character e (get_or args.text.now i 0) in (
+      c.character-end.auto.out ∙ c.loop-c.invariant.0,
+      omega (arith, rw (length-map its sign) at c.character-end.ensures.behind, character_length e (get_or args.text.now i 0)),
+      rw (signs_more e args.text.now i (omega arith)) (puts_then c.loop-c.invariant.2 c.character-end.ensures),
     )
 
 pub returns : goal.returns
 returns c =
-    let all : length c.args.text.now ≤ c.loop-i.i = omega arith in
-    rw (take_all c.loop-i.i c.args.text.now all) at c.loop-i.invariant.3
+    let all : length c.args.text.now ≤ c.loop-c.c-index = omega arith in
+    rw (take_all c.loop-c.c-index c.args.text.now all) at c.loop-c.invariant.2

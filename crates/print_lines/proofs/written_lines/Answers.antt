@@ -6,4 +6,4 @@ use Rattle.print_lines.proofs.written_lines.Goals as goal
 pub returns : goal.returns
 returns c =
     let args = c.args in
-    rw (sub-zero, c.least-within.ensures, take_min args.written args.answer.now) at c.value_lines.ensures
+    rw (sub-zero, c.min-within.ensures, take_min args.written args.answer.now) at c.value_lines.ensures

@@ -1,22 +1,19 @@
--- `rules::any_foreign` meets its contract. The loop's invariant: one is foreign exactly if one from `i` on is.
--- Assumes nothing.
-use native.Mathlib.Numerals.{add-one}
-use native.Mathlib.Omega.{arith}
-use lib.ListN.{drop_of_length-le}
-use lib.Seq.{drop-cons}
+-- `any_foreign` meets its contract: what the iterator looks for is what the definition does. Assumes nothing.
+use Rattle.std.proofs.Common.{◌≡◌, ℕ, Bool, ◌||◌, List, [], ◌∷◌, refl, ap, ◌∙◌, rules}
+use Rattle.std.proofs.Common.{tests}
+use Rattle.std.proofs.lemmas.Iterator.{YieldsList-from_slice}
+use Rattle.std.proofs.lemmas.Iterator.Search.{any_from_yields_List}
+use Rattle.std.specs.List.{list_any}
+use Rattle.paper.specs.Lists.{any}
+use Rattle.read_rule.specs.RuleRead.{foreign_code}
 use Rattle.read_rule.proofs.any_foreign.Goals as goal
 
-pub returns-then-is_foreign : goal.returns-then-is_foreign
-returns-then-is_foreign c =
-    rw (c.loop-i.invariant.2, drop-cons c.args.side c.loop-i.i 0 (omega (arith, c.loop-i.invariant.0)), ← c.is_foreign.ensures, c.if-is_foreign.true)
-
-pub loop-i-preserved : goal.loop-i-preserved
-loop-i-preserved c = (
-  c.loop-i.invariant.0,
-  omega arith,
-  rw (c.loop-i.invariant.2, add-one, drop-cons c.args.side c.loop-i.i 0 (omega (arith, c.loop-i.invariant.0)), ← c.is_foreign.ensures, c.if-is_foreign.false),
-)
+any_listed : (l : List ℕ) → list_any foreign_code l ≡ any foreign_code l
+any_listed [] = refl
+any_listed (b ∷ l) = ap (λ (x : Bool). foreign_code b || x) (any_listed l)
 
 pub returns : goal.returns
 returns c =
-    rw (c.loop-i.invariant.2, drop_of_length-le c.args.side {i = c.loop-i.i} (omega (arith, c.loop-i.invariant.0)))
+    let side = c.args.side.now in
+    any_from_yields_List foreign_code _ _ c.any.result c.any.ensures.ran (YieldsList-from_slice side c.iter.ensures.rest) (λ x b q k. search (rules, tests))
+    ∙ any_listed side

@@ -1,21 +1,30 @@
--- `read` meets its contract, from what the front is (`RuleStruct`). Assumes nothing.
-use mathlib.Core.Path.{sym, ap, ◌∙◌}
-use Rattle.read_rule.specs.RuleRead.{rule_of}
-use Rattle.read_rule.proofs.RuleStruct.{fault_alone, byte_left, stray_first, rule_alone}
+-- `read` meets its contract: behind the rule that was read without it, the check on strays decides (`RuleStruct`). Assumes nothing.
+use Rattle.std.proofs.Common.{◌<◌, sym, ◌∙◌, arith}
+use Rattle.std.proofs.lemmas.Result.{err_from_is_err_and}
+use Rattle.paper.specs.Numbers.{fields}
+use Rattle.read_rule.proofs.RuleStruct.{fault_alone, stray_first, none_stray}
+use Rattle.read_rule.proofs.read.Goals.{In-Some}
 use Rattle.read_rule.proofs.read.Goals as goal
 
-pub returns-in-Refused : goal.returns-in-Refused
-returns-in-Refused c = fault_alone c.front-r.result _ c.front-r.ensures _ c.in-Refused.is
+pub returns-in_err-rule : goal.returns-in_err-rule
+returns-in_err-rule c =
+    let p = err_from_is_err_and c.from_residual.result c.from_residual.ensures.1 in
+    rw (p.1, p.2) (fault_alone _ _ (sym c.in_err-rule.ensures))
 
-pub returns-then-end-s : goal.returns-then-end-s
-returns-then-end-s c =
-    c.refuse.ensures ∙ sym (ap (rule_of _) (byte_left c.front-r.result _ c.front-r.ensures c.in_default.is c.if-end-s.true))
+-- the first stray is a field
+known : (c : In-Some) → c.in-Some.f < fields
+known c = (stray_first c.args.s.now c.in_ok-rule.rule (sym c.in_ok-rule.ensures) c.in-Some.f (sym c.first_stray.ensures ∙ c.in-Some.is)).0
 
-pub returns-then-f-lt-SHEET_FIELDS : goal.returns-then-f-lt-SHEET_FIELDS
-returns-then-f-lt-SHEET_FIELDS c =
-    rw c.mark_of.ensures at c.refuse-then-f-lt-SHEET_FIELDS.ensures
-    ∙ sym (ap (rule_of _) (stray_first c.front-r.result _ c.front-r.ensures c.in_default.is c.if-end-s.false c.first_stray-f.result c.first_stray-f.ensures c.if-f-lt-SHEET_FIELDS.true))
+pub offset_bounds-rule-f : goal.offset_bounds-rule-f
+offset_bounds-rule-f c = omega (arith, known (goal.at.offset_bounds-rule-f c).In-Some)
+
+pub bounds-rule-f : goal.bounds-rule-f
+bounds-rule-f c = known (goal.at.bounds-rule-f c).In-Some
+
+pub returns-in-Some : goal.returns-in-Some
+returns-in-Some c =
+    rw c.mark_of.ensures
+    (stray_first c.args.s.now c.in_ok-rule.rule (sym c.in_ok-rule.ensures) c.in-Some.f (sym c.first_stray.ensures ∙ c.in-Some.is)).1
 
 pub returns : goal.returns
-returns c =
-    rule_alone c.front-r.result _ c.front-r.ensures c.in_default.is c.if-end-s.false c.first_stray-f.result c.first_stray-f.ensures c.if-f-lt-SHEET_FIELDS.false
+returns c = none_stray c.args.s.now c.in_ok-rule.rule (sym c.in_ok-rule.ensures) (sym c.first_stray.ensures ∙ c.in_default.is)

@@ -1,16 +1,17 @@
 -- `read_before` meets its contract, from what the front is (`RuleStruct`). Assumes nothing.
-use mathlib.Core.Path.{sym, ap, ◌∙◌}
+use mathlib.Core.Path.{sym, ap}
+use Rattle.std.proofs.lemmas.Result.{err_from_is_err_and}
 use Rattle.read_rule.specs.RuleRead.{rule_of}
 use Rattle.read_rule.proofs.RuleStruct.{fault_before, left_before, rule_before}
 use Rattle.read_rule.proofs.read_before.Goals as goal
 
-pub returns-in-Refused : goal.returns-in-Refused
-returns-in-Refused c = fault_before c.front-r.result _ c.front-r.ensures _ c.in-Refused.is
+pub returns-in_err-rule : goal.returns-in_err-rule
+returns-in_err-rule c =
+    let p = err_from_is_err_and c.from_residual.result c.from_residual.ensures.1 in
+    rw (p.1, p.2) (fault_before _ _ (sym c.in_err-rule.ensures))
 
-pub returns-then-end-s : goal.returns-then-end-s
-returns-then-end-s c =
-    c.refuse.ensures ∙ sym (ap (rule_of _) (left_before c.front-r.result _ c.front-r.ensures c.in_default.is c.if-end-s.true))
+pub returns-then-rule-s : goal.returns-then-rule-s
+returns-then-rule-s c = sym (ap (rule_of _) (left_before _ _ (sym c.in_ok-rule.ensures) c.if-rule-s.true))
 
 pub returns : goal.returns
-returns c =
-    rule_before c.front-r.result _ c.front-r.ensures c.in_default.is c.if-end-s.false
+returns c = rule_before _ _ (sym c.in_ok-rule.ensures) c.if-rule-s.false

@@ -1,28 +1,30 @@
--- `read` meets its contract: behind the last check (`LastSides`), with a fault the fields are open, else they are those that were read (`SidesTold`). Assumes nothing.
-use mathlib.Core.Path.{refl, sym, ap, ◌∙◌, subst}
-use lib.ListN.{replicate}
+-- `read` meets its contract: behind the sheet that was read without it, the check on strays decides (`StraysChecked`). Assumes nothing.
+use Rattle.std.proofs.Common.{◌<◌, sym, ◌∙◌, arith}
+use Rattle.std.proofs.lemmas.Result.{err_from_is_err_and}
 use Rattle.paper.specs.Numbers.{fields}
-use Rattle.paper.specs.Sheet.{read_sheet}
-use Rattle.base_places.specs.declared.PlaceTables.{PlaceTables}
-use Rattle.read_fields.specs.declared.Fields.{Fields}
-use Rattle.read_sheet.specs.SidesRead.{SidesTold}
-use Rattle.read_sheet.specs.declared.Sides.{Sides}
-use Rattle.read_sheet.proofs.SidesTold.{told_fault, told_good}
-use Rattle.read_sheet.proofs.LastSides.{checked_told}
-use Rattle.read_sheet.proofs.read.Goals.{in-Refused, in_default}
+use Rattle.read_sheet.proofs.StraysChecked.{fault_since, stray_first, none_stray}
+use Rattle.read_sheet.proofs.read.Goals.{In-Some}
 use Rattle.read_sheet.proofs.read.Goals as goal
 
+pub returns-in_err-sheet : goal.returns-in_err-sheet
+returns-in_err-sheet c =
+    let p = err_from_is_err_and c.from_residual.result c.from_residual.ensures.1 in
+    rw (p.1, p.2) (fault_since c.args.s.now c.in_err-sheet.field-0.0 (sym c.read_before.ensures ∙ c.in_err-sheet.was))
+
+-- the first stray is a field
+known : (c : In-Some) → c.in-Some.f < fields
+known c = (stray_first c.args.s.now c.in_ok-sheet.sheet (sym c.read_before.ensures ∙ c.in_ok-sheet.was) c.in-Some.f (sym c.first_stray.ensures ∙ c.in-Some.is)).0
+
+pub offset_bounds-asked-f : goal.offset_bounds-asked-f
+offset_bounds-asked-f c = omega (arith, known (goal.at.offset_bounds-asked-f c).In-Some)
+
+pub bounds-asked-f : goal.bounds-asked-f
+bounds-asked-f c = known (goal.at.bounds-asked-f c).In-Some
+
+pub returns-in-Some : goal.returns-in-Some
+returns-in-Some c =
+    rw c.mark_of.ensures
+    (stray_first c.args.s.now c.in_ok-sheet.sheet (sym c.read_before.ensures ∙ c.in_ok-sheet.was) c.in-Some.f (sym c.first_stray.ensures ∙ c.in-Some.is)).1
+
 pub returns : goal.returns
-returns c =
-    let told = c.both_sides-sides.ensures c.read-p.result refl refl c.edition_front-f.ensures c.read-p.ensures in
-    let s = c.args.s.now in
-    let d =
-    subst (λ (r : Sides). SidesTold (read_sheet s) s c.read-p.result r.found r) (sym c.last_check-b.ensures) (checked_told s c.read-p.result c.both_sides-sides.result told) in
-    rw c.alphabet_of-alphabet.ensures
-    (elim c.match-found.branch [
-      | in-Refused w ↦
-          told_fault _ _ c.read-p.result c.last_check-b.result w.in-Refused.field-0 w.in-Refused.is c.match-found.p
-          (ap (λ (q : Fields). q.tables) w.p-is ∙ ap (λ (t : PlaceTables). replicate fields t) w.open_tables-open.ensures)
-          (ap (λ (q : Fields). q.bodies) w.p-is ∙ w.no_bodies-none.ensures) d
-      | in_default w ↦ told_good _ _ c.read-p.result c.last_check-b.result w.in_default.is c.match-found.p w.p-is d
-    ])
+returns c = none_stray c.args.s.now c.in_ok-sheet.sheet (sym c.read_before.ensures ∙ c.in_ok-sheet.was) (sym c.first_stray.ensures ∙ c.in_default.is)

@@ -5,31 +5,15 @@ use native.Mathlib.Omega.{arith}
 use mathlib.Core.Path.{◌≡◌, sym, ap, ◌∙◌}
 use mathlib.Core.Bool.{true, false, cond}
 use mathlib.Core.List.{List, map}
-use borrow.Author.Tests.{lt-ltb, le-ltb}
+use borrow.Author.Tests.{le-ltb}
 use lib.ListN.{length, take, drop, length-drop, length-map}
 use lib.Seq.{length-take-le}
 use Rattle.paper.specs.Lists.{all, leading}
 use Rattle.paper.specs.Alphabet.{Edition, code, codes}
 use Rattle.paper.specs.Sheet.{read, fault, wrong_token, is_token, token, body, byte_at, side_record}
-use Rattle.base_codes.specs.Inner.{padded}
 use Rattle.base_editions.specs.Editions.{paper_edition}
-use Rattle.read_side.proofs.SideBytes.{codes_of_tokens, fewer_lead, all_lead}
+use Rattle.read_side.proofs.SideBytes.{side_laid, codes_of_tokens, fewer_lead, all_lead}
 use Rattle.read_side.proofs.body.Goals as goal
-
-pub returns-then-left-lt3 : goal.returns-then-left-lt3
-unfolding side_record
-returns-then-left-lt3 c = rw c.refuse.ensures (simp (lt-ltb _ _ c.if-left-lt3.true))
-
-pub returns-then-len-gt-SHEET_SIDE : goal.returns-then-len-gt-SHEET_SIDE
-unfolding side_record
-returns-then-len-gt-SHEET_SIDE c =
-    rw c.refuse-then-len-gt-SHEET_SIDE.ensures (simp (le-ltb _ _ c.if-left-lt3.false, lt-ltb _ _ c.if-len-gt-SHEET_SIDE.true))
-
-pub returns-then-left-len : goal.returns-then-left-len
-unfolding side_record
-returns-then-left-len c =
-    rw c.refuse-then-left-len.ensures
-    (simp (le-ltb _ _ c.if-left-lt3.false, le-ltb _ _ c.if-len-gt-SHEET_SIDE.false, lt-ltb _ _ c.if-left-len.true))
 
 -- the codes of its body
 abbrev its-codes : Edition → List ℕ → ℕ → List ℕ
@@ -77,7 +61,7 @@ returns-then-tokens-len c =
     let at = c.args.at in
     let l = led e s at _ c.leading_tokens-tokens.ensures in
     let n = not-all e s at _ c.if-left-len.false l c.if-tokens-len.true in
-    rw (c.refuse-then-tokens-len.ensures, past-length e s at c.if-left-lt3.false c.if-len-gt-SHEET_SIDE.false c.if-left-len.false, n, l)
+    rw (past-length e s at c.if-left-lt3.false c.if-len-gt-SHEET_SIDE.false c.if-left-len.false, n, l)
 
 pub returns : goal.returns
 returns c =
@@ -86,5 +70,5 @@ returns c =
     let at = c.args.at in
     let h = all-tokens e s at _ c.if-left-len.false (led e s at _ c.leading_tokens-tokens.ensures) c.if-tokens-len.false in
     -- the inner codes of the side are the codes of its bytes
-    let coded = c.inner_side-codes.ensures ∙ ap (λ (b : List ℕ). padded (codes e b)) (lent s at) in
+    let coded = rw (lent s at) at c.codes_of.ensures ∙ side_laid e (body s (at + 3) (byte_at s (at + 2))) (omega (arith, there e s at c.if-left-len.false, length-map (body s (at + 3) (byte_at s (at + 2))) (code e))) in
     rw (past-length e s at c.if-left-lt3.false c.if-len-gt-SHEET_SIDE.false c.if-left-len.false, h, codes_of_tokens (its-codes e s at) h, coded) (simp (← add_assoc))

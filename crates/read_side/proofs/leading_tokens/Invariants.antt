@@ -1,5 +1,5 @@
 -- `sides::leading_tokens` meets its contract. The loop's invariant: as many lead as were passed, and as lead from `i` on. Assumes nothing.
-use Prim.Native.Nat.{◌+◌, ◌≤◌, ◌-◌}
+use Prim.Native.Nat.{◌+◌, ◌≤◌}
 use mathlib.Core.Path.{◌≡◌}
 use lib.ListN.{length, drop}
 use Rattle.paper.specs.Lists.{leading}
@@ -11,6 +11,3 @@ use Rattle.read_side.proofs.leading_tokens.Given as goal
 abbrev pub invariant-loop-i : goal.invariant-loop-i
 invariant-loop-i l =
     (l.i ≤ length l.side) × (leading is_token (codes (paper_edition l.edition) l.side) ≡ l.i + leading is_token (codes (paper_edition l.edition) (drop l.i l.side)))
-
-abbrev pub decreases-loop-i : goal.decreases-loop-i
-decreases-loop-i l = length l.side - l.i

@@ -6,4 +6,4 @@ use Rattle.script.proofs.write_in.Goals as goal
 pub slice_bounds-print-end : goal.slice_bounds-print-end
 slice_bounds-print-end g c =
     let a = c.args in
-    omega (arith, written_fits _ c.in-Written.bytes a.sheet.now a.out.now _ c.script-scripted.ensures.whole c.in-Written.is)
+    omega (arith, written_fits _ c.in-Ok.bytes a.sheet.now a.out.now _ c.script.ensures.whole c.in-Ok.is)

@@ -13,7 +13,7 @@ use Rattle.script_sheet.proofs.FieldListing.{one_more_field}
 use Rattle.script_sheet.proofs.put_fields.Goals as goal
 
 pub loop-f-init : goal.loop-f-init
-loop-f-init c = (omega arith, refl, λ q e b. counted_none)
+loop-f-init c = (refl, λ q e b. counted_none)
 
 pub put_field-end-requires : goal.put_field-end-requires
 put_field-end-requires c =
@@ -23,14 +23,13 @@ pub loop-f-preserved : goal.loop-f-preserved
 loop-f-preserved c =
     let f = c.loop-f.f in
     let counts = c.args.counts in (
-      omega arith,
-      c.put_field-end.auto.out ∙ c.loop-f.invariant.1,
+      c.put_field-end.auto.out ∙ c.loop-f.invariant.0,
       λ q e b.
           rw (one_more_field (paper_edition c.args.edition) q (is_counted counts) f)
-          (counted_then (c.loop-f.invariant.2 q e b) (c.put_field-end.ensures q e (c.body_of-body.ensures ∙ ap (λ (x : List Body). body_of x f) b))),
+          (counted_then (c.loop-f.invariant.1 q e b) (c.put_field-end.ensures q e (c.body_of-body.ensures ∙ ap (λ (x : List Body). body_of x f) b))),
     )
 
 pub returns : goal.returns
 returns c = λ q e b.
     let all : c.loop-f.f ≡ set_fields = omega arith in
-    rw all at (c.loop-f.invariant.2 q e b)
+    rw all at (c.loop-f.invariant.1 q e b)

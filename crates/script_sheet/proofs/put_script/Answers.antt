@@ -19,9 +19,9 @@ returns c = λ q e i.
     let l = ap (λ (x : Question). x.left) i in
     let r = ap (λ (x : Question). x.right) i in
     let x = paper_edition a.edition in
-    let stand = all_counted x a.sheet.now q e a.question.left a.question.right l r c.side-all_left.result c.side-all_right.result c.standings-counts.result
+    let stand = all_counted x a.sheet.now q e a.question.now.left a.question.now.right l r c.side-all_left.result c.side-all_right.result c.standings-counts.result
     c.side-all_left.ensures c.side-all_right.ensures c.standings-counts.ensures in
     subst (λ (y : Edition). Counted a.out.now c.equation.new.out 0 c.equation.result (heading ++ fields_lines y q (all_standing (hidden q)) ++ equation y q.left q.right)) e.its_edition
     (counted_then
     (counted_then c.put_heading-begun.ensures (rw stand at (c.put_fields-end.ensures q e (ap (λ (x : Question). x.bodies) i))))
-    (rw (equation_put x a.sheet.now q e a.question.left a.question.right l r) at c.equation.ensures))
+    (rw (equation_put x a.sheet.now q e a.question.now.left a.question.now.right l r) at c.equation.ensures))

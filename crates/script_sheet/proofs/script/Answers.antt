@@ -2,8 +2,9 @@
 use Prim.Native.Nat.{ℕ}
 use mathlib.Core.Path.{◌≡◌, sym, ap, ◌∙◌, subst}
 use mathlib.Core.List.{List}
+use Rattle.std.proofs.Common.{Ok}
+use Rattle.std.proofs.lemmas.Result.{err_from_is_err_and}
 use Rattle.paper.specs.Sheet.{read_sheet}
-use Rattle.base_answers.specs.declared.Found.TheVariants.{NoFault}
 use Rattle.read_sheet.specs.SheetRead.{bodies_of, sheet_of}
 use Rattle.read_sheet.specs.declared.Sheet.{Sheet}
 use Rattle.paper.specs.Alphabet.{edition_of}
@@ -16,15 +17,16 @@ use Rattle.script_sheet.specs.WrittenOut.{AsksIn, BodiesWithin}
 use Rattle.script_sheet.proofs.ScriptAnswered.{and_promised, sheet_at_fault, no_room, with_room}
 use Rattle.script_sheet.proofs.script.Goals as goal
 
-pub returns-in-Refused : goal.returns-in-Refused
-returns-in-Refused c =
-    let told = and_promised c.args.sheet.now c.args.out.now _ (sheet_at_fault c.args.sheet.now c.args.out.now c.read-read.result c.read-read.ensures _ c.in-Refused.is) in
-    record { whole = told.0; promised = told.1 }
+pub returns-in_err-read : goal.returns-in_err-read
+returns-in_err-read c =
+    let p = err_from_is_err_and c.from_residual.result c.from_residual.ensures.1 in
+    let told = and_promised c.args.sheet.now c.args.out.now _ (sheet_at_fault c.args.sheet.now c.args.out.now _ (sym c.in_err-read.ensures)) in
+    record { whole = rw (p.1, p.2) told.0; promised = rw (p.1, p.2) told.1 }
 
 -- what a good sheet asks
-module _ (sheet : List ℕ) (r : Sheet) (read : r ≡ sheet_of (bodies_of sheet) (read_sheet sheet)) (none : r.found ≡ NoFault) where
+module _ (sheet : List ℕ) (r : Sheet) (read : sheet_of (bodies_of sheet) (read_sheet sheet) ≡ Ok r) where
   asking : Asking sheet r
-  asking = sheet_asks sheet r read none
+  asking = sheet_asks sheet r read
 
   within : BodiesWithin sheet r.question.bodies
   within = subst (BodiesWithin sheet) (sym (ap (λ (x : Question). x.bodies) asking.is)) (sheet_within sheet asking.question asking.good)
@@ -33,25 +35,25 @@ module _ (sheet : List ℕ) (r : Sheet) (read : r ≡ sheet_of (bodies_of sheet)
   asks-in = record { asks = asking.good; its_edition = ap paper_edition asking.edition ∙ same_edition (edition_of asking.question.alphabet) }
 
 pub put_script-length-requires : goal.put_script-length-requires
-put_script-length-requires c = within c.args.sheet.now c.read-read.result c.read-read.ensures c.in_default.is
+put_script-length-requires c = within c.args.sheet.now c.in_ok-read.read (sym c.in_ok-read.ensures)
 
 pub returns-then-out-length : goal.returns-then-out-length
 returns-then-out-length c =
     let sheet = c.args.sheet.now in
-    let a = asking sheet c.read-read.result c.read-read.ensures c.in_default.is in
-    let e = asks-in sheet c.read-read.result c.read-read.ensures c.in_default.is in
+    let a = asking sheet c.in_ok-read.read (sym c.in_ok-read.ensures) in
+    let e = asks-in sheet c.in_ok-read.read (sym c.in_ok-read.ensures) in
     let told = and_promised sheet c.args.out.now _ (no_room sheet c.args.out.now a.question a.good (c.put_script-length.ensures a.question e a.is) c.if-out-length.true) in
     record { whole = told.0; promised = told.1 }
 
-pub put_script-bytes-requires : goal.put_script-bytes-requires
-put_script-bytes-requires c = within c.args.sheet.now c.read-read.result c.read-read.ensures c.in_default.is
+pub put_script-requires : goal.put_script-requires
+put_script-requires c = within c.args.sheet.now c.in_ok-read.read (sym c.in_ok-read.ensures)
 
 pub returns : goal.returns
 returns c =
     let sheet = c.args.sheet.now in
-    let a = asking sheet c.read-read.result c.read-read.ensures c.in_default.is in
-    let e = asks-in sheet c.read-read.result c.read-read.ensures c.in_default.is in
+    let a = asking sheet c.in_ok-read.read (sym c.in_ok-read.ensures) in
+    let e = asks-in sheet c.in_ok-read.read (sym c.in_ok-read.ensures) in
     let told = and_promised sheet c.args.out.now _
     (with_room sheet c.args.out.now a.question a.good (c.put_script-length.ensures a.question e a.is) c.if-out-length.false
-    (c.put_script-bytes.ensures a.question e a.is)) in
+    (c.put_script.ensures a.question e a.is)) in
     record { whole = told.0; promised = told.1 }

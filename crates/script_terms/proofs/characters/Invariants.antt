@@ -1,5 +1,5 @@
 -- `characters` meets its contract. The loop's invariant: those below c were put.
-use Prim.Native.Nat.{◌-◌, ◌≤◌}
+use Prim.Native.Nat.{◌-◌}
 use mathlib.Core.Path.{◌≡◌}
 use lib.ListN.{length}
 use Rattle.paper.specs.Lists.{from, each}
@@ -10,7 +10,4 @@ use Rattle.script_terms.proofs.characters.Given as goal
 
 abbrev pub invariant-loop-c : goal.invariant-loop-c
 invariant-loop-c l =
-    (l.lo ≤ l.c) × (l.c ≤ l.hi) × (length l.out ≡ length l.initial.out) × Counted l.initial.out l.out l.at l.end (each (next_character edition_1) (from l.lo (l.c - l.lo)))
-
-abbrev pub decreases-loop-c : goal.decreases-loop-c
-decreases-loop-c l = l.hi - l.c
+    (length l.out ≡ length l.initial.out) × Counted l.initial.out l.out l.at l.end (each (next_character edition_1) (from l.lo (l.c - l.lo)))

@@ -9,11 +9,8 @@ use Rattle.base_codes.specs.Inner.{field_of}
 use Rattle.search_fronts.proofs.Followers.{no_followers}
 use Rattle.search_fronts.proofs.gather.Goals as goal
 
-pub returns-then-f-lt-FIELDS : goal.returns-then-f-lt-FIELDS
-returns-then-f-lt-FIELDS c = rw c.field_of-f.ensures at c.followers.ensures
-
-pub returns : goal.returns
-returns c =
+pub returns-else-f-lt-FIELDS : goal.returns-else-f-lt-FIELDS
+returns-else-f-lt-FIELDS c =
     let a = c.args in
     let l : length a.sets ≡ set_fields = search rules in
     rw (get_or-eq_default a.sets 0 {n = field_of a.b} (omega arith)) (sym (no_followers (get_or a.follow.now (field_of a.b) [])))

@@ -8,6 +8,6 @@ pub returns-then-space-lt-CHARACTERS : goal.returns-then-space-lt-CHARACTERS
 unfolding taking_masks
 returns-then-space-lt-CHARACTERS c = taking_set c.args.space most_characters c.if-space-lt-CHARACTERS.true
 
-pub returns : goal.returns
+pub returns-else-space-lt-CHARACTERS : goal.returns-else-space-lt-CHARACTERS
 unfolding taking_masks
-returns c = taking_none c.args.space most_characters c.if-space-lt-CHARACTERS.false
+returns-else-space-lt-CHARACTERS c = taking_none c.args.space most_characters c.if-space-lt-CHARACTERS.false

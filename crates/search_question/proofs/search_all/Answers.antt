@@ -4,8 +4,8 @@ use Rattle.search_question.proofs.search_all.Goals as goal
 
 pub returns-clause-ended : goal.returns-clause-ended
 unfolding ended_all
-returns-clause-ended c = c.search_told-told.ensures.told.0
+returns-clause-ended c = c.search_told.ensures.told.0
 
 pub returns-clause-answer : goal.returns-clause-answer
 unfolding buffer_all
-returns-clause-answer c = c.search_told-told.ensures.told.1
+returns-clause-answer c = c.search_told.ensures.told.1

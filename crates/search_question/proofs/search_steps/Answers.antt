@@ -4,4 +4,4 @@ use Rattle.search_question.proofs.search_steps.Goals as goal
 
 pub returns-clause-ended : goal.returns-clause-ended
 unfolding steps_all
-returns-clause-ended c = c.search_told-told.ensures.told
+returns-clause-ended c = c.search_told.ensures.told

@@ -5,7 +5,7 @@ use Rattle.search_question.proofs.Searched.{told_whole}
 use Rattle.search_question.proofs.search_told.Goals as goal
 
 pub returns-clause-told : goal.returns-clause-told
-returns-clause-told c =
+returns-clause-told g c =
     let a = c.args in
     let own = a.question.fields in
     let many = a.question.alphabet.characters in
@@ -19,4 +19,4 @@ returns-clause-told c =
       fields = own ++ (c.spaces-hidden.ensures i ∷ c.spaces-hidden.ensures i ∷ []);
     })
     refl c.follow_behind-follow.ensures c.last_behind-last.ensures c.taking_behind-taking.ensures
-    a.wanted _ a.answer.now a.steps.now _ _ _ c.run.ensures.told
+    g.T.Told.told_by _ a.answer.now a.steps.now _ _ _ (rw c.new-tables.ensures at c.run.ensures.told)

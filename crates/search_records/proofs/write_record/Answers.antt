@@ -28,7 +28,6 @@ slice_bounds-write_text-end c =
 pub write_text-requires : goal.write_text-requires
 write_text-requires c =
     let args = c.args in record {
-      slot_in = c.requires.slot_in;
       f_lt_fields = c.requires.f_lt_fields;
       out_len = text_part args.out.now c.write_head.new.out args.f c.text_length-n.result c.write_head.ensures (room (goal.at.write_text-requires c).After-text_length-n)
           ∙ c.text_length-n.ensures;

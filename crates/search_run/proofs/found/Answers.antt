@@ -5,10 +5,10 @@ use Rattle.search_run.proofs.Concluding.{told_by}
 use Rattle.search_run.proofs.WaySpelt.{slot_there, answered_alike}
 use Rattle.search_run.proofs.found.Goals as goal
 
-pub returns-in-TooShort : goal.returns-in-TooShort
-returns-in-TooShort c w =
-    told_by w.slots _ (answered_alike w (c.answer_clash-given.ensures (slot_there w))) (ap clash_how (sym c.in-TooShort.is))
+pub returns-in-None : goal.returns-in-None
+returns-in-None c w =
+    told_by w.slots _ (answered_alike w (c.answer_clash.ensures (slot_there w))) (ap clash_how (sym c.in-None.is))
 
-pub returns-in-Bytes : goal.returns-in-Bytes
-returns-in-Bytes c w =
-    told_by w.slots _ (answered_alike w (c.answer_clash-given.ensures (slot_there w))) (ap clash_how (sym c.in-Bytes.is))
+pub returns-in-Some : goal.returns-in-Some
+returns-in-Some c w =
+    told_by w.slots _ (answered_alike w (c.answer_clash.ensures (slot_there w))) (ap clash_how (sym c.in-Some.is))

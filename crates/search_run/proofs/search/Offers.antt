@@ -19,7 +19,7 @@ use Rattle.search_slots.specs.Slots.{Slot, no_slot}
 use Rattle.search_run.specs.declared.search.Run.{Run}
 use Rattle.search_run.specs.declared.search.Status.{Status}
 use Rattle.search_run.specs.declared.search.Status.TheVariants.{Going, Found, UsedUp, NoRoom, TooLong}
-use Rattle.search_buckets.specs.declared.Seen.TheVariants.{At, Nowhere}
+use Rattle.std.specs.Prelude.{Option, Some, None, is_some}
 use Rattle.search_slots.proofs.Rows.{each_snoc}
 
 module _ (room p : ℕ) where
@@ -43,11 +43,14 @@ module _ (room p : ℕ) where
   -- a child that is made, by what the look-up found of it
   module _ (ss : List Slot) (step : ℕ) (t : Coded) where
     -- "one already entered is dropped"
-    pub offered_seen : (i : ℕ) → EnteredAt ss t (At i) → offer_going room p ss (child step t) ≡ record { slots = ss; status = Going }
-    offered_seen i e = rw (mem_any (λ (x : Slot). same_coded x.at t) ss (get_or_mem ss no_slot i e.0) e.1)
+    pub offered_seen : (seen : Option ℕ) → is_some seen ≡ true → EnteredAt ss t seen → offer_going room p ss (child step t) ≡ record { slots = ss; status = Going }
+    offered_seen (Some i) h e = rw (mem_any (λ (x : Slot). same_coded x.at t) ss (get_or_mem ss no_slot i e.0) e.1)
+    offered_seen None h e = absurd (true_false h refl)
 
-    pub offered_new : EnteredAt ss t Nowhere → offer_going room p ss (child step t) ≡ enter_slot room ss (record { at = t; parent = p; step = step })
-    offered_new e = rw e
+    pub offered_new : (seen : Option ℕ) → is_some seen ≡ false → EnteredAt ss t seen
+        → offer_going room p ss (child step t) ≡ enter_slot room ss (record { at = t; parent = p; step = step })
+    offered_new None h e = rw e
+    offered_new (Some i) h e = absurd (true_false refl h)
 
 going : (x : Status) → is_going x ≡ true → x ≡ Going
 going Going e = refl

@@ -1,13 +1,17 @@
--- Laws of numbers in bytes, low first: that the bytes tell the number, one byte more written from the front or read from the end, what a
--- number of so many bytes is below. Follows from the definitions by induction on the width.
-use Prim.Native.Nat.{ℕ, zero, suc, ◌+◌, ◌-◌, ◌*◌, ◌/◌, ◌%◌, ◌^◌, ◌≤◌, ◌<◌}
+-- Laws of numbers in bytes, low first: that the bytes tell the number, one byte more written from the front, eight read at once.
+-- Follows from the definitions by induction on the width.
+use Prim.Native.Nat.{ℕ, zero, suc, ◌+◌, ◌-◌, ◌*◌, ◌/◌, ◌%◌, ◌^◌, ◌≤◌, ◌<◌, min}
 use native.Mathlib.Omega.{arith, pow_step}
-use native.Mathlib.Nat.{pow-le-pow_right}
 use native.Mathlib.Numerals.{add-one}
 use mathlib.Core.Path.{◌≡◌, refl, sym, ap, ◌∙◌}
 use mathlib.Core.List.{List, [], ◌∷◌, ◌++◌, append_assoc, append-nil}
-use lib.ListN.{length, get_or, take, drop, set, length-take}
-use lib.Seq.{take_all, take-suc-set, drop-cons}
+use lib.ListN.{length, get_or, take, drop, set, replicate, length-take, length-append, length-replicate, drop_of_length-le}
+use lib.Seq.{take_all, take-suc-set}
+use lib.Dec.{ltb}
+use mir.Syntax.{w64}
+use Rattle.std.proofs.lemmas.List.{drop-replicate}
+use Rattle.std.specs.Int.{from_le_bytes}
+use Rattle.paper.proofs.base.Tests.{by_bool, ltb_true, ltb_false}
 use Rattle.paper.proofs.base.Lists.{cons_eq}
 use Rattle.search_slots.specs.LowFirst.{low_first, low_first_number, low_bytes, widest}
 
@@ -45,29 +49,46 @@ all_bytes n number rest l e w =
     let z : n - n ≡ 0 = omega arith in
     sym (w ∙ rw (z, take_all n l (omega arith)) (append-nil l))
 
--- one byte more is read, before those from i on
-pub one_byte_read : (i r b : ℕ) (l : List ℕ) → 0 < i → i ≤ length l → b ≡ get_or l (i - 1) 0 → r ≡ low_first_number (drop i l) → 256 * r + b ≡ low_first_number (drop (i - 1) l)
-one_byte_read i r b l h k e f =
-    let next : suc (i - 1) ≡ i = omega arith in
-    let d : drop (i - 1) l ≡ get_or l (i - 1) 0 ∷ drop i l = rw (drop-cons l (i - 1) 0 (omega arith), next) in
-    rw d (omega arith)
+-- zeros behind the bytes tell nothing more
+zeros_behind : (l : List ℕ) (k : ℕ) → low_first_number (l ++ replicate k 0) ≡ low_first_number l
+zeros_behind [] zero = refl
+zeros_behind [] (suc k) = rw (zeros_behind [] k)
+zeros_behind (b ∷ l) k = rw (zeros_behind l k)
 
--- what the number of so many bytes, of at most n bytes is below
-number_below : (l : List ℕ) → ((i : ℕ) → get_or l i 0 < 256) → low_first_number l < 256 ^ length l
-number_below [] h = omega arith
-number_below (b ∷ l) h =
-    rw (pow_step 256 (length l)) (omega (arith, h 0, number_below l (λ (i : ℕ). h (suc i))))
+-- the byte with the number i stands in front of those behind it
+byte_in_front : (l : List ℕ) (i : ℕ) → low_first_number (drop i l) ≡ get_or l i 0 + 256 * low_first_number (drop (suc i) l)
+byte_in_front [] zero = refl
+byte_in_front [] (suc i) = refl
+byte_in_front (b ∷ l) zero = refl
+byte_in_front (b ∷ l) (suc i) = byte_in_front l i
 
-pub number_fits : (n : ℕ) (l : List ℕ) → ((i : ℕ) → get_or l i 0 < 256) → length l ≤ n → low_first_number l < 256 ^ n
-number_fits n l h k = omega (arith, number_below l h, pow-le-pow_right {n = 256} (omega arith) {i = length l} {j = n} k)
+-- the number of eight bytes, as the library has it
+pub eight_bytes : (l : List ℕ) → length l ≤ widest → from_le_bytes w64 l ≡ low_first_number l
+eight_bytes l h =
+    let none : low_first_number (drop 8 l) ≡ 0 = rw (drop_of_length-le l {i = 8} h) in
+    omega (arith, byte_in_front l 0, byte_in_front l 1, byte_in_front l 2, byte_in_front l 3, byte_in_front l 4, byte_in_front l 5, byte_in_front l 6, byte_in_front l 7)
+
+-- as many bytes as there are, and eight at most
+first_eight : (n : ℕ) (l : List ℕ) → n ≡ min (length l) widest → take n l ≡ take widest l
+first_eight n l e =
+    by_bool (ltb n widest)
+    (λ t.
+    let h : length l ≤ n = omega (arith, ltb_true n widest t) in
+    take_all n l h ∙ sym (take_all widest l (omega arith)))
+    (λ t.
+    let g : n ≡ widest = omega (arith, ltb_false n widest t) in
+    rw g)
+
+-- they are read in front of zeros
+pub bytes_read : (n : ℕ) (from m : List ℕ) → n ≡ min (length from) widest → m ≡ take (n - 0) from
+    → from_le_bytes w64 (m ++ drop (n - 0) (replicate widest 0)) ≡ low_first_number (take widest from)
+bytes_read n from m e f =
+    let z : n - 0 ≡ n = omega arith in
+    let g : m ≡ take widest from = rw z at f ∙ first_eight n from e in
+    let k : length m ≤ n = rw (f, z, length-take) (omega arith) in
+    let l : length (m ++ drop (n - 0) (replicate widest 0)) ≤ widest = rw (z, drop-replicate, length-append, length-replicate) (omega arith) in
+    eight_bytes _ l ∙ rw (z, drop-replicate, zeros_behind, g)
 
 -- eight bytes at most are read whole
 pub read_whole : (n : ℕ) (l : List ℕ) → n ≤ widest → low_first_number (take widest (take n l)) ≡ low_first_number (take n l)
 read_whole n l h = ap low_first_number (take_all widest (take n l) (rw length-take (omega arith)))
-
--- the first of some bytes are bytes
-pub first_bytes : (n : ℕ) (l : List ℕ) → ((i : ℕ) → get_or l i 0 < 256) → (i : ℕ) → get_or (take n l) i 0 < 256
-first_bytes zero l h i = omega arith
-first_bytes (suc n) [] h i = omega arith
-first_bytes (suc n) (b ∷ l) h zero = h 0
-first_bytes (suc n) (b ∷ l) h (suc i) = first_bytes n l (λ (j : ℕ). h (suc j)) i

@@ -11,5 +11,5 @@ returns-then-key-ne-KEY c n m = absurd (c.if-key-ne-KEY.true m)
 
 pub returns : goal.returns
 returns c n m =
-    slot_stored c.args.key.now (origin_bytes c.args.parent c.args.step) c.args.to.now c.put.new.to
-    c.put_origin.new.to n m c.put.ensures c.put_origin.ensures
+    slot_stored c.args.key.now (origin_bytes c.args.parent c.args.step) c.args.to.now c.copy_from_slice.new.self
+    c.put_origin.new.to n m c.copy_from_slice.ensures.after c.put_origin.ensures

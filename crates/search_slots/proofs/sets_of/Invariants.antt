@@ -1,5 +1,5 @@
 -- `sets_of` reads the masks. The loop's invariant: so many masks are read. Follows from `set_part` and `copied_more`.
-use Prim.Native.Nat.{ℕ, ◌≤◌, ◌-◌}
+use Prim.Native.Nat.{ℕ}
 use mathlib.Core.Path.{◌≡◌}
 use mathlib.Core.List.{List, ◌++◌}
 use lib.ListN.{length, take, drop, replicate}
@@ -10,7 +10,4 @@ use Rattle.search_slots.proofs.sets_of.Given as goal
 
 abbrev pub invariant-loop-i : goal.invariant-loop-i
 invariant-loop-i l =
-    (l.i ≤ set_fields) × ((ms : List ℕ) → length ms ≡ set_fields → l.from ≡ each mask_bytes ms → l.sets ≡ take l.i ms ++ drop l.i (replicate set_fields 0))
-
-abbrev pub decreases-loop-i : goal.decreases-loop-i
-decreases-loop-i l = set_fields - l.i
+    (ms : List ℕ) → length ms ≡ set_fields → l.from ≡ each mask_bytes ms → l.set-items ≡ take l.i ms ++ drop l.i (replicate set_fields 0)

@@ -8,7 +8,7 @@ use Rattle.search_steps.proofs.steps_length.Given as goal
 
 abbrev pub invariant-loop-i : goal.invariant-loop-i
 invariant-loop-i l =
-    (l.n + 4 * l.i ≤ 4 * l.last) × (l.n + length (way_steps l.work l.i) ≡ length (way_steps l.work l.last))
+    (l.n + 4 * l.i ≤ 4 * l.last.number) × (l.n + length (way_steps l.last.work.now l.i) ≡ length (way_steps l.last.work.now l.last.number))
 
 abbrev pub decreases-loop-i : goal.decreases-loop-i
 decreases-loop-i l = l.i

@@ -7,10 +7,9 @@ use mathlib.Core.List.{append-nil}
 use lib.ListN.{drop, length-drop}
 use lib.Seq.{drop-length, length-take-le}
 use borrow.Rule.Slice.PartMut.{same_len_mid}
-use Rattle.search_records.proofs.Text.{slot_before}
-use Rattle.search_steps.specs.WaySteps.{way_steps}
+use Rattle.search_steps.specs.WaySteps.{way_steps, StepsBefore}
 use Rattle.search_steps.proofs.Steps.{length_grown, stored_before}
-use Rattle.search_steps.proofs.write_steps.Goals.{After-record_length}
+use Rattle.search_steps.proofs.write_steps.Goals.{After-record_length, After-step_before-before}
 use Rattle.search_steps.proofs.write_steps.Goals as goal
 
 pub loop-i-init : goal.loop-i-init
@@ -18,20 +17,21 @@ loop-i-init c = (
   omega arith,
   refl,
   omega arith,
-  c.requires.out_len,
-  rw (drop-length c.args.out.now) (append-nil (way_steps c.args.work.now c.args.last)),
+  c.requires,
+  rw (drop-length c.args.out.now) (append-nil (way_steps c.args.last.now.work.now c.args.last.now.number)),
 )
 
 pub step_before-before-requires : goal.step_before-before-requires
-step_before-before-requires c = record {
-  slot_in = slot_before c.loop-i.i c.loop-i.invariant.0 c.requires.slot_in;
-  i_nonzero = c.loop-i-test.true;
-}
+step_before-before-requires c = rw c.earlier.ensures.1 c.loop-i-test.true
+
+-- the step back from the present slot
+back-at : (c : After-step_before-before) → StepsBefore c.args.last.now.work.now c.loop-i.i c.step_before-before.result
+back-at c = rw (c.earlier.ensures.0, c.earlier.ensures.1) at c.step_before-before.ensures
 
 -- the record has its place before the end
 place : (c : After-record_length) → c.record_length.result ≤ c.loop-i.end
 place c =
-    omega (arith, c.loop-i.invariant.3, c.record_length.ensures, length_grown c.step_before-before.ensures)
+    omega (arith, c.loop-i.invariant.3, c.record_length.ensures, length_grown (rw (c.earlier.ensures.0, c.earlier.ensures.1) at c.step_before-before.ensures))
 
 pub overflow_sub-at : goal.overflow_sub-at
 overflow_sub-at c = omega (arith, place (goal.at.overflow_sub-at c).After-record_length)
@@ -52,7 +52,7 @@ write_step-requires c =
     ∙ omega (arith, place (goal.at.write_step-requires c).After-record_length, c.record_length.ensures)
 
 pub loop-i-smaller : goal.loop-i-smaller
-loop-i-smaller c = c.step_before-before.ensures.falls
+loop-i-smaller c = (back-at (goal.at.loop-i-smaller c).After-step_before-before).falls
 
 pub loop-i-preserved : goal.loop-i-preserved
 loop-i-preserved c =
@@ -61,11 +61,11 @@ loop-i-preserved c =
     let n = c.loop-i.end - from in
     let same = same_len_mid from n c.loop-i.out c.write_step.new.out c.write_step.auto.out in
     let z : from + n ≡ c.loop-i.end = omega (arith, place (goal.at.loop-i-preserved c).After-record_length) in (
-      omega (arith, c.loop-i.invariant.0, back.ensures.falls),
+      omega (arith, c.loop-i.invariant.0, (back-at (goal.at.loop-i-preserved c).After-step_before-before).falls),
       same ∙ c.loop-i.invariant.1,
       rw same (omega (arith, c.loop-i.invariant.2)),
-      omega (arith, c.loop-i.invariant.3, place (goal.at.loop-i-preserved c).After-record_length, c.record_length.ensures, length_grown back.ensures),
-      stored_before back.ensures c.loop-i.out c.write_step.new.out from n c.write_step.ensures (omega (arith, c.loop-i.invariant.2, z)) ∙ rw z c.loop-i.invariant.4,
+      omega (arith, c.loop-i.invariant.3, place (goal.at.loop-i-preserved c).After-record_length, c.record_length.ensures, length_grown (back-at (goal.at.loop-i-preserved c).After-step_before-before)),
+      stored_before (back-at (goal.at.loop-i-preserved c).After-step_before-before) c.loop-i.out c.write_step.new.out from n c.write_step.ensures (omega (arith, c.loop-i.invariant.2, z)) ∙ rw z c.loop-i.invariant.4,
     )
 
 pub returns : goal.returns

@@ -9,11 +9,11 @@ use Rattle.search_steps.proofs.write_steps.Given as goal
 
 abbrev pub invariant-loop-i : goal.invariant-loop-i
 invariant-loop-i l =
-    (l.i ≤ l.last)
+    (l.i ≤ l.last.number)
     × (length l.out ≡ length l.initial.out)
     × (l.end ≤ length l.out)
-    × (l.end ≡ length (way_steps l.work l.i))
-    × (way_steps l.work l.i ++ drop l.end l.out ≡ way_steps l.work l.last)
+    × (l.end ≡ length (way_steps l.last.work.now l.i))
+    × (way_steps l.last.work.now l.i ++ drop l.end l.out ≡ way_steps l.last.work.now l.last.number)
 
 abbrev pub decreases-loop-i : goal.decreases-loop-i
 decreases-loop-i l = l.i

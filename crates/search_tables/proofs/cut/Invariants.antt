@@ -1,11 +1,7 @@
 -- `cut` meets its contract. The loop's invariant: the row is cut to the characters below `c` (`CutSteps`).
-use Prim.Native.Nat.{◌-◌, ◌≤◌}
 use mathlib.Core.Path.{◌≡◌}
 use Rattle.search_tables.specs.Cut.{cut_row}
 use Rattle.search_tables.proofs.cut.Given as goal
 
 abbrev pub invariant-loop-c : goal.invariant-loop-c
-invariant-loop-c l = (l.c ≤ l.n) × (l.masks ≡ cut_row l.c l.among l.row)
-
-abbrev pub decreases-loop-c : goal.decreases-loop-c
-decreases-loop-c l = l.n - l.c
+invariant-loop-c l = l.masks ≡ cut_row l.c l.among l.row

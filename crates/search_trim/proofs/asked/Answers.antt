@@ -23,4 +23,4 @@ asked_as l r h k e f =
 
 pub returns : goal.returns
 returns c =
-    asked_as c.args.l.now c.args.r.now c.requires.0 c.requires.1 c.first_masks-sets.ensures c.trim-trimmed.ensures
+    asked_as c.args.l.now c.args.r.now c.requires.0 c.requires.1 c.first_masks-sets.ensures c.trim.ensures

@@ -1,26 +1,14 @@
--- `first_masks` meets its contract. The loop's invariant: the sets of the fields below `f` are written.
-use native.Mathlib.Omega.{arith}
-use mathlib.Core.Path.{◌≡◌, refl}
+-- `first_masks` meets its contract: each field has its own mask. Follows from `FirstSets`.
 use mathlib.Core.List.{◌++◌}
+use borrow.Author.Rules.{rules}
 use Rattle.paper.specs.Numbers.{set_fields}
-use Rattle.search_trim.specs.Trimming.{first_mask, first_masks}
-use Rattle.search_trim.proofs.FirstSets.{first_more}
-use Rattle.base_codes.proofs.InFront.{in_front_more}
+use Rattle.search_trim.specs.Trimming.{first_mask}
+use Rattle.search_trim.proofs.FirstSets.{made_of_each, each_first}
 use Rattle.search_trim.proofs.first_masks.Goals as goal
 
-pub loop-f-init : goal.loop-f-init
-loop-f-init c = (omega arith, record { bytes = refl; many = refl; same_length = refl })
-
-pub loop-f-preserved : goal.loop-f-preserved
-loop-f-preserved c =
-    let l = c.loop-f in
-    let a = c.args in
-    let tokens = a.l.now ++ a.r.now in
-    (omega arith, rw (c.first_mask.ensures, first_more tokens l.f) (in_front_more l.invariant.1 (first_mask tokens l.f) (omega arith)))
-
 pub returns : goal.returns
-unfolding first_masks
 returns c =
-    let l = c.loop-f in
-    let e : l.f ≡ set_fields = omega arith in
-    (rw e at l.invariant.1).bytes
+    let tokens = c.args.l.now ++ c.args.r.now in
+    let items = c.from_fn.ensures.items in
+    each_first tokens c.from_fn.result items.long
+    (made_of_each _ _ (first_mask tokens) (λ f m q k. search rules) c.from_fn.result set_fields items)

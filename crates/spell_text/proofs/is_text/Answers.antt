@@ -1,20 +1,15 @@
--- `is_text` meets its contract. The loop's invariant: the answer is that for what is left.
-use mathlib.Core.Path.{refl, sym, ◌∙◌}
-use borrow.Author.Rules.{rules}
-use Rattle.spell_text.proofs.SpeltWalk.{text_on, text_not, text_none}
+-- `is_text` meets its contract: every byte is below 128.
+use Prim.Native.Nat.{ℕ}
+use Rattle.std.proofs.Common.{rules, tests}
+use mathlib.Core.Path.{◌∙◌}
+use lib.Dec.{ltb}
+use Rattle.std.proofs.lemmas.Iterator.{YieldsList-from_slice}
+use Rattle.std.proofs.lemmas.Iterator.Search.{all_from_yields_List}
+use Rattle.paper_spell.specs.FullAscii.{ascii}
+use Rattle.spell_text.proofs.SpeltWalk.{text_all}
 use Rattle.spell_text.proofs.is_text.Goals as goal
-
-pub loop-i-init : goal.loop-i-init
-loop-i-init c = (search rules, refl)
-
-pub returns-then-text-i-ge-ASCII : goal.returns-then-text-i-ge-ASCII
-returns-then-text-i-ge-ASCII c =
-    sym (c.loop-i.invariant.1 ∙ text_not c.args.text.now c.loop-i.i (search rules) c.if-text-i-ge-ASCII.true)
-
-pub loop-i-preserved : goal.loop-i-preserved
-loop-i-preserved c =
-    (search rules, c.loop-i.invariant.1 ∙ text_on c.args.text.now c.loop-i.i (search rules) c.if-text-i-ge-ASCII.false)
 
 pub returns : goal.returns
 returns c =
-    sym (c.loop-i.invariant.1 ∙ text_none c.args.text.now c.loop-i.i c.loop-i-test.false)
+    let text = c.args.text.now in
+    all_from_yields_List (λ (b : ℕ). ltb b ascii) _ _ c.all.result c.all.ensures.ran (YieldsList-from_slice text c.iter.ensures.rest) (λ x b q k. search (rules, tests)) ∙ text_all text

@@ -31,5 +31,5 @@ returns c =
     let told = and_promised a.text.now a.out.now _
     (told_spelt_out a.text.now a.out.now (sym c.is_text.ensures ∙ c.if-not-is_text.false) (search rules)
     (omega (arith, c.if-room-text-2.false, c.shifts.ensures, c.if-room-text.false))
-    c.put_text-bytes.ensures) in
+    c.put_text.ensures) in
     record { whole = told.0; promised = told.1 }

@@ -1,26 +1,19 @@
--- `are_characters` meets its contract. The loop's invariant: all values are characters if those that are left are.
-use mathlib.Core.Path.{sym, ◌∙◌}
-use borrow.Author.Rules.{rules}
-use Rattle.way_records.proofs.Values.{all_first, all_more, all_not, all_done}
+-- `are_characters` meets its contract: `all` tells what the paper's does.
+use Prim.Native.Nat.{ℕ}
+use Rattle.std.proofs.Common.{◌≡◌, ◌∙◌, refl, ap, rules, tests, Bool, ◌&&◌, List, [], ◌∷◌, ltb}
+use Rattle.std.specs.List.{list_all}
+use Rattle.std.proofs.lemmas.Iterator.{YieldsList-from_slice}
+use Rattle.std.proofs.lemmas.Iterator.Search.{all_from_yields_List}
+use Rattle.paper.specs.Lists.{all}
 use Rattle.way_records.proofs.are_characters.Goals as goal
 
-pub loop-i-init : goal.loop-i-init
-loop-i-init c = let a = c.args in (search rules, all_first a.characters a.values.now)
-
-pub returns-then-characters-value : goal.returns-then-characters-value
-returns-then-characters-value c =
-    let a = c.args in
-    sym (c.loop-i.invariant.1 ∙ all_not a.characters a.values.now c.loop-i.i c.loop-i-test.true c.wide-value.result c.wide-value.ensures.0 c.if-characters-value.true)
-
-pub loop-i-preserved : goal.loop-i-preserved
-loop-i-preserved c =
-    let a = c.args in (
-      search rules,
-      c.loop-i.invariant.1
-          ∙ all_more a.characters a.values.now c.loop-i.i c.loop-i-test.true c.wide-value.result c.wide-value.ensures.0 c.if-characters-value.false,
-    )
+same_all : (n : ℕ) (l : List ℕ) → list_all (λ (c : ℕ). ltb c n) l ≡ all (λ (c : ℕ). ltb c n) l
+same_all n [] = refl
+same_all n (c ∷ l) = ap (λ (b : Bool). ltb c n && b) (same_all n l)
 
 pub returns : goal.returns
 returns c =
-    let a = c.args in
-    sym (c.loop-i.invariant.1 ∙ all_done a.characters a.values.now c.loop-i.i c.loop-i-test.false)
+    let n = c.args.characters in
+    let l = c.args.values.now in
+    all_from_yields_List (λ (b : ℕ). ltb b n) _ _ c.all.result c.all.ensures.ran (YieldsList-from_slice l c.iter.ensures.rest) (λ x b q k. search (rules, tests))
+    ∙ same_all n l

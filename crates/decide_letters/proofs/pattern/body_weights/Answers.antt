@@ -15,7 +15,7 @@ use Rattle.decide_letters.proofs.pattern.body_weights.Goals as goal
 pub returns-then-wanted-eq0 : goal.returns-then-wanted-eq0
 unfolding body_weights
 returns-then-wanted-eq0 c =
-    (rw (eq_eqb c.args.body.length 0 c.if-wanted-eq0.true) c.open.ensures, c.requires)
+    rw (eq_eqb c.args.body.length 0 c.if-wanted-eq0.true) c.open.ensures
 
 pub overflow_sub-s : goal.overflow_sub-s
 overflow_sub-s c = c.at_most-start.ensures.within
@@ -38,11 +38,11 @@ pub pattern_weights-requires : goal.pattern_weights-requires
 pattern_weights-requires c =
     let from = c.at_most-start.result in
     let many = c.at_most-length.result in
-    (omega (arith, c.at_most-length.ensures.within, length-take (from + many - from) (drop from c.args.s.now)), c.requires)
+    omega (arith, c.at_most-length.ensures.within, length-take (from + many - from) (drop from c.args.s.now))
 
 pub returns : goal.returns
 unfolding body_weights
 returns c =
     let a = c.args in
     let its = part_there a.s.now a.body c.at_most-start.result c.at_most-there.result c.at_most-length.result c.at_most-start.ensures c.at_most-there.ensures c.at_most-length.ensures in
-    (rw (neq_eqb a.body.length 0 c.if-wanted-eq0.false) (c.pattern_weights.ensures.0 ∙ ap (λ (l : List ℕ). packed (get_or (stack_of (counted a.counting) (codes (paper_edition a.edition) l)) 0 weightless)) its), c.pattern_weights.ensures.1)
+    rw (neq_eqb a.body.length 0 c.if-wanted-eq0.false) (c.pattern_weights.ensures ∙ ap (λ (l : List ℕ). packed (get_or (stack_of (counted a.counting) (codes (paper_edition a.edition) l)) 0 weightless)) its)

@@ -3,6 +3,7 @@ use Prim.Native.Nat.{ℕ, ◌+◌, ◌-◌, ◌≤◌}
 use native.Mathlib.Omega.{arith}
 use mathlib.Core.Path.{sym, ◌∙◌, subst}
 use mathlib.Core.List.{List}
+use borrow.Author.Rules.{rules}
 use lib.ListN.{length, length-map, get_or-map}
 use Rattle.paper.specs.Numbers.{pattern_bytes}
 use Rattle.paper.specs.Alphabet.{code, codes}
@@ -15,34 +16,23 @@ use Rattle.decide_letters.proofs.pattern.pattern_weights.Goals as goal
 
 -- there are no more codes than a pattern may have
 at-most-192 : (s : Start) → length (codes (paper_edition s.args.edition) s.args.bytes.now) ≤ pattern_bytes
-at-most-192 s = omega (arith, s.requires.0, length-map s.args.bytes.now (code (paper_edition s.args.edition)))
+at-most-192 s = omega (arith, s.requires, length-map s.args.bytes.now (code (paper_edition s.args.edition)))
 
 pub loop-i-init : goal.loop-i-init
 loop-i-init c =
     let bytes = c.args.bytes.now in
     let e = paper_edition c.args.edition in
-    walked_none (counted c.args.counting) (codes e bytes) c.args.stack.now (length bytes) c.requires.1 (sym (length-map bytes (code e)))
-
-pub overflow_sub-i : goal.overflow_sub-i
-overflow_sub-i c = omega (arith, c.loop-i-test.true)
-
-pub bounds-bytes-i : goal.bounds-bytes-i
-bounds-bytes-i c =
-    let a = c.args in
-    omega (arith, c.loop-i-test.true, c.loop-i.invariant.within, length-map a.bytes.now (code (paper_edition a.edition)))
+    walked_none (counted c.args.counting) (codes e bytes) c.args.stack.now (length bytes) (search rules) (sym (length-map bytes (code e)))
 
 pub made-w-requires : goal.made-w-requires
-made-w-requires c = let l = c.loop-i in (l.invariant.long, l.invariant.room)
+made-w-requires c = c.loop-i.invariant.room
 
 pub put-top-requires : goal.put-top-requires
 put-top-requires c =
     let cs = codes (paper_edition c.args.edition) c.args.bytes.now in
     let short = at-most-192 (goal.at.put-top-requires c).Start in
     let some = walked_room (counted c.args.counting) cs short c.loop-i.stack c.loop-i.top c.loop-i.lo c.loop-i.hi c.loop-i.i c.loop-i.invariant c.loop-i-test.true in
-    (c.loop-i.invariant.long, c.loop-i.invariant.room, omega arith, omega (arith, c.uses.ensures, uses_le c.code-c.result))
-
-pub loop-i-smaller : goal.loop-i-smaller
-loop-i-smaller c = omega (arith, c.loop-i-test.true)
+    (c.loop-i.invariant.room, omega arith, omega (arith, c.uses.ensures, uses_le c.code-c.result))
 
 pub loop-i-preserved : goal.loop-i-preserved
 loop-i-preserved c =
@@ -55,13 +45,8 @@ loop-i-preserved c =
     (walked_more (counted c.args.counting) (codes e bytes) (at-most-192 (goal.at.loop-i-preserved c).Start) c.loop-i.stack c.loop-i.top c.loop-i.lo c.loop-i.hi i c.loop-i.invariant
     c.code-c.result c.made-w.result c.put-top.result (code e 0) c.loop-i-test.true its c.made-w.ensures least)
 
-pub at-requires : goal.at-requires
-at-requires c = c.loop-i.invariant.long
-
 pub returns : goal.returns
 returns c =
-    let cs = codes (paper_edition c.args.edition) c.args.bytes.now in (
-      c.at.ensures
-          ∙ walked_all (counted c.args.counting) cs (at-most-192 (goal.at.returns c).Start) c.loop-i.stack c.loop-i.top c.loop-i.lo c.loop-i.hi c.loop-i.i c.loop-i.invariant (omega (arith, c.loop-i-test.false)),
-      c.loop-i.invariant.long,
-    )
+    let cs = codes (paper_edition c.args.edition) c.args.bytes.now in
+    c.at.ensures
+    ∙ walked_all (counted c.args.counting) cs (at-most-192 (goal.at.returns c).Start) c.loop-i.stack c.loop-i.top c.loop-i.lo c.loop-i.hi c.loop-i.i c.loop-i.invariant (omega arith)

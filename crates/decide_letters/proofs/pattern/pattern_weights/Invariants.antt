@@ -8,6 +8,3 @@ use Rattle.decide_letters.proofs.pattern.pattern_weights.Given as goal
 abbrev pub invariant-loop-i : goal.invariant-loop-i
 invariant-loop-i l =
     Walked (counted l.counting) (codes (paper_edition l.edition) l.bytes) l.stack l.top l.lo l.hi l.i
-
-abbrev pub decreases-loop-i : goal.decreases-loop-i
-decreases-loop-i l = l.i

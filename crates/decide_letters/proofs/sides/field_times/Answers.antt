@@ -1,81 +1,49 @@
--- `field_times` meets its contract. The loop's invariant: the fields of the tokens before i are counted (`Timing`).
-use Prim.Native.Nat.{ℕ, ◌+◌, ◌<◌}
+-- `field_times` meets its contract. The loop's invariant: the fields of the tokens before this one are counted (`Timing`).
+use Prim.Native.Nat.{ℕ, ◌+◌, ◌≤◌, ◌<◌}
 use native.Mathlib.Omega.{arith}
-use mathlib.Core.Path.{◌≡◌, refl}
-use lib.ListN.{length, get_or}
+use mathlib.Core.Path.{◌≡◌, refl, sym, ap, subst, ◌∙◌}
+use mathlib.Core.List.{List}
+use lib.ListN.{length}
 use borrow.Author.Rules.{rules}
 use Rattle.paper.specs.Numbers.{fields, longest_side}
-use Rattle.paper.proofs.base.Tests.{eq_eqb, neq_eqb}
-use Rattle.base_codes.specs.Inner.{field_code, no_token}
-use Rattle.decide_letters.proofs.InSides.{tokens_over, tokens_behind, timing_none, timing_other, timing_field, timing_small, timing_all}
+use Rattle.base_codes.specs.Inner.{field_code}
+use Rattle.base_codes.proofs.Tokens.{tokens_length}
+use Rattle.decide_letters.specs.SideCoded.{times_listed}
+use Rattle.decide_letters.proofs.InSides.{Timing, timing_none, timing_other, timing_field, timing_small, timing_all}
+use Rattle.decide_letters.proofs.sides.field_times.Goals.{then-b-ge-FIELD_CODE+then-f-lt-SHEET_FIELDS, then-b-ge-FIELD_CODE+else-f-lt-SHEET_FIELDS, else-b-ge-FIELD_CODE}
 use Rattle.decide_letters.proofs.sides.field_times.Goals as goal
 
-pub loop-i-init : goal.loop-i-init
-loop-i-init c =
-    let long : length c.args.side ≡ longest_side = search rules in
-    timing_none c.args.side long
-
-pub returns-then-b : goal.returns-then-b
-returns-then-b c =
-    let side = c.args.side in
-    let i = c.loop-i.i in
-    let long : length side ≡ longest_side = search rules in
-    timing_all side long c.loop-i.times i c.loop-i.invariant (tokens_over side i (omega (arith, c.loop-i-test.true, long)) (eq_eqb (get_or side i 0) no_token c.if-b.true))
-
-pub offset_bounds-times-f : goal.offset_bounds-times-f
-offset_bounds-times-f c = omega (arith, c.if-f-lt-SHEET_FIELDS.true)
-
-pub bounds-times-f : goal.bounds-times-f
-bounds-times-f c = c.if-f-lt-SHEET_FIELDS.true
+pub loop-b-init : goal.loop-b-init
+loop-b-init c = timing_none c.tokens_of-b-items.result.now
 
 pub overflow_add-times : goal.overflow_add-times
 overflow_add-times c =
     let side = c.args.side in
     let long : length side ≡ longest_side = search rules in
-    let n = timing_small side long c.loop-i.times c.loop-i.i c.loop-i.invariant c.field_of-f.result c.if-f-lt-SHEET_FIELDS.true in
+    let few : length c.tokens_of-b-items.result.now ≤ longest_side = omega (arith, ap length c.tokens_of-b-items.ensures, tokens_length side) in
+    let n = timing_small _ c.loop-b.times c.loop-b.b-index c.loop-b.invariant few c.field_of-f.result c.if-f-lt-SHEET_FIELDS.true in
     record { fits = omega arith }
 
-pub bounds-times-f-then-f-lt-SHEET_FIELDS : goal.bounds-times-f-then-f-lt-SHEET_FIELDS
-bounds-times-f-then-f-lt-SHEET_FIELDS c = c.if-f-lt-SHEET_FIELDS.true
-
-pub loop-i-smaller-then-f-lt-SHEET_FIELDS : goal.loop-i-smaller-then-f-lt-SHEET_FIELDS
-loop-i-smaller-then-f-lt-SHEET_FIELDS c = omega (arith, c.loop-i-test.true)
-
-pub loop-i-preserved-then-f-lt-SHEET_FIELDS : goal.loop-i-preserved-then-f-lt-SHEET_FIELDS
-loop-i-preserved-then-f-lt-SHEET_FIELDS c =
-    let side = c.args.side in
-    let i = c.loop-i.i in
-    let b = get_or side i 0 in
-    let long : length side ≡ longest_side = search rules in
-    timing_field side long c.loop-i.times i c.loop-i.invariant c.loop-i-test.true (neq_eqb b no_token c.if-b.false) c.field_of-f.result _ c.if-f-lt-SHEET_FIELDS.true
-    (omega (arith, c.field_of-f.ensures, c.if-b-ge-FIELD_CODE.true)) refl
-
-pub loop-i-smaller-else-f-lt-SHEET_FIELDS : goal.loop-i-smaller-else-f-lt-SHEET_FIELDS
-loop-i-smaller-else-f-lt-SHEET_FIELDS c = omega (arith, c.loop-i-test.true)
-
-pub loop-i-preserved-else-f-lt-SHEET_FIELDS : goal.loop-i-preserved-else-f-lt-SHEET_FIELDS
-loop-i-preserved-else-f-lt-SHEET_FIELDS c =
-    let side = c.args.side in
-    let i = c.loop-i.i in
-    let b = get_or side i 0 in
-    let long : length side ≡ longest_side = search rules in
-    timing_other side long c.loop-i.times i c.loop-i.invariant c.loop-i-test.true (neq_eqb b no_token c.if-b.false)
-    (λ (f : ℕ) (h : f < fields) (e : field_code + f ≡ b). omega (arith, c.field_of-f.ensures, c.if-f-lt-SHEET_FIELDS.false))
-
-pub loop-i-smaller : goal.loop-i-smaller
-loop-i-smaller c = omega (arith, c.loop-i-test.true)
-
-pub loop-i-preserved : goal.loop-i-preserved
-loop-i-preserved c =
-    let side = c.args.side in
-    let i = c.loop-i.i in
-    let b = get_or side i 0 in
-    let long : length side ≡ longest_side = search rules in
-    timing_other side long c.loop-i.times i c.loop-i.invariant c.loop-i-test.true (neq_eqb b no_token c.if-b.false)
-    (λ (f : ℕ) (h : f < fields) (e : field_code + f ≡ b). omega (arith, c.if-b-ge-FIELD_CODE.false))
+pub loop-b-preserved : goal.loop-b-preserved
+loop-b-preserved c =
+    let xs = c.tokens_of-b-items.result.now in
+    let l = c.loop-b in
+    elim c.if-b-ge-FIELD_CODE.branch [
+      | then-b-ge-FIELD_CODE+then-f-lt-SHEET_FIELDS w ↦
+          subst (λ (t : List ℕ). Timing xs t (l.b-index + 1)) (sym w.times-is)
+          (timing_field xs l.times l.b-index l.invariant c.loop-b-test.true w.field_of-f.result _ w.if-f-lt-SHEET_FIELDS.true
+          (omega (arith, w.field_of-f.ensures, w.if-b-ge-FIELD_CODE.true)) refl)
+      | then-b-ge-FIELD_CODE+else-f-lt-SHEET_FIELDS w ↦
+          subst (λ (t : List ℕ). Timing xs t (l.b-index + 1)) (sym w.times-is)
+          (timing_other xs l.times l.b-index l.invariant c.loop-b-test.true
+          (λ (f : ℕ) (h : f < fields) (e : field_code + f ≡ _). omega (arith, w.field_of-f.ensures, w.if-f-lt-SHEET_FIELDS.false)))
+      | else-b-ge-FIELD_CODE w ↦
+          subst (λ (t : List ℕ). Timing xs t (l.b-index + 1)) (sym w.times-is)
+          (timing_other xs l.times l.b-index l.invariant c.loop-b-test.true
+          (λ (f : ℕ) (h : f < fields) (e : field_code + f ≡ _). omega (arith, w.if-b-ge-FIELD_CODE.false)))
+    ]
 
 pub returns : goal.returns
 returns c =
-    let side = c.args.side in
-    let long : length side ≡ longest_side = search rules in
-    timing_all side long c.loop-i.times c.loop-i.i c.loop-i.invariant (tokens_behind side c.loop-i.i (omega (arith, c.loop-i-test.false, long)))
+    let xs = c.tokens_of-b-items.result.now in
+    timing_all xs c.loop-b.times c.loop-b.b-index c.loop-b.invariant c.loop-b-test.false ∙ ap times_listed c.tokens_of-b-items.ensures

@@ -1,11 +1,6 @@
--- `field_times` meets its contract. The loop's invariant: the fields of the tokens before i are counted (`Timing`).
-use Prim.Native.Nat.{◌-◌}
-use Rattle.paper.specs.Numbers.{longest_side}
+-- `field_times` meets its contract. The loop's invariant: the fields of the tokens before this one are counted (`Timing`).
 use Rattle.decide_letters.proofs.InSides.{Timing}
 use Rattle.decide_letters.proofs.sides.field_times.Given as goal
 
-abbrev pub invariant-loop-i : goal.invariant-loop-i
-invariant-loop-i l = Timing l.side l.times l.i
-
-abbrev pub decreases-loop-i : goal.decreases-loop-i
-decreases-loop-i l = longest_side - l.i
+abbrev pub invariant-loop-b : goal.invariant-loop-b
+invariant-loop-b l = Timing l.b-items l.times l.b-index

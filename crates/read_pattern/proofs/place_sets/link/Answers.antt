@@ -53,9 +53,6 @@ offset_bounds-follow-next c = omega (arith, in-places (goal.at.offset_bounds-fol
 pub bounds-follow-next : goal.bounds-follow-next
 bounds-follow-next c = in-places (goal.at.bounds-follow-next c).Else-rest-eq0
 
-pub offset_bounds-follow-next-in-loop-i : goal.offset_bounds-follow-next-in-loop-i
-offset_bounds-follow-next-in-loop-i c = omega (arith, in-places (goal.at.offset_bounds-follow-next-in-loop-i c).Else-rest-eq0)
-
 pub bounds-follow-next-in-loop-i : goal.bounds-follow-next-in-loop-i
 bounds-follow-next-in-loop-i c = in-places (goal.at.bounds-follow-next-in-loop-i c).Else-rest-eq0
 

@@ -1,6 +1,5 @@
 -- `place_sets::mark` meets its contract. The loop adds the set at the characters from lo to hi (`Adding`); to the others nothing is added.
 use Prim.Native.Nat.{ℕ, ◌≤◌, ◌<◌, zero-le}
-use native.Mathlib.Nat.{le_refl}
 use native.Mathlib.Omega.{arith}
 use mathlib.Core.Path.{◌≡◌, sym, ap}
 use mathlib.Core.Bool.{Bool, cond}
@@ -23,43 +22,24 @@ added_above lo hi set c h = ap (λ (b : Bool). cond b set 0) (right_false (leb l
 pub loop-c-init : goal.loop-c-init
 loop-c-init c =
     let a = c.args in
-    let h = c.requires.0 in (
-      le_refl a.lo,
-      adding_to most_characters (marked a.lo a.hi a.set) a.taking.now a.taking.now 0 a.lo
-          (adding_none most_characters (marked a.lo a.hi a.set) a.taking.now)
-          zero-le
-          (omega arith)
-          (λ (j : ℕ) (_ : 0 ≤ j) (k : j < a.lo). added_below a.lo a.hi a.set j k),
-    )
-
-pub offset_bounds-taking-c : goal.offset_bounds-taking-c
-offset_bounds-taking-c c = omega (arith, c.requires.1, c)
-
-pub bounds-taking-c : goal.bounds-taking-c
-bounds-taking-c c = omega (arith, c.requires.1, c)
-
-pub offset_bounds-taking-c-in-loop-c : goal.offset_bounds-taking-c-in-loop-c
-offset_bounds-taking-c-in-loop-c c = omega (arith, c.requires.1, c)
-
-pub bounds-taking-c-in-loop-c : goal.bounds-taking-c-in-loop-c
-bounds-taking-c-in-loop-c c = omega (arith, c.requires.1, c)
-
-pub loop-c-smaller : goal.loop-c-smaller
-loop-c-smaller c = omega arith
+    let h = c.requires.0 in
+    adding_to most_characters (marked a.lo a.hi a.set) a.taking.now a.taking.now 0 a.lo
+    (adding_none most_characters (marked a.lo a.hi a.set) a.taking.now)
+    zero-le
+    (omega arith)
+    (λ (j : ℕ) (_ : 0 ≤ j) (k : j < a.lo). added_below a.lo a.hi a.set j k)
 
 pub loop-c-preserved : goal.loop-c-preserved
 loop-c-preserved c =
     let l = c.loop-c in
     let a = c.args in
-    let h = c.requires.1 in (
-      omega (arith, l.invariant.0),
-      adding_more most_characters (marked a.lo a.hi a.set) a.taking.now l.taking l.c l.invariant.1 (omega arith) a.set
-          (added_here a.lo a.hi a.set l.c l.invariant.0 (omega arith)),
-    )
+    let h = c.requires.1 in
+    adding_more most_characters (marked a.lo a.hi a.set) a.taking.now l.taking l.c l.invariant (omega arith) a.set
+    (added_here a.lo a.hi a.set l.c l.auto.c (omega arith))
 
 pub returns : goal.returns
 returns c =
     let l = c.loop-c in
     let a = c.args in
-    adding_rest most_characters (marked a.lo a.hi a.set) a.taking.now l.taking l.c l.invariant.1
+    adding_rest most_characters (marked a.lo a.hi a.set) a.taking.now l.taking l.c l.invariant
     (λ (j : ℕ) (k : l.c ≤ j). added_above a.lo a.hi a.set j (omega (arith, c)))

@@ -1,32 +1,18 @@
 -- `reader::read_range` meets its contract: each way out is a case of `read_range` (`ReadParts`).
 use native.Mathlib.Numerals.{add-one}
 use lib.ListN.{length, drop, length-drop}
-use Rattle.read_pattern.proofs.ReadParts.{range_none, range_lo, range_short, range_falls, range_above, range_good, leaf_as}
+use Rattle.read_pattern.proofs.ReadParts.{range_none, range_lo, range_short, range_good, leaf_as}
 use Rattle.read_pattern.proofs.reader.read_range.Goals as goal
 
 pub returns-then-left-lt1 : goal.returns-then-left-lt1
-returns-then-left-lt1 c follow =
-    let a = c.args in rw (range_none a.s.now c.if-left-lt1.true) c.none.ensures
+returns-then-left-lt1 c follow = rw (range_none c.args.s.now c.if-left-lt1.true)
 
 pub returns-then-lo-ge-CHARACTER_END : goal.returns-then-lo-ge-CHARACTER_END
-returns-then-lo-ge-CHARACTER_END c follow =
-    let a = c.args in
-    rw (range_lo a.s.now c.if-left-lt1.false c.if-lo-ge-CHARACTER_END.true) c.none-then-lo-ge-CHARACTER_END.ensures
+returns-then-lo-ge-CHARACTER_END c follow = rw (range_lo c.args.s.now c.if-left-lt1.false c.if-lo-ge-CHARACTER_END.true)
 
 pub returns-then-left-lt2 : goal.returns-then-left-lt2
 returns-then-left-lt2 c follow =
-    let a = c.args in
-    rw (range_short a.s.now c.if-left-lt1.false c.if-lo-ge-CHARACTER_END.false c.if-left-lt2.true) c.none-then-left-lt2.ensures
-
-pub returns-then-hi-lo : goal.returns-then-hi-lo
-returns-then-hi-lo c follow =
-    let a = c.args in
-    rw (range_falls a.s.now c.if-left-lt2.false c.if-lo-ge-CHARACTER_END.false c.if-hi-lo.true) c.none-then-hi-lo.ensures
-
-pub returns-then-hi-ge-CHARACTER_END : goal.returns-then-hi-ge-CHARACTER_END
-returns-then-hi-ge-CHARACTER_END c follow =
-    let a = c.args in
-    rw (range_above a.s.now c.if-left-lt2.false c.if-lo-ge-CHARACTER_END.false c.if-hi-ge-CHARACTER_END.true) c.none-then-hi-ge-CHARACTER_END.ensures
+    rw (range_short c.args.s.now c.if-left-lt1.false c.if-lo-ge-CHARACTER_END.false c.if-left-lt2.true)
 
 pub returns : goal.returns
 returns c follow =

@@ -1,11 +1,10 @@
 -- `search::offer` meets its contract: a search that has ended rests, and a child goes by its fate. Follows from the laws of a child
 -- offered.
-use mathlib.Core.Path.{◌≡◌, sym, ap, ◌∙◌}
+use mathlib.Core.Path.{◌≡◌, sym, ◌∙◌}
 use mathlib.Core.Bool.{true, false}
 use borrow.Author.Rules.{rules}
-use Rattle.search_children.specs.declared.Child.{Child}
 use Rattle.search_run.specs.Run.{is_going}
-use Rattle.search_children.proofs.Short.{fate_dropped, fate_above, fate_made}
+use Rattle.search_children.proofs.Short.{child_dropped, child_above, child_made}
 use Rattle.search_run.proofs.search.Offers.{offered_ended, offered_above, offered_made}
 use Rattle.search_run.proofs.search.offer.Goals.{Else-not-is_going}
 use Rattle.search_run.proofs.search.offer.Goals as goal
@@ -25,7 +24,7 @@ returns-in-Dropped c =
     record {
       within = search rules;
       more = search rules;
-      lent = λ R x l b s. rw (fate_dropped x (sym (ap (λ (t : Child). t.fate) b) ∙ c.in-Dropped.is)) l;
+      lent = λ R x l b s. rw (child_dropped x (sym b ∙ c.in-Dropped.is)) l;
     }
 
 pub returns-in-Above : goal.returns-in-Above
@@ -35,7 +34,7 @@ returns-in-Above c =
       within = search rules;
       more = search rules;
       lent = λ R x l b s.
-          rw (fate_above x (sym (ap (λ (t : Child). t.fate) b) ∙ c.in-Above.is))
+          rw (child_above x (sym b ∙ c.in-Above.is))
           (offered_above l a.room a.parent a.step (going (goal.at.returns-in-Above c).Else-not-is_going));
     }
 
@@ -46,8 +45,8 @@ returns-in-Made c =
       within = c.offer_made.ensures.within;
       more = c.offer_made.ensures.more;
       lent = λ R x l b s.
-          let k = fate_made x (sym (ap (λ (t : Child). t.fate) b) ∙ c.in-Made.is) in
+          let k = child_made x c.in-Made.s (sym b ∙ c.in-Made.is) in
           rw k.1
           (offered_made l a.room a.parent a.step k.0 (going (goal.at.returns-in-Made c).Else-not-is_going)
-          (c.offer_made.ensures.lent k.0 R.slots (ap (λ (t : Child). t.at) b ∙ k.2) (s k.0 k.1) l.kept (sym l.entered)));
+          (c.offer_made.ensures.lent k.0 R.slots k.2 (s k.0 k.1) l.kept (sym l.entered)));
     }

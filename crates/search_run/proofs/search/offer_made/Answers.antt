@@ -25,14 +25,14 @@ looked c k ss e s h l =
     let b = bucket_put k e c.key_of-key.ensures s c.args.work.now (omega (arith, c.requires.roomy.fits, c.requires.roomy.within)) c.bucket_of-b.ensures in
     c.look_up-seen.ensures k ss b.0 (key_put k e c.key_of-key.ensures) b.1 s h l
 
-pub returns-in-At : goal.returns-in-At
-returns-in-At c =
+pub returns-then-is_some : goal.returns-then-is_some
+returns-then-is_some c =
     let a = c.args in
     record {
       within = search rules;
       more = search rules;
       lent = λ k ss e s h l.
-          rw (offered_seen a.room a.parent ss a.step k c.in-At.field-0 (rw c.in-At.is at (looked (goal.at.returns-in-At c).After-look_up-seen k ss e s h l)))
+          rw (offered_seen a.room a.parent ss a.step k c.look_up-seen.result (sym c.is_some.ensures ∙ c.if-is_some.true) (looked (goal.at.returns-then-is_some c).After-look_up-seen k ss e s h l))
           (record { kept = h; entered = sym l; status = refl });
     }
 
@@ -44,7 +44,7 @@ returns-then-room-n c =
       within = omega (arith, c.no_room.ensures.0, c.requires.roomy.within);
       more = omega (arith, c.no_room.ensures.0);
       lent = λ k ss e s h l.
-          rw (offered_new a.room a.parent ss a.step k (rw c.in_default.is at (looked (goal.at.returns-then-room-n c).After-look_up-seen k ss e s h l)), le_leb a.room (length ss) (omega arith))
+          rw (offered_new a.room a.parent ss a.step k c.look_up-seen.result (sym c.is_some.ensures ∙ c.if-is_some.false) (looked (goal.at.returns-then-room-n c).After-look_up-seen k ss e s h l), le_leb a.room (length ss) (omega arith))
           (record { kept = h; entered = c.no_room.ensures.0 ∙ sym l; status = c.no_room.ensures.1 });
     }
 
@@ -56,7 +56,7 @@ returns c =
       within = c.enter_with.ensures.within;
       more = c.enter_with.ensures.more;
       lent = λ k ss e s h l.
-          rw (offered_new a.room a.parent ss a.step k (rw c.in_default.is at (looked (goal.at.returns c).After-look_up-seen k ss e s h l)))
+          rw (offered_new a.room a.parent ss a.step k c.look_up-seen.result (sym c.is_some.ensures ∙ c.if-is_some.false) (looked (goal.at.returns c).After-look_up-seen k ss e s h l))
           (c.enter_with.ensures.lent k ss (key_put k e c.key_of-key.ensures)
           (bucket_put k e c.key_of-key.ensures s a.work.now room c.bucket_of-b.ensures) s h l);
     }

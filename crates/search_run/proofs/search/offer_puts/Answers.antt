@@ -23,23 +23,22 @@ use Rattle.search_run.proofs.search.offer_puts.Goals as goal
 
 -- the fronts, with their rows
 abbrev left-front : Start → Front
-left-front p = with_row p.args.taking.now p.args.left
+left-front p = with_row p.args.tables.now.taking.now p.args.left
 
 abbrev right-front : Start → Front
-right-front p = with_row p.args.taking.now p.args.right
+right-front p = with_row p.args.tables.now.taking.now p.args.right
 
 pub loop-c-init : goal.loop-c-init
 loop-c-init c =
-    let starts = c.first_put-first in
+    let starts = c.may_be_put-candidates in
     let a = c.args in (
-      starts.ensures.0,
+      starts.ensures.starts.0,
       refl,
       record {
         within = c.requires.roomy.within;
         more = le_refl _;
-        lent = λ R k l e h. rw (none_first a.characters k (left-front (goal.at.loop-c-init c).Start) (right-front (goal.at.loop-c-init c).Start) starts.result starts.ensures) l;
+        lent = λ R k l e h. rw (none_first a.tables.now.characters k (left-front (goal.at.loop-c-init c).Start) (right-front (goal.at.loop-c-init c).Start) starts.result.start starts.ensures.starts) l;
       },
-      c.first_not_put-end.ensures.0,
     )
 
 -- the number of a row and that of a character lie in the table
@@ -49,7 +48,7 @@ rows-below c = c.requires.row_lt_set_fields
 
 character-below : (c : In-loop-c) → c.loop-c.c < most_characters
 character-below c =
-    omega (arith, c.requires.characters_le_most_characters, c.loop-c.invariant.3, c.loop-c-test.true)
+    omega (arith, c.args.tables.now.in_table, c.may_be_put-candidates.ensures.ends.0, c.loop-c-test.true)
 
 pub offset_bounds-taking-l : goal.offset_bounds-taking-l
 offset_bounds-taking-l c = omega (arith, rows-below (goal.at.offset_bounds-taking-l c).At-loop-c)
@@ -88,7 +87,7 @@ loop-c-preserved c =
     let v = c.loop-c.invariant.2 in
     let a = c.args in
     let below : i < most_characters = character-below (goal.at.loop-c-preserved c).In-loop-c in
-    let next : i < a.characters = omega (arith, c.loop-c.invariant.3, c.loop-c-test.true) in
+    let next : i < a.tables.now.characters = omega (arith, c.may_be_put-candidates.ensures.ends.0, c.loop-c-test.true) in
     let b = c.both_take in
     let l = left-front (goal.at.loop-c-preserved c).Start in
     let r = right-front (goal.at.loop-c-preserved c).Start in
@@ -118,7 +117,6 @@ loop-c-preserved c =
               (rw (w.work-is, w.now-is, put_not_taken k l r i b.result b.ensures w.if-both_take.false) (v.lent R k t e h));
         }
       ],
-      c.loop-c.invariant.3,
     )
 
 pub shape_of-work : goal.shape_of-work
@@ -127,7 +125,7 @@ shape_of-work c = c.loop-c.invariant.1
 pub returns : goal.returns
 returns c =
     let l = c.loop-c in
-    let ends = c.first_not_put-end in
+    let ends = c.may_be_put-candidates in
     let a = c.args in
     let v = l.invariant.2 in
     record {
@@ -135,5 +133,5 @@ returns c =
       more = v.more;
       lent = λ R k t e h.
           subst (λ (x : List (Child Coded ℕ)). Lent l.work l.now (offer_slots a.room a.parent R x))
-          (none_left a.characters k (left-front (goal.at.returns c).Start) (right-front (goal.at.returns c).Start) ends.result l.c ends.ensures (omega arith) l.invariant.0) (v.lent R k t e h);
+          (none_left a.tables.now.characters k (left-front (goal.at.returns c).Start) (right-front (goal.at.returns c).Start) ends.result.end l.c ends.ensures.ends (omega arith) l.invariant.0) (v.lent R k t e h);
     }

@@ -1,6 +1,6 @@
 -- `search::offer_puts` meets its contract. The loop's invariant: the children by the characters below c are offered. Follows from the
 -- laws of the characters that are left out.
-use Prim.Native.Nat.{◌-◌, ◌≤◌}
+use Prim.Native.Nat.{◌≤◌}
 use mathlib.Core.Path.{◌≡◌}
 use lib.ListN.{length}
 use Rattle.paper.specs.Lists.{each, upto}
@@ -12,10 +12,6 @@ use Rattle.search_run.proofs.search.offer_puts.Given as goal
 
 abbrev pub invariant-loop-c : goal.invariant-loop-c
 invariant-loop-c l =
-    (l.c ≤ l.characters)
+    (l.c ≤ l.tables.characters)
     × (length l.work ≡ length l.initial.work)
-    × Offers l.room l.parent l.s l.initial.work l.initial.now l.work l.now (λ (k : Coded). each (by_character k (with_row l.taking l.left) (with_row l.taking l.right)) (upto l.c))
-    × (l.end ≤ l.characters)
-
-abbrev pub decreases-loop-c : goal.decreases-loop-c
-decreases-loop-c l = l.characters - l.c
+    × Offers l.room l.parent l.s l.initial.work l.initial.now l.work l.now (λ (k : Coded). each (by_character k (with_row l.tables.taking.now l.left) (with_row l.tables.taking.now l.right)) (upto l.c))

@@ -3,17 +3,17 @@
 use Prim.Native.Nat.{◌-◌, ◌≤◌}
 use mathlib.Core.Path.{◌≡◌}
 use lib.ListN.{length}
-use Rattle.search_run.specs.Lent.{Lent, tables}
+use Rattle.search_run.specs.Lent.{Lent, tables_lent}
 use Rattle.search_run.specs.Run.{Running}
 use Rattle.search_run.proofs.search.Turns.{Standing}
 use Rattle.search_run.proofs.search.search.Given as goal
 
-abbrev pub invariant-loop-last : goal.invariant-loop-last
-invariant-loop-last l =
+abbrev pub invariant-loop-run : goal.invariant-loop-run
+invariant-loop-run l =
     (l.k ≤ l.room)
     × (l.run.entered ≤ l.room)
     × (length l.work ≡ length l.initial.work)
-    × ((R : Running) → Lent l.initial.work l.initial.run R → Standing (tables l.characters l.follow l.taking l.last) l.room R l.work l.run l.k)
+    × ((R : Running) → Lent l.initial.work l.initial.run R → Standing (tables_lent l.tables) l.room R l.work l.run l.k)
 
-abbrev pub decreases-loop-last : goal.decreases-loop-last
-decreases-loop-last l = l.room - l.k
+abbrev pub decreases-loop-run : goal.decreases-loop-run
+decreases-loop-run l = l.room - l.k

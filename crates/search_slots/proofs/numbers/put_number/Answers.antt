@@ -4,27 +4,25 @@ use Prim.Native.Nat.{◌-◌}
 use native.Mathlib.Omega.{arith}
 use mathlib.Core.Path.{◌≡◌, refl}
 use lib.ListN.{length, length-set}
-use borrow.Author.Rules.{rules}
 use Rattle.search_slots.specs.LowFirst.{low_bytes}
 use Rattle.search_slots.proofs.numbers.Bytes.{one_more_byte, all_bytes}
 use Rattle.search_slots.proofs.numbers.put_number.Goals as goal
 
-pub loop-i-init : goal.loop-i-init
-loop-i-init c =
+pub loop-byte-init : goal.loop-byte-init
+loop-byte-init c =
     let all : length c.args.to.now - 0 ≡ length c.args.to.now = omega arith in
-    (search rules, refl, rw all)
+    (refl, rw all)
 
-pub loop-i-preserved : goal.loop-i-preserved
-loop-i-preserved c =
+pub loop-byte-preserved : goal.loop-byte-preserved
+loop-byte-preserved c =
     let n = length c.args.to.now in (
-      search rules,
-      simp length-set c.loop-i.invariant.1,
-      one_more_byte n c.loop-i.i c.loop-i.rest c.loop-i.to (low_bytes n c.args.number) (omega arith) c.loop-i.invariant.1 c.loop-i.invariant.2,
+      simp length-set c.loop-byte.invariant.0,
+      one_more_byte n c.loop-byte.byte-index c.loop-byte.rest c.loop-byte.to (low_bytes n c.args.number) (omega arith) c.loop-byte.invariant.0 c.loop-byte.invariant.1,
     )
 
 pub returns : goal.returns
 returns c =
     let n = length c.args.to.now in
-    let e : c.loop-i.i ≡ n = omega arith in
-    all_bytes n c.args.number c.loop-i.rest c.loop-i.to c.loop-i.invariant.1
-    (rw e at c.loop-i.invariant.2)
+    let e : c.loop-byte.byte-index ≡ n = omega arith in
+    all_bytes n c.args.number c.loop-byte.rest c.loop-byte.to c.loop-byte.invariant.0
+    (rw e at c.loop-byte.invariant.1)

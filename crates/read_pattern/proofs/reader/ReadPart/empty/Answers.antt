@@ -7,4 +7,4 @@ use Rattle.read_pattern.proofs.reader.ReadPart.empty.Goals as goal
 
 pub returns : goal.returns
 returns c rest e =
-    record { ok = refl; left = sym e; each = refl; next = omega arith; surplus = surplus_none c.args.o; empty = refl; first = sym mask_of_none; last = sym mask_of_none }
+    record { left = sym e; each = refl; next = omega arith; surplus = surplus_none c.args.o; empty = refl; first = sym mask_of_none; last = sym mask_of_none }

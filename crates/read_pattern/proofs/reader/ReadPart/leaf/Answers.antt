@@ -12,7 +12,6 @@ returns c =
     record {
       reads = λ rest e.
           record {
-            ok = refl;
             left = sym e;
             each = refl;
             next = refl;

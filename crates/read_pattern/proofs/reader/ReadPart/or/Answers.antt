@@ -14,7 +14,6 @@ use Rattle.read_pattern.proofs.reader.ReadPart.or.Goals as goal
 pub returns : goal.returns
 returns c p q starts s more rest o x y =
     record {
-      ok = y.ok;
       left = y.left;
       each = length-append starts more ∙ ap₂ ◌+◌ x.each y.each;
       next = y.next ∙ omega arith;

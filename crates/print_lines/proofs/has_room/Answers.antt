@@ -1,5 +1,0 @@
--- `has_room` meets its contract: the room behind its longest first line.
-use Rattle.print_lines.proofs.has_room.Goals as goal
-
-pub returns : goal.returns
-returns c = c.room_behind.ensures

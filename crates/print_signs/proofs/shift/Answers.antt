@@ -1,5 +1,0 @@
--- `shift` meets its contract, by the edition.
-use Rattle.print_signs.proofs.shift.Goals as goal
-
-pub returns-in-Second : goal.returns-in-Second
-returns-in-Second c = rw c.in-Second.is c.shift.ensures
