@@ -1,7 +1,7 @@
 // What the library answers: the faults of a sheet, how a search ends, and the whole answer with its numbers.
 #![tactic(auto)]
 
-ghost use Rattle.std.specs.Prelude.{◌≡◌};
+ghost use Rattle.std.specs.Prelude.{◌≡◌, MatchResult};
 ghost use Rattle.paper.specs.Sheet.{fault_number};
 ghost use Rattle.base_answers.specs.Faults.{fault_of};
 ghost use Rattle.base_answers.specs.AnswerNumbers.{how_number, number_in_pair, how_written, written_numbers, number_alone, refusal_numbers, as_numbers};
@@ -206,6 +206,18 @@ impl From<Answer> for Numbers {
                 ..Numbers::of_number(ended.how.number())
             },
             Err(refusal) => Numbers::from(refusal),
+        }
+    }
+}
+
+// Of so many bytes written, or of an error that has its own numbers.
+impl<E: Into<Numbers>> From<Result<usize, E>> for Numbers {
+    ghost from_gives = { λ a n. MatchResult a (λ w. n ≡ written_numbers w) (λ e. E.converts e n) };
+
+    fn from(a: Result<usize, E>) -> Self {
+        match a {
+            Ok(written) => Numbers::of_written(written),
+            Err(error) => error.into(),
         }
     }
 }

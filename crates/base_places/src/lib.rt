@@ -73,7 +73,7 @@ pub fn followers(follow: &[PlaceSet; PLACES], set: PlaceSet) -> PlaceSet
 {
     let mut r = 0;
     let mut i: usize = 0;
-    // Kept: no count, but a step from each place of the set to the next, of as many as there are zeros between.
+    // Kept: (d) no count, but a step from each place of the set to the next, of as many as there are zeros between.
     while i < PLACES {
         let rest = set >> i;
         if rest == 0 {

@@ -36,7 +36,7 @@ pub fn bytes(sheet: &[u8], told: &mut [u64]) -> u32
     ensures told { told.new ≡ telling_needs told.old (needs sheet.now) }
 {
     let needed = plain_sheet::bytes_needed(sheet);
-    let numbers = plain_sheet::needed_numbers(needed);
+    let numbers = Numbers::from(needed);
     tell(told, 0, numbers.place, numbers.written);
     numbers.number as u32
 }

@@ -5,6 +5,7 @@ ghost use Rattle.std.specs.Prelude.{◌≡◌};
 ghost use Rattle.paper_script.specs.Scripting.{scripting};
 ghost use Rattle.c_script.specs.Scripted.{telling_scripted};
 
+use base_answers::Numbers;
 use c_tell::tell;
 
 // The sheet written out as a script for string solvers: the number; count (which is 0), place and written length go into the first three elements of
@@ -15,7 +16,7 @@ pub fn sheet(sheet: &[u8], script: &mut [u8], told: &mut [u64]) -> u32
     ensures script { script.new ≡ (scripting sheet.now script.old).script }
 {
     let scripted = script_sheet::script(sheet, script);
-    let numbers = script_sheet::in_numbers(scripted);
+    let numbers = Numbers::from(scripted);
     tell(told, 0, numbers.place, numbers.written);
     numbers.number as u32
 }

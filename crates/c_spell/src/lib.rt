@@ -5,8 +5,8 @@ ghost use Rattle.std.specs.Prelude.{◌≡◌};
 ghost use Rattle.paper_spell.specs.Spell.{spelling_text, reading_spelt};
 ghost use Rattle.c_spell.specs.SpellNumbers.{telling_spell};
 
+use base_answers::Numbers;
 use c_tell::tell;
-use spell_text::in_numbers;
 
 // A text spelt in Code 39 values: the number; count and place (which are 0) and written length go into the first three elements of `told`, as many
 // as there is room for.
@@ -16,7 +16,7 @@ pub fn text(text: &[u8], out: &mut [u8], told: &mut [u64]) -> u32
     ensures out { out.new ≡ (spelling_text text.now out.old).out }
 {
     let spelt = spell_text::spell(text, out);
-    let numbers = in_numbers(spelt);
+    let numbers = Numbers::from(spelt);
     tell(told, 0, 0, numbers.written);
     numbers.number as u32
 }
@@ -28,7 +28,7 @@ pub fn spelt(spelt: &[u8], out: &mut [u8], told: &mut [u64]) -> u32
     ensures out { out.new ≡ (reading_spelt spelt.now out.old).out }
 {
     let read = spell_back::read_spelt(spelt, out);
-    let answer = in_numbers(read);
+    let answer = Numbers::from(read);
     tell(told, 0, 0, answer.written);
     answer.number as u32
 }

@@ -5,6 +5,7 @@ ghost use Rattle.std.specs.Prelude.{◌≡◌};
 ghost use Rattle.paper_way.specs.WayOutcome.{way};
 ghost use Rattle.c_way.specs.WayTold.{telling_way};
 
+use base_answers::Numbers;
 use c_tell::tell;
 
 // Writes the steps that spell the texts on the sheet: the number; count (which is 0), place and written length go into the first three elements of `told`,
@@ -15,7 +16,7 @@ pub fn sheet(sheet: &[u8], texts: &[u8], steps: &mut [u8], told: &mut [u64]) -> 
     ensures steps { steps.new ≡ (way sheet.now texts.now steps.old).steps }
 {
     let answer = way_sheet::way(sheet, texts, steps);
-    let numbers = way_sheet::in_numbers(answer);
+    let numbers = Numbers::from(answer);
     tell(told, numbers.count, numbers.place, numbers.written);
     numbers.number as u32
 }

@@ -6,6 +6,7 @@ ghost use Rattle.paper_write.specs.Writing.{writing};
 ghost use Rattle.write_sheet.specs.SheetWritten.{given};
 ghost use Rattle.c_write.specs.WrittenNumbers.{telling_written};
 
+use base_answers::Numbers;
 use c_tell::tell;
 
 // The one sheet that says these sides and patterns in the edition, 0 for none: the number; count (which is 0), place and written length go into the
@@ -24,7 +25,7 @@ pub fn sheet_in(
     ensures out { out.new ≡ (writing (given edition patterns.now lengths.now left.now right.now) out.old).out }
 {
     let written = write_sheet::write_edition(edition, patterns, lengths, left, right, out);
-    let numbers = write_sheet::in_numbers(written);
+    let numbers = Numbers::from(written);
     tell(told, 0, numbers.place, numbers.written);
     numbers.number as u32
 }

@@ -1,7 +1,7 @@
 -- From what was read of a sheet or a rule, and what was put of it, to the answer.
 --   no_room, with_room : bytes put into a buffer, if they fit
---   sheet_put              : what is told of a sheet is what writing it anew is
---   rule_foreign, rule_put : of a rule
+--   sheet_at_fault, sheet_put             : what is told of a sheet is what writing it anew is
+--   rule_at_fault, rule_foreign, rule_put : of a rule
 -- Follows from the definitions by the tests that they make, and from what is put (`PutWhole` of `carry_put`).
 use Prim.Native.Nat.{ℕ, ◌≤◌, ◌<◌}
 use native.Mathlib.Omega.{arith}
@@ -23,6 +23,7 @@ use Rattle.paper_carry.proofs.SaidBack.{rule_said_back}
 use Rattle.base_put.specs.Counted.{last_place, Counted}
 use Rattle.base_put.proofs.Counting.{counted_length, counted_in_front, counted_outside}
 use Rattle.std.specs.Prelude.{Ok, Err}
+use Rattle.base_answers.specs.declared.Refusal.{Refusal}
 use Rattle.base_codes.specs.Inner.{padded}
 use Rattle.base_editions.specs.Editions.{paper_edition}
 use Rattle.base_editions.proofs.Same.{same_edition}
@@ -31,10 +32,10 @@ use Rattle.base_question.specs.declared.Body.{Body}
 use Rattle.base_question.specs.declared.Question.{Question}
 use Rattle.read_fields.proofs.PatternsStanding.{AllStand}
 use Rattle.read_sheet.specs.declared.Sheet.{Sheet}
-use Rattle.read_sheet.proofs.SheetStruct.{reading_asks}
+use Rattle.read_sheet.proofs.SheetStruct.{reading_asks, reading_refused}
 use Rattle.read_rule.specs.RuleRead.{rule_bodies}
 use Rattle.read_rule.specs.declared.Rule as Read
-use Rattle.read_rule.proofs.RuleStruct.{RuleTold, rule_stands}
+use Rattle.read_rule.proofs.RuleStruct.{RuleTold, rule_fault, rule_stands}
 use Rattle.read_rule.proofs.RulePatterns.{front_stands}
 use Rattle.carry_records.specs.Changing.{how_changed}
 use Rattle.carry_records.specs.declared.Change.{Change}
@@ -42,7 +43,7 @@ use Rattle.carry_put.specs.Putting.{records_from, put_whole, rule_anew}
 use Rattle.carry_put.proofs.PutWhole.{have_bytes, sheet_whole, sheet_short, rule_short}
 use Rattle.carry_put.proofs.PutWhole as Put
 use Rattle.carry_anew.specs.Anew.{told_spelt, sheet_rewritten, SheetRead, rule_rewritten, RuleRead}
-use Rattle.carry_anew.specs.declared.RewriteError.TheVariants.{ForeignField, TooShort}
+use Rattle.carry_anew.specs.declared.RewriteError.TheVariants.{Refused, ForeignField, TooShort}
 
 -- Bytes counted into no part of the buffer, and then put.
 module _ (l out : List ℕ) (short : length l ≤ last_place) where
@@ -60,7 +61,11 @@ module _ (l out : List ℕ) (short : length l ≤ last_place) where
       rw (le_ltb (length out) (length l) room, counted_length put short, counted_in_front put short room)
 
 -- Sheets.
-module _ (c : Change) (s out : List ℕ) (x : Reading) (read : Sheet) (h : SheetRead c s x read) where
+pub sheet_at_fault : (c : Change) (s out : List ℕ) (x : Reading) (r : Refusal) → SheetRead c s x (Err r)
+    → told_spelt (Err (Refused r)) out ≡ sheet_rewritten c x out
+sheet_at_fault c s out x r h = rw (reading_refused s x r (sym h.is))
+
+module _ (c : Change) (s out : List ℕ) (x : Reading) (read : Sheet) (h : SheetRead c s x (Ok read)) where
   -- what is put of it
   pub sheet_put : (from : ℕ) → from ≡ records_from (paper_edition read.edition)
       → (counts : List ℕ) → counts ≡ standing_times read.question.left read.question.right → (t : Spelling)
@@ -81,7 +86,11 @@ module _ (c : Change) (s out : List ℕ) (x : Reading) (read : Sheet) (h : Sheet
       ∙ ap (λ (l : List ℕ). put_into l out) whole ∙ ap (λ (y : Reading). sheet_rewritten c y out) (sym a.good)
 
 -- Rules.
-module _ (c : Change) (s out : List ℕ) (x : Records Rule) (read : Read.Rule) (h : RuleRead c s x read) where
+pub rule_at_fault : (c : Change) (s out : List ℕ) (x : Records Rule) (r : Refusal) → RuleRead c s x (Err r)
+    → told_spelt (Err (Refused r)) out ≡ rule_rewritten c x out
+rule_at_fault c s out x r h = rw (rule_fault (rule_bodies s) x r (sym h.is))
+
+module _ (c : Change) (s out : List ℕ) (x : Records Rule) (read : Read.Rule) (h : RuleRead c s x (Ok read)) where
   told : RuleTold (rule_bodies s) x read
   told = rule_stands (rule_bodies s) x read (sym h.is)
 

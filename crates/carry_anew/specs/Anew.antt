@@ -9,6 +9,7 @@ use Rattle.paper_carry.specs.Opened.{question_changed}
 use Rattle.paper_carry.specs.Spelling.{Spelling, spelling_told, put_into}
 use Rattle.base_answers.specs.Faults.{fault_of}
 use Rattle.base_answers.specs.declared.Numbers.{Numbers}
+use Rattle.base_answers.specs.declared.Refusal.{Refusal}
 use Rattle.read_sheet.specs.SheetRead.{bodies_of, sheet_of}
 use Rattle.read_sheet.specs.declared.Sheet.{Sheet}
 use Rattle.read_rule.specs.RuleRead.{rule_bodies, rule_of}
@@ -33,9 +34,9 @@ abbrev pub sheet_rewritten : Change → Reading → List ℕ → Spelling
 sheet_rewritten c (refused x at) out = spelling_told (fault_number x) at 0 out
 sheet_rewritten c (asked q) out = put_into (sheet_saying (question_changed (how_changed c) q)) out
 
--- The struct is what a reading hands on that asks what the reading before request K13 asks; and the change is in the sheet's edition.
-pub record SheetRead (c : Change) (s : List ℕ) (x : Reading) (read : Sheet) : Type 0 where
-  pub is : Ok read ≡ sheet_of (bodies_of s) x
+-- It is what a reading hands on that asks what the reading before request K13 asks; and the change is in the sheet's edition.
+pub record SheetRead (c : Change) (s : List ℕ) (x : Reading) (read : Result Sheet Refusal) : Type 0 where
+  pub is : read ≡ sheet_of (bodies_of s) x
   pub before : (q : Question) → x ≡ asked q → read_before s ≡ asked q
   pub in_edition : (q : Question) → x ≡ asked q → InEdition (edition_of q.alphabet) c
 
@@ -44,7 +45,7 @@ abbrev pub rule_rewritten : Change → Records Rule → List ℕ → Spelling
 rule_rewritten c (faulty x at) out = spelling_told (fault_number x) at 0 out
 rule_rewritten c (records r next) out = cond (foreign_field r) (spelling_told 31 0 0 out) (put_into (rule_anew c r) out)
 
-pub record RuleRead (c : Change) (s : List ℕ) (x : Records Rule) (read : Read.Rule) : Type 0 where
-  pub is : Ok read ≡ rule_of (rule_bodies s) x
+pub record RuleRead (c : Change) (s : List ℕ) (x : Records Rule) (read : Result Read.Rule Refusal) : Type 0 where
+  pub is : read ≡ rule_of (rule_bodies s) x
   pub before : (r : Rule) (n : ℕ) → x ≡ records r n → read_rule_before s ≡ records r n
   pub in_edition : InEdition edition_1 c

@@ -42,12 +42,13 @@ impl From<Refusal> for RewriteError {
 // A sheet of which this was read, in the edition that it has: how many bytes stand in front of the buffer.
 pub fn sheet(
     sheet: &[u8],
-    read: Sheet,
+    read: Result<Sheet, Refusal>,
     change: Change,
     out: &mut [u8],
 ) -> Result<usize, RewriteError>
     ensures { (x : Reading) → SheetRead change sheet.now x read → told_spelt result out.new ≡ sheet_rewritten change x out.old }
 {
+    let read = read?;
     let question = read.question;
     let counts = base_question::standings(question.left, question.right);
     let from = records_from(read.edition);
@@ -55,9 +56,15 @@ pub fn sheet(
 }
 
 // A rule of which this was read.
-pub fn rule(rule: &[u8], read: Rule, change: Change, out: &mut [u8]) -> Result<usize, RewriteError>
+pub fn rule(
+    rule: &[u8],
+    read: Result<Rule, Refusal>,
+    change: Change,
+    out: &mut [u8],
+) -> Result<usize, RewriteError>
     ensures { (x : Records Paper.Rule) → RuleRead change rule.now x read → told_spelt result out.new ≡ rule_rewritten change x out.old }
 {
+    let read = read?;
     if read.foreign {
         return Err(RewriteError::ForeignField);
     }

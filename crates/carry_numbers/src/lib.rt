@@ -11,7 +11,7 @@ use carry_anew::RewriteError;
 use carry_open::CarryError;
 use carry_strays::NoCatalogue;
 
-// Kept: an impl of `From` needs a type of its own crate, and neither these results nor the numbers are of this one.
+// Kept: (d) an impl of `From` needs a type of its own crate, and neither these results nor the numbers are of this one.
 // Of a sheet or a rule.
 pub fn in_numbers(s: Result<usize, RewriteError>) -> Numbers
     ensures { result ≡ spelt_numbers s }

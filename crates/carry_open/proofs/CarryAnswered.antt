@@ -28,49 +28,44 @@ use Rattle.paper_carry.proofs.CarryPromised.{promised, rule_promised, catalogue_
 use Rattle.paper_strays.proofs.Dropped.{before_laid}
 use Rattle.base_put.specs.Counted.{Counted}
 use Rattle.base_put.proofs.Counting.{counted_length, counted_in_front}
-use Rattle.std.specs.Prelude.{Ok, Err}
+use Rattle.std.specs.Prelude.{Result, Ok, Err}
 use Rattle.base_answers.specs.declared.Refusal.{Refusal}
-use Rattle.base_editions.specs.Editions.{paper_edition, edition_code}
+use Rattle.base_editions.specs.Editions.{paper_edition}
+use Rattle.base_editions.specs.declared.Edition as Code
 use Rattle.base_editions.specs.declared.Edition.TheVariants.{First}
 use Rattle.base_editions.proofs.Same.{same_edition}
 use Rattle.read_sheet.specs.SheetRead.{bodies_of, sheet_of}
 use Rattle.read_sheet.specs.declared.Sheet.{Sheet}
-use Rattle.read_sheet.proofs.SheetStruct.{reading_refused}
-use Rattle.base_question.specs.Asked.{question_of}
 use Rattle.read_rule.specs.RuleRead.{rule_bodies, rule_of}
 use Rattle.read_rule.specs.declared.Rule as Read
-use Rattle.read_rule.proofs.RuleStruct.{rule_fault}
-use Rattle.carry_anew.specs.declared.RewriteError.TheVariants.{Refused}
 use Rattle.catalogue_bytes.specs.Moving.{put_at}
 use Rattle.catalogue_bytes.proofs.Within.{is_put}
 use Rattle.carry_records.specs.declared.Change.{Change}
 use Rattle.carry_records.specs.declared.Change.TheVariants.{Open}
 use Rattle.carry_put.specs.Putting.{rules_put}
 use Rattle.carry_put.proofs.RulesPut.{rules_whole, new_short}
-use Rattle.carry_anew.specs.Anew.{told_spelt, sheet_rewritten, SheetRead, rule_rewritten, RuleRead}
+use Rattle.carry_anew.specs.Anew.{sheet_rewritten, SheetRead, rule_rewritten, RuleRead}
 use Rattle.carry_open.specs.CarriedOver.{told_carried}
 use Rattle.carry_open.specs.declared.CarryError.TheVariants.{Full, NoCatalogue}
 
--- Sheets.
+-- Sheets. The edition of what was read: of a sheet that is refused the first.
+abbrev pub edition_read : Result Sheet Refusal → Code.Edition
+edition_read (Ok read) = read.edition
+edition_read (Err r) = First
+
 module _ (s out : List ℕ) where
   and_all : (t : Spelling) → t ≡ spelling s out → (t ≡ spelling s out) × CarryPromised s out t
   and_all t whole = (whole, subst (CarryPromised s out) (sym whole) (promised s out))
 
-  pub sheet_at_fault : (e : Refusal) → Err e ≡ sheet_of (bodies_of s) (read_sheet s)
-      → (told_spelt (Err (Refused e)) out ≡ spelling s out) × CarryPromised s out (told_spelt (Err (Refused e)) out)
-  unfolding spelling
-  sheet_at_fault e h = and_all (told_spelt (Err (Refused e)) out) (rw (reading_refused s (read_sheet s) e (sym h)))
-
-  module _ (read : Sheet) (e : Ok read ≡ sheet_of (bodies_of s) (read_sheet s)) where
+  module _ (read : Result Sheet Refusal) (e : read ≡ sheet_of (bodies_of s) (read_sheet s)) (edition : Code.Edition) (d : edition ≡ edition_read read) where
     abbrev its_change : Change
-    its_change = Open read.edition
+    its_change = Open edition
 
     -- the edition that was read is the question's
-    its_edition : (q : Question) → read_sheet s ≡ asked q → paper_edition read.edition ≡ edition_of q.alphabet
+    its_edition : (q : Question) → read_sheet s ≡ asked q → paper_edition edition ≡ edition_of q.alphabet
     its_edition q k =
-        let h : Ok read ≡ sheet_of (bodies_of s) (asked q) = e ∙ ap (sheet_of (bodies_of s)) k in
-        let same : read ≡ record { edition = edition_code (edition_of q.alphabet); question = question_of q (bodies_of s) } = cc in
-        ap (λ (z : Sheet). paper_edition z.edition) same ∙ same_edition (edition_of q.alphabet)
+        let h : read ≡ sheet_of (bodies_of s) (asked q) = e ∙ ap (sheet_of (bodies_of s)) k in
+        ap paper_edition (d ∙ ap edition_read h) ∙ same_edition (edition_of q.alphabet)
 
     sheet_read : SheetRead its_change s (read_sheet s) read
     sheet_read = record { is = e; before = λ q k. asked_before s q k; in_edition = its_edition }
@@ -91,12 +86,7 @@ module _ (s out : List ℕ) where
   rule_and_all : (t : Spelling) → t ≡ rule_spelling s out → (t ≡ rule_spelling s out) × RulePromised s out t
   rule_and_all t whole = (whole, subst (RulePromised s out) (sym whole) (rule_promised s out))
 
-  pub rule_at_fault : (e : Refusal) → Err e ≡ rule_of (rule_bodies s) (read_rule s)
-      → (told_spelt (Err (Refused e)) out ≡ rule_spelling s out) × RulePromised s out (told_spelt (Err (Refused e)) out)
-  unfolding rule_spelling
-  rule_at_fault e h = rule_and_all (told_spelt (Err (Refused e)) out) (rw (rule_fault (rule_bodies s) (read_rule s) e (sym h)))
-
-  module _ (read : Read.Rule) (e : Ok read ≡ rule_of (rule_bodies s) (read_rule s)) where
+  module _ (read : Result Read.Rule Refusal) (e : read ≡ rule_of (rule_bodies s) (read_rule s)) where
     rule_opened_by : (x : Records Rule) → rule_rewritten (Open First) x out ≡ rule_spelling_of x out
     unfolding rule_open
     rule_opened_by (faulty f at) = refl

@@ -21,15 +21,16 @@ pub enum CarryError {
     NoCatalogue,
 }
 
-// Kept: `carry_strays` has these three with another reader and another change. What each promises is a theorem of its own, and what they share is in
-// `carry_anew` and `carry_put`: one function of both would be no shorter.
+// Kept: (a) `carry_strays` has these three with another reader and another change: each has its own theorem (`CarryPromised`, `DropPromised` and those of
+// a rule and of a catalogue), and what they share is in `carry_anew` and `carry_put`.
 // Writes the sheet, in its edition, with 68 65 0 42, behind `ED` 196 193 0 127, for every standing field without a pattern.
 pub fn sheet(sheet: &[u8], out: &mut [u8]) -> Result<usize, RewriteError>
     ensures whole { told_spelt result out.new ≡ spelling sheet.now out.old }
     ensures promised { CarryPromised sheet.now out.old (told_spelt result out.new) }
 {
-    let read = read_sheet::read(sheet)?;
-    carry_anew::sheet(sheet, read, Change::Open(read.edition), out)
+    let read = read_sheet::read(sheet);
+    let edition = read.as_ref().map_or(Edition::First, |sheet| sheet.edition);
+    carry_anew::sheet(sheet, read, Change::Open(edition), out)
 }
 
 // Writes the rule likewise.
@@ -37,7 +38,7 @@ pub fn rule(rule: &[u8], out: &mut [u8]) -> Result<usize, RewriteError>
     ensures whole { told_spelt result out.new ≡ rule_spelling rule.now out.old }
     ensures promised { RulePromised rule.now out.old (told_spelt result out.new) }
 {
-    let read = read_rule::read(rule)?;
+    let read = read_rule::read(rule);
     carry_anew::rule(rule, read, Change::Open(Edition::First), out)
 }
 

@@ -10,7 +10,7 @@ use base_answers::Refusal;
 use carry_anew::RewriteError;
 use carry_open::CarryError;
 use print_failures::refuse;
-use print_out::{Failure, Streams, print, read_first, tell, tell_end};
+use print_out::{Failure, Streams, answer_input, print, tell};
 use read_side::{Cursor, Mark};
 
 // more than a catalogue of 32 of the longest rules has
@@ -23,17 +23,16 @@ const INPUT: usize = MOST + 1;
 const LONGEST: usize = 1625;
 
 fn main(rt: HostRuntime) {
-    tell_end(&rt, b"carry_over", run(&rt));
+    let mut input = [0u8; INPUT];
+    answer_input(&rt, b"carry_over", &mut input, |input| answer(&rt, input));
 }
 
-fn run(rt: &impl Streams) -> Result<(), Failure> {
-    let mut input = [0u8; INPUT];
-    let n = read_first(rt, &mut input)?;
-    if MOST < n {
+fn answer(rt: &impl Streams, bytes: &mut [u8]) -> Result<(), Failure> {
+    if MOST < bytes.len() {
         tell(rt, b"carry_over: more than 65,536 bytes\n");
         return Ok(());
     }
-    carry(rt, &mut input[..n])
+    carry(rt, bytes)
 }
 
 // What is no sheet and no rule by itself may be a catalogue.

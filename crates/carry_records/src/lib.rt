@@ -32,7 +32,7 @@ fn written_out(edition: Edition) -> [u8; 5]
     }
 }
 
-// Kept: a length and no Option, for the next offset adds it (`record_length`).
+// Kept: (d) a length and no Option, for the next offset adds it (`record_length`).
 // How many bytes the record of a pattern of so many has, if they are there from the offset on; 0 where there is no pattern.
 #[tactic(auto, unfolding(crate::specs::Changing::record_length))]
 fn record_at(s: &[u8], at: usize, length: usize) -> usize

@@ -24,19 +24,16 @@ use Rattle.base_put.specs.Counted.{Counted}
 use Rattle.base_put.proofs.Counting.{counted_in_front}
 use Rattle.read_sheet.specs.SheetRead.{bodies_of, sheet_of}
 use Rattle.read_sheet.specs.declared.Sheet.{Sheet}
-use Rattle.read_sheet.proofs.SheetStruct.{reading_refused}
-use Rattle.std.specs.Prelude.{Ok, Err}
+use Rattle.std.specs.Prelude.{Result, Ok, Err}
 use Rattle.base_answers.specs.declared.Refusal.{Refusal}
 use Rattle.read_rule.specs.RuleRead.{rule_bodies, rule_of}
 use Rattle.read_rule.specs.declared.Rule as Read
-use Rattle.read_rule.proofs.RuleStruct.{rule_fault}
-use Rattle.carry_anew.specs.declared.RewriteError.TheVariants.{Refused}
 use Rattle.catalogue_bytes.specs.Moving.{put_at}
 use Rattle.catalogue_bytes.proofs.Within.{is_put}
 use Rattle.carry_records.specs.declared.Change.TheVariants.{Drop}
 use Rattle.carry_put.specs.Putting.{rules_put}
 use Rattle.carry_put.proofs.RulesPut.{used_short, rules_whole}
-use Rattle.carry_anew.specs.Anew.{told_spelt, sheet_rewritten, SheetRead, rule_rewritten, RuleRead}
+use Rattle.carry_anew.specs.Anew.{sheet_rewritten, SheetRead, rule_rewritten, RuleRead}
 use Rattle.carry_strays.specs.StraysDropped.{told_dropped}
 use Rattle.carry_strays.specs.declared.NoCatalogue.{NoCatalogue}
 
@@ -45,12 +42,7 @@ module _ (s out : List ℕ) where
   and_all : (t : Spelling) → t ≡ dropping s out → (t ≡ dropping s out) × DropPromised s out t
   and_all t whole = (whole, subst (DropPromised s out) (sym whole) (drop_promised s out))
 
-  pub sheet_at_fault : (e : Refusal) → Err e ≡ sheet_of (bodies_of s) (read_before s)
-      → (told_spelt (Err (Refused e)) out ≡ dropping s out) × DropPromised s out (told_spelt (Err (Refused e)) out)
-  unfolding dropping
-  sheet_at_fault e h = and_all (told_spelt (Err (Refused e)) out) (rw (reading_refused s (read_before s) e (sym h)))
-
-  module _ (read : Sheet) (e : Ok read ≡ sheet_of (bodies_of s) (read_before s)) where
+  module _ (read : Result Sheet Refusal) (e : read ≡ sheet_of (bodies_of s) (read_before s)) where
     dropped_by : (x : Reading) → sheet_rewritten Drop x out ≡ dropping_of x out
     dropped_by (refused f at) = refl
     dropped_by (asked q) = refl
@@ -66,12 +58,7 @@ module _ (s out : List ℕ) where
   rule_and_all : (t : Spelling) → t ≡ rule_dropping s out → (t ≡ rule_dropping s out) × RuleDropPromised s out t
   rule_and_all t whole = (whole, subst (RuleDropPromised s out) (sym whole) (rule_drop_promised s out))
 
-  pub rule_at_fault : (e : Refusal) → Err e ≡ rule_of (rule_bodies s) (read_rule_before s)
-      → (told_spelt (Err (Refused e)) out ≡ rule_dropping s out) × RuleDropPromised s out (told_spelt (Err (Refused e)) out)
-  unfolding rule_dropping
-  rule_at_fault e h = rule_and_all (told_spelt (Err (Refused e)) out) (rw (rule_fault (rule_bodies s) (read_rule_before s) e (sym h)))
-
-  module _ (read : Read.Rule) (e : Ok read ≡ rule_of (rule_bodies s) (read_rule_before s)) where
+  module _ (read : Result Read.Rule Refusal) (e : read ≡ rule_of (rule_bodies s) (read_rule_before s)) where
     rule_dropped_by : (x : Records Rule) → rule_rewritten Drop x out ≡ rule_dropping_of x out
     unfolding rule_kept
     rule_dropped_by (faulty f at) = refl

@@ -20,7 +20,7 @@ pub fn sheet(sheet: &[u8], out: &mut [u8]) -> Result<usize, RewriteError>
     ensures whole { told_spelt result out.new ≡ dropping sheet.now out.old }
     ensures promised { DropPromised sheet.now out.old (told_spelt result out.new) }
 {
-    let read = read_sheet::read_before(sheet)?;
+    let read = read_sheet::read_before(sheet);
     carry_anew::sheet(sheet, read, Change::Drop, out)
 }
 
@@ -29,7 +29,7 @@ pub fn rule(rule: &[u8], out: &mut [u8]) -> Result<usize, RewriteError>
     ensures whole { told_spelt result out.new ≡ rule_dropping rule.now out.old }
     ensures promised { RuleDropPromised rule.now out.old (told_spelt result out.new) }
 {
-    let read = read_rule::read_before(rule)?;
+    let read = read_rule::read_before(rule);
     carry_anew::rule(rule, read, Change::Drop, out)
 }
 

@@ -265,6 +265,8 @@ fn make(
 }
 
 // `AD`, and `AE` by deciding: a length in two bytes, so many bytes.
+// Kept: (d) whether to decide is said by a bool, here and below: the calls, the name and the numbers that are printed differ, and a closure for each
+// would be longer.
 fn add(
     rt: &impl Streams,
     decide: bool,

@@ -70,6 +70,7 @@ pub fn add(catalogue: &mut [u8], bytes: &[u8], work: &mut [u8]) -> Result<(), Ad
 }
 
 // As `add`, "but a pair is asked as `decide` asks".
+// Kept: (a) both are called for C, with a clause each (`adding`, `adding_decided`), and are one call of `add_by`.
 pub fn add_decided(catalogue: &mut [u8], bytes: &[u8], work: &mut [u8]) -> Result<(), AddError>
     ensures { told_added_by result catalogue.new work.new ≡ adding_decided catalogue.old bytes.now work.old }
 {

@@ -39,7 +39,7 @@ pub fn find_before(catalogue: &[u8]) -> Option<Kept>
 }
 
 // In one pass: its rules, and where each begins.
-// Kept: a switch between the two rules; a closure over what was read would have to promise what the two tests of `is_unfit` say, and is no plainer.
+// Kept: (d) a switch between the two rules; a closure over what was read would have to promise what the two tests of `is_unfit` say, and is no plainer.
 fn find_by(catalogue: &[u8], strict: bool) -> Option<Kept>
     ensures { result ≡ kept_of (form_by (unfit_by strict) catalogue.now) }
 {

@@ -60,7 +60,7 @@ fn refusal(number: usize, place: usize) -> Numbers
     }
 }
 
-// Kept: an impl of `From` needs a type of its own crate, and neither this result nor the number is of this one.
+// Kept: (d) an impl of `From` needs a type of its own crate, and neither this result nor the number is of this one.
 pub fn withdrawn(w: Result<(), WithdrawError>) -> usize
     ensures { result ≡ number_of_withdrawn w }
 {

@@ -14,7 +14,7 @@ use base_question::Question;
 use read_rule::{RULE_FIELDS, Rule};
 
 // How a pair is asked.
-// Kept: a switch, for the definitions and theorems of both ways take it (`asking_coded`, `pair_by`).
+// Kept: (a) a switch, for the definitions and theorems of both ways take it (`asking_coded`, `pair_by`).
 #[derive(Clone, Copy)]
 pub enum Asking {
     // by 01's search

@@ -46,6 +46,7 @@ pub fn recheck(catalogue: &[u8], work: &mut [u8], list: &mut [u8]) -> Result<Lis
 }
 
 // As `recheck`, but each pair is asked as `decide` asks, and has seven bytes.
+// Kept: (a) both are called for C, with a clause each (`rechecking`, `rechecking_decided`), and are one call of `recheck_by`.
 pub fn recheck_decided(
     catalogue: &[u8],
     work: &mut [u8],

@@ -3,16 +3,11 @@
 #![tactic(auto)]
 
 use print_decide::{INPUT, PRINTED};
-use print_out::{Failure, Streams, print, read_first, tell_end};
+use print_out::{Failure, Streams, answer_input, print};
 
 fn main(rt: HostRuntime) {
-    tell_end(&rt, b"decide", run(&rt));
-}
-
-fn run(rt: &impl Streams) -> Result<(), Failure> {
     let mut input = [0u8; INPUT];
-    let n = read_first(rt, &mut input)?;
-    answer(rt, &input[..n])
+    answer_input(&rt, b"decide", &mut input, |input| answer(&rt, input));
 }
 
 fn answer(rt: &impl Streams, input: &[u8]) -> Result<(), Failure> {

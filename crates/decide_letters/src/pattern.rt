@@ -45,7 +45,7 @@ pub fn body_weights(
 fn at_most(n: usize, limit: usize) -> usize
     ensures { Least n limit result }
 {
-    if n < limit { n } else { limit }
+    n.min(limit)
 }
 
 // The stack ends where the array does, and grows towards its front.

@@ -54,7 +54,7 @@ fn packed(least: u64, step: u64, endless: bool, most: u64) -> Weights
 pub fn one_if(b: bool) -> u64
     ensures { (result ≤ 1) × (result ≡ one_if b) }
 {
-    if b { 1 } else { 0 }
+    u64::from(b)
 }
 
 // Whether a character counts.
@@ -71,7 +71,7 @@ pub fn counts(counting: Counting, c: u8) -> bool
 pub fn wide(b: u8) -> usize
     ensures { result ≡ b }
 {
-    b as usize
+    usize::from(b)
 }
 
 // Texts of one weight, 0 or 1.
@@ -203,11 +203,11 @@ pub fn between(a: u64, b: u64) -> u64
 fn lesser(a: u64, b: u64) -> u64
     ensures { result ≡ cond (ltb b a) b a }
 {
-    if b < a { b } else { a }
+    a.min(b)
 }
 
 fn greater(a: u64, b: u64) -> u64
     ensures { result ≡ cond (ltb a b) b a }
 {
-    if a < b { b } else { a }
+    a.max(b)
 }

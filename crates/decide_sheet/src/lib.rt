@@ -11,7 +11,7 @@ ghost use Rattle.decide_sheet.specs.Decision.{told_decision};
 use base_answers::Answer;
 
 // An answer, and the attempt that decided: 1 to 7; 0 where none did.
-// Kept: no `Result` round both. What is told of a refused sheet is an attempt too, 0, and each caller asks for the answer and for the attempt.
+// Kept: (d) no `Result` round both. What is told of a refused sheet is an attempt too, 0, and each caller asks for the answer and for the attempt.
 #[derive(Clone, Copy)]
 pub struct Decision {
     pub answer: Answer,

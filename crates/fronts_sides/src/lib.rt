@@ -76,6 +76,7 @@ fn fronts(edition: Edition, left: &[u8], right: &[u8]) -> bool
 }
 
 // The same from behind.
+// Kept: (d) beside `fronts`: a loop over any iterator of pairs would have to be told what it yields, which is longer than this one.
 fn ends(edition: Edition, left: &[u8], right: &[u8]) -> bool
     ensures { result ≡ Fixed.fronts_differ (reverse (side_said (paper_edition edition) left.now)) (reverse (side_said (paper_edition edition) right.now)) }
 {

@@ -5,7 +5,7 @@
 // characters. The two sides end in different ones.
 #![tactic(auto)]
 
-use print_out::{Failure, Streams, print, print_number, print_numbers, read_first, tell_end};
+use print_out::{Failure, Streams, answer_input, print, print_number, print_numbers};
 
 // As `clash` does: it "reads the first" 2,048 "bytes of standard input".
 const INPUT: usize = 2048;
@@ -14,13 +14,8 @@ const INPUT: usize = 2048;
 const BITS: usize = 9731;
 
 fn main(rt: HostRuntime) {
-    tell_end(&rt, b"plain", run(&rt));
-}
-
-fn run(rt: &impl Streams) -> Result<(), Failure> {
     let mut input = [0u8; INPUT];
-    let n = read_first(rt, &mut input)?;
-    answer(rt, &input[..n])
+    answer_input(&rt, b"plain", &mut input, |input| answer(&rt, input));
 }
 
 // "answer, count and place in decimal, one space between"

@@ -3,9 +3,9 @@
 
 ghost use Rattle.std.specs.Prelude.{◌≡◌};
 ghost use Rattle.plain_answer.specs.Answered.{Answered, plain_error, answer_by, needed_by};
-ghost use Rattle.plain_answer.specs.EngineNumbers.{error_numbers, plain_numbers, needed_numbers};
+ghost use Rattle.plain_answer.specs.EngineNumbers.{error_numbers, plain_numbers};
 
-use base_answers::{Answer, BITS_TOO_FEW, Numbers, Refusal, STANDS_TWICE};
+use base_answers::{BITS_TOO_FEW, Numbers, Refusal, STANDS_TWICE};
 use base_question::Question;
 use plain_count::{bits_of, stands_twice};
 use plain_question::clashes;
@@ -132,50 +132,32 @@ impl From<PlainError> for Numbers {
     fn from(error: PlainError) -> Self
         ensures { result ≡ error_numbers error }
     {
-        let number = match error {
-            PlainError::StandsTwice => STANDS_TWICE,
-            PlainError::BitsTooFew => BITS_TOO_FEW,
-            PlainError::Refused(refusal) => return Numbers::from(Answer::Err(refusal)),
-        };
-        Numbers {
-            number,
-            count: 0,
-            place: 0,
-            written: 0,
+        match error {
+            PlainError::StandsTwice => Numbers::of_number(STANDS_TWICE),
+            PlainError::BitsTooFew => Numbers::of_number(BITS_TOO_FEW),
+            PlainError::Refused(refusal) => Numbers::from(refusal),
         }
     }
 }
 
-// An answer in numbers.
-// Kept: `From` is for a type of the crate, and a `Result` is none.
-pub fn in_numbers(answer: PlainAnswer) -> Numbers
-    ensures { result ≡ plain_numbers answer }
-{
-    let number = match answer {
-        Ok(Verdict::Clash) => 0,
-        Ok(Verdict::NoClash) => 1,
-        Err(error) => return Numbers::from(error),
-    };
-    Numbers {
-        number,
-        count: 0,
-        place: 0,
-        written: 0,
+impl From<NeededError> for Numbers {
+    ghost from_gives = { λ e n. n ≡ error_numbers (plain_error e) };
+
+    fn from(error: NeededError) -> Self
+        ensures { result ≡ error_numbers (plain_error error) }
+    {
+        Numbers::from(PlainError::from(error))
     }
 }
 
-// What a sheet needs in numbers: the bytes are what would be written.
-// Kept: as `in_numbers`.
-pub fn needed_numbers(needed: Needed) -> Numbers
-    ensures { result ≡ needed_numbers needed }
+// An answer in numbers.
+// Kept: (d) `From` is for a type of the crate, and a `Result` is none.
+pub fn in_numbers(answer: PlainAnswer) -> Numbers
+    ensures { result ≡ plain_numbers answer }
 {
-    match needed {
-        Ok(bytes) => Numbers {
-            number: 0,
-            count: 0,
-            place: 0,
-            written: bytes,
-        },
-        Err(error) => Numbers::from(PlainError::from(error)),
+    match answer {
+        Ok(Verdict::Clash) => Numbers::of_number(0),
+        Ok(Verdict::NoClash) => Numbers::of_number(1),
+        Err(error) => Numbers::from(error),
     }
 }

@@ -8,9 +8,7 @@ ghost use Rattle.paper_plain.specs.EnginePromised.{EnginePromised, NeedsPromised
 ghost use Rattle.plain_answer.specs.EngineNumbers.{told_plain, told_needed};
 
 use plain_answer::{answer_of, answered, needs};
-pub use plain_answer::{
-    Needed, NeededError, PlainAnswer, PlainError, Verdict, in_numbers, needed_numbers,
-};
+pub use plain_answer::{Needed, NeededError, PlainAnswer, PlainError, Verdict, in_numbers};
 
 // Can the two rules of the sheet make the same label? "the bit buffer ends all zero after every answer but the sheet's own refusals".
 pub fn plain(sheet: &[u8], bits: &mut [u8]) -> PlainAnswer

@@ -7,7 +7,7 @@
 use base_answers::Numbers;
 use base_editions::Edition;
 use print_lines::FIRST_LINE;
-use print_out::{Failure, Streams, low_first, print, read_first, tell, tell_end};
+use print_out::{Failure, Streams, answer_input, low_first, print, tell};
 
 // The length, the longest sheet that it can tell, and 65,535 records of the longest, a character's. "50 if it is past the 65,534th": what stands behind
 // is never looked at.
@@ -20,13 +20,8 @@ const ANSWER: usize = 4096;
 const PRINTED: usize = FIRST_LINE + 2 * ANSWER;
 
 fn main(rt: HostRuntime) {
-    tell_end(&rt, b"play", run(&rt));
-}
-
-fn run(rt: &impl Streams) -> Result<(), Failure> {
     let mut input = [0u8; INPUT];
-    let n = read_first(rt, &mut input)?;
-    play_input(rt, &input[..n])
+    answer_input(&rt, b"play", &mut input, |input| play_input(&rt, input));
 }
 
 fn play_input(rt: &impl Streams, input: &[u8]) -> Result<(), Failure> {
@@ -46,7 +41,7 @@ fn play_input(rt: &impl Streams, input: &[u8]) -> Result<(), Failure> {
 fn play(rt: &impl Streams, sheet: &[u8], steps: &[u8]) -> Result<(), Failure> {
     let mut answer = [0u8; ANSWER];
     let edition = print_signs::edition(sheet);
-    let told = play_sheet::in_numbers(play_sheet::play(sheet, steps, &mut answer));
+    let told = Numbers::from(play_sheet::play(sheet, steps, &mut answer));
     print_told(rt, edition, told, &answer)
 }
 

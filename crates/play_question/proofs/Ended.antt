@@ -18,7 +18,7 @@ use Rattle.search_tables.specs.Tables.{follow_of, taking_of, last_of}
 use Rattle.search_trim.specs.Trimming.{question_coded}
 use Rattle.search_trim.proofs.Short.{question_short}
 use Rattle.search_children.specs.Children.{Tables}
-use Rattle.play_step.specs.StepCoded.{lent_tables}
+use Rattle.search_children.specs.Laid.{tables}
 use Rattle.play_walk.specs.WalkCoded.{Ending, walked}
 use Rattle.play_texts.specs.WayRecords.{way_records}
 use Rattle.play_question.specs.QuestionPlayed.{End, walk_end, TextsPut, question_tables, question_first, PartOf, PlayedFrom}
@@ -57,10 +57,10 @@ module _ (s : Question) (whole : Hidden) (follow taking : List (List ℕ)) (last
       ap denoted d ∙ first_held whole.left whole.right l r ∙ (λ i. question_coded (tokens (w i).left) (tokens (w i).right))
 
   pub tables_made : follow ≡ map follow_of whole.fields → taking ≡ map taking_of whole.fields → last ≡ map last_of whole.fields
-      → lent_tables whole.characters follow taking last ≡ question_tables s
+      → tables whole.characters follow taking last ≡ question_tables s
   tables_made a b c =
-      (λ i. lent_tables whole.characters (a i) (b i) (c i))
-      ∙ (λ i. lent_tables (w i).characters (map follow_of (w i).fields) (map taking_of (w i).fields) (map last_of (w i).fields))
+      (λ i. tables whole.characters (a i) (b i) (c i))
+      ∙ (λ i. tables (w i).characters (map follow_of (w i).fields) (map taking_of (w i).fields) (map last_of (w i).fields))
 
 -- what is told by the tables that `play_part` makes is told by the question's own
 pub part_whole : (s : Question) (whole : Hidden) (follow taking : List (List ℕ)) (last : List ℕ) (first : Situation)
@@ -68,9 +68,9 @@ pub part_whole : (s : Question) (whole : Hidden) (follow taking : List (List ℕ
     → follow ≡ map follow_of whole.fields → taking ≡ map taking_of whole.fields → last ≡ map last_of whole.fields
     → first ≡ as_struct (question_coded (tokens whole.left) (tokens whole.right))
     → (wanted : Bool) (steps before after : List ℕ) (r : End)
-    → PartOf wanted (lent_tables whole.characters follow taking last) (denoted first) steps before after r
+    → PartOf wanted (tables whole.characters follow taking last) (denoted first) steps before after r
     → PartOf wanted (question_tables s) (question_first s) steps before after r
 part_whole s whole follow taking last first l r w a b c d wanted steps before after x p =
     subst (λ (z : Tables). PartOf wanted z (question_first s) steps before after x) (tables_made s whole follow taking last first w a b c)
-    (subst (λ (z : Coded). PartOf wanted (lent_tables whole.characters follow taking last) z steps before after x)
+    (subst (λ (z : Coded). PartOf wanted (tables whole.characters follow taking last) z steps before after x)
     (first_made s whole follow taking last first w l r d) p)

@@ -36,7 +36,7 @@ use Rattle.search_children.specs.Coding.{tables_of}
 use Rattle.search_children.proofs.CodedSides.{known_side}
 use Rattle.search_children.proofs.CodedQuestion.{known_append, marked_stands}
 use Rattle.search_records.specs.Records.{fields_with_sets}
-use Rattle.play_step.specs.StepCoded.{lent_tables}
+use Rattle.search_children.specs.Laid.{tables}
 use Rattle.play_walk.specs.WalkCoded.{Ending, text_walked}
 use Rattle.play_walk.proofs.WalkAgrees.{Tells, arrives, stops, first_coded, walk_told}
 use Rattle.play_texts.specs.WayRecords.{records_along, way_records, way_given, way_buffer}
@@ -97,7 +97,7 @@ module _ (q : Question) (g : GoodQuestion q) (steps answer : List ℕ) where
     pub tables_are : question_tables (question_of q bodies) ≡ tables_of (hidden q)
     unfolding tables_of
     tables_are = λ i.
-        lent_tables q.alphabet.characters (part_hidden q bodies follow_of i) (part_hidden q bodies taking_of i) (part_hidden q bodies last_of i)
+        tables q.alphabet.characters (part_hidden q bodies follow_of i) (part_hidden q bodies taking_of i) (part_hidden q bodies last_of i)
 
     pub first_is : question_first (question_of q bodies) ≡ first_coded (hidden q)
     first_is = λ i. question_coded (left_hidden q bodies (good_most g) g.left i) (right_hidden q bodies (good_most g) g.right i)

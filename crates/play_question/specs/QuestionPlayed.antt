@@ -8,7 +8,7 @@ use Rattle.search_hidden.specs.Behind.{with_hidden}
 use Rattle.search_tables.specs.Tables.{follow_of, taking_of, last_of}
 use Rattle.search_trim.specs.Trimming.{question_coded}
 use Rattle.search_children.specs.Children.{Tables}
-use Rattle.play_step.specs.StepCoded.{lent_tables}
+use Rattle.search_children.specs.Laid.{tables}
 use Rattle.play_walk.specs.WalkCoded.{Ending, stop_number, walked}
 use Rattle.play_texts.specs.WayRecords.{way_records, way_given, way_buffer}
 use Rattle.play_question.specs.declared.PlayStop.{PlayStop}
@@ -18,7 +18,7 @@ use Rattle.play_question.specs.declared.PlayStop.TheVariants.{AnswerTooShort, St
 abbrev pub question_tables : Question → Tables
 question_tables s =
     let fields = (with_hidden s).fields in
-    lent_tables (with_hidden s).characters (map follow_of fields) (map taking_of fields) (map last_of fields)
+    tables (with_hidden s).characters (map follow_of fields) (map taking_of fields) (map last_of fields)
 
 -- the trimmed question
 abbrev pub question_first : Question → Coded

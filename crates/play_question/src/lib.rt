@@ -8,7 +8,8 @@ ghost use Rattle.play_question.specs.declared.PlayStop.TheVariants.{Stopped};
 
 use base_codes::{HIDDEN_LEFT, HIDDEN_RIGHT};
 use base_question::Question;
-use play_walk::{Stop, Tables};
+use play_walk::Stop;
+use search_children::Tables;
 
 // Why no texts are written.
 #[derive(Clone, Copy)]

@@ -5,7 +5,7 @@ ghost use Rattle.std.specs.Prelude.{◌≡◌};
 ghost use Rattle.paper.specs.Sheet.{read_sheet};
 ghost use Rattle.paper_steps.specs.Player.{play as play_of};
 ghost use Rattle.paper_steps.specs.PlayPromised.{PlayPromised};
-ghost use Rattle.play_sheet.specs.PlayNumbers.{error_numbers, play_numbers, told_play};
+ghost use Rattle.play_sheet.specs.PlayNumbers.{error_numbers, told_play};
 ghost use Rattle.play_sheet.specs.declared.PlayError.TheVariants.{Refused as refused, Stopped as stopped};
 
 use base_answers::{ANSWER_TOO_SHORT, Numbers, Refusal};
@@ -60,14 +60,4 @@ pub fn play(sheet: &[u8], steps: &[u8], answer: &mut [u8]) -> Playing
 {
     let asked = read_sheet::read(sheet)?;
     Ok(play_question::play(asked.question, steps, answer)?)
-}
-
-// An answer in numbers.
-pub fn in_numbers(p: Playing) -> Numbers
-    ensures { result ≡ play_numbers p }
-{
-    match p {
-        Ok(written) => Numbers::of_written(written),
-        Err(e) => Numbers::from(e),
-    }
 }

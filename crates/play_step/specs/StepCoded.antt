@@ -9,10 +9,6 @@ use Rattle.search_children.specs.Children.{Tables, Settled, dropped, above, left
 use Rattle.search_children.specs.Children as Children
 use Rattle.search_children.specs.Coding.{situation_code}
 
--- how many characters there are, and what is worked out once of the fields, as it is lent
-abbrev pub lent_tables : ℕ → List (List ℕ) → List (List ℕ) → List ℕ → Tables
-lent_tables characters follow taking last = record { characters = characters; follow = follow; taking = taking; last = last }
-
 -- "a character": what putting c makes; a number that a table has no room for is never put
 unfoldable pub put_step : List (List ℕ) → List (List ℕ) → Coded → ℕ → Settled
 put_step follow taking s c =

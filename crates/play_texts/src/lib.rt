@@ -6,12 +6,14 @@ ghost use Rattle.std.specs.Prelude.{◌∷◌, [], ◌≡◌, ◌/◌, ◌%◌};
 ghost use Rattle.paper.specs.Outcome.{value_record};
 ghost use Rattle.base_codes.specs.Coded.{denoted};
 ghost use Rattle.base_put.specs.Counted.{Counted};
-ghost use Rattle.play_walk.specs.WalkCoded.{tables_of, text_walked};
+ghost use Rattle.search_children.specs.Laid.{tables_lent};
+ghost use Rattle.play_walk.specs.WalkCoded.{text_walked};
 ghost use Rattle.play_texts.specs.WayRecords.{way_records, WayAnswered};
 
-use base_codes::{FIELDS, SHEET_FIELDS, Situation};
+use base_codes::{SHEET_FIELDS, Situation};
 use base_put::put_all;
-use play_walk::{Tables, put_text};
+use play_walk::put_text;
+use search_children::Tables;
 
 // "`VA`, field byte, length in two bytes (low first)"
 const HEAD: usize = 5;
@@ -31,7 +33,7 @@ fn put_record(
     f: u8,
     tables: &Tables,
 ) -> usize
-    ensures { Counted out.old out.new at result (value_record f (text_walked (tables_of tables.now) f (denoted first) steps.now)) }
+    ensures { Counted out.old out.new at result (value_record f (text_walked (tables_lent tables.now) f (denoted first) steps.now)) }
 {
     let n = put_text(&mut out[0..0], 0, first, steps, f, tables);
     let begun = put_all(out, at, &head(f, n));
@@ -40,7 +42,7 @@ fn put_record(
 
 // "for each field standing in the sides, by rising number": those with a first place set
 fn put_records(out: &mut [u8], first: Situation, steps: &[u8], tables: &Tables) -> usize
-    ensures { Counted out.old out.new 0 result (way_records (tables_of tables.now) (denoted first) steps.now) }
+    ensures { Counted out.old out.new 0 result (way_records (tables_lent tables.now) (denoted first) steps.now) }
 {
     let mut end = 0;
     for f in 0..SHEET_FIELDS {
@@ -59,7 +61,7 @@ pub fn answer_way(
     steps: &[u8],
     tables: &Tables,
 ) -> Option<usize>
-    ensures { WayAnswered (way_records (tables_of tables.now) (denoted first) steps.now) answer.old answer.new result }
+    ensures { WayAnswered (way_records (tables_lent tables.now) (denoted first) steps.now) answer.old answer.new result }
 {
     let length = put_records(&mut answer[0..0], first, steps, tables);
     if answer.len() < length {

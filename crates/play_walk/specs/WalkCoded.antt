@@ -9,10 +9,9 @@ use Rattle.search_children.specs.Children.{Tables, Settled, dropped, above, made
 use Rattle.base_codes.specs.declared.Situation.{Situation}
 use Rattle.search_children.specs.declared.Child.{Child}
 use Rattle.search_children.specs.declared.Child.TheVariants.{Dropped, Above, Made}
-use Rattle.play_step.specs.StepCoded.{lent_tables, step_coded}
+use Rattle.play_step.specs.StepCoded.{step_coded}
 use Rattle.play_walk.specs.declared.Stop.{Stop}
 use Rattle.play_walk.specs.declared.Stop.TheVariants.{PastMost, NoRecord, NotAllowed, SideTooLong, Unfinished}
-use Rattle.play_walk.specs.declared.Tables as Lent
 
 -- the number of a refusal
 abbrev pub stop_number : Stop → ℕ
@@ -25,10 +24,6 @@ stop_number Unfinished = 49
 -- how playing ends: it arrives, or stops
 abbrev pub Ending : Type 0
 Ending = Result (Unit {0}) Stop
-
--- the tables that are lent
-abbrev pub tables_of : Lent.Tables → Tables
-tables_of t = lent_tables t.characters t.follow.now t.taking.now t.last
 
 -- the situation that a step makes
 abbrev pub made_of : Child → Result Situation Stop

@@ -6,12 +6,13 @@ ghost use Rattle.base_codes.specs.Inner.{field_code};
 ghost use Rattle.base_codes.specs.Coded.{denoted, finished_coded};
 ghost use Rattle.base_put.specs.Counted.{Counted};
 ghost use Rattle.search_children.specs.Children.{given_coded};
-ghost use Rattle.play_walk.specs.WalkCoded.{stop_number, tables_of, made_of, ended_coded, walked, text_walked};
+ghost use Rattle.search_children.specs.Laid.{tables_lent};
+ghost use Rattle.play_walk.specs.WalkCoded.{stop_number, made_of, ended_coded, walked, text_walked};
 
 use base_answers::{NO_STEP, NOT_FINISHED, SIDE_TOO_LONG, STEP_NOT_ALLOWED, TOO_MANY_STEPS};
-use base_codes::{FIELD_CODE, FIELDS, NO_TOKEN, Situation};
-use base_places::{CHARACTERS, PLACES, PlaceSet};
-use search_children::Child;
+use base_codes::{FIELD_CODE, NO_TOKEN, Situation};
+use base_places::CHARACTERS;
+use search_children::{Child, Tables};
 
 // "50 if it is past the 65,534th"
 const MOST_STEPS: usize = 65534;
@@ -46,15 +47,6 @@ impl Stop {
     }
 }
 
-// What is worked out once of a question, lent: how many characters there are, and the tables of its fields.
-#[derive(Clone, Copy)]
-pub struct Tables<'a> {
-    pub characters: usize,
-    pub follow: &'a [[PlaceSet; PLACES]; FIELDS],
-    pub taking: &'a [[PlaceSet; CHARACTERS]; FIELDS],
-    pub last: [PlaceSet; FIELDS],
-}
-
 // "finished": both sides are empty
 pub fn is_finished(s: Situation) -> bool
     ensures { result ≡ finished_coded (denoted s) }
@@ -87,7 +79,7 @@ pub fn made(child: Child) -> Result<Situation, Stop>
 
 // Plays the records of steps from this situation on.
 pub fn walk(first: Situation, steps: &[u8], tables: &Tables) -> Result<(), Stop>
-    ensures { result ≡ walked (tables_of tables.now) (denoted first) steps.now }
+    ensures { result ≡ walked (tables_lent tables.now) (denoted first) steps.now }
 {
     let mut s = first;
     let mut at = 0;
@@ -96,7 +88,7 @@ pub fn walk(first: Situation, steps: &[u8], tables: &Tables) -> Result<(), Stop>
             return ended(s);
         }
         let record = play_record::front(steps, at, tables.characters).ok_or(Stop::NoRecord)?;
-        let child = play_step::step(s, record.step, tables.follow, tables.taking, tables.last);
+        let child = play_step::step(s, record.step, tables);
         s = made(child)?;
         at += record.bytes;
     }
@@ -134,7 +126,7 @@ pub fn put_text(
     f: u8,
     tables: &Tables,
 ) -> usize
-    ensures { Counted out.old out.new at result (text_walked (tables_of tables.now) f (denoted first) steps.now) }
+    ensures { Counted out.old out.new at result (text_walked (tables_lent tables.now) f (denoted first) steps.now) }
 {
     let mut end = at;
     let mut s = first;
@@ -143,7 +135,7 @@ pub fn put_text(
         let Some(record) = play_record::front(steps, i, tables.characters) else {
             return end;
         };
-        let child = play_step::step(s, record.step, tables.follow, tables.taking, tables.last);
+        let child = play_step::step(s, record.step, tables);
         let Child::Made(next) = child else {
             return end;
         };

@@ -16,7 +16,7 @@ pub use print_lines::DECIDED_LINE;
 pub const PRINTED: usize = DECIDED_LINE + 2 * ANSWER;
 
 // The lines for a sheet and two lent buffers, and how many bytes they are. Where `out` has no room for the longest, nothing is asked and nothing changed.
-// Kept: beside `print_clash::lines`, of which each call is another: what is asked, how much room that needs and which lines are put.
+// Kept: (d) beside `print_clash::lines`, of which each call is another: what is asked, how much room that needs and which lines are put.
 pub fn lines(sheet: &[u8], work: &mut [u8], answer: &mut [u8], out: &mut [u8]) -> Option<usize>
     ensures { lined_as result out.new answer.new work.new ≡ lined_decided sheet.now work.old answer.old out.old }
 {
@@ -30,6 +30,7 @@ pub fn lines(sheet: &[u8], work: &mut [u8], answer: &mut [u8], out: &mut [u8]) -
 }
 
 // What `decide` prints for an input, in front of `out`. How many bytes that is.
+// Kept: (a) beside `print_clash::printed`: each has its own theorem and its own array, and what they share is `program_part`.
 pub fn printed(input: &[u8], out: &mut [u8; PRINTED]) -> usize
     ensures { Prints (printed_decided input.now) out.old out.new result }
 {

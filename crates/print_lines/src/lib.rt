@@ -147,7 +147,7 @@ fn value_lines(out: &mut [u8], at: usize, edition: Edition, records: &[u8]) -> u
 {
     let mut end = at;
     let mut from = 0;
-    // Kept: a record is as long as its head tells, so no iterator steps from one to the next.
+    // Kept: (d) a record is as long as its head tells, so no iterator steps from one to the next.
     while RECORD_HEAD <= records.len() - from {
         let text = from + RECORD_HEAD;
         let to = text + text_length(records, from);

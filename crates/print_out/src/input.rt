@@ -3,6 +3,7 @@ ghost use Rattle.std.specs.Prelude.{◌≤◌, length, IfOk};
 
 use crate::failure::Failure;
 use crate::lent::low_first;
+use crate::output::tell_end;
 use crate::streams::Streams;
 use std::io::Read;
 
@@ -19,6 +20,22 @@ pub fn read_first(rt: &impl Streams, input: &mut [u8]) -> Result<usize, Failure>
         n += more;
     }
     Ok(n)
+}
+
+// Reads as much of the input as the buffer holds, hands it on, and tells at the end why the program could not go on.
+pub fn answer_input<F: FnOnce(&mut [u8]) -> Result<(), Failure>>(
+    rt: &impl Streams,
+    program: &[u8],
+    input: &mut [u8],
+    answer: F,
+)
+    requires { F.IsAlwaysCallable answer }
+{
+    let ended = match read_first(rt, input) {
+        Ok(n) => answer(&mut input[..n]),
+        Err(failure) => Err(failure),
+    };
+    tell_end(rt, program, ended);
 }
 
 fn read_some(rt: &impl Streams, part: &mut [u8]) -> Result<usize, Failure>

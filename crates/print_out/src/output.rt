@@ -23,6 +23,7 @@ pub fn print_numbers(rt: &impl Streams, numbers: &[usize]) -> Result<(), Failure
 }
 
 // Each in two hexadecimal digits with a space before it.
+// Kept: (d) beside `print_numbers`: the format is a literal, and nothing else is left of either.
 pub fn print_each(rt: &impl Streams, bytes: &[u8]) -> Result<(), Failure> {
     for b in bytes {
         written(print!(rt.output(); " {b:02x}"))?;

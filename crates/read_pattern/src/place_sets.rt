@@ -15,7 +15,7 @@ pub fn when(b: bool, set: PlaceSet) -> PlaceSet
 }
 
 // Lets every place of `first` follow every place of `last`. Only the places of `last` are looked at, one after the other, as `followers` does.
-// Kept: the library has no walk over a number's set bits; each step goes on to the next one, so that no `for` says how far.
+// Kept: (d) the library has no walk over a number's set bits; each step goes on to the next one, so that no `for` says how far.
 pub fn link(follow: &mut [PlaceSet; PLACES], last: PlaceSet, first: PlaceSet)
     ensures { Adds places (λ (i : ℕ). cond (in_mask last i) first 0) follow.old follow.new }
 {

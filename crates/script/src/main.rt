@@ -6,7 +6,7 @@
 #![tactic(auto)]
 
 use print_failures::refuse;
-use print_out::{Failure, Streams, print, read_first, tell, tell_end};
+use print_out::{Failure, Streams, answer_input, print, tell};
 use script_sheet::ScriptError;
 
 // As `clash` does: it "reads the first" 2,048 "bytes of standard input".
@@ -16,13 +16,8 @@ const INPUT: usize = 2048;
 const SCRIPT: usize = 280000;
 
 fn main(rt: HostRuntime) {
-    tell_end(&rt, b"script", run(&rt));
-}
-
-fn run(rt: &impl Streams) -> Result<(), Failure> {
     let mut input = [0u8; INPUT];
-    let n = read_first(rt, &mut input)?;
-    write_out(rt, &input[..n])
+    answer_input(&rt, b"script", &mut input, |input| write_out(&rt, input));
 }
 
 fn write_out(rt: &impl Streams, sheet: &[u8]) -> Result<(), Failure> {

@@ -14,7 +14,7 @@ ghost use Rattle.base_editions.specs.Editions.{paper_edition};
 ghost use Rattle.base_question.specs.Asked.{question_of};
 ghost use Rattle.read_sheet.specs.SheetRead.{bodies_of};
 ghost use Rattle.script_sheet.specs.declared.ScriptError.TheVariants.{Refused};
-ghost use Rattle.script_sheet.specs.WrittenOut.{error_numbers, scripted_numbers, told_scripted, AsksIn, fields_lines, fields_counted, body_of, BodiesWithin};
+ghost use Rattle.script_sheet.specs.WrittenOut.{error_numbers, told_scripted, AsksIn, fields_lines, fields_counted, body_of, BodiesWithin};
 
 use base_answers::{Numbers, Refusal, SCRIPT_TOO_SHORT};
 use base_codes::{FIELDS, HIDDEN_LEFT, HIDDEN_RIGHT, SHEET_FIELDS};
@@ -67,17 +67,6 @@ pub fn script(sheet: &[u8], out: &mut [u8]) -> Result<usize, ScriptError>
         return Err(ScriptError::TooShort);
     }
     Ok(put_script(out, read.edition, sheet, &read.question))
-}
-
-// An answer in numbers.
-// Kept: `From` is for a type of the crate, and a `Result` is none.
-pub fn in_numbers(s: Result<usize, ScriptError>) -> Numbers
-    ensures { result ≡ scripted_numbers s }
-{
-    match s {
-        Ok(bytes) => Numbers::of_written(bytes),
-        Err(e) => Numbers::from(e),
-    }
 }
 
 // The script of a good sheet, which asks this: as far as there is room, and how long it is.

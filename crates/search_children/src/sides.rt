@@ -13,7 +13,7 @@ use search_trim::Trimmed;
 const WIDEST_SIDE: usize = LONGEST_SIDE + LONGEST_SIDE;
 
 // The bytes of a side before it is trimmed: a character may be put before each of its tokens.
-// Kept: bytes that are lent, and a length beside them; a struct with `push` was tried, and a put took a quarter more instructions.
+// Kept: (b) bytes that are lent, and a length beside them; a struct with `push` was tried, and a put took a quarter more instructions.
 pub type WideSide = [u8; WIDEST_SIDE];
 
 pub const NO_WIDE_SIDE: WideSide = [0; WIDEST_SIDE];

@@ -36,7 +36,7 @@ use Rattle.search_children.specs.Children.{Tables, children_coded}
 use Rattle.search_children.specs.Coding.{taking_over, tables_of, tables_over}
 use Rattle.search_children.proofs.CodedChildren.{children_every}
 use Rattle.search_run.specs.Ended.{room_for, ended_with, buffer_with, told_end}
-use Rattle.search_run.specs.Lent.{tables}
+use Rattle.search_children.specs.Laid.{tables}
 use Rattle.search_run.specs.StepsEnded.{StepsRun, told_run}
 use Rattle.search_run.proofs.RunIsSearch.{run_told_over}
 use Rattle.search_run.proofs.SameTables.{ended_same, buffer_same, steps_same}

@@ -11,7 +11,7 @@ use Rattle.search_tables.specs.Tables.{follow_of, taking_of, last_of}
 use Rattle.search_trim.specs.Trimming.{question_coded}
 use Rattle.search_children.specs.Children.{Tables}
 use Rattle.search_run.specs.Ended.{room_for, ended_with, buffer_with}
-use Rattle.search_run.specs.Lent.{tables}
+use Rattle.search_children.specs.Laid.{tables}
 use Rattle.search_run.specs.StepsEnded.{StepsRun, steps_with}
 use Rattle.base_answers.specs.declared.Ended.{Ended}
 

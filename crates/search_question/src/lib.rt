@@ -12,9 +12,10 @@ use base_codes::{HIDDEN_LEFT, HIDDEN_RIGHT};
 use base_places::CHARACTERS;
 use base_question::Question;
 use base_steps::StepsEnded;
-use search_run::{Tables, Told};
+use search_children::Tables;
+use search_run::Told;
 
-// Kept: apart from `search_told`, as one function for both tables would copy the question once more on the stack of each attempt.
+// Kept: (a) fixed memory: apart from `search_told`, as one function for both tables would copy the question once more on the stack of each attempt.
 // Searches the question over these characters. The working buffer is all zero afterwards.
 pub fn search(
     question: Question,
@@ -39,7 +40,12 @@ pub fn search(
     let own_right = question.right;
     let right = search_hidden::side(own_right, HIDDEN_RIGHT);
     let mut none = [0; 1];
-    let tables = Tables::new(characters, &follow, &taking, last);
+    let tables = Tables {
+        characters,
+        follow: &follow,
+        taking: &taking,
+        last,
+    };
     search_run::run(left, right, &tables, work, answer, &mut none[0..0])
 }
 
@@ -90,6 +96,11 @@ pub fn search_told<T: Told>(
     let left = search_hidden::side(own_left, HIDDEN_LEFT);
     let own_right = question.right;
     let right = search_hidden::side(own_right, HIDDEN_RIGHT);
-    let tables = Tables::new(characters, &follow, &taking, last);
+    let tables = Tables {
+        characters,
+        follow: &follow,
+        taking: &taking,
+        last,
+    };
     search_run::run(left, right, &tables, work, answer, steps)
 }

@@ -15,7 +15,7 @@ pub struct Slot<'a> {
 }
 
 impl<'a> Slot<'a> {
-    ghost use Rattle.std.specs.Prelude.{◌≡◌, ◌↔◌, ◌/◌, ◌<◌, ◌≤◌, length, IsSome, IfSome};
+    ghost use Rattle.std.specs.Prelude.{◌≡◌, ◌↔◌, ◌/◌, ◌<◌, ◌≤◌, min, length, IsSome, IfSome};
     ghost use Rattle.paper.specs.Numbers.{fields, situation_bytes};
     ghost use Rattle.search_records.specs.Records.{parent_in, step_in, origin_in, puts_in, way_spelt, StepsBack};
 
@@ -30,14 +30,13 @@ impl<'a> Slot<'a> {
         Some(Slot { work, number })
     }
 
-    // One that is no later.
+    // The one with this number, or itself where that is a later one.
     pub fn earlier(&self, number: usize) -> Slot<'a>
-        requires { number ≤ self.now.number }
-        ensures { (result.work.now ≡ self.now.work.now) × (result.number ≡ number) }
+        ensures { (result.work.now ≡ self.now.work.now) × (result.number ≡ min number self.now.number) }
     {
         Slot {
             work: self.work,
-            number,
+            number: number.min(self.number),
         }
     }
 
@@ -117,7 +116,7 @@ impl<'a> Slot<'a> {
     }
 
     // The text of the field f, written from its end back.
-    // Kept: a walk of its own beside that of `text_length`: a walk that takes a closure says nothing of what the closure writes into a lent slice.
+    // Kept: (d) a walk of its own beside that of `text_length`: a closure that writes would have to promise the lent slice at each turn, which is longer than the loop.
     pub(crate) fn write_text(&self, out: &mut [u8], f: u8)
         requires f_lt_fields { f < fields }
         requires out_len { length out.old ≡ length (way_spelt self.now.work.now self.now.number f) }

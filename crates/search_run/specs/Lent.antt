@@ -2,17 +2,18 @@
 use Rattle.std.specs.Prelude.{ℕ, ◌*◌, ◌≤◌, ◌<◌, ◌≡◌, false, ◌&&◌, List, length}
 use Rattle.paper.specs.Numbers.{situation_bytes, most_room}
 use Rattle.paper.specs.Search.{Child, child}
+use Rattle.base_places.specs.Masks.{within}
 use Rattle.base_codes.specs.Coded.{Coded, as_struct, Short}
 use Rattle.search_fronts.specs.Fronts.{takes_next}
 use Rattle.search_children.specs.Children.{Tables, Settled, made, as_child}
-use Rattle.search_children.specs.Laid.{child_of}
+use Rattle.search_children.specs.Laid.{child_of, tables}
 use Rattle.search_children.specs.declared.Child.{Child as Made-child}
 use Rattle.base_codes.specs.declared.Situation.{Situation}
 use Rattle.search_run.specs.Run.{is_going, Running, enter_slot, offer_going, offer_slots, take_slot, slot_search}
 use Rattle.search_buckets.specs.Buckets.{bucket, buckets, Kept}
 use Rattle.search_slots.specs.Slots.{key, Slot}
 use Rattle.search_run.specs.declared.search.Run.{Run}
-use Rattle.search_run.specs.declared.tables.Tables.{Tables as Lent-tables}
+use Rattle.search_children.specs.declared.Tables.{Tables as Lent-tables}
 
 -- the buffer and the run stand for a search over slots
 pub record Lent (work : List ℕ) (run : Run) (R : Running) : Type 0 where
@@ -27,13 +28,9 @@ pub record Roomy (work : List ℕ) (room n parent : ℕ) : Type 0 where
   pub within : n ≤ room
   pub numbered : parent ≤ most_room
 
--- what is worked out once of the fields, as the search is handed it
-abbrev pub tables : ℕ → List (List ℕ) → List (List ℕ) → List ℕ → Tables
-tables characters follow taking last = record { characters = characters; follow = follow; taking = taking; last = last }
-
--- what the search is lent
-abbrev pub tables_lent : Lent-tables → Tables
-tables_lent t = tables t.characters t.follow.now t.taking.now t.last
+-- the tables that the search is lent, over no more characters than they have room for
+abbrev pub tables_within : Lent-tables → Tables
+tables_within t = tables (within t.characters) t.follow.now t.taking.now t.last
 
 -- a character that two tokens in front don't both take, whatever the sets of their fields are after it
 abbrev pub NotPut : ℕ → ℕ → ℕ → Type 0

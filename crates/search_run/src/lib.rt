@@ -2,7 +2,6 @@
 #![tactic(auto)]
 
 mod search;
-mod tables;
 mod told;
 
 ghost use Rattle.std.specs.Prelude.{◌≡◌, ◌-◌, ◌<◌, length, replicate};
@@ -10,7 +9,7 @@ ghost use Rattle.base_codes.specs.Inner.{tokens};
 ghost use Rattle.search_trim.specs.Trimming.{question_coded};
 ghost use Rattle.search_run.specs.Ended.{room_for, ClashTold, SearchOver, SearchedSo, Concluded};
 ghost use Rattle.search_steps.specs.WaySteps.{steps_told};
-ghost use Rattle.search_run.specs.Lent.{tables_lent};
+ghost use Rattle.search_run.specs.Lent.{tables_within};
 ghost use Rattle.search_run.specs.StepsEnded.{steps_concluded};
 ghost use Rattle.search_run.specs.Way.{WayTo};
 
@@ -19,22 +18,22 @@ use base_codes::{CodedSide, FIELDS};
 use base_places::PlaceSet;
 use base_steps::StepsHow;
 pub use search::{Run, Status};
-pub use tables::Tables;
+use search_children::Tables;
 pub use told::Told;
 
 // "at most 65,535"
 const MOST_ROOM: usize = 65535;
 
-// A search that is over, and the first situation's sets: they say which fields stand.
+// A search that is over, and the first situation's sets: they say which fields stand. Only `run` makes one, so no other crate can call `Told::of`.
 #[derive(Clone, Copy)]
 pub struct Over {
-    pub run: Run,
-    pub sets: [PlaceSet; FIELDS],
+    run: Run,
+    sets: [PlaceSet; FIELDS],
 }
 
 // The search from the trimmed question on. Its slots are in the working buffer afterwards.
 fn searched(left: CodedSide, right: CodedSide, tables: &Tables, work: &mut [u8]) -> Over
-    ensures { SearchedSo (tables_lent tables.now) (room_for (length work.old)) (question_coded (tokens left) (tokens right)) work.new result.run result.sets }
+    ensures { SearchedSo (tables_within tables.now) (room_for (length work.old)) (question_coded (tokens left) (tokens right)) work.new result.run result.sets }
 {
     let first = search_trim::question(left, right);
     let room = room_for(work.len());
@@ -53,7 +52,7 @@ pub fn run<T: Told>(
     answer: &mut [u8],
     steps: &mut [u8],
 ) -> T
-    ensures told { T.told_by (tables_lent tables.now) (room_for (length work.old)) (question_coded (tokens left) (tokens right)) answer.old steps.old answer.new steps.new result }
+    ensures told { T.told_by (tables_within tables.now) (room_for (length work.old)) (question_coded (tokens left) (tokens right)) answer.old steps.old answer.new steps.new result }
     ensures work { work.new ≡ replicate (length work.old) 0 }
 {
     let over = searched(left, right, tables, work);
@@ -85,7 +84,7 @@ fn conclude(answer: &mut [u8], work: &[u8], over: Over) -> How
 }
 
 // The same with the way. Where a finish was found it is in the last slot.
-// Kept: beside `conclude`, as a trait for the ends that `How` and `StepsHow` share would be longer than these arms.
+// Kept: (d) beside `conclude`, as a trait for the ends that `How` and `StepsHow` share would be longer than these arms.
 fn conclude_steps(answer: &mut [u8], steps: &mut [u8], work: &[u8], over: Over) -> StepsHow
     requires { SearchOver work.now over.run }
     ensures { (o : SearchOver work.now over.run) → steps_told result answer.new steps.new ≡ steps_concluded o.search over.sets answer.old steps.old }

@@ -1,17 +1,17 @@
 // The search: breadth first over the slots of the working buffer, in document 01's order.
 ghost use Rattle.std.specs.Prelude.{◌≡◌, List, ◌+◌, ◌*◌, ◌<◌, ◌≤◌, length};
 ghost use Rattle.paper.specs.Numbers.{most_characters, situation_bytes, most_room, set_fields};
+ghost use Rattle.base_places.specs.Masks.{within};
 ghost use Rattle.base_codes.specs.Coded.{Coded, as_struct};
 ghost use Rattle.search_fronts.specs.Fronts.{with_row};
 ghost use Rattle.search_children.specs.Children.{puts_of, children_coded};
-ghost use Rattle.search_run.specs.Lent.{Roomy, StartsPuts, EndsPuts, tables_lent, Enters, EntersWith, OffersMade, OffersChild, Offers, Takes, Searches};
+ghost use Rattle.search_run.specs.Lent.{Roomy, StartsPuts, EndsPuts, tables_within, Enters, EntersWith, OffersMade, OffersChild, Offers, Takes, Searches};
 ghost use Rattle.search_run.specs.Run.{is_going};
 ghost use Rattle.search_slots.specs.Slots.{Slot, slot_at, SlotsHeld};
 ghost use Rattle.search_run.specs.declared.search.Status.TheVariants.{NoRoom};
 
-use crate::tables::Tables;
 use base_codes::{LEFT_STRUCK, RIGHT_STRUCK, Situation};
-use search_children::Child;
+use search_children::{Child, Tables};
 use search_fronts::FrontToken;
 use search_slots::{HELD, SLOT};
 use std::ops::Range;
@@ -40,7 +40,7 @@ fn is_going(status: Status) -> bool
 }
 
 // "it is entered, and a finished one ends the search at once": with its key and its bucket
-// Kept: the buffer and its room stay two parameters under `Roomy`: no ghost field can stand beside a `&mut`.
+// Kept: (d) the buffer and its room stay two parameters under `Roomy`: no ghost field can stand beside a `&mut`.
 fn enter_with(
     work: &mut [u8],
     room: usize,
@@ -148,7 +148,7 @@ fn may_be_put(characters: usize, a: u8, b: u8) -> Range<usize>
     0..characters
 }
 
-// Child 3: "for each character c from 0 to 42", or behind `ED` to 127. Most are not taken: that is seen before a child is made.
+// Child 3: "for each character c from 0 to 42", or behind `ED` to 127: a table has room for 128. Most are not taken: that is seen before a child is made.
 fn offer_puts(
     work: &mut [u8],
     room: usize,
@@ -162,13 +162,14 @@ fn offer_puts(
     requires roomy { Roomy work.old room run.entered parent }
     requires entered_nonzero { 0 < run.entered }
     requires row_lt_set_fields { (left.row < set_fields) × (right.row < set_fields) }
-    ensures { Offers room parent s work.old run work.new result (λ (k : Coded). puts_of tables.now.characters k (with_row tables.now.taking.now left) (with_row tables.now.taking.now right)) }
+    ensures { Offers room parent s work.old run work.new result (λ (k : Coded). puts_of (within tables.now.characters) k (with_row tables.now.taking.now left) (with_row tables.now.taking.now right)) }
 {
     let mut now = run;
     let taking = tables.taking;
     let l = left.row;
     let r = right.row;
-    let candidates = may_be_put(tables.characters, left.token, right.token);
+    let characters = base_places::within(tables.characters);
+    let candidates = may_be_put(characters, left.token, right.token);
     for c in candidates.start..candidates.end {
         let m = left.followers & taking[l][c];
         let n = right.followers & taking[r][c];
@@ -191,7 +192,7 @@ fn offer_children(
 ) -> Run
     requires roomy { Roomy work.old room run.entered parent }
     requires entered_nonzero { 0 < run.entered }
-    ensures { Offers room parent s work.old run work.new result (children_coded (tables_lent tables.now)) }
+    ensures { Offers room parent s work.old run work.new result (children_coded (tables_within tables.now)) }
 {
     let sets = s.sets;
     let last = tables.last;
@@ -229,7 +230,7 @@ fn read_situation(work: &[u8], i: usize) -> Situation
 fn take(work: &mut [u8], room: usize, run: Run, k: usize, tables: &Tables) -> Run
     requires roomy { Roomy work.old room run.entered k }
     requires k_lt_entered { k < run.entered }
-    ensures { Takes room (tables_lent tables.now) k work.old run work.new result }
+    ensures { Takes room (tables_within tables.now) k work.old run work.new result }
 {
     let s = read_situation(work, k);
     offer_children(work, room, run, k, s, tables)
@@ -238,11 +239,11 @@ fn take(work: &mut [u8], room: usize, run: Run, k: usize, tables: &Tables) -> Ru
 // "The trimmed question is entered first, dead or not. .. When all are used up the answer is 1"
 pub fn search(work: &mut [u8], room: usize, first: Situation, tables: &Tables) -> Run
     requires { (situation_bytes * room ≤ length work.old) × (room ≤ most_room) }
-    ensures { Searches room (tables_lent tables.now) first work.new result }
+    ensures { Searches room (tables_within tables.now) first work.new result }
 {
     let mut run = enter_first(work, room, first);
     let mut k = 0;
-    // Kept: no `for`, as the slots to take become more while they are taken.
+    // Kept: (d) no `for`, as the slots to take become more while they are taken.
     while is_going(run.status) {
         if run.entered <= k {
             return Run {

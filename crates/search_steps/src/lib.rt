@@ -70,7 +70,7 @@ fn steps_length(last: &Slot) -> usize
 }
 
 // These records, written from their end back.
-// Kept: a walk of its own beside that of `steps_length`: a walk that takes a closure says nothing of what the closure writes into a lent slice.
+// Kept: (d) a walk of its own beside that of `steps_length`: a closure that writes would have to promise the lent slice at each turn, which is longer than the loop.
 fn write_steps(out: &mut [u8], last: &Slot)
     requires { length out.old ≡ length (way_steps last.now.work.now last.now.number) }
     ensures { out.new ≡ way_steps last.now.work.now last.now.number }

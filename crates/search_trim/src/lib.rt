@@ -13,7 +13,7 @@ use base_codes::{
 use base_places::PlaceSet;
 
 // Two sides behind their equal characters in front, each in its 48 bytes as far as it has room, and how many tokens each has.
-// Kept: a length beside its bytes, since it tells of the tokens that have no room there too; no slice would.
+// Kept: (d) a length beside its bytes, since it tells of the tokens that have no room there too; no slice would.
 #[derive(Clone, Copy)]
 pub struct Trimmed {
     pub left: CodedSide,

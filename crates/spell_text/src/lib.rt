@@ -5,7 +5,7 @@ ghost use Rattle.std.specs.Prelude.{◌≡◌};
 ghost use Rattle.paper_spell.specs.FullAscii.{is_text as is-text-of, spelt};
 ghost use Rattle.paper_spell.specs.Spell.{spelling_text, SpellPromised};
 ghost use Rattle.base_put.specs.Counted.{Counted};
-ghost use Rattle.spell_text.specs.SpeltNumbers.{error_numbers, spelt_numbers, told_spelt, shifts_in};
+ghost use Rattle.spell_text.specs.SpeltNumbers.{error_numbers, told_spelt, shifts_in};
 
 use base_answers::{NOT_IN_TABLE, Numbers, SPELT_TOO_SHORT};
 use spell_table::{ASCII, put_character, shift};
@@ -49,17 +49,6 @@ pub fn spell(text: &[u8], out: &mut [u8]) -> Result<usize, SpellError>
         return Err(SpellError::TooShort);
     }
     Ok(put_text(out, text))
-}
-
-// An answer in numbers.
-// Kept: `From` is for a type of the crate, and a `Result` is none.
-pub fn in_numbers(s: Result<usize, SpellError>) -> Numbers
-    ensures { result ≡ spelt_numbers s }
-{
-    match s {
-        Ok(bytes) => Numbers::of_written(bytes),
-        Err(e) => Numbers::from(e),
-    }
 }
 
 // Is every byte a character?

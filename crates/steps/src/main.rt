@@ -11,19 +11,14 @@ use base_editions::Edition;
 use base_put::sign;
 use base_steps::StepsNumbers;
 use print_clash::{INPUT, PRINTED};
-use print_out::{Failure, Streams, print, read_first, tell_end};
+use print_out::{Failure, Streams, answer_input, print};
 
 // The work has room for 356 situations, and a step has at most four bytes: always enough (`enough` of `StepsPromised`).
 const STEPS: usize = 4 * 356;
 
 fn main(rt: HostRuntime) {
-    tell_end(&rt, b"steps", run(&rt));
-}
-
-fn run(rt: &impl Streams) -> Result<(), Failure> {
     let mut input = [0u8; INPUT];
-    let n = read_first(rt, &mut input)?;
-    answer_sheet(rt, &input[..n])
+    answer_input(&rt, b"steps", &mut input, |input| answer_sheet(&rt, input));
 }
 
 fn answer_sheet(rt: &impl Streams, sheet: &[u8]) -> Result<(), Failure> {

@@ -1,4 +1,5 @@
 // A sheet for the engine for plain rules: what it answers and what becomes of its bits, and how many bytes the sheet needs.
+use base_answers::Numbers;
 use print_out::{Failure, Streams, print, print_number, print_numbers, print_work};
 
 pub fn show_plain(rt: &impl Streams, sheet: &[u8], bits: &mut [u8]) -> Result<(), Failure> {
@@ -11,7 +12,7 @@ pub fn show_plain(rt: &impl Streams, sheet: &[u8], bits: &mut [u8]) -> Result<()
 
 // Number, place and bytes.
 fn show_needed(rt: &impl Streams, sheet: &[u8]) -> Result<(), Failure> {
-    let told = plain_sheet::needed_numbers(plain_sheet::bytes_needed(sheet));
+    let told = Numbers::from(plain_sheet::bytes_needed(sheet));
     print(rt, b", needs ")?;
     print_number(rt, told.number)?;
     print_numbers(rt, &[told.place, told.written])?;

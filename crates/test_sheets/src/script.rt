@@ -42,5 +42,5 @@ fn show_just(rt: &impl Streams, sheet: &[u8], out: &mut [u8]) -> Result<(), Fail
 
 fn answered(sheet: &[u8], out: &mut [u8]) -> Numbers {
     fill(out, FILL);
-    script_sheet::in_numbers(script_sheet::script(sheet, out))
+    Numbers::from(script_sheet::script(sheet, out))
 }

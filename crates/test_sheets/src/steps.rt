@@ -53,7 +53,7 @@ fn show_way(
 pub fn show_played(rt: &impl Streams, sheet: &[u8], answer: &mut [u8]) -> Result<(), Failure> {
     let mut steps = [0u8; STEPS];
     let n = read_bytes(rt, &mut steps)?;
-    let told = play_sheet::in_numbers(play_sheet::play(sheet, &steps[..n], answer));
+    let told = Numbers::from(play_sheet::play(sheet, &steps[..n], answer));
     print_line(rt, told, answer)
 }
 
@@ -61,6 +61,6 @@ pub fn show_played(rt: &impl Streams, sheet: &[u8], answer: &mut [u8]) -> Result
 pub fn show_way_of_texts(rt: &impl Streams, sheet: &[u8], steps: &mut [u8]) -> Result<(), Failure> {
     let mut texts = [0u8; TEXTS];
     let n = read_bytes(rt, &mut texts)?;
-    let told = way_sheet::in_numbers(way_sheet::way(sheet, &texts[..n], steps));
+    let told = Numbers::from(way_sheet::way(sheet, &texts[..n], steps));
     print_line(rt, told, steps)
 }

@@ -4,6 +4,7 @@
 ghost use Rattle.std.specs.Prelude.{◌≤◌, length, IfOk};
 
 use crate::{ANSWER_FILL, print_line};
+use base_answers::Numbers;
 use print_out::{Failure, Streams, fill, read_all, read_number};
 
 // as many as one byte can tell
@@ -63,7 +64,7 @@ fn show_sheet(
     out: &mut [u8],
 ) -> Result<(), Failure> {
     fill(out, ANSWER_FILL);
-    let told = write_sheet::in_numbers(write_sheet::write_edition(
+    let told = Numbers::from(write_sheet::write_edition(
         edition, patterns, lengths, left, right, out,
     ));
     print_line(rt, told, out)

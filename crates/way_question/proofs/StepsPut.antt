@@ -21,6 +21,7 @@ use Rattle.play_walk.specs.declared.Stop.TheVariants.{NoRecord}
 use Rattle.play_walk.specs.WalkCoded.{Ending}
 use Rattle.play_walk.specs.declared.Stop.{Stop}
 use Rattle.way_step.specs.NextCoded.{next_code, left_behind}
+use Rattle.way_walk.specs.declared.Halt.{Halt}
 use Rattle.way_walk.specs.SpellCoded.{code_bytes, Spelling, spells_on, spell_coded, spelled_coded, told_of, SpelledInto}
 use Rattle.way_question.specs.WaySpelt.{WaySpelt}
 use Rattle.way_question.specs.declared.WayStop.TheVariants.{StepsTooShort, Stopped}
@@ -72,18 +73,18 @@ told_ok : (e : Ending) (end n : ℕ) → told_of e end ≡ Ok n → (e ≡ Ok tt
 told_ok (Ok done) end n h = (refl, cc)
 told_ok (Err why) end n h = absurd cc
 
-told_err : (e : Ending) (end : ℕ) (why : Stop) → told_of e end ≡ Err why → e ≡ Err why
-told_err (Ok done) end why h = absurd cc
-told_err (Err w) end why h = let same : w ≡ why = cc in ap Err same
+told_err : (e : Ending) (end : ℕ) (halt : Halt) → told_of e end ≡ Err halt → e ≡ Err halt.why
+told_err (Ok done) end halt h = absurd cc
+told_err (Err w) end halt h = let same : record { why = w; bytes = end } ≡ halt = cc in ap (λ (t : Halt). Err t.why) same
 
-module _ (y : Spelling) (short : length y.bytes ≤ last_place) (steps : List ℕ) {e : List ℕ} (r : Result ℕ Stop) (p : SpelledInto y [] e r) where
+module _ (y : Spelling) (short : length y.bytes ≤ last_place) (steps : List ℕ) {e : List ℕ} (r : Result ℕ Halt) (p : SpelledInto y [] e r) where
   -- nothing was put
   as_before : e ++ steps ≡ steps
   as_before = ap (λ (l : List ℕ). l ++ steps) (counted_outside p.put)
 
-  pub stopped_spelt : (why : Stop) → r ≡ Err why → WaySpelt y steps (e ++ steps) (Err (Stopped why))
-  stopped_spelt why h =
-      let is : y.ending ≡ Err why = told_err y.ending p.end why (sym p.told ∙ h) in record { end = rw is; buffer = rw is as_before }
+  pub stopped_spelt : (halt : Halt) → r ≡ Err halt → WaySpelt y steps (e ++ steps) (Err (Stopped halt.why))
+  stopped_spelt halt h =
+      let is : y.ending ≡ Err halt.why = told_err y.ending p.end halt (sym p.told ∙ h) in record { end = rw is; buffer = rw is as_before }
 
   module _ (n : ℕ) (h : r ≡ Ok n) where
     arrives : (y.ending ≡ Ok tt) × (p.end ≡ n)
@@ -97,7 +98,7 @@ module _ (y : Spelling) (short : length y.bytes ≤ last_place) (steps : List �
         let t = lt_leb (length y.bytes) (length steps) (omega (arith, ap length as_before, counted)) in
         record { end = rw (arrives.0, t); buffer = rw (arrives.0, t) as_before }
 
-    module _ {after : List ℕ} (s : Result ℕ Stop) (q : SpelledInto y (e ++ steps) after s) where
+    module _ {after : List ℕ} (s : Result ℕ Halt) (q : SpelledInto y (e ++ steps) after s) where
       pub put_spelt : (m : ℕ) → s ≡ Ok m → n ≤ length (e ++ steps) → WaySpelt y steps after (Ok m)
       put_spelt m i k =
           let room : length y.bytes ≤ length steps = omega (arith, ap length as_before, counted) in
@@ -107,7 +108,7 @@ module _ (y : Spelling) (short : length y.bytes ≤ last_place) (steps : List �
           record { end = rw (arrives.0, t, counted_length put short); buffer = rw (arrives.0, t) (counted_in_front put short room) }
 
       -- the same steps don't stop the second time
-      pub put_never : (why : Stop) → s ≡ Err why → ⊥
-      put_never why i =
-          let stops : y.ending ≡ Err why = told_err y.ending q.end why (sym q.told ∙ i) in
+      pub put_never : (halt : Halt) → s ≡ Err halt → ⊥
+      put_never halt i =
+          let stops : y.ending ≡ Err halt.why = told_err y.ending q.end halt (sym q.told ∙ i) in
           let ok : y.ending ≡ Ok tt = arrives.0 in absurd cc

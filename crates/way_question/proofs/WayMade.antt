@@ -14,7 +14,7 @@ use Rattle.search_tables.specs.Tables.{follow_of, taking_of, last_of}
 use Rattle.search_trim.specs.Trimming.{question_coded}
 use Rattle.search_children.specs.Children.{Tables}
 use Rattle.search_records.specs.Records.{fields_with_sets}
-use Rattle.play_step.specs.StepCoded.{lent_tables}
+use Rattle.search_children.specs.Laid.{tables}
 use Rattle.play_question.specs.QuestionPlayed.{question_first}
 use Rattle.play_question.proofs.Ended.{first_made, tables_made}
 use Rattle.way_records.specs.Spans.{TextsFound}
@@ -29,7 +29,7 @@ pub way_made : (s : Question) (whole : Hidden) (follow taking : List (List ℕ))
     → first ≡ as_struct (question_coded (tokens whole.left) (tokens whole.right))
     → (texts before : List ℕ) {after : List ℕ} {e : End} (spans : Option Spans)
     → TextsFound whole.characters (fields_with_sets first.sets) texts (tokens s.left) (tokens s.right) spans
-    → SpeltBy (λ (p : Spans). spelled_coded (lent_tables whole.characters follow taking last) s.alphabet.space texts p.ends (denoted first) p.left) before after e spans
+    → SpeltBy (λ (p : Spans). spelled_coded (tables whole.characters follow taking last) s.alphabet.space texts p.ends (denoted first) p.left) before after e spans
     → WayOn s texts before after e
 way_made s whole follow taking last first l r w a b c d texts before {after} {e} spans found spelt =
     let first_is = first_made s whole follow taking last first w l r d in
@@ -44,6 +44,6 @@ way_made s whole follow taking last first l r w a b c d texts before {after} {e}
           (tables_made s whole follow taking last first w a b c)
           (subst
           (λ (k : Coded).
-          SpeltBy (λ (p : Spans). spelled_coded (lent_tables whole.characters follow taking last) s.alphabet.space texts p.ends k p.left) before after e spans)
+          SpeltBy (λ (p : Spans). spelled_coded (tables whole.characters follow taking last) s.alphabet.space texts p.ends k p.left) before after e spans)
           first_is spelt);
     }

@@ -3,7 +3,7 @@
 
 ghost use Rattle.std.specs.Prelude.{◌≡◌};
 ghost use Rattle.base_codes.specs.Coded.{denoted};
-ghost use Rattle.play_walk.specs.WalkCoded.{tables_of};
+ghost use Rattle.search_children.specs.Laid.{tables_lent};
 ghost use Rattle.way_walk.specs.SpellCoded.{spelled_coded};
 ghost use Rattle.way_question.specs.WaySpelt.{SpeltBy, WayOn};
 ghost use Rattle.way_records.specs.declared.Spans.{Spans};
@@ -11,10 +11,13 @@ ghost use Rattle.way_question.specs.declared.WayStop.TheVariants.{Stopped};
 
 use base_codes::{HIDDEN_LEFT, HIDDEN_RIGHT, Situation};
 use base_question::Question;
-use play_walk::{Stop, Tables};
+use play_walk::Stop;
+use search_children::Tables;
 use way_records::Spans;
+use way_walk::Halt;
 
 // Why no steps are written.
+// Kept: (d) beside `play_question::PlayStop`, and `WayError` beside `PlayError`: a short buffer has another number here, 51 and not 20.
 #[derive(Clone, Copy)]
 pub enum WayStop {
     // 51: the texts solve the question, but the steps buffer is too short
@@ -33,6 +36,16 @@ impl From<Stop> for WayStop {
     }
 }
 
+impl From<Halt> for WayStop {
+    ghost from_gives = { λ halt stop. stop ≡ Stopped halt.why };
+
+    fn from(halt: Halt) -> Self
+        ensures { result ≡ Stopped halt.why }
+    {
+        WayStop::Stopped(halt.why)
+    }
+}
+
 // From this situation on, with so many characters and these tables. The steps are made twice: first they are only counted.
 fn spell_from(
     spans: Option<Spans>,
@@ -42,7 +55,7 @@ fn spell_from(
     first: Situation,
     tables: &Tables,
 ) -> Result<usize, WayStop>
-    ensures { SpeltBy (λ (s : Spans). spelled_coded (tables_of tables.now) space texts.now s.ends (denoted first) s.left) steps.old steps.new result spans }
+    ensures { SpeltBy (λ (s : Spans). spelled_coded (tables_lent tables.now) space texts.now s.ends (denoted first) s.left) steps.old steps.new result spans }
 {
     let spans = spans.ok_or(Stop::NoRecord)?;
     let ends = spans.ends;

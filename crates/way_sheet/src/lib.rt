@@ -5,7 +5,7 @@ ghost use Rattle.std.specs.Prelude.{◌≡◌};
 ghost use Rattle.paper.specs.Sheet.{read_sheet};
 ghost use Rattle.paper_way.specs.WayOutcome.{way as way_of};
 ghost use Rattle.paper_way.specs.WayPromised.{WayPromised};
-ghost use Rattle.way_sheet.specs.WayNumbers.{error_numbers, way_numbers, told_way};
+ghost use Rattle.way_sheet.specs.WayNumbers.{error_numbers, told_way};
 ghost use Rattle.way_sheet.specs.declared.WayError.TheVariants.{Refused as refused, Stopped as stopped};
 
 use base_answers::{Numbers, Refusal, STEPS_TOO_SHORT};
@@ -60,14 +60,4 @@ pub fn way(sheet: &[u8], texts: &[u8], steps: &mut [u8]) -> WayAnswer
 {
     let asked = read_sheet::read(sheet)?;
     Ok(way_question::way(asked.question, texts, steps)?)
-}
-
-// An answer in numbers.
-pub fn in_numbers(a: WayAnswer) -> Numbers
-    ensures { result ≡ way_numbers a }
-{
-    match a {
-        Ok(written) => Numbers::of_written(written),
-        Err(e) => Numbers::from(e),
-    }
 }

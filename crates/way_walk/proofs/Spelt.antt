@@ -18,6 +18,7 @@ use Rattle.play_walk.specs.WalkCoded.{Ending, made_of}
 use Rattle.std.specs.Prelude.{Result, Ok, Err}
 use Rattle.play_walk.proofs.Texts.{Underway, none_yet, some_more, all_put}
 use Rattle.way_step.specs.NextCoded.{next_code, left_behind}
+use Rattle.way_walk.specs.declared.Halt.{Halt}
 use Rattle.way_walk.specs.SpellCoded.{code_bytes, Spelling, ends_at, spells_on, spell_coded, spelled_coded, told_of, SpelledInto}
 
 module _ (T : Tables) (x : ℕ) (bytes ends : List ℕ) where
@@ -67,6 +68,6 @@ pub going_on : {whole : Spelling} (y : Spelling) (its : List ℕ) {before after 
     → Going whole (record { ending = y.ending; bytes = its ++ y.bytes }) before after end → Counted after later end next its → Going whole y before later next
 going_on y its g p = record { ending = g.ending; put = some_more its y.bytes g.put p }
 
-pub going_ends : {whole : Spelling} (e : Ending) {before after : List ℕ} (end : ℕ) {r : Result ℕ Stop} → Going whole (ends_at e) before after end
+pub going_ends : {whole : Spelling} (e : Ending) {before after : List ℕ} (end : ℕ) {r : Result ℕ Halt} → Going whole (ends_at e) before after end
     → r ≡ told_of e end → SpelledInto whole before after r
 going_ends {whole} e end g h = record { end = end; told = h ∙ ap (λ (x : Ending). told_of x end) (sym g.ending); put = all_put g.put }

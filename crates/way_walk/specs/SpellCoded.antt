@@ -9,9 +9,9 @@ use Rattle.base_codes.specs.Coded.{Coded, finished_coded}
 use Rattle.search_children.specs.Children.{Tables, Settled, dropped, above, made}
 use Rattle.play_step.specs.StepCoded.{step_coded}
 use Rattle.play_walk.specs.declared.Stop.TheVariants.{PastMost, NotAllowed, SideTooLong}
-use Rattle.play_walk.specs.declared.Stop.{Stop}
 use Rattle.play_walk.specs.WalkCoded.{Ending}
 use Rattle.way_step.specs.NextCoded.{next_code, left_behind}
+use Rattle.way_walk.specs.declared.Halt.{Halt}
 
 -- "mark `ST`, a kind byte .. and for kind 2 its value", by the step's code
 unfoldable pub code_bytes : ℕ → List ℕ
@@ -44,13 +44,13 @@ module _ (T : Tables) (x : ℕ) (bytes ends : List ℕ) where
   unfoldable pub spelled_coded : Coded → List ℕ → Spelling
   spelled_coded s left = spell_coded most_steps s left
 
--- what is told of it: how many bytes the records have, or why it stops
-abbrev pub told_of : Ending → ℕ → Result ℕ Stop
+-- what is told of it: how many bytes the records have, and why it stops where it does
+abbrev pub told_of : Ending → ℕ → Result ℕ Halt
 told_of (Ok done) n = Ok n
-told_of (Err why) n = Err why
+told_of (Err why) n = Err (record { why = why; bytes = n })
 
 -- the records were put from the start of a buffer on, also where it stops
-pub record SpelledInto (s : Spelling) (before after : List ℕ) (r : Result ℕ Stop) : Type 0 where
+pub record SpelledInto (s : Spelling) (before after : List ℕ) (r : Result ℕ Halt) : Type 0 where
   pub end : ℕ
   pub told : r ≡ told_of s.ending end
   pub put : Counted before after 0 end s.bytes

@@ -3,15 +3,23 @@
 
 ghost use Rattle.base_put.specs.Counted.{Counted};
 ghost use Rattle.base_codes.specs.Coded.{denoted};
-ghost use Rattle.play_walk.specs.WalkCoded.{tables_of};
+ghost use Rattle.search_children.specs.Laid.{tables_lent};
 ghost use Rattle.way_walk.specs.SpellCoded.{code_bytes, spelled_coded, SpelledInto};
 
 use base_codes::{FIELDS, LEFT_STRUCK, RIGHT_STRUCK, Situation};
 use base_put::put_all;
-use play_walk::{Stop, Tables, is_finished, made};
+use play_walk::{Stop, is_finished, made};
+use search_children::Tables;
 
 // "50 if it is past the 65,534th"
 const MOST_STEPS: usize = 65534;
+
+// Spelling stops before the finish: why, and how many bytes the records of the steps before have.
+#[derive(Clone, Copy)]
+pub struct Halt {
+    pub why: Stop,
+    pub bytes: usize,
+}
 
 // The record of a step, by its inner code.
 #[tactic(auto, unfolding(crate::specs::SpellCoded::code_bytes))]
@@ -25,8 +33,8 @@ fn put_step(out: &mut [u8], at: usize, step: u8) -> usize
     }
 }
 
-// Spells the texts out from this situation on: how many bytes the records of the steps have. The texts end at these places of the bytes, and so many
-// characters of each are left.
+// Spells the texts out from this situation on: how many bytes the records of the steps have, also where it stops. The texts end at these places of the
+// bytes, and so many characters of each are left.
 pub fn walk(
     out: &mut [u8],
     texts: &[u8],
@@ -35,8 +43,8 @@ pub fn walk(
     space: usize,
     first: Situation,
     tables: &Tables,
-) -> Result<usize, Stop>
-    ensures { SpelledInto (spelled_coded (tables_of tables.now) space texts.now ends (denoted first) left) out.old out.new result }
+) -> Result<usize, Halt>
+    ensures { SpelledInto (spelled_coded (tables_lent tables.now) space texts.now ends (denoted first) left) out.old out.new result }
 {
     let mut end = 0;
     let mut s = first;
@@ -46,8 +54,11 @@ pub fn walk(
             return Ok(end);
         }
         let step = way_step::next_step(texts, ends, counts, space, s, tables.characters);
-        let child = play_step::step(s, step, tables.follow, tables.taking, tables.last);
-        let next = made(child)?;
+        let child = play_step::step(s, step, tables);
+        let next = match made(child) {
+            Ok(next) => next,
+            Err(why) => return Err(Halt { why, bytes: end }),
+        };
         end = put_step(out, end, step);
         let behind = way_step::behind(counts, s, step);
         counts = behind;
@@ -56,6 +67,9 @@ pub fn walk(
     if is_finished(s) {
         Ok(end)
     } else {
-        Err(Stop::PastMost)
+        Err(Halt {
+            why: Stop::PastMost,
+            bytes: end,
+        })
     }
 }

@@ -11,13 +11,14 @@ ghost use Rattle.base_editions.specs.Editions.{paper_edition};
 ghost use Rattle.base_put.specs.Counted.{Counted};
 ghost use Rattle.write_records.specs.RecordPut.{Lays};
 ghost use Rattle.write_sheet.specs.declared.WriteError.TheVariants.{Refused};
-ghost use Rattle.write_sheet.specs.SheetWritten.{given, error_numbers, written_numbers, told_written, span, moved, PatternsLaid, StraysFound, KnownLengths};
+ghost use Rattle.write_sheet.specs.SheetWritten.{given, error_numbers, told_written, span, moved, PatternsLaid, StraysFound, KnownLengths};
 
 use base_answers::{Fault, Numbers, Refusal, SHEET_TOO_SHORT};
 use base_editions::Edition;
 use base_put::put_all;
 
 // Why no sheet is written. specs/SheetWritten.antt gives each its numbers.
+// Kept: (d) beside `script_sheet::ScriptError`, as a short buffer has another number here: one type of both would carry that number in each use.
 #[derive(Clone, Copy)]
 pub enum WriteError {
     // 44, 11, 13 to 17, 22: what reading the sheet would meet first
@@ -83,17 +84,6 @@ pub fn write(
     ensures promised { WritePromised (given 0 patterns.now lengths.now left.now right.now) out.old (told_written result out.new) }
 {
     write_edition(0, patterns, lengths, left, right, out)
-}
-
-// An answer in numbers.
-// Kept: `From` is for a type of the crate, and a `Result` is none.
-pub fn in_numbers(w: Result<usize, WriteError>) -> Numbers
-    ensures { result ≡ written_numbers w }
-{
-    match w {
-        Ok(bytes) => Numbers::of_written(bytes),
-        Err(e) => Numbers::from(e),
-    }
 }
 
 // The whole sheet, each record judged and then put: as far as there is room. "0 for none, 44 at place 2 for any other than 2"

@@ -9,7 +9,7 @@ use lib.ListN.{length}
 use borrow.Author.Rules.{rules}
 use Rattle.paper.specs.Numbers.{longest_side}
 use Rattle.base_codes.specs.Coded.{denoted}
-use Rattle.play_step.specs.StepCoded.{lent_tables}
+use Rattle.search_children.specs.Laid.{tables}
 use Rattle.play_question.specs.QuestionPlayed.{End, end_of, walk_end, question_tables, question_first, PartOf}
 use Rattle.play_question.proofs.Ended.{part_whole}
 use Rattle.play_question.proofs.play_part.Goals.{After-taking_behind-taking}
@@ -19,7 +19,7 @@ use Rattle.play_question.proofs.play_part.Goals as goal
 made : (c : After-taking_behind-taking) (before after : List ℕ) (r : End)
     → let a = c.args in
     PartOf a.wanted
-    (lent_tables a.question.alphabet.characters c.follow_behind-follow.result c.taking_behind-taking.result c.last_behind-last.result)
+    (tables a.question.alphabet.characters c.follow_behind-follow.result c.taking_behind-taking.result c.last_behind-last.result)
     (denoted c.question-first.result) a.steps.now before after r
     → PartOf a.wanted (question_tables a.question) (question_first a.question) a.steps.now before after r
 made c before after r =

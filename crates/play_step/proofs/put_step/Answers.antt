@@ -28,9 +28,9 @@ returns-then-both_take c =
     let r : length a.s.right ≡ longest_side = search rules in
     (rw c.from-value.ensures at c.put.ensures)
     ∙ ap child_of
-    (sym (put_made a.follow.now a.taking.now (denoted a.s) a.c (omega (arith, c.from-value.ensures)) _ _
-    (front_is a.follow.now a.taking.now a.s.sets a.s.left c.front_with-left.result l c.front_with-left.ensures.1)
-    (front_is a.follow.now a.taking.now a.s.sets a.s.right c.front_with-right.result r c.front_with-right.ensures.1)
+    (sym (put_made a.tables.now.follow.now a.tables.now.taking.now (denoted a.s) a.c (omega (arith, c.from-value.ensures)) _ _
+    (front_is a.tables.now.follow.now a.tables.now.taking.now a.s.sets a.s.left c.front_with-left.result l c.front_with-left.ensures.1)
+    (front_is a.tables.now.follow.now a.tables.now.taking.now a.s.sets a.s.right c.front_with-right.result r c.front_with-right.ensures.1)
     c.both_take.result (rw c.from-value.ensures at c.both_take.ensures) c.if-both_take.true))
 
 pub returns-else-both_take : goal.returns-else-both_take
@@ -39,7 +39,7 @@ returns-else-both_take c =
     let l : length a.s.left ≡ longest_side = search rules in
     let r : length a.s.right ≡ longest_side = search rules in
     ap child_of
-    (sym (put_dropped a.follow.now a.taking.now (denoted a.s) a.c (omega (arith, c.from-value.ensures)) _ _
-    (front_is a.follow.now a.taking.now a.s.sets a.s.left c.front_with-left.result l c.front_with-left.ensures.1)
-    (front_is a.follow.now a.taking.now a.s.sets a.s.right c.front_with-right.result r c.front_with-right.ensures.1)
+    (sym (put_dropped a.tables.now.follow.now a.tables.now.taking.now (denoted a.s) a.c (omega (arith, c.from-value.ensures)) _ _
+    (front_is a.tables.now.follow.now a.tables.now.taking.now a.s.sets a.s.left c.front_with-left.result l c.front_with-left.ensures.1)
+    (front_is a.tables.now.follow.now a.tables.now.taking.now a.s.sets a.s.right c.front_with-right.result r c.front_with-right.ensures.1)
     c.both_take.result (rw c.from-value.ensures at c.both_take.ensures) c.if-both_take.false))

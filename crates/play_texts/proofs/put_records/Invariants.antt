@@ -3,10 +3,10 @@ use mathlib.Core.Path.{◌≡◌}
 use lib.ListN.{length}
 use Rattle.base_codes.specs.Coded.{denoted}
 use Rattle.base_put.specs.Counted.{Counted}
-use Rattle.play_walk.specs.WalkCoded.{tables_of}
+use Rattle.search_children.specs.Laid.{tables_lent}
 use Rattle.play_texts.proofs.Putting.{below}
 use Rattle.play_texts.proofs.put_records.Given as goal
 
 abbrev pub invariant-loop-f : goal.invariant-loop-f
 invariant-loop-f l =
-    (length l.out ≡ length l.initial.out) × Counted l.initial.out l.out 0 l.end (below (tables_of l.tables) (denoted l.first) l.steps l.f)
+    (length l.out ≡ length l.initial.out) × Counted l.initial.out l.out 0 l.end (below (tables_lent l.tables) (denoted l.first) l.steps l.f)

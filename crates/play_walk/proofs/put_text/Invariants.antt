@@ -5,7 +5,8 @@ use mathlib.Core.Path.{◌≡◌}
 use lib.ListN.{length, drop}
 use Rattle.paper_steps.specs.Player.{most_steps}
 use Rattle.base_codes.specs.Coded.{denoted, Short}
-use Rattle.play_walk.specs.WalkCoded.{tables_of, text_from, text_walked}
+use Rattle.search_children.specs.Laid.{tables_lent}
+use Rattle.play_walk.specs.WalkCoded.{text_from, text_walked}
 use Rattle.play_walk.proofs.Texts.{Underway}
 use Rattle.play_walk.proofs.put_text.Given as goal
 
@@ -14,4 +15,4 @@ invariant-loop l =
     (l.i ≤ length l.steps)
     × (length l.out ≡ length l.initial.out)
     × Short (denoted l.s)
-    × Underway (text_walked (tables_of l.tables) l.f (denoted l.initial.s) l.steps) (text_from (tables_of l.tables) l.f (most_steps - l.counter) (denoted l.s) (drop l.i l.steps)) l.initial.out l.out l.at l.end
+    × Underway (text_walked (tables_lent l.tables) l.f (denoted l.initial.s) l.steps) (text_from (tables_lent l.tables) l.f (most_steps - l.counter) (denoted l.s) (drop l.i l.steps)) l.initial.out l.out l.at l.end

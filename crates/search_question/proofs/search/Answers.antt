@@ -10,7 +10,7 @@ told c =
     let a = c.args in
     let own = a.question.fields in
     let many = a.question.alphabet.characters in
-    let told = rw c.new-tables.ensures at c.run.ensures.told in
+    let told = c.run.ensures.told in
     searched_by a.among a.question
     (record { characters = many; left = c.side-left.result; right = c.side-right.result; fields = own ++ (c.spaces-hidden.result ∷ c.spaces-hidden.result ∷ []) })
     many _ _ _

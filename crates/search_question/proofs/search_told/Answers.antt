@@ -19,4 +19,4 @@ returns-clause-told g c =
       fields = own ++ (c.spaces-hidden.ensures i ∷ c.spaces-hidden.ensures i ∷ []);
     })
     refl c.follow_behind-follow.ensures c.last_behind-last.ensures c.taking_behind-taking.ensures
-    g.T.Told.told_by _ a.answer.now a.steps.now _ _ _ (rw c.new-tables.ensures at c.run.ensures.told)
+    g.T.Told.told_by _ a.answer.now a.steps.now _ _ _ c.run.ensures.told

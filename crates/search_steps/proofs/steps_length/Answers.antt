@@ -11,11 +11,13 @@ pub loop-i-init : goal.loop-i-init
 loop-i-init c = (omega arith, omega arith)
 
 pub step_before-before-requires : goal.step_before-before-requires
-step_before-before-requires c = rw c.earlier.ensures.1 c.loop-i-test.true
+step_before-before-requires c = omega (arith, c.earlier.ensures.1, c.loop-i-test.true)
 
 -- the step back from the present slot
 back-at : (c : After-step_before-before) → StepsBefore c.args.last.now.work.now c.loop-i.i c.step_before-before.result
-back-at c = rw (c.earlier.ensures.0, c.earlier.ensures.1) at c.step_before-before.ensures
+back-at c =
+    let same : c.earlier.result.number ≡ c.loop-i.i = omega (arith, c.earlier.ensures.1) in
+    rw (c.earlier.ensures.0, same) at c.step_before-before.ensures
 
 pub overflow_add-n : goal.overflow_add-n
 overflow_add-n c =

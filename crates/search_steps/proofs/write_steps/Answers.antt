@@ -22,16 +22,19 @@ loop-i-init c = (
 )
 
 pub step_before-before-requires : goal.step_before-before-requires
-step_before-before-requires c = rw c.earlier.ensures.1 c.loop-i-test.true
+step_before-before-requires c = omega (arith, c.earlier.ensures.1, c.loop-i-test.true)
 
 -- the step back from the present slot
 back-at : (c : After-step_before-before) → StepsBefore c.args.last.now.work.now c.loop-i.i c.step_before-before.result
-back-at c = rw (c.earlier.ensures.0, c.earlier.ensures.1) at c.step_before-before.ensures
+back-at c =
+    let same : c.earlier.result.number ≡ c.loop-i.i = omega (arith, c.earlier.ensures.1) in
+    rw (c.earlier.ensures.0, same) at c.step_before-before.ensures
 
 -- the record has its place before the end
 place : (c : After-record_length) → c.record_length.result ≤ c.loop-i.end
 place c =
-    omega (arith, c.loop-i.invariant.3, c.record_length.ensures, length_grown (rw (c.earlier.ensures.0, c.earlier.ensures.1) at c.step_before-before.ensures))
+    let same : c.earlier.result.number ≡ c.loop-i.i = omega (arith, c.earlier.ensures.1) in
+    omega (arith, c.loop-i.invariant.3, c.record_length.ensures, length_grown (rw (c.earlier.ensures.0, same) at c.step_before-before.ensures))
 
 pub overflow_sub-at : goal.overflow_sub-at
 overflow_sub-at c = omega (arith, place (goal.at.overflow_sub-at c).After-record_length)

@@ -8,7 +8,7 @@ use Rattle.way_question.specs.declared.WayStop.TheVariants.{Stopped}
 use lib.ListN.{length}
 use Rattle.base_put.specs.Counted.{last_place}
 use Rattle.base_codes.specs.Coded.{denoted}
-use Rattle.play_walk.specs.WalkCoded.{tables_of}
+use Rattle.search_children.specs.Laid.{tables_lent}
 use Rattle.way_records.specs.declared.Spans.{Spans}
 use Rattle.way_walk.specs.SpellCoded.{Spelling, spelled_coded}
 use Rattle.way_question.proofs.StepsPut.{some_of, none_of, spelled_short, stopped_spelt, short_spelt, put_spelt, put_never}
@@ -18,10 +18,10 @@ use Rattle.way_question.proofs.spell_from.Goals as goal
 -- the spelling, and that it is counted to its end
 module _ (c : Start) (s : Spans) where
   abbrev the_spelling : Spelling
-  the_spelling = let a = c.args in spelled_coded (tables_of a.tables.now) a.space a.texts.now s.ends (denoted a.first) s.left
+  the_spelling = let a = c.args in spelled_coded (tables_lent a.tables.now) a.space a.texts.now s.ends (denoted a.first) s.left
 
   is_short : length the_spelling.bytes ≤ last_place
-  is_short = let a = c.args in spelled_short (tables_of a.tables.now) a.space a.texts.now s.ends (denoted a.first) s.left
+  is_short = let a = c.args in spelled_short (tables_lent a.tables.now) a.space a.texts.now s.ends (denoted a.first) s.left
 
 pub returns-in_err-spans : goal.returns-in_err-spans
 returns-in_err-spans c =
@@ -37,7 +37,7 @@ pub returns-in_err-bytes : goal.returns-in_err-bytes
 returns-in_err-bytes c =
     let s = c.in_ok-spans.spans in
     let start = (goal.at.returns-in_err-bytes c).Start in
-    let given : c.from_residual-in_err-bytes.result ≡ Err (Stopped c.in_err-bytes.field-0.0) = search rules in
+    let given : c.from_residual-in_err-bytes.result ≡ Err (Stopped c.in_err-bytes.field-0.0.why) = search rules in
     rw (read (goal.at.returns-in_err-bytes c).In_ok-spans, given)
     (stopped_spelt (the_spelling start s) (is_short start s) c.args.steps.now c.walk.result c.walk.ensures c.in_err-bytes.field-0.0 c.in_err-bytes.was)
 

@@ -9,7 +9,7 @@ use Rattle.paper_steps.specs.Player.{most_steps}
 use Rattle.base_codes.specs.Coded.{Coded, denoted}
 use Rattle.base_codes.proofs.Denoted.{short_denoted}
 use Rattle.play_step.specs.StepCoded.{step_coded}
-use Rattle.play_walk.specs.WalkCoded.{tables_of}
+use Rattle.search_children.specs.Laid.{tables_lent}
 use Rattle.play_walk.specs.declared.Stop.TheVariants.{PastMost}
 use Rattle.play_walk.proofs.Walking.{gives_made}
 use Rattle.way_step.specs.NextCoded.{left_behind}
@@ -23,7 +23,7 @@ loop-init c =
     let a = c.args in (
       refl,
       short_denoted a.first (search rules) (search rules) (search rules),
-      going_first (left_first (tables_of a.tables.now) a.space a.texts.now a.ends 65534 refl (denoted a.first) a.left),
+      going_first (left_first (tables_lent a.tables.now) a.space a.texts.now a.ends 65534 refl (denoted a.first) a.left),
     )
 
 -- spelling goes on like this
@@ -31,10 +31,10 @@ module _ (l : At-loop) where
   abbrev Goes : Spelling → Type 0
   Goes rest =
       let a = l.args in
-      Going (spelled_coded (tables_of a.tables.now) a.space a.texts.now a.ends (denoted a.first) a.left) rest a.out.now l.loop.out l.loop.end
+      Going (spelled_coded (tables_lent a.tables.now) a.space a.texts.now a.ends (denoted a.first) a.left) rest a.out.now l.loop.out l.loop.end
 
   goes_as : {rest : Spelling}
-      → spell_left (tables_of l.args.tables.now) l.args.space l.args.texts.now l.args.ends (most_steps - l.loop.counter) (denoted l.loop.s) l.loop.counts ≡ rest
+      → spell_left (tables_lent l.args.tables.now) l.args.space l.args.texts.now l.args.ends (most_steps - l.loop.counter) (denoted l.loop.s) l.loop.counts ≡ rest
       → Goes rest
   goes_as e = subst Goes e l.loop.invariant.2
 
@@ -43,7 +43,7 @@ returns-then-is_finished c =
     let a = c.args in
     let l = (goal.at.returns-then-is_finished c).At-loop in
     going_ends (Ok tt) c.loop.end
-    (goes_as l (left_arrived (tables_of a.tables.now) a.space a.texts.now a.ends (most_steps - c.loop.counter) (denoted c.loop.s) c.loop.counts (sym c.is_finished.ensures ∙ c.if-is_finished.true)))
+    (goes_as l (left_arrived (tables_lent a.tables.now) a.space a.texts.now a.ends (most_steps - c.loop.counter) (denoted c.loop.s) c.loop.counts (sym c.is_finished.ensures ∙ c.if-is_finished.true)))
     refl
 
 -- the step that was wanted
@@ -51,7 +51,7 @@ stepped : (c : After-step-child) →
     let a = c.args in
     let l = c.loop in
     let step = c.next_step-step.result in
-    let t = tables_of a.tables.now in
+    let t = tables_lent a.tables.now in
     spell_left t a.space a.texts.now a.ends (most_steps - l.counter) (denoted l.s) l.counts
     ≡ spells_on (code_bytes step) (λ (u : Coded). spell_left t a.space a.texts.now a.ends (most_steps - (l.counter + 1)) u (left_behind l.counts (denoted l.s) step))
     (step_coded t (denoted l.s) step)
@@ -59,27 +59,26 @@ stepped c =
     let a = c.args in
     let l = c.loop in
     let less : most_steps - l.counter - 1 ≡ most_steps - (l.counter + 1) = omega arith in
-    rw less at (left_step (tables_of a.tables.now) a.space a.texts.now a.ends (most_steps - l.counter) (denoted l.s) l.counts (omega (arith, c.loop-test.true))
+    rw less at (left_step (tables_lent a.tables.now) a.space a.texts.now a.ends (most_steps - l.counter) (denoted l.s) l.counts (omega (arith, c.loop-test.true))
     (sym c.is_finished.ensures ∙ c.if-is_finished.false) c.next_step-step.result c.next_step-step.ensures)
 
-pub returns-in_err-next : goal.returns-in_err-next
-returns-in_err-next c =
+pub returns-in-Err : goal.returns-in-Err
+returns-in-Err c =
     let a = c.args in
-    let l = (goal.at.returns-in_err-next c).At-loop in
-    let given : c.from_residual.result ≡ Err c.in_err-next.field-0.0 = search rules in
+    let l = (goal.at.returns-in-Err c).At-loop in
     let e =
-    spells_none (tables_of a.tables.now) (denoted c.loop.s) c.next_step-step.result c.step-child.result (c.step-child.ensures a.tables.now.characters) (code_bytes c.next_step-step.result) _
-    c.in_err-next.field-0.0 (sym c.made.ensures ∙ c.in_err-next.was) in
-    going_ends (Err c.in_err-next.field-0.0) c.loop.end (goes_as l (stepped (goal.at.returns-in_err-next c).After-step-child ∙ e)) given
+    spells_none (tables_lent a.tables.now) (denoted c.loop.s) c.next_step-step.result c.step-child.result c.step-child.ensures (code_bytes c.next_step-step.result) _
+    c.in-Err.why (sym c.made.ensures ∙ c.in-Err.is) in
+    going_ends (Err c.in-Err.why) c.loop.end (goes_as l (stepped (goal.at.returns-in-Err c).After-step-child ∙ e)) refl
 
 pub loop-preserved : goal.loop-preserved
 loop-preserved c =
     let l = (goal.at.loop-preserved c).At-loop in
     let a = c.args in
-    let t = tables_of a.tables.now in
+    let t = tables_lent a.tables.now in
     let step = c.next_step-step.result in
-    let m = gives_made t (denoted c.loop.s) step c.step-child.result (c.step-child.ensures a.tables.now.characters) c.in_ok-next.next c.loop.invariant.1 (sym c.made.ensures ∙ c.in_ok-next.was) in
-    let rest = spell_left t a.space a.texts.now a.ends (most_steps - (c.loop.counter + 1)) (denoted c.in_ok-next.next) in (
+    let m = gives_made t (denoted c.loop.s) step c.step-child.result c.step-child.ensures c.in-Ok.next c.loop.invariant.1 (sym c.made.ensures ∙ c.in-Ok.is) in
+    let rest = spell_left t a.space a.texts.now a.ends (most_steps - (c.loop.counter + 1)) (denoted c.in-Ok.next) in (
       c.put_step-end.auto.out ∙ c.loop.invariant.0,
       m.short,
       rw c.behind-behind.ensures
@@ -91,7 +90,7 @@ returns-then-is_finished-2 c =
     let a = c.args in
     let l = (goal.at.returns-then-is_finished-2 c).At-loop in
     going_ends (Ok tt) c.loop.end
-    (goes_as l (left_arrived (tables_of a.tables.now) a.space a.texts.now a.ends (most_steps - c.loop.counter) (denoted c.loop.s) c.loop.counts (sym c.is_finished-2.ensures ∙ c.if-is_finished-2.true)))
+    (goes_as l (left_arrived (tables_lent a.tables.now) a.space a.texts.now a.ends (most_steps - c.loop.counter) (denoted c.loop.s) c.loop.counts (sym c.is_finished-2.ensures ∙ c.if-is_finished-2.true)))
     refl
 
 pub returns-else-is_finished-2 : goal.returns-else-is_finished-2
@@ -100,5 +99,5 @@ returns-else-is_finished-2 c =
     let l = (goal.at.returns-else-is_finished-2 c).At-loop in
     going_ends (Err PastMost) c.loop.end
     (goes_as l
-    (left_past (tables_of a.tables.now) a.space a.texts.now a.ends (most_steps - c.loop.counter) (denoted c.loop.s) c.loop.counts (omega (arith, c.loop-test.false)) (sym c.is_finished-2.ensures ∙ c.if-is_finished-2.false)))
+    (left_past (tables_lent a.tables.now) a.space a.texts.now a.ends (most_steps - c.loop.counter) (denoted c.loop.s) c.loop.counts (omega (arith, c.loop-test.false)) (sym c.is_finished-2.ensures ∙ c.if-is_finished-2.false)))
     refl

@@ -3,7 +3,7 @@
 use mathlib.Core.Path.{◌≡◌}
 use lib.ListN.{length}
 use Rattle.base_codes.specs.Coded.{denoted, Short}
-use Rattle.play_walk.specs.WalkCoded.{tables_of}
+use Rattle.search_children.specs.Laid.{tables_lent}
 use Rattle.paper_steps.specs.Player.{most_steps}
 use Prim.Native.Nat.{◌-◌}
 use Rattle.way_walk.specs.SpellCoded.{spelled_coded}
@@ -14,5 +14,5 @@ abbrev pub invariant-loop : goal.invariant-loop
 invariant-loop l =
     (length l.out ≡ length l.initial.out)
     × Short (denoted l.s)
-    × Going (spelled_coded (tables_of l.tables) l.space l.texts l.ends (denoted l.initial.s) l.initial.counts)
-    (spell_left (tables_of l.tables) l.space l.texts l.ends (most_steps - l.counter) (denoted l.s) l.counts) l.initial.out l.out l.end
+    × Going (spelled_coded (tables_lent l.tables) l.space l.texts l.ends (denoted l.initial.s) l.initial.counts)
+    (spell_left (tables_lent l.tables) l.space l.texts l.ends (most_steps - l.counter) (denoted l.s) l.counts) l.initial.out l.out l.end

@@ -1,9 +1,16 @@
--- `lesser` meets its contract, by its test.
-use Rattle.paper.proofs.base.Tests.{le_ltb, lt_ltb}
+-- `lesser` meets its contract: it is the lesser of the two.
+use native.Mathlib.Omega.{arith}
+use mathlib.Core.Path.{◌≡◌}
+use lib.Dec.{ltb}
+use Rattle.std.proofs.Common.{rules, min}
+use Rattle.paper.proofs.base.Tests.{by_bool, ltb_true, ltb_false}
 use Rattle.decide_letters.proofs.weights.lesser.Goals as goal
 
-pub returns-then-b-a : goal.returns-then-b-a
-returns-then-b-a c = let a = c.args in rw (lt_ltb a.b a.a c.if-b-a.true)
-
-pub returns-else-b-a : goal.returns-else-b-a
-returns-else-b-a c = let a = c.args in rw (le_ltb a.b a.a c.if-b-a.false)
+pub returns : goal.returns
+returns c =
+    let a = c.args.a in
+    let b = c.args.b in
+    let m : c.min.result ≡ min a b = search rules in
+    by_bool (ltb b a)
+    (λ e. let k = ltb_true b a e in rw e (omega arith))
+    (λ e. let k = ltb_false b a e in rw e (omega arith))

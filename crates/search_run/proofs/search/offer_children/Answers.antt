@@ -6,7 +6,7 @@ use Rattle.base_codes.specs.Inner.{left_struck, right_struck}
 use Rattle.base_codes.specs.Coded.{Coded}
 use Rattle.search_children.specs.Children.{left_strike, right_strike, as_child}
 use Rattle.search_children.specs.Laid.{child_of}
-use Rattle.search_run.specs.Lent.{Lent, tables_lent}
+use Rattle.search_run.specs.Lent.{Lent, tables_within}
 use Rattle.search_run.specs.Run.{offer_slots}
 use Rattle.search_children.proofs.Short.{left_strike_short, right_strike_short}
 use Rattle.search_run.proofs.search.Children.{denoted_is, children_offered}
@@ -36,7 +36,7 @@ returns c =
           let Lent-one = c.offer-one.ensures.lent R x t left-child (λ u f. left_strike_short a.tables.now.last h f) in
           let lent_two = c.offer-two.ensures.lent one y Lent-one right_child (λ u f. right_strike_short a.tables.now.last h f) in
           subst (Lent c.offer_puts.new.work c.offer_puts.result)
-          (children_offered h e (tables_lent a.tables.now) a.room a.parent R _ _
+          (children_offered h e (tables_within a.tables.now) a.room a.parent R _ _
           (c.front_with-left.ensures.1 a.tables.now.taking.now) (c.front_with-right.ensures.1 a.tables.now.taking.now))
           (c.offer_puts.ensures.lent two k lent_two e h);
     }

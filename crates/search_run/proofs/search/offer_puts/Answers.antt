@@ -9,6 +9,7 @@ use Rattle.paper.specs.Lists.{each, upto}
 use Rattle.paper.specs.Numbers.{most_characters, set_fields}
 use Rattle.paper.specs.Search.{Child}
 use Rattle.search_fronts.specs.Fronts.{Front, with_row, set_by}
+use Rattle.base_places.specs.Masks.{within}
 use Rattle.base_codes.specs.Coded.{Coded}
 use Rattle.search_children.specs.Children.{put_child, put_of}
 use Rattle.search_children.specs.Laid.{child_of}
@@ -32,12 +33,12 @@ pub loop-c-init : goal.loop-c-init
 loop-c-init c =
     let starts = c.may_be_put-candidates in
     let a = c.args in (
-      starts.ensures.starts.0,
+      omega (arith, c.within-characters.ensures.0, starts.ensures.starts.0),
       refl,
       record {
         within = c.requires.roomy.within;
         more = le_refl _;
-        lent = λ R k l e h. rw (none_first a.tables.now.characters k (left-front (goal.at.loop-c-init c).Start) (right-front (goal.at.loop-c-init c).Start) starts.result.start starts.ensures.starts) l;
+        lent = λ R k l e h. rw (none_first c.within-characters.result k (left-front (goal.at.loop-c-init c).Start) (right-front (goal.at.loop-c-init c).Start) starts.result.start starts.ensures.starts) l;
       },
     )
 
@@ -48,7 +49,7 @@ rows-below c = c.requires.row_lt_set_fields
 
 character-below : (c : In-loop-c) → c.loop-c.c < most_characters
 character-below c =
-    omega (arith, c.args.tables.now.in_table, c.may_be_put-candidates.ensures.ends.0, c.loop-c-test.true)
+    omega (arith, c.within-characters.ensures.1, c.may_be_put-candidates.ensures.ends.0, c.loop-c-test.true)
 
 pub offset_bounds-taking-l : goal.offset_bounds-taking-l
 offset_bounds-taking-l c = omega (arith, rows-below (goal.at.offset_bounds-taking-l c).At-loop-c)
@@ -87,7 +88,7 @@ loop-c-preserved c =
     let v = c.loop-c.invariant.2 in
     let a = c.args in
     let below : i < most_characters = character-below (goal.at.loop-c-preserved c).In-loop-c in
-    let next : i < a.tables.now.characters = omega (arith, c.may_be_put-candidates.ensures.ends.0, c.loop-c-test.true) in
+    let next : i < within a.tables.now.characters = omega (arith, c.within-characters.ensures.0, c.may_be_put-candidates.ensures.ends.0, c.loop-c-test.true) in
     let b = c.both_take in
     let l = left-front (goal.at.loop-c-preserved c).Start in
     let r = right-front (goal.at.loop-c-preserved c).Start in
@@ -133,5 +134,5 @@ returns c =
       more = v.more;
       lent = λ R k t e h.
           subst (λ (x : List (Child Coded ℕ)). Lent l.work l.now (offer_slots a.room a.parent R x))
-          (none_left a.tables.now.characters k (left-front (goal.at.returns c).Start) (right-front (goal.at.returns c).Start) ends.result.end l.c ends.ensures.ends (omega arith) l.invariant.0) (v.lent R k t e h);
+          (none_left (within a.tables.now.characters) k (left-front (goal.at.returns c).Start) (right-front (goal.at.returns c).Start) ends.result.end l.c (rw c.within-characters.ensures.0 at ends.ensures.ends) (omega arith) l.invariant.0) (v.lent R k t e h);
     }

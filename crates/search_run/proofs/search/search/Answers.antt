@@ -6,7 +6,7 @@ use mathlib.Core.Path.{◌≡◌, refl, sym, ◌∙◌}
 use mathlib.Core.Bool.{false}
 use mathlib.Core.List.{[]}
 use Rattle.base_codes.specs.Coded.{Coded, as_struct, Short}
-use Rattle.search_run.specs.Lent.{tables_lent}
+use Rattle.search_run.specs.Lent.{tables_within}
 use Rattle.search_run.specs.Run.{is_going, enter_slot, slot_search}
 use Rattle.search_buckets.proofs.Kept.{kept_none}
 use Rattle.search_run.proofs.search.Turns.{Standing, begun, ended, used_up, taken}
@@ -17,7 +17,7 @@ use Rattle.search_run.proofs.search.search.Goals as goal
 standing : (c : At-loop-run) →
     let a = c.args in
     (k : Coded) → a.first ≡ as_struct k → Short k →
-    Standing (tables_lent a.tables.now) a.room (enter_slot a.room [] (record { at = k; parent = 0; step = 0 }))
+    Standing (tables_within a.tables.now) a.room (enter_slot a.room [] (record { at = k; parent = 0; step = 0 }))
     c.loop-run.work c.loop-run.run c.loop-run.k
 standing c k e h =
     let a = c.args in
@@ -27,14 +27,14 @@ standing c k e h =
 pub loop-run-init : goal.loop-run-init
 loop-run-init c =
     let a = c.args in
-    (zero-le, c.enter_first-run.ensures.within, refl, λ R l. begun (tables_lent a.tables.now) a.room l)
+    (zero-le, c.enter_first-run.ensures.within, refl, λ R l. begun (tables_within a.tables.now) a.room l)
 
 pub returns : goal.returns
 unfolding slot_search
 returns c =
     let g : is_going c.loop-run.run.status ≡ false = sym c.is_going.ensures ∙ c.loop-run-test.false in
     let a = c.args in
-    record { within = c.loop-run.invariant.1; over = g; lent = λ k e h. ended (tables_lent a.tables.now) a.room (standing (goal.at.returns c).At-loop-run k e h) g }
+    record { within = c.loop-run.invariant.1; over = g; lent = λ k e h. ended (tables_within a.tables.now) a.room (standing (goal.at.returns c).At-loop-run k e h) g }
 
 pub returns-then-run-k : goal.returns-then-run-k
 unfolding slot_search
@@ -43,7 +43,7 @@ returns-then-run-k c =
     record {
       within = c.loop-run.invariant.1;
       over = refl;
-      lent = λ k e h. used_up (tables_lent a.tables.now) a.room (standing (goal.at.returns-then-run-k c).At-loop-run k e h) (sym c.is_going.ensures ∙ c.loop-run-test.true) c.if-run-k.true;
+      lent = λ k e h. used_up (tables_within a.tables.now) a.room (standing (goal.at.returns-then-run-k c).At-loop-run k e h) (sym c.is_going.ensures ∙ c.loop-run-test.true) c.if-run-k.true;
     }
 
 pub take-run-requires : goal.take-run-requires
@@ -68,5 +68,5 @@ loop-run-preserved c =
       c.take-run.auto.work ∙ c.loop-run.invariant.2,
       λ R l.
           let q = c.loop-run.invariant.3 R l in
-          taken (tables_lent a.tables.now) a.room q (sym c.is_going.ensures ∙ c.loop-run-test.true) b (c.take-run.ensures.lent q.at q.lent),
+          taken (tables_within a.tables.now) a.room q (sym c.is_going.ensures ∙ c.loop-run-test.true) b (c.take-run.ensures.lent q.at q.lent),
     )

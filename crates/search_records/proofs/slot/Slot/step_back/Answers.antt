@@ -1,5 +1,6 @@
 -- `step_back` reads the parent, the step and the parent's fronts. Follows from `stepped` and `ended`.
 use native.Mathlib.Omega.{arith}
+use mathlib.Core.Path.{◌≡◌}
 use Rattle.search_records.proofs.Text.{stepped, ended}
 use Rattle.search_records.proofs.slot.Slot.step_back.Goals as goal
 
@@ -10,6 +11,7 @@ returns-then-self-parent c =
 pub returns : goal.returns
 returns c =
     let s = c.args.self.now in
+    let same : c.earlier.result.number ≡ c.parent-parent.result = omega (arith, c.earlier.ensures.1, c.if-self-parent.false) in
     stepped s.work.now c.args.f s.number c.requires.nonzero c.parent-parent.result c.step-step.result
     c.puts_before.result c.then_some-put.result c.parent-parent.ensures (omega (arith, c.if-self-parent.false)) c.step-step.ensures
-    (rw (c.earlier.ensures.0, c.earlier.ensures.1) at c.puts_before.ensures) c.then_some-put.ensures
+    (rw (c.earlier.ensures.0, same) at c.puts_before.ensures) c.then_some-put.ensures

@@ -13,7 +13,9 @@ loop-i-init c = (omega arith, omega arith)
 
 -- the step back from the present slot
 back-at : (c : After-step_back-back) → StepsBack c.args.self.now.work.now c.loop-i.i c.args.f c.step_back-back.result
-back-at c = rw (c.earlier.ensures.0, c.earlier.ensures.1) at c.step_back-back.ensures
+back-at c =
+    let same : c.earlier.result.number ≡ c.loop-i.i = omega (arith, c.earlier.ensures.1) in
+    rw (c.earlier.ensures.0, same) at c.step_back-back.ensures
 
 pub overflow_add-n : goal.overflow_add-n
 overflow_add-n c = omega arith

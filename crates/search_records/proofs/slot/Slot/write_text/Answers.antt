@@ -25,12 +25,15 @@ loop-i-init c = (
 
 -- the step back from the present slot
 back-at : (c : After-step_back-back) → StepsBack c.args.self.now.work.now c.loop-i.i c.args.f c.step_back-back.result
-back-at c = rw (c.earlier.ensures.0, c.earlier.ensures.1) at c.step_back-back.ensures
+back-at c =
+    let same : c.earlier.result.number ≡ c.loop-i.i = omega (arith, c.earlier.ensures.1) in
+    rw (c.earlier.ensures.0, same) at c.step_back-back.ensures
 
 -- a character that was put has a place
 place : (c : In-Some) → 0 < c.loop-i.at
 place c =
-    omega (arith, c.loop-i.invariant.3, length_put (rw (c.earlier.ensures.0, c.earlier.ensures.1) at c.step_back-back.ensures) (ap is_some c.in-Some.is))
+    let same : c.earlier.result.number ≡ c.loop-i.i = omega (arith, c.earlier.ensures.1) in
+    omega (arith, c.loop-i.invariant.3, length_put (rw (c.earlier.ensures.0, same) at c.step_back-back.ensures) (ap is_some c.in-Some.is))
 
 pub overflow_sub-at : goal.overflow_sub-at
 overflow_sub-at c = omega (arith, place (goal.at.overflow_sub-at c).In-Some)
