@@ -23,7 +23,9 @@ fn put_bytes(catalogue: &mut [u8], at: usize, bytes: &[u8])
     requires { at + length bytes.now ≤ length catalogue.old }
     ensures { catalogue.new ≡ with_record at bytes.now catalogue.old }
 {
-    catalogue[at..at + bytes.len()].copy_from_slice(bytes);
+    for i in 0..bytes.len() {
+        catalogue[at + i] = bytes[i];
+    }
 }
 
 // Takes n bytes from the offset on away, if they are there: those behind move up, and the freed bytes at the end are zero.

@@ -79,7 +79,9 @@ fn front_bytes(s: &[u8], rules: usize, strict: bool) -> Option<usize>
     if CATALOGUE_RULES <= rules {
         return None;
     }
-    let rule = read_rule::front(s).ok()?;
+    let Ok(rule) = read_rule::front(s) else {
+        return None;
+    };
     if is_unfit(strict, &rule) {
         return None;
     }

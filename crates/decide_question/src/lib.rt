@@ -136,7 +136,7 @@ impl Attempt {
     {
         match self {
             // "Letters": where they differ there is no clash.
-            Attempt::Letters => tested(letters(question, first, second)),
+            Attempt::Letters => tested(letters(&question, first, second)),
             // "Each standing apart": its no clash is a no clash.
             Attempt::Apart => tested(apart(question, work.len())),
             // "A text for each field that stands twice: the shortest, then the next ones". Its clash is a clash of the question.
@@ -156,9 +156,9 @@ impl Attempt {
     }
 }
 
-// Do the letters of both sides differ, whatever the fields hold?
-fn letters(question: Question, first: &[u8], second: &[u8]) -> bool
-    ensures { result ≡ letters_asked question first.now second.now }
+// Do the letters of both sides differ, whatever the fields hold? The question is lent, as a copy of it would stay on the stack of every attempt.
+fn letters(question: &Question, first: &[u8], second: &[u8]) -> bool
+    ensures { result ≡ letters_asked question.now first.now second.now }
 {
     let alphabet = question.alphabet;
     let edition = edition_of(alphabet);

@@ -23,13 +23,14 @@ pub fn decide(sheet: &[u8], work: &mut [u8], answer: &mut [u8]) -> Decision
     ensures whole { told_decision result answer.new work.new ≡ decision sheet.now work.old answer.old }
     ensures decided { Decided (read_sheet sheet.now) work.old answer.old (told_decision result answer.new work.new) }
 {
-    match read_sheet::read(sheet) {
+    let mut question = read_sheet::unread!();
+    match read_sheet::read_into(sheet, &mut question) {
         Err(refusal) => Decision {
             answer: Err(refusal),
             search: 0,
         },
-        Ok(read) => {
-            let settled = decide_question::decide(read.question, sheet, sheet, work, answer);
+        Ok(_) => {
+            let settled = decide_question::decide(question, sheet, sheet, work, answer);
             Decision {
                 answer: Ok(settled.ended),
                 search: settled.search,

@@ -32,7 +32,9 @@ struct Ends {
 }
 
 // The question in which each field that stands twice holds one text: the least one of the least possible length of so many characters or more, or where
-// there is none of the greatest below.
+// there is none of the greatest below. It is not put into its caller, so that what it works with is no longer on the stack when the question is
+// searched.
+#[inline(never)]
 pub fn with_texts(mut question: Question, asked: usize) -> Question
     ensures { result ≡ texts_coded question asked }
 {

@@ -9,7 +9,7 @@ use Rattle.base_question.specs.declared.Body.{Body}
 use Rattle.base_answers.specs.Faults.{fault_of, as_fault}
 use Rattle.base_answers.specs.declared.Refusal.{Refusal}
 use Rattle.base_answers.proofs.Same.{same_paper}
-use Rattle.read_fields.specs.Walk.{fields_of}
+use Rattle.read_fields.specs.Walk.{fields_of, tables_of}
 use Rattle.read_fields.specs.declared.Fields.{Fields}
 
 -- the patterns that stand there
@@ -17,7 +17,7 @@ pub record Stand (bodies : List Body) (x : Records Sheet.Fields) (p : Fields) : 
   pub fields : Sheet.Fields
   pub reads : x ≡ records fields p.next.at
   pub above : p.above ≡ fields.above
-  pub tables : p.tables ≡ map worked_out fields.held
+  pub tables : tables_of x ≡ map worked_out fields.held
   pub bodies_are : p.bodies ≡ bodies
 
 module _ (bodies : List Body) where
@@ -30,5 +30,5 @@ module _ (bodies : List Body) where
   pub fields_stand : (x : Records Sheet.Fields) (p : Fields) → fields_of bodies x ≡ Ok p → Stand bodies x p
   fields_stand (faulty x at) p h = absurd (cc)
   fields_stand (records fs at) p h =
-      let same : record { next = record { at = at }; above = fs.above; tables = map worked_out fs.held; bodies = bodies } ≡ p = cc in
+      let same : record { next = record { at = at }; above = fs.above; bodies = bodies } ≡ p = cc in
       rw (← same) (record { fields = fs; reads = refl; above = refl; tables = refl; bodies_are = refl })

@@ -23,7 +23,7 @@ use Rattle.base_answers.specs.declared.Refusal.{Refusal}
 use Rattle.base_answers.proofs.Same.{same_fault}
 use Rattle.read_fields.specs.declared.PatternRecord.{PatternRecord}
 use Rattle.read_fields.specs.Bodies.{bodies_from, bodies_in}
-use Rattle.read_fields.specs.Walk.{fields_of, PatternStands}
+use Rattle.read_fields.specs.Walk.{fields_of, tables_of, PatternStands}
 
 -- what reading from the offset on gives, with turns enough
 abbrev pub all_read : Edition → List ℕ → ℕ → Records Fields
@@ -86,9 +86,17 @@ module _ {e : Edition} {s : List ℕ} {from at above : ℕ} {works : List PlaceT
             worked = rw (r.worked, w.works) (sym (map_set worked_out r.held f.field (pattern w.its)));
           }
 
+  -- with a fault all fields are open
+  pub reached_open : (x : Refusal) → next_is PA s at ≡ true → pattern_record e s at above ≡ fault (fault_of x.fault) x.place
+      → (open-one : PlaceTables) → open-one ≡ worked_out some_text → replicate fields open-one ≡ tables_of (all_read e s from)
+  reached_open x p h open-one k = rw (r.reads, p, h, k)
+
   pub reached_end : next_is PA s at ≡ false →
-      Ok (record { next = record { at = at }; above = above; tables = works; bodies = bodies }) ≡ fields_of (bodies_in s from) (all_read e s from)
-  reached_end p = rw (r.reads, r.stand, p, r.worked)
+      Ok (record { next = record { at = at }; above = above; bodies = bodies }) ≡ fields_of (bodies_in s from) (all_read e s from)
+  reached_end p = rw (r.reads, r.stand, p)
+
+  pub reached_tables : next_is PA s at ≡ false → works ≡ tables_of (all_read e s from)
+  reached_tables p = rw (r.reads, p, r.worked)
 
 -- two bytes are left where a mark stands
 pub mark_left : (m : Mark) (s : List ℕ) (at : ℕ) → next_is m s at ≡ true → at + 2 ≤ length s

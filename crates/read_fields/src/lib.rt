@@ -6,7 +6,7 @@ ghost use Rattle.paper.specs.Numbers.{fields, pattern_bytes};
 ghost use Rattle.paper.specs.Sheet.{PA, next_is, open_fields, read_patterns};
 ghost use Rattle.base_editions.specs.Editions.{paper_edition};
 ghost use Rattle.read_fields.specs.Bodies.{bodies_in};
-ghost use Rattle.read_fields.specs.Walk.{fields_of, PatternRead};
+ghost use Rattle.read_fields.specs.Walk.{fields_of, tables_of, PatternRead};
 
 use base_answers::{Fault, Refusal};
 use base_codes::SHEET_FIELDS;
@@ -16,40 +16,52 @@ use base_question::Body;
 use read_codes::{PATTERN_BYTES, codes_of};
 use read_side::{Cursor, Mark};
 
-// What the patterns' records say.
+// What the patterns' records say beside the tables.
 #[derive(Clone, Copy)]
 pub struct Fields {
     // behind the last pattern's record
     pub next: Cursor,
     // one above the last pattern's field; 0 where there is none
     pub above: usize,
-    // what is worked out of each field's pattern
-    pub tables: [PlaceTables; SHEET_FIELDS],
     // where each field's pattern stands
     pub bodies: [Body; SHEET_FIELDS],
 }
 
-// Reads them: "Reading goes on from where the last record ended."
-pub fn read(s: &[u8], start: Cursor, edition: Edition) -> Result<Fields, Refusal>
-    ensures { result ≡ fields_of (bodies_in s.now start.at) (read_patterns (paper_edition edition) (suc (length s.now)) s.now start.at open_fields) }
+// Reads them: "Reading goes on from where the last record ended." What is worked out of each field's pattern is laid into lent tables: handed back in a
+// `Result` they would lie on the stack twice more while a pattern is read. With a fault all fields are open.
+pub fn read(
+    s: &[u8],
+    start: Cursor,
+    edition: Edition,
+    tables: &mut [PlaceTables; SHEET_FIELDS],
+) -> Result<Fields, Refusal>
+    ensures said { result ≡ fields_of (bodies_in s.now start.at) (read_patterns (paper_edition edition) (suc (length s.now)) s.now start.at open_fields) }
+    ensures tables { tables.new ≡ tables_of (read_patterns (paper_edition edition) (suc (length s.now)) s.now start.at open_fields) }
 {
     // "A field without `PA` is open": before the first record every field is.
-    let mut tables = [base_places::open_tables(); SHEET_FIELDS];
+    let open = base_places::open_tables();
+    *tables = [open; SHEET_FIELDS];
     let mut bodies = base_question::no_bodies();
     let mut c = PatternCursor {
         at: start.at,
         above: 0,
     };
     while c.next_is_pattern(s) {
-        let r = c.pattern(s, edition)?;
-        tables[r.field] = r.tables;
-        bodies[r.field] = r.body;
-        c = r.next;
+        match c.pattern(s, edition) {
+            Err(refusal) => {
+                *tables = [open; SHEET_FIELDS];
+                return Err(refusal);
+            }
+            Ok(r) => {
+                tables[r.field] = r.tables;
+                bodies[r.field] = r.body;
+                c = r.next;
+            }
+        }
     }
     Ok(Fields {
         next: Cursor { at: c.at },
         above: c.above,
-        tables,
         bodies,
     })
 }

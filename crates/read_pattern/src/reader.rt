@@ -198,19 +198,18 @@ pub fn read(
     }
     part.left = left - 1;
     read(s, follow, taking, part)?;
-    let first = *part;
     if b == MANY_CODE {
-        link(follow, first.last, first.first);
-        *part = first.many();
+        link(follow, part.last, part.first);
+        *part = part.many();
         return Ok(());
     }
+    let first = *part;
     read(s, follow, taking, part)?;
-    let second = *part;
     if b == THEN_CODE {
-        link(follow, first.last, second.first);
-        *part = first.then(second);
+        link(follow, first.last, part.first);
+        *part = first.then(*part);
     } else {
-        *part = first.or(second);
+        *part = first.or(*part);
     }
     Ok(())
 }

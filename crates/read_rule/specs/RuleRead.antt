@@ -38,3 +38,8 @@ rule_of bodies (records r next) =
       fields = map worked_out r.fields.held;
       bodies = bodies;
     })
+
+-- the same where the rule was lent
+abbrev pub rule_with : Result (Unit {0}) Refusal → Rule → Result Rule Refusal
+rule_with (Ok u) r = Ok r
+rule_with (Err e) r = Err e

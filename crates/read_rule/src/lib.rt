@@ -6,7 +6,7 @@ ghost use Rattle.paper.specs.Lists.{any};
 ghost use Rattle.paper.specs.Numbers.{rule_fields};
 ghost use Rattle.paper.specs.Rule.{rule_front, read_rule_before, read_rule};
 ghost use Rattle.base_question.specs.StraysCoded.{first_of};
-ghost use Rattle.read_rule.specs.RuleRead.{foreign_code, rule_bodies, rule_of, rule_strays_coded};
+ghost use Rattle.read_rule.specs.RuleRead.{foreign_code, rule_bodies, rule_of, rule_with, rule_strays_coded};
 
 use base_answers::{Fault, Refusal};
 use base_codes::{CodedSide, FIELD_CODE, LONGEST_SIDE, NO_TOKEN, SHEET_FIELDS};
@@ -33,10 +33,56 @@ pub struct Rule {
     pub bodies: [Body; SHEET_FIELDS],
 }
 
+// A rule that nothing is read into yet. A macro, as what a function gives back lies in a place of its own before it is copied.
+macro_rules! unread {
+    () => {
+        Rule {
+            bytes: 0,
+            foreign: false,
+            side: [NO_TOKEN; LONGEST_SIDE],
+            fields: [base_places::open_tables(); SHEET_FIELDS],
+            bodies: [Body { start: 0, length: 0 }; SHEET_FIELDS],
+        }
+    };
+}
+
 // The rule at the front of the bytes: "the mark `RU`, the `PA` records of its own fields .. and one `LE`, its end as `RI` is a sheet's".
 // "A rule never has `ED`": it is of the first edition.
 pub fn front(s: &[u8]) -> Result<Rule, Refusal>
     ensures { result ≡ rule_of (rule_bodies s.now) (rule_front s.now) }
+{
+    let mut rule = unread!();
+    lay(s, &mut rule)?;
+    Ok(rule)
+}
+
+// A rule by itself, then "22 .. its place from `RU`".
+pub fn read(s: &[u8]) -> Result<Rule, Refusal>
+    ensures { result ≡ rule_of (rule_bodies s.now) (read_rule s.now) }
+{
+    let mut rule = unread!();
+    lay_alone(s, &mut rule)?;
+    if let Some(f) = first_stray(rule.bodies, rule.side) {
+        return Err(Refusal {
+            fault: Fault::StrayPattern,
+            place: mark_of(rule.bodies[f]),
+        });
+    }
+    Ok(rule)
+}
+
+// By the rule before request K13, no check on strays.
+pub fn read_before(s: &[u8]) -> Result<Rule, Refusal>
+    ensures { result ≡ rule_of (rule_bodies s.now) (read_rule_before s.now) }
+{
+    let mut rule = unread!();
+    lay_alone(s, &mut rule)?;
+    Ok(rule)
+}
+
+// The rule at the front, into one that is lent: in a `Result` it would lie on the stack twice more while a pattern is read.
+fn lay(s: &[u8], rule: &mut Rule) -> Result<(), Refusal>
+    ensures { rule_with result rule.new ≡ rule_of (rule_bodies s.now) (rule_front s.now) }
 {
     if s.len() < 2 {
         return Err(Refusal {
@@ -51,47 +97,29 @@ pub fn front(s: &[u8]) -> Result<Rule, Refusal>
             place: 0,
         });
     }
-    let patterns = read_fields::read(s, Cursor { at: 2 }, Edition::First)?;
+    let patterns = read_fields::read(s, Cursor { at: 2 }, Edition::First, &mut rule.fields)?;
     let at_left = patterns.next.side(s, Mark::LE, Edition::First)?;
     let side = at_left.codes;
-    let foreign = foreign(patterns.above, &side);
-    let fields = patterns.tables;
     let bodies = patterns.bodies;
-    Ok(Rule {
-        bytes: at_left.next.at,
-        foreign,
-        side,
-        fields,
-        bodies,
-    })
+    rule.bytes = at_left.next.at;
+    rule.foreign = foreign(patterns.above, &side);
+    rule.side = side;
+    rule.bodies = bodies;
+    Ok(())
 }
 
-// A rule by itself, then "22 .. its place from `RU`".
-pub fn read(s: &[u8]) -> Result<Rule, Refusal>
-    ensures { result ≡ rule_of (rule_bodies s.now) (read_rule s.now) }
+// Behind it any byte left gives 12, as behind `RI`.
+fn lay_alone(s: &[u8], rule: &mut Rule) -> Result<(), Refusal>
+    ensures { rule_with result rule.new ≡ rule_of (rule_bodies s.now) (read_rule_before s.now) }
 {
-    let rule = read_before(s)?;
-    if let Some(f) = first_stray(rule.bodies, rule.side) {
-        return Err(Refusal {
-            fault: Fault::StrayPattern,
-            place: mark_of(rule.bodies[f]),
-        });
-    }
-    Ok(rule)
-}
-
-// By the rule before request K13, no check on strays: behind the rule any byte left gives 12, as behind `RI`.
-pub fn read_before(s: &[u8]) -> Result<Rule, Refusal>
-    ensures { result ≡ rule_of (rule_bodies s.now) (read_rule_before s.now) }
-{
-    let rule = front(s)?;
+    lay(s, rule)?;
     if rule.bytes < s.len() {
         return Err(Refusal {
             fault: Fault::WrongMark,
             place: rule.bytes,
         });
     }
-    Ok(rule)
+    Ok(())
 }
 
 // The first field with a pattern that doesn't stand in the rule's side.

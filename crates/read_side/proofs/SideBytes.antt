@@ -12,7 +12,7 @@ use Rattle.paper.specs.Lists.{all, leading}
 use Rattle.paper.specs.Numbers.{most_characters, fields, field_token, longest_side}
 use Rattle.paper.specs.Alphabet.{Edition, code, codes}
 use Rattle.paper.specs.Sheet.{bytes_left, is_token, token}
-use Rattle.paper.proofs.base.Tests.{by_bool, and_left, and_right, leb_true, ltb_false}
+use Rattle.paper.proofs.base.Tests.{by_bool, and_left, and_right, leb_true, ltb_false, lt_ltb}
 use Rattle.paper.proofs.base.Lists.{cons_eq}
 use Rattle.base_codes.specs.Inner.{token_code, side_code, padded}
 use Rattle.read_codes.specs.Laid.{laid_codes}
@@ -55,3 +55,7 @@ all_lead p (x ∷ l) h =
 -- two bytes are left
 pub two_left : (s : List ℕ) (at : ℕ) → ltb (bytes_left s at) 2 ≡ false → at + 2 ≤ length s
 two_left s at e = omega (arith, ltb_false (bytes_left s at) 2 e)
+
+-- none are behind the end
+pub none_left : (s : List ℕ) (at : ℕ) → length s < at → ltb (bytes_left s at) 2 ≡ true
+none_left s at h = lt_ltb (bytes_left s at) 2 (omega arith)

@@ -17,6 +17,8 @@ pub fn clash(sheet: &[u8], work: &mut [u8], answer: &mut [u8]) -> Answer
     ensures demand2 { Demand2 (read_sheet sheet.now) work.old answer.old (told result answer.new work.new) }
     ensures demand3 { Demand3 (read_sheet sheet.now) work.old (told result answer.new work.new) }
 {
-    let question = read_sheet::read(sheet)?.question;
-    Ok(search_question::search_all(question, work, answer))
+    match read_sheet::read(sheet) {
+        Err(refusal) => Err(refusal),
+        Ok(read) => Ok(search_question::search_all(read.question, work, answer)),
+    }
 }

@@ -3,29 +3,15 @@
 #![tactic(auto)]
 
 ghost use Rattle.std.specs.Prelude.{◌≡◌, ◌∷◌, [], ◌++◌, map};
-ghost use Rattle.std.specs.Fn.{FnReturnsAt};
-ghost use Rattle.std.specs.List.{AllZip};
 ghost use Rattle.search_tables.specs.Cut.{cut_row, cut_coded};
 ghost use Rattle.search_tables.specs.Tables.{follow_of, taking_of, last_of};
 
 use base_codes::{FIELDS, SHEET_FIELDS};
 use base_places::{CHARACTERS, PLACES, PlaceSet, PlaceTables, within};
 
-// A part of each field's tables: of a sheet's fields and, behind them, twice of the hidden ones, which are alike.
-fn each_field<T: Copy, F: Fn(&PlaceTables) -> T>(
-    own: &[PlaceTables; SHEET_FIELDS],
-    hidden: &PlaceTables,
-    part: F,
-) -> [T; FIELDS]
-    requires { F.IsAlwaysCallable part }
-    ensures { AllZip (FnReturnsAt F.Fn part) (own.now ++ (hidden.now ∷ hidden.now ∷ [])) result }
-{
-    let mut parts = [part(hidden); FIELDS];
-    for (f, tables) in own.iter().enumerate() {
-        parts[f] = part(tables);
-    }
-    parts
-}
+// Of each field's tables a part: of a sheet's fields and, behind them, twice of the hidden ones, which are alike.
+// Kept: (a) fixed memory: a loop in each function, as one function of all, by a closure, was tried: a table that it gives back, or that it is lent, is
+// once more on the stack of a search.
 
 // "For every field and every place, the set of places that may follow".
 pub fn follow_behind(
@@ -34,26 +20,24 @@ pub fn follow_behind(
 ) -> [[PlaceSet; PLACES]; FIELDS]
     ensures { result ≡ map follow_of (own ++ (hidden ∷ hidden ∷ [])) }
 {
-    each_field(
-        &own,
-        &hidden,
-        |tables|
-            ensures { result ≡ follow_of tables.now }
-        { tables.follow },
-    )
+    let behind = hidden.follow;
+    let mut parts = [behind; FIELDS];
+    for (f, tables) in own.iter().enumerate() {
+        parts[f] = tables.follow;
+    }
+    parts
 }
 
 // For every field the set of places that may be the last one of a text.
 pub fn last_behind(own: [PlaceTables; SHEET_FIELDS], hidden: PlaceTables) -> [PlaceSet; FIELDS]
     ensures { result ≡ map last_of (own ++ (hidden ∷ hidden ∷ [])) }
 {
-    each_field(
-        &own,
-        &hidden,
-        |tables|
-            ensures { result ≡ last_of tables.now }
-        { tables.last },
-    )
+    let behind = hidden.last;
+    let mut parts = [behind; FIELDS];
+    for (f, tables) in own.iter().enumerate() {
+        parts[f] = tables.last;
+    }
+    parts
 }
 
 // For every field and every character the set of places that take it.
@@ -63,13 +47,12 @@ pub fn taking_behind(
 ) -> [[PlaceSet; CHARACTERS]; FIELDS]
     ensures { result ≡ map taking_of (own ++ (hidden ∷ hidden ∷ [])) }
 {
-    each_field(
-        &own,
-        &hidden,
-        |tables|
-            ensures { result ≡ taking_of tables.now }
-        { tables.taking },
-    )
+    let behind = hidden.taking;
+    let mut parts = [behind; FIELDS];
+    for (f, tables) in own.iter().enumerate() {
+        parts[f] = tables.taking;
+    }
+    parts
 }
 
 // What a field's places take of those among the first so many characters.
@@ -98,11 +81,11 @@ pub fn taking_among(
 ) -> [[PlaceSet; CHARACTERS]; FIELDS]
     ensures { result ≡ cut_coded characters (map taking_of (own ++ (hidden ∷ hidden ∷ []))) among }
 {
-    each_field(
-        &own,
-        &hidden,
-        |tables|
-            ensures { result ≡ cut_row characters among (taking_of tables.now) }
-        { cut(&among, &tables.taking, characters) },
-    )
+    let behind = cut(&among, &hidden.taking, characters);
+    let mut parts = [behind; FIELDS];
+    for (f, tables) in own.iter().enumerate() {
+        let row = cut(&among, &tables.taking, characters);
+        parts[f] = row;
+    }
+    parts
 }

@@ -60,7 +60,11 @@ fn put_value(out: &mut [u8], before: Step, v: u8) -> Option<Step>
             end: before.end,
         });
     }
-    let c = character(before.shift, v)?;
-    let end = put(out, before.end, c);
-    Some(Step { shift: None, end })
+    match character(before.shift, v) {
+        None => None,
+        Some(c) => {
+            let end = put(out, before.end, c);
+            Some(Step { shift: None, end })
+        }
+    }
 }

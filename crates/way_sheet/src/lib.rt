@@ -58,6 +58,7 @@ pub fn way(sheet: &[u8], texts: &[u8], steps: &mut [u8]) -> WayAnswer
     ensures whole { told_way result steps.new ≡ way_of sheet.now texts.now steps.old }
     ensures promised { WayPromised (read_sheet sheet.now) texts.now steps.old (told_way result steps.new) }
 {
-    let asked = read_sheet::read(sheet)?;
-    Ok(way_question::way(asked.question, texts, steps)?)
+    let mut question = read_sheet::unread!();
+    read_sheet::read_into(sheet, &mut question)?;
+    Ok(way_question::way(question, texts, steps)?)
 }

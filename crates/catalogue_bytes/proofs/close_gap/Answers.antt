@@ -9,5 +9,5 @@ use Rattle.catalogue_bytes.proofs.close_gap.Goals as goal
 
 pub returns : goal.returns
 returns c =
-    gap_closed c.args.at c.args.n c.args.catalogue.now c.requires _ _ _ c.copy_within.ensures.after c.copy_within.ensures.len (omega arith)
+    gap_closed c.args.at c.args.n c.args.catalogue.now c.requires _ _ _ _ (omega arith) c.copy_within.ensures.after c.copy_within.ensures.len (omega arith)
     (c.fill.ensures.after (search rules) ∙ ap (λ (k : ℕ). replicate k 0) (omega arith))

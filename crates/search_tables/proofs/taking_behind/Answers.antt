@@ -1,8 +1,25 @@
--- `taking_behind` meets its contract: each field's part is what the closure gives.
-use mathlib.Core.Path.{ap, ◌∙◌}
+-- `taking_behind` meets its contract. The loop's invariant: the fields below `f` have their own (`Behind`). Assumes nothing.
+use native.Mathlib.Omega.{arith}
+use mathlib.Core.Path.{◌≡◌, refl}
+use borrow.Author.Rules.{rules}
+use lib.ListN.{length}
+use Rattle.paper.specs.Numbers.{fields}
 use Rattle.search_tables.specs.Tables.{taking_of}
-use Rattle.search_tables.proofs.Behind.{zip_map}
+use Rattle.search_tables.proofs.Behind.{behind_none, behind_more, behind_all}
 use Rattle.search_tables.proofs.taking_behind.Goals as goal
 
+pub loop-f-init : goal.loop-f-init
+loop-f-init c =
+    let own = c.args.own in
+    let all : length own ≡ fields = search rules in
+    behind_none taking_of own _ all refl
+
+pub loop-f-preserved : goal.loop-f-preserved
+loop-f-preserved c =
+    let l = c.loop-f in
+    behind_more taking_of _ _ l.parts l.f l.invariant (omega arith) _ refl
+
 pub returns : goal.returns
-returns c = zip_map _ taking_of _ _ c.each_field.ensures (λ t x w. w.says.met ∙ ap taking_of w.shows)
+returns c =
+    let l = c.loop-f in
+    behind_all taking_of _ _ l.parts l.f l.invariant _ refl (omega arith)

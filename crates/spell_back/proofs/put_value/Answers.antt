@@ -20,10 +20,10 @@ no_sign j =
       | else-is_none-via-else-is_none w ↦ left_false (not (is_some s)) (is_shift j.args.v) (rw (j.is_none.ensures, w.if-is_none.false))
     ]
 
-pub returns-in_err-c : goal.returns-in_err-c
-returns-in_err-c c =
-    rw c.from_residual.ensures
-    (not_there c.args.before c.args.v (no_sign (goal.at.returns-in_err-c c).After-character) (sym c.character.ensures ∙ c.in_err-c.was))
+pub returns-in-None : goal.returns-in-None
+returns-in-None c =
+    not_there c.args.before c.args.v (no_sign (goal.at.returns-in-None c).After-character) (sym c.character.ensures ∙ c.in-None.is)
 
-pub returns : goal.returns
-returns c = makes c.args.before c.args.v (no_sign (goal.at.returns c).After-character) (sym c.character.ensures ∙ c.in_ok-c.was) c.put-end.ensures
+pub returns-in-Some : goal.returns-in-Some
+returns-in-Some c =
+    makes c.args.before c.args.v (no_sign (goal.at.returns-in-Some c).After-character) (sym c.character.ensures ∙ c.in-Some.is) c.put-end.ensures

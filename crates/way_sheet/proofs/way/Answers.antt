@@ -10,19 +10,19 @@ use Rattle.way_sheet.proofs.WayAnswered.{handed_on, and_promised, sheet_at_fault
 use Rattle.way_sheet.proofs.way.Goals.{After-way}
 use Rattle.way_sheet.proofs.way.Goals as goal
 
-pub returns-in_err-asked : goal.returns-in_err-asked
-returns-in_err-asked c =
+pub returns-in_err-read_into : goal.returns-in_err-read_into
+returns-in_err-read_into c =
     let a = c.args in
-    let given : c.from_residual.result ≡ Err (Refused c.in_err-asked.field-0.0) = search rules in
-    let said = and_promised a.sheet.now a.texts.now a.steps.now _ (rw given (sheet_at_fault a.sheet.now a.texts.now a.steps.now c.in_err-asked.field-0.0 (sym c.read.ensures ∙ c.in_err-asked.was))) in
+    let given : c.from_residual.result ≡ Err (Refused c.in_err-read_into.field-0.0) = search rules in
+    let said = and_promised a.sheet.now a.texts.now a.steps.now _ (rw given (sheet_at_fault a.sheet.now a.texts.now a.steps.now c.in_err-read_into.field-0.0 (sym c.in_err-read_into.ensures))) in
     record { whole = said.0; promised = said.1 }
 
 -- the texts, spelt on the question that was read
 spelt : (c : After-way) (e : End) → c.way.result ≡ e → let a = c.args in told_way (handed_on e) c.way.new.steps ≡ way a.sheet.now a.texts.now a.steps.now
 spelt c e h =
     let a = c.args in
-    let q = c.in_ok-asked.asked.question in
-    sheet_spelt a.sheet.now a.texts.now a.steps.now c.in_ok-asked.asked (sym c.read.ensures ∙ c.in_ok-asked.was) c.way.new.steps e
+    let q = c.read_into.new.question in
+    sheet_spelt a.sheet.now a.texts.now a.steps.now _ (sym c.in_ok-read_into.ensures) c.way.new.steps e
     (subst (WayOn q a.texts.now a.steps.now c.way.new.steps) h c.way.ensures)
 
 pub returns-in_err-way : goal.returns-in_err-way

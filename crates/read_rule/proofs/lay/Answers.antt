@@ -1,4 +1,4 @@
--- `front` meets its contract, from what its parts are (`RuleParts`). Assumes nothing.
+-- `lay` meets its contract, from what its parts are (`RuleParts`). Assumes nothing.
 use Prim.Native.Nat.{ℕ}
 use mathlib.Core.Path.{◌≡◌, sym, ap, ◌∙◌}
 use mathlib.Core.Bool.{true}
@@ -15,8 +15,8 @@ use Rattle.read_side.proofs.SideStruct as Told
 use Rattle.read_fields.proofs.FieldsStruct.{fields_fault, fields_stand}
 use Rattle.read_rule.specs.RuleRead.{rule_bodies, rule_of}
 use Rattle.read_rule.proofs.RuleParts.{short, unmarked, patterns_fault, side_fault, whole}
-use Rattle.read_rule.proofs.front.Goals.{Else-not-next_is}
-use Rattle.read_rule.proofs.front.Goals as goal
+use Rattle.read_rule.proofs.lay.Goals.{Else-not-next_is}
+use Rattle.read_rule.proofs.lay.Goals as goal
 
 -- the mark is there
 marked-here : (c : Else-not-next_is) → next_is RU c.args.s.now 0 ≡ true
@@ -37,18 +37,18 @@ pub returns-in_err-patterns : goal.returns-in_err-patterns
 returns-in_err-patterns c =
     let m = marked-here (goal.at.returns-in_err-patterns c).Else-not-next_is in
     let p = err_from_is_err_and c.from_residual.result c.from_residual.ensures.1 in
-    rw (p.1, p.2) (refuses _ _ (patterns_fault _ c.if-s-lt2.false m _ _ (fields_fault _ _ _ (sym c.in_err-patterns.ensures))))
+    rw (p.1, p.2) (refuses _ _ (patterns_fault _ c.if-s-lt2.false m _ _ (fields_fault _ _ _ (sym c.in_err-patterns.ensures.said))))
 
 pub returns-in_err-at_left : goal.returns-in_err-at_left
 returns-in_err-at_left c =
     let m = marked-here (goal.at.returns-in_err-at_left c).Else-not-next_is in
-    let q = fields_stand _ _ _ (sym c.in_ok-patterns.ensures) in
+    let q = fields_stand _ _ _ (sym c.in_ok-patterns.ensures.said) in
     let p = err_from_is_err_and c.from_residual-in_err-at_left.result c.from_residual-in_err-at_left.ensures.1 in
     rw (p.1, p.2) (refuses _ _ (side_fault _ c.if-s-lt2.false m q.fields _ q.reads _ _ (Told.side_fault _ _ (sym c.in_err-at_left.ensures))))
 
 pub returns : goal.returns
 returns c =
     let l = side_stands _ _ (sym c.in_ok-at_left.ensures) in
-    let q = fields_stand _ _ _ (sym c.in_ok-patterns.ensures) in
-    whole _ c.if-s-lt2.false (marked-here (goal.at.returns c).Else-not-next_is) q.fields _ q.reads l.side _ l.reads _ _ _ _ l.codes q.tables
-    (rw (← q.above) c.foreign-foreign.ensures) q.bodies_are
+    let q = fields_stand _ _ _ (sym c.in_ok-patterns.ensures.said) in
+    whole _ c.if-s-lt2.false (marked-here (goal.at.returns c).Else-not-next_is) q.fields _ q.reads l.side _ l.reads _ _ _ _ l.codes (c.in_ok-patterns.ensures.tables ∙ q.tables)
+    (rw (← q.above) c.foreign-rule.ensures) q.bodies_are

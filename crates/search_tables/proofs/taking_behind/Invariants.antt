@@ -1,0 +1,7 @@
+-- `taking_behind` meets its contract. The loop's invariant: the fields below `f` have their own (`Behind`). Assumes nothing.
+use Rattle.search_tables.specs.Tables.{taking_of}
+use Rattle.search_tables.proofs.Behind.{Behind}
+use Rattle.search_tables.proofs.taking_behind.Given as goal
+
+abbrev pub invariant-loop-f : goal.invariant-loop-f
+invariant-loop-f l = Behind taking_of l.tables-items l.initial.parts l.parts l.f
