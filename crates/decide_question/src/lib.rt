@@ -156,7 +156,10 @@ impl Attempt {
     }
 }
 
-// Do the letters of both sides differ, whatever the fields hold? The question is lent, as a copy of it would stay on the stack of every attempt.
+// The tests and the search of texts are not put into their caller: what each works with would be on the stack of every attempt.
+
+// Do the letters of both sides differ, whatever the fields hold? The question is lent, as a copy of it would stay there too.
+#[inline(never)]
 fn letters(question: &Question, first: &[u8], second: &[u8]) -> bool
     ensures { result ≡ letters_asked question.now first.now second.now }
 {
@@ -185,6 +188,7 @@ fn edition_of(alphabet: Alphabet) -> Edition
 }
 
 // Is no label read by both sides, each standing apart? Told only where the bits fit: "those of 8 × 184 × room".
+#[inline(never)]
 fn apart(question: Question, bytes: usize) -> bool
     ensures { (m : Bool) → Says m (Meets question) → result ≡ apart_asked question m bytes }
 {
@@ -197,6 +201,7 @@ fn apart(question: Question, bytes: usize) -> bool
 }
 
 // The search of the question in which each field that stands twice holds one text, of n characters or more where it can.
+#[inline(never)]
 fn text(question: Question, n: usize, work: &mut [u8], answer: &mut [u8]) -> Ended
     ensures ended { result ≡ ended_all (texts_coded question n) (length work.old) answer.old }
     ensures answer { answer.new ≡ buffer_all (texts_coded question n) (length work.old) answer.old }

@@ -10,8 +10,8 @@ use base_codes::{FIELDS, SHEET_FIELDS};
 use base_places::{CHARACTERS, PLACES, PlaceSet, PlaceTables, within};
 
 // Of each field's tables a part: of a sheet's fields and, behind them, twice of the hidden ones, which are alike.
-// Kept: (a) fixed memory: a loop in each function, as one function of all, by a closure, was tried: a table that it gives back, or that it is lent, is
-// once more on the stack of a search.
+// Kept: (a) fixed memory: a loop in each function, and by index: as one function of all, by a closure, and as a loop over what is lent, `search` of
+// search_question takes 1 to 11 KB more of the stack.
 
 // "For every field and every place, the set of places that may follow".
 pub fn follow_behind(
@@ -22,8 +22,10 @@ pub fn follow_behind(
 {
     let behind = hidden.follow;
     let mut parts = [behind; FIELDS];
-    for (f, tables) in own.iter().enumerate() {
-        parts[f] = tables.follow;
+    for f in 0..SHEET_FIELDS {
+        let tables = own[f];
+        let its = tables.follow;
+        parts[f] = its;
     }
     parts
 }
@@ -34,8 +36,10 @@ pub fn last_behind(own: [PlaceTables; SHEET_FIELDS], hidden: PlaceTables) -> [Pl
 {
     let behind = hidden.last;
     let mut parts = [behind; FIELDS];
-    for (f, tables) in own.iter().enumerate() {
-        parts[f] = tables.last;
+    for f in 0..SHEET_FIELDS {
+        let tables = own[f];
+        let its = tables.last;
+        parts[f] = its;
     }
     parts
 }
@@ -49,8 +53,10 @@ pub fn taking_behind(
 {
     let behind = hidden.taking;
     let mut parts = [behind; FIELDS];
-    for (f, tables) in own.iter().enumerate() {
-        parts[f] = tables.taking;
+    for f in 0..SHEET_FIELDS {
+        let tables = own[f];
+        let its = tables.taking;
+        parts[f] = its;
     }
     parts
 }
@@ -83,9 +89,11 @@ pub fn taking_among(
 {
     let behind = cut(&among, &hidden.taking, characters);
     let mut parts = [behind; FIELDS];
-    for (f, tables) in own.iter().enumerate() {
-        let row = cut(&among, &tables.taking, characters);
-        parts[f] = row;
+    for f in 0..SHEET_FIELDS {
+        let tables = own[f];
+        let row = tables.taking;
+        let masks = cut(&among, &row, characters);
+        parts[f] = masks;
     }
     parts
 }

@@ -4,4 +4,4 @@ use Rattle.search_tables.proofs.Behind.{Behind}
 use Rattle.search_tables.proofs.last_behind.Given as goal
 
 abbrev pub invariant-loop-f : goal.invariant-loop-f
-invariant-loop-f l = Behind last_of l.tables-items l.initial.parts l.parts l.f
+invariant-loop-f l = Behind last_of l.own l.initial.parts l.parts l.f

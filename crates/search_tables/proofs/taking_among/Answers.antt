@@ -19,7 +19,7 @@ pub loop-f-preserved : goal.loop-f-preserved
 loop-f-preserved c =
     let l = c.loop-f in
     let a = c.args in
-    behind_more (λ (t : PlaceTables). cut_row a.characters a.among t.taking) _ _ l.parts l.f l.invariant (omega arith) _ c.cut-row.ensures
+    behind_more (λ (t : PlaceTables). cut_row a.characters a.among t.taking) _ _ l.parts l.f l.invariant (omega arith) _ c.cut-masks.ensures
 
 pub returns : goal.returns
 returns c =

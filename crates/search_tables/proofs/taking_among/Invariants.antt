@@ -5,4 +5,4 @@ use Rattle.search_tables.proofs.Behind.{Behind}
 use Rattle.search_tables.proofs.taking_among.Given as goal
 
 abbrev pub invariant-loop-f : goal.invariant-loop-f
-invariant-loop-f l = Behind (λ (t : PlaceTables). cut_row l.characters l.among t.taking) l.tables-items l.initial.parts l.parts l.f
+invariant-loop-f l = Behind (λ (t : PlaceTables). cut_row l.characters l.among t.taking) l.own l.initial.parts l.parts l.f
