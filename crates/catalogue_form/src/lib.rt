@@ -79,7 +79,8 @@ fn front_bytes(s: &[u8], rules: usize, strict: bool) -> Option<usize>
     if CATALOGUE_RULES <= rules {
         return None;
     }
-    let Ok(rule) = read_rule::front(s) else {
+    let mut rule = read_rule::unread!();
+    let Ok(()) = read_rule::front_into(s, &mut rule) else {
         return None;
     };
     if is_unfit(strict, &rule) {

@@ -15,7 +15,8 @@ pub fn plain(sheet: &[u8], bits: &mut [u8]) -> PlainAnswer
     ensures whole { told_plain result bits.new ≡ engine sheet.now bits.old }
     ensures promised { EnginePromised (read_sheet sheet.now) bits.old (told_plain result bits.new) }
 {
-    let question = read_sheet::read(sheet)?.question;
+    let mut question = read_sheet::unread!();
+    read_sheet::read_into(sheet, &mut question)?;
     let told = answered(question, bits.len());
     search_slots::clear(bits);
     answer_of(told)
@@ -26,6 +27,7 @@ pub fn bytes_needed(sheet: &[u8]) -> Needed
     ensures whole { told_needed result ≡ needs sheet.now }
     ensures promised { NeedsPromised (read_sheet sheet.now) (told_needed result) }
 {
-    let asked = read_sheet::read(sheet)?.question;
+    let mut asked = read_sheet::unread!();
+    read_sheet::read_into(sheet, &mut asked)?;
     needs(answered(asked, 0))
 }

@@ -34,14 +34,15 @@ pub struct Rule {
 }
 
 // A rule that nothing is read into yet. A macro, as what a function gives back lies in a place of its own before it is copied.
+#[macro_export]
 macro_rules! unread {
     () => {
-        Rule {
+        $crate::Rule {
             bytes: 0,
             foreign: false,
-            side: [NO_TOKEN; LONGEST_SIDE],
-            fields: [base_places::open_tables(); SHEET_FIELDS],
-            bodies: [Body { start: 0, length: 0 }; SHEET_FIELDS],
+            side: [base_codes::NO_TOKEN; base_codes::LONGEST_SIDE],
+            fields: [base_places::open_tables(); base_codes::SHEET_FIELDS],
+            bodies: [base_question::Body { start: 0, length: 0 }; base_codes::SHEET_FIELDS],
         }
     };
 }
@@ -52,7 +53,7 @@ pub fn front(s: &[u8]) -> Result<Rule, Refusal>
     ensures { result ≡ rule_of (rule_bodies s.now) (rule_front s.now) }
 {
     let mut rule = unread!();
-    lay(s, &mut rule)?;
+    front_into(s, &mut rule)?;
     Ok(rule)
 }
 
@@ -80,8 +81,8 @@ pub fn read_before(s: &[u8]) -> Result<Rule, Refusal>
     Ok(rule)
 }
 
-// The rule at the front, into one that is lent: in a `Result` it would lie on the stack twice more while a pattern is read.
-fn lay(s: &[u8], rule: &mut Rule) -> Result<(), Refusal>
+// The rule at the front, into one that is lent: in a `Result` it would lie on the stack twice more while a pattern is read. A refused rule is of no use.
+pub fn front_into(s: &[u8], rule: &mut Rule) -> Result<(), Refusal>
     ensures { rule_with result rule.new ≡ rule_of (rule_bodies s.now) (rule_front s.now) }
 {
     if s.len() < 2 {
@@ -112,7 +113,7 @@ fn lay(s: &[u8], rule: &mut Rule) -> Result<(), Refusal>
 fn lay_alone(s: &[u8], rule: &mut Rule) -> Result<(), Refusal>
     ensures { rule_with result rule.new ≡ rule_of (rule_bodies s.now) (read_rule_before s.now) }
 {
-    lay(s, rule)?;
+    front_into(s, rule)?;
     if rule.bytes < s.len() {
         return Err(Refusal {
             fault: Fault::WrongMark,

@@ -61,12 +61,13 @@ pub fn script(sheet: &[u8], out: &mut [u8]) -> Result<usize, ScriptError>
     ensures whole { told_scripted result out.new ≡ scripting sheet.now out.old }
     ensures promised { ScriptPromised sheet.now out.old (told_scripted result out.new) }
 {
-    let read = read_sheet::read(sheet)?;
-    let length = put_script(&mut out[0..0], read.edition, sheet, &read.question);
+    let mut question = read_sheet::unread!();
+    let edition = read_sheet::read_into(sheet, &mut question)?;
+    let length = put_script(&mut out[0..0], edition, sheet, &question);
     if out.len() < length {
         return Err(ScriptError::TooShort);
     }
-    Ok(put_script(out, read.edition, sheet, &read.question))
+    Ok(put_script(out, edition, sheet, &question))
 }
 
 // The script of a good sheet, which asks this: as far as there is room, and how long it is.

@@ -9,19 +9,19 @@ use Rattle.catalogue_form.proofs.front_bytes.Goals.{After-is_unfit}
 use Rattle.catalogue_form.proofs.front_bytes.Goals as goal
 
 -- the rule that was read, and whether it is unfit
-told : (c : After-is_unfit) → let s = c.args.s.now in RuleTold (rule_bodies s) (rule_front s) c.in-Ok.rule
+told : (c : After-is_unfit) → let s = c.args.s.now in RuleTold (rule_bodies s) (rule_front s) c.front_into.new.rule
 told c =
-    let s = c.args.s.now in rule_stands (rule_bodies s) (rule_front s) c.in-Ok.rule (sym c.in-Ok.ensures)
+    let s = c.args.s.now in rule_stands (rule_bodies s) (rule_front s) c.front_into.new.rule (sym c.in-Ok.ensures)
 
 fitness : (c : After-is_unfit) → unfit_by c.args.strict (told c).rule ≡ c.is_unfit.result
-fitness c = sym (c.is_unfit.ensures ∙ unfit_told c.args.strict c.args.s.now c.in-Ok.rule (told c))
+fitness c = sym (c.is_unfit.ensures ∙ unfit_told c.args.strict c.args.s.now c.front_into.new.rule (told c))
 
 pub returns-then-is_unfit : goal.returns-then-is_unfit
 returns-then-is_unfit c =
     let p = (goal.at.returns-then-is_unfit c).After-is_unfit in
-    sym (front_unfit _ _ _ c.if-rules-ge-CATALOGUE_RULES.false c.in-Ok.rule (told p) (fitness p ∙ c.if-is_unfit.true))
+    sym (front_unfit _ _ _ c.if-rules-ge-CATALOGUE_RULES.false c.front_into.new.rule (told p) (fitness p ∙ c.if-is_unfit.true))
 
 pub returns : goal.returns
 returns c =
     let p = (goal.at.returns c).After-is_unfit in
-    sym (front_fit _ _ _ c.if-rules-ge-CATALOGUE_RULES.false c.in-Ok.rule (told p) (fitness p ∙ c.if-is_unfit.false))
+    sym (front_fit _ _ _ c.if-rules-ge-CATALOGUE_RULES.false c.front_into.new.rule (told p) (fitness p ∙ c.if-is_unfit.false))

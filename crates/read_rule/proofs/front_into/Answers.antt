@@ -1,4 +1,4 @@
--- `lay` meets its contract, from what its parts are (`RuleParts`). Assumes nothing.
+-- `front_into` meets its contract, from what its parts are (`RuleParts`). Assumes nothing.
 use Prim.Native.Nat.{ℕ}
 use mathlib.Core.Path.{◌≡◌, sym, ap, ◌∙◌}
 use mathlib.Core.Bool.{true}
@@ -15,8 +15,8 @@ use Rattle.read_side.proofs.SideStruct as Told
 use Rattle.read_fields.proofs.FieldsStruct.{fields_fault, fields_stand}
 use Rattle.read_rule.specs.RuleRead.{rule_bodies, rule_of}
 use Rattle.read_rule.proofs.RuleParts.{short, unmarked, patterns_fault, side_fault, whole}
-use Rattle.read_rule.proofs.lay.Goals.{Else-not-next_is}
-use Rattle.read_rule.proofs.lay.Goals as goal
+use Rattle.read_rule.proofs.front_into.Goals.{Else-not-next_is}
+use Rattle.read_rule.proofs.front_into.Goals as goal
 
 -- the mark is there
 marked-here : (c : Else-not-next_is) → next_is RU c.args.s.now 0 ≡ true
